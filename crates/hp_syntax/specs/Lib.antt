@@ -1,0 +1,10 @@
+pub mod Text
+pub mod Forest
+pub mod Names
+pub mod Terms
+pub mod Expressions
+pub mod Networks
+pub mod Rules
+pub mod Form
+pub mod Walk
+pub mod Report

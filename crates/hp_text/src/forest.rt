@@ -1,0 +1,36 @@
+use hp_syntax::{Name, Span};
+
+/// What a whole text spells: its outermost nodes, in order.
+#[derive(Drop)]
+pub struct Forest {
+    pub nodes: Vec<Node>,
+    /// The number of bytes of the text.
+    pub len: u32,
+}
+
+/// A part of a text, with the span of its bytes.
+#[cycle(node)]
+#[derive(Drop)]
+pub struct Node {
+    pub span: Span,
+    pub kind: NodeKind,
+}
+
+/// What a part of a text is. The span of a list goes from its opening bracket to the byte past its
+/// closing one.
+#[cycle(node)]
+#[derive(Drop)]
+pub enum NodeKind {
+    Name(Name),
+    Num(i64),
+    List(Vec<Node>),
+}
+
+/// Why a text has no forest.
+#[derive(Clone, Copy, Debug, PartialEq, Eq)]
+pub enum TextRefusal {
+    /// The text spells none: it is too large, or a byte, a token or a bracket is out of place.
+    Other,
+    /// Memory ran out.
+    NoMemory,
+}
