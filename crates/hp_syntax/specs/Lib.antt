@@ -8,3 +8,4 @@ pub mod Rules
 pub mod Form
 pub mod Walk
 pub mod Report
+pub mod Samples

@@ -10,6 +10,7 @@ mod expression;
 mod fault;
 mod name;
 mod pattern;
+pub mod samples;
 mod tasks;
 
 pub use domain::{Axiom, Branch, Clause, Domain, Effect, Method, Operator, Pair, Problem, Rule};

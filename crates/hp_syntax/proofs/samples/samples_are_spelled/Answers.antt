@@ -1,0 +1,16 @@
+use Rattle.std.proofs.Common.{refl}
+use Rattle.hp_syntax.specs.Samples.{basic_text, basic_forest, swap_text, swap_forest, two_text, two_forest, fetch_text, fetch_forest}
+use Rattle.hp_syntax.proofs.Spelled.{tested}
+use Rattle.hp_syntax.proofs.samples.samples_are_spelled.Goals as goal
+
+pub returns-clause-basic : goal.returns-clause-basic
+returns-clause-basic c = tested basic_text basic_forest refl
+
+pub returns-clause-swap : goal.returns-clause-swap
+returns-clause-swap c = tested swap_text swap_forest refl
+
+pub returns-clause-two : goal.returns-clause-two
+returns-clause-two c = tested two_text two_forest refl
+
+pub returns-clause-fetch : goal.returns-clause-fetch
+returns-clause-fetch c = tested fetch_text fetch_forest refl

@@ -1,0 +1,49 @@
+//! Samples that are read and walked by the definitions alone, before any code does it.
+
+ghost use Rattle.std.specs.Prelude.{◌≡◌, [], ◌∷◌, ◌++◌, codes};
+ghost use Rattle.hp_syntax.specs.Forest.{IsForest};
+ghost use Rattle.hp_syntax.specs.Walk.{Did, Plan, CutHere};
+ghost use Rattle.hp_syntax.specs.Report.{report};
+ghost use Rattle.hp_syntax.specs.Samples.{basic_text, basic_forest, swap_text, swap_forest, two_text, two_forest, fetch_text, fetch_forest, walk_of, sights};
+
+/// The texts of the samples spell their forests.
+pub fn samples_are_spelled()
+    ensures basic { IsForest basic_text basic_forest }
+    ensures swap { IsForest swap_text swap_forest }
+    ensures two { IsForest two_text two_forest }
+    ensures fetch { IsForest fetch_text fetch_forest }
+{
+}
+
+/// The walk of the sample `basic`: the second branch of its method is used, and the one plan has
+/// two steps.
+pub fn basic_is_walked()
+    ensures whole { sights (walk_of basic_forest swap_forest 10)
+        ≡ (0 ∷ [], Did) ∷ (0 ∷ 0 ∷ [], Did) ∷ (0 ∷ 0 ∷ 0 ∷ [], Did) ∷ (0 ∷ 0 ∷ 0 ∷ [], Plan) ∷ [] }
+    ensures enough { sights (walk_of basic_forest swap_forest 3)
+        ≡ (0 ∷ [], Did) ∷ (0 ∷ 0 ∷ [], Did) ∷ (0 ∷ 0 ∷ 0 ∷ [], Did) ∷ (0 ∷ 0 ∷ 0 ∷ [], Plan) ∷ [] }
+    ensures cut { sights (walk_of basic_forest swap_forest 2)
+        ≡ (0 ∷ [], Did) ∷ (0 ∷ 0 ∷ [], Did) ∷ (0 ∷ 0 ∷ [], CutHere) ∷ [] }
+{
+}
+
+/// What is written of the sample `basic`.
+pub fn basic_is_reported()
+    ensures whole { report 5 (walk_of basic_forest swap_forest 10)
+        ≡ codes "plan 1 cost 2 steps 2\n(!drop kiwi)\n(!pickup banjo)\nend plans 1 expansions 3\n" }
+    ensures stopped { report 1 (walk_of basic_forest swap_forest 10)
+        ≡ codes "plan 1 cost 2 steps 2\n(!drop kiwi)\n(!pickup banjo)\nstopped plans 1 expansions 3\n" }
+    ensures cut { report 5 (walk_of basic_forest swap_forest 2) ≡ codes "cut plans 0 expansions 2\n" }
+{
+}
+
+/// A domain with two plans at each depth, of which the rest is cut off.
+pub fn two_is_reported()
+    ensures walked { sights (walk_of two_forest fetch_forest 2)
+        ≡ (0 ∷ [], Did) ∷ (0 ∷ 0 ∷ [], Did) ∷ (0 ∷ 0 ∷ [], Plan) ∷ (1 ∷ [], Did) ∷ (1 ∷ 0 ∷ [], Did)
+            ∷ (1 ∷ 0 ∷ [], Plan) ∷ (2 ∷ [], Did) ∷ (2 ∷ 0 ∷ [], Did) ∷ (2 ∷ 0 ∷ [], CutHere)
+            ∷ (2 ∷ 1 ∷ [], Did) ∷ (2 ∷ 1 ∷ [], CutHere) ∷ (2 ∷ 2 ∷ [], Did) ∷ (2 ∷ 2 ∷ [], CutHere) ∷ [] }
+    ensures written { report 9 (walk_of two_forest fetch_forest 2)
+        ≡ codes "plan 1 cost 1 steps 1\n(!take cup shelf)\nplan 2 cost 1 steps 1\n(!take pan hook)\ncut plans 2 expansions 8\n" }
+{
+}
