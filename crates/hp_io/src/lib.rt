@@ -1,13 +1,17 @@
-// A library with one function.
+//! Where a run reads and writes: folders of files, and sinks that take bytes.
 #![tactic(auto)]
 
-ghost use Rattle.std.specs.Prelude.{◌≡◌};
-ghost use Rattle.hp_io.specs.Echo.{echo_of};
+mod folder;
+mod host;
+mod mem_folder;
+mod mem_sink;
+mod sink;
 
-// The `ensures` clause is the contract: what `echo` returns is `echo_of` of its argument, a definition
-// in `specs/Echo.antt`, which a caller's clause can cite too.
-pub fn echo(x: usize) -> usize
-    ensures { result ≡ echo_of x }
-{
-    x
-}
+pub use folder::{BeginError, Failed, Folder, Input};
+pub use host::{HostFolder, HostSink};
+pub use mem_folder::MemFolder;
+pub use mem_sink::MemSink;
+pub use sink::Sink;
+
+#[cfg(test)]
+mod tests;

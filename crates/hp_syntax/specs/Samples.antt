@@ -77,7 +77,6 @@ fetch_forest = grown (
     (g 34 47 ((w 35 37 (codes "at")) ∷ (w 38 41 (codes "pan")) ∷ (w 42 46 (codes "hook")) ∷ [])) ∷ [])) ∷
     (g 49 58 ((g 50 57 ((w 51 56 (codes "fetch")) ∷ [])) ∷ [])) ∷ [])) ∷ [])
 
-
 abbrev pub walk_if : Option Domain → Option Problem → ℕ → List Visit
 walk_if None p d = []
 walk_if (Some x) None d = []

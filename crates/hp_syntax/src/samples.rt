@@ -12,8 +12,7 @@ pub fn samples_are_spelled()
     ensures swap { IsForest swap_text swap_forest }
     ensures two { IsForest two_text two_forest }
     ensures fetch { IsForest fetch_text fetch_forest }
-{
-}
+{}
 
 /// The walk of the sample `basic`: the second branch of its method is used, and the one plan has
 /// two steps.
@@ -24,8 +23,7 @@ pub fn basic_is_walked()
         ≡ (0 ∷ [], Did) ∷ (0 ∷ 0 ∷ [], Did) ∷ (0 ∷ 0 ∷ 0 ∷ [], Did) ∷ (0 ∷ 0 ∷ 0 ∷ [], Plan) ∷ [] }
     ensures cut { sights (walk_of basic_forest swap_forest 2)
         ≡ (0 ∷ [], Did) ∷ (0 ∷ 0 ∷ [], Did) ∷ (0 ∷ 0 ∷ [], CutHere) ∷ [] }
-{
-}
+{}
 
 /// What is written of the sample `basic`.
 pub fn basic_is_reported()
@@ -34,16 +32,14 @@ pub fn basic_is_reported()
     ensures stopped { report 1 (walk_of basic_forest swap_forest 10)
         ≡ codes "plan 1 cost 2 steps 2\n(!drop kiwi)\n(!pickup banjo)\nstopped plans 1 expansions 3\n" }
     ensures cut { report 5 (walk_of basic_forest swap_forest 2) ≡ codes "cut plans 0 expansions 2\n" }
-{
-}
+{}
 
 /// A domain with two plans at each depth, of which the rest is cut off.
 pub fn two_is_reported()
     ensures walked { sights (walk_of two_forest fetch_forest 2)
         ≡ (0 ∷ [], Did) ∷ (0 ∷ 0 ∷ [], Did) ∷ (0 ∷ 0 ∷ [], Plan) ∷ (1 ∷ [], Did) ∷ (1 ∷ 0 ∷ [], Did)
-            ∷ (1 ∷ 0 ∷ [], Plan) ∷ (2 ∷ [], Did) ∷ (2 ∷ 0 ∷ [], Did) ∷ (2 ∷ 0 ∷ [], CutHere)
-            ∷ (2 ∷ 1 ∷ [], Did) ∷ (2 ∷ 1 ∷ [], CutHere) ∷ (2 ∷ 2 ∷ [], Did) ∷ (2 ∷ 2 ∷ [], CutHere) ∷ [] }
+        ∷ (1 ∷ 0 ∷ [], Plan) ∷ (2 ∷ [], Did) ∷ (2 ∷ 0 ∷ [], Did) ∷ (2 ∷ 0 ∷ [], CutHere)
+        ∷ (2 ∷ 1 ∷ [], Did) ∷ (2 ∷ 1 ∷ [], CutHere) ∷ (2 ∷ 2 ∷ [], Did) ∷ (2 ∷ 2 ∷ [], CutHere) ∷ [] }
     ensures written { report 9 (walk_of two_forest fetch_forest 2)
         ≡ codes "plan 1 cost 1 steps 1\n(!take cup shelf)\nplan 2 cost 1 steps 1\n(!take pan hook)\ncut plans 2 expansions 8\n" }
-{
-}
+{}

@@ -1,4 +1,8 @@
+ghost use Rattle.std.specs.Prelude.{◌≡◌};
+ghost use Rattle.hp_text.specs.declared.forest.TextRefusal.TheVariants.{NoMemory};
+
 use hp_syntax::{Name, Span};
+use std::alloc::{AllocError, AllocFailed};
 
 /// What a whole text spells: its outermost nodes, in order.
 #[derive(Drop)]
@@ -33,4 +37,20 @@ pub enum TextRefusal {
     Other,
     /// Memory ran out.
     NoMemory,
+}
+
+impl From<AllocError> for TextRefusal {
+    ghost from_gives = { λ _ e. e ≡ NoMemory };
+
+    fn from(_error: AllocError) -> TextRefusal {
+        TextRefusal::NoMemory
+    }
+}
+
+impl<T: Drop> From<AllocFailed<T>> for TextRefusal {
+    ghost from_gives = { λ _ e. e ≡ NoMemory };
+
+    fn from(_error: AllocFailed<T>) -> TextRefusal {
+        TextRefusal::NoMemory
+    }
 }

@@ -2,5 +2,8 @@
 #![tactic(auto)]
 
 mod forest;
+mod reader;
+mod scan;
 
 pub use forest::{Forest, Node, NodeKind, TextRefusal};
+pub use reader::read;

@@ -1,2 +1,13 @@
 pub mod Program
 pub mod Flat
+pub mod Codes
+pub mod Command
+pub mod Words
+pub mod Writing
+pub mod Reading
+pub mod Outcome
+pub mod Told
+pub mod Rest
+pub mod Stops
+pub mod Reads
+pub mod Loading

@@ -1,5 +1,23 @@
 //! The top call: from the words of a command to the bytes that it writes.
 #![tactic(auto)]
 
+mod changing;
+mod children;
+mod forms;
+mod lines;
+mod loading;
+mod matching;
 mod node;
+mod planning;
 mod program;
+mod reading;
+mod run;
+mod satisfying;
+mod status;
+mod valuing;
+mod walk;
+mod words;
+mod writing;
+
+pub use run::run;
+pub use status::Status;

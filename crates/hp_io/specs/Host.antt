@@ -1,0 +1,8 @@
+-- What is kept for each input.
+use Rattle.hp_io.specs.declared.folder.Input.{Input}
+use Rattle.hp_io.specs.declared.folder.Input.TheVariants.{Domain, Problem}
+
+-- the part of this input
+abbrev pub by_input : {A : Type 0} → Input → A → A → A
+by_input Domain domain problem = domain
+by_input Problem domain problem = problem

@@ -1,0 +1,17 @@
+use Rattle.std.proofs.Common.{◌≡◌, ◌≤◌, ◌-◌, ℕ, true, List, length}
+use Rattle.hp_top.specs.Reading.{Left}
+use Rattle.hp_top.proofs.reading.read_rest.Given as goal
+
+abbrev pub invariant-loop-which : goal.invariant-loop-which
+invariant-loop-which g l =
+    let folder = g.F.Folder in
+    record {
+      room : length l.bytes.items ≤ 4194305;
+      left : Left l.bytes.items (folder.rest l.fn.folder l.fn.which) (folder.rest l.folder l.which);
+      begun : folder.begun l.folder l.which ≡ true;
+      files : (n : List ℕ) → folder.file l.folder n ≡ folder.file l.fn.folder n;
+      later : folder.faults l.fn.folder l.fn.which ≤ folder.faults l.folder l.which;
+    }
+
+abbrev pub decreases-loop-which : goal.decreases-loop-which
+decreases-loop-which g l = 4194305 - length l.bytes.items

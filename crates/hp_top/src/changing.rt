@@ -1,0 +1,139 @@
+//! Lists of shared atoms, and what an operator makes of a state.
+ghost use Rattle.std.specs.Prelude.{◌≡◌, ◌++◌, ◌∷◌, [], not, filter, IfOk, OnOk};
+ghost use Rattle.hp_syntax.specs.Terms.{same_term};
+ghost use Rattle.hp_syntax.specs.Rules.{member, added};
+ghost use Rattle.hp_top.specs.Program.{term_of, shared_term, terms_of};
+ghost use Rattle.hp_top.specs.Flat.{changed};
+
+use crate::program::{GroundAtom, GroundAtoms};
+use std::alloc::{AllocError, Global};
+use std::rc::Rc;
+
+/// Another holder of the same atom.
+pub(crate) fn share(atom: &Rc<GroundAtom>) -> Result<Rc<GroundAtom>, AllocError>
+    ensures { IfOk result (λ other. shared_term other ≡ shared_term atom.now) }
+{
+    atom.clone()
+}
+
+/// Appends the same atoms.
+pub(crate) fn share_all(atoms: &[Rc<GroundAtom>], all: &mut GroundAtoms) -> Result<(), AllocError>
+    ensures { OnOk result (terms_of all.new.items ≡ terms_of all.old.items ++ terms_of atoms.now) }
+{
+    for atom in atoms {
+        all.push(share(atom)?)?;
+    }
+    Ok(())
+}
+
+/// The same atoms in a list of its own.
+pub(crate) fn copy_atoms(alloc: Global, atoms: &[Rc<GroundAtom>]) -> Result<GroundAtoms, AllocError>
+    ensures { IfOk result (λ v. terms_of v.items ≡ terms_of atoms.now) }
+{
+    let mut all = Vec::with_capacity(alloc, atoms.len())?;
+    share_all(atoms, &mut all)?;
+    Ok(all)
+}
+
+fn are_same(a: &GroundAtom, b: &GroundAtom) -> bool
+    ensures { result ≡ same_term (term_of a.now) (term_of b.now) }
+{
+    a == b
+}
+
+fn is_member(atom: &GroundAtom, atoms: &[Rc<GroundAtom>]) -> bool
+    ensures { result ≡ member (term_of atom.now) (terms_of atoms.now) }
+{
+    for other in atoms {
+        if are_same(atom, other) {
+            return true;
+        }
+    }
+    false
+}
+
+/// Appends the atom where it isn't one of those to delete.
+fn keep(
+    left: &mut GroundAtoms,
+    atom: &Rc<GroundAtom>,
+    deletes: &[Rc<GroundAtom>],
+) -> Result<(), AllocError>
+    ensures { OnOk result (terms_of left.new.items ≡ terms_of left.old.items ++ filter (λ a. not (member a (terms_of deletes.now))) (shared_term atom.now ∷ [])) }
+{
+    if !is_member(atom, deletes) {
+        left.push(share(atom)?)?;
+    }
+    Ok(())
+}
+
+fn without(
+    alloc: Global,
+    state: &[Rc<GroundAtom>],
+    deletes: &[Rc<GroundAtom>],
+) -> Result<GroundAtoms, AllocError>
+    ensures { IfOk result (λ v. terms_of v.items ≡ filter (λ a. not (member a (terms_of deletes.now))) (terms_of state.now)) }
+{
+    let mut left = Vec::new(alloc);
+    for atom in state {
+        keep(&mut left, atom, deletes)?;
+    }
+    Ok(left)
+}
+
+fn add(state: &mut GroundAtoms, atom: &Rc<GroundAtom>) -> Result<(), AllocError>
+    ensures { OnOk result (terms_of state.new.items ≡ added (terms_of state.old.items) (shared_term atom.now ∷ [])) }
+{
+    if !is_member(atom, state) {
+        state.push(share(atom)?)?;
+    }
+    Ok(())
+}
+
+/// The state after atoms are deleted and others added. A present atom that is added keeps its
+/// place, and a new one goes last.
+pub(crate) fn changed(
+    alloc: Global,
+    state: &[Rc<GroundAtom>],
+    deletes: &[Rc<GroundAtom>],
+    adds: &[Rc<GroundAtom>],
+) -> Result<GroundAtoms, AllocError>
+    ensures { IfOk result (λ v. terms_of v.items ≡ changed (terms_of state.now) (terms_of deletes.now) (terms_of adds.now)) }
+{
+    let mut next = without(alloc, state, deletes)?;
+    for atom in adds {
+        add(&mut next, atom)?;
+    }
+    Ok(next)
+}
+
+#[cfg(test)]
+mod tests {
+    use super::*;
+    use hp_syntax::Name;
+    use std::test::Fail;
+
+    fn atoms(alloc: Global, names: &[&[u8]]) -> Result<GroundAtoms, Fail> {
+        let mut all = Vec::new(alloc);
+        for name in names {
+            let name = Name::new(alloc, name)?;
+            let args = Vec::new(alloc);
+            all.push(Rc::new(alloc, GroundAtom { name, args })?)?;
+        }
+        Ok(all)
+    }
+
+    #[test]
+    fn keeps_places(rt: HostRuntime) -> Result<(), Fail> {
+        let alloc = rt.alloc();
+        let state = atoms(alloc, &[b"a", b"b", b"c"])?;
+        let deletes = atoms(alloc, &[b"b", b"absent", b"a"])?;
+        let adds = atoms(alloc, &[b"d", b"c", b"a", b"d"])?;
+        let next = changed(alloc, &state, &deletes, &adds)?;
+        let wanted = atoms(alloc, &[b"c", b"d", b"a"])?;
+        assert!(rt; next.len() == wanted.len());
+        for (a, b) in next.iter().zip(&wanted) {
+            assert!(rt; **a == **b);
+        }
+        Ok(())
+    }
+}

@@ -1,0 +1,62 @@
+//! The bindings under which atoms are in a state.
+ghost use Rattle.std.specs.Prelude.{◌≡◌, ◌++◌, IfOk, OnOk, map};
+ghost use Rattle.std.specs.List.{flat_map};
+ghost use Rattle.hp_top.specs.Program.{atom_of, atoms_of, terms_of};
+ghost use Rattle.hp_top.specs.Flat.{bindings_of, matches, satisfiers};
+
+use crate::matching::{copy_bindings, match_atom};
+use crate::node::Bindings;
+use crate::program::{GroundAtom, RuleAtom};
+use std::alloc::{AllocError, Global};
+use std::rc::Rc;
+
+/// Appends the bindings under which the atom is in the state.
+fn add_matches(
+    alloc: Global,
+    state: &[Rc<GroundAtom>],
+    atom: &RuleAtom,
+    bindings: &Bindings,
+    found: &mut Vec<Bindings>,
+) -> Result<(), AllocError>
+    ensures { OnOk result (map bindings_of found.new.items ≡ map bindings_of found.old.items ++ matches (terms_of state.now) (atom_of atom.now) (bindings_of bindings.now)) }
+{
+    for ground in state {
+        if let Some(extension) = match_atom(alloc, atom, ground, bindings)? {
+            found.push(extension)?;
+        }
+    }
+    Ok(())
+}
+
+/// The bindings under which the atom is in the state, each an extension of one of these.
+fn matches_under(
+    alloc: Global,
+    state: &[Rc<GroundAtom>],
+    atom: &RuleAtom,
+    current: &[Bindings],
+) -> Result<Vec<Bindings>, AllocError>
+    ensures { IfOk result (λ v. map bindings_of v.items ≡ flat_map (matches (terms_of state.now) (atom_of atom.now)) (map bindings_of current.now)) }
+{
+    let mut found = Vec::new(alloc);
+    for bindings in current {
+        add_matches(alloc, state, atom, bindings, &mut found)?;
+    }
+    Ok(found)
+}
+
+/// The extensions of the bindings under which all atoms are in the state.
+pub(crate) fn satisfiers(
+    alloc: Global,
+    state: &[Rc<GroundAtom>],
+    atoms: &[RuleAtom],
+    bindings: &Bindings,
+) -> Result<Vec<Bindings>, AllocError>
+    ensures { IfOk result (λ v. map bindings_of v.items ≡ satisfiers (terms_of state.now) (atoms_of atoms.now) (bindings_of bindings.now)) }
+{
+    let mut current = Vec::new(alloc);
+    current.push(copy_bindings(alloc, bindings)?)?;
+    for atom in atoms {
+        current = matches_under(alloc, state, atom, &current)?;
+    }
+    Ok(current)
+}

@@ -1,0 +1,278 @@
+//! The walk of the tree: depth first, one visit a call.
+
+ghost use Rattle.std.specs.Prelude.{◌≡◌, ◌++◌, reverse, true, false, IfOk, OnOk, IfSome, IfNone};
+ghost use Rattle.hp_top.specs.Program.{terms_of};
+ghost use Rattle.hp_top.specs.Flat.{flat_node, heard_shown, shown_at};
+ghost use Rattle.hp_top.specs.Rest.{rest, Answers, flat_root};
+
+use crate::changing::{changed, copy_atoms};
+use crate::children::children;
+use crate::node::{Child, Node};
+use crate::program::{GroundAtom, GroundAtoms, Problem, Rule};
+use hp_syntax::RunFault;
+use std::alloc::{AllocError, Global};
+use std::rc::Rc;
+
+/// What a call of the walk came to.
+#[derive(Clone, Copy, PartialEq, Eq)]
+pub enum Step {
+    Did,
+    Plan,
+    Cut,
+    Fault(RunFault),
+    End,
+}
+
+/// A walk of the tree of a problem. At each moment it holds the node reached and the children
+/// that are still to be visited.
+#[derive(Drop)]
+pub struct Walk<'a> {
+    alloc: Global,
+    rules: &'a [Rule],
+    node: Node,
+    /// The node wasn't looked at yet.
+    is_fresh: bool,
+    /// The last is the next.
+    pending: Vec<Child>,
+}
+
+impl<'a> Walk<'a> {
+    /// A walk at its beginning.
+    pub fn new(
+        alloc: Global,
+        rules: &'a [Rule],
+        problem: &Problem,
+        depth: u32,
+    ) -> Result<Walk<'a>, AllocError>
+        ensures rest { IfOk result (λ w. rest w ≡ heard_shown (shown_at rules.now (flat_root problem.now depth))) }
+    {
+        Ok(Walk {
+            alloc,
+            rules,
+            node: root(alloc, problem, depth)?,
+            is_fresh: true,
+            pending: Vec::new(alloc),
+        })
+    }
+
+    /// The next visit, or the end.
+    pub fn next(&mut self) -> Result<Step, AllocError>
+        ensures answer { IfOk result (λ step. Answers step self.old self.new) }
+        ensures rules { self.new.rules.now ≡ self.old.rules.now }
+    {
+        if self.is_fresh {
+            if let Some(step) = self.open()? {
+                return Ok(step);
+            }
+        }
+        Ok(self.take_next())
+    }
+
+    /// The steps of the node reached.
+    pub fn steps(&self) -> &[Rc<GroundAtom>]
+        ensures { terms_of result.now ≡ (flat_node self.now.node).steps }
+    {
+        &self.node.steps
+    }
+
+    /// Looks at the node reached: it is a plan or cut off, or its children become pending.
+    fn open(&mut self) -> Result<Option<Step>, AllocError>
+        requires { self.old.is_fresh ≡ true }
+        ensures seen { IfOk result (λ o. IfSome o (λ step. Answers step self.old self.new)) }
+        ensures opened { IfOk result (λ o. IfNone o (rest self.new ≡ rest self.old)) }
+        ensures old { OnOk result (self.new.is_fresh ≡ false) }
+        ensures rules { self.new.rules.now ≡ self.old.rules.now }
+    {
+        self.is_fresh = false;
+        if self.node.tasks.is_empty() {
+            return Ok(Some(Step::Plan));
+        }
+        if self.node.depth == 0 {
+            return Ok(Some(Step::Cut));
+        }
+        let found = children(self.alloc, self.rules, &self.node)?;
+        move_reversed(found, &mut self.pending)?;
+        Ok(None)
+    }
+
+    /// Goes to the next pending child.
+    fn take_next(&mut self) -> Step
+        requires { self.old.is_fresh ≡ false }
+        ensures answer { Answers result self.old self.new }
+        ensures rules { self.new.rules.now ≡ self.old.rules.now }
+    {
+        match self.pending.pop() {
+            Some(Child::Did(node)) => {
+                self.node = node;
+                self.is_fresh = true;
+                Step::Did
+            }
+            Some(Child::Fault(fault)) => {
+                self.pending.clear();
+                Step::Fault(fault)
+            }
+            None => Step::End,
+        }
+    }
+}
+
+/// Appends the children, the last first.
+fn move_reversed(mut found: Vec<Child>, pending: &mut Vec<Child>) -> Result<(), AllocError>
+    ensures { OnOk result (pending.new.items ≡ pending.old.items ++ reverse found.items) }
+{
+    while let Some(child) = found.pop() {
+        pending.push(child)?;
+    }
+    Ok(())
+}
+
+fn root(alloc: Global, problem: &Problem, depth: u32) -> Result<Node, AllocError>
+    ensures { IfOk result (λ n. flat_node n ≡ flat_root problem.now depth) }
+{
+    Ok(Node {
+        state: changed(alloc, &[], &[], &problem.state)?,
+        tasks: copy_atoms(alloc, &problem.tasks)?,
+        steps: Vec::new(alloc),
+        depth,
+    })
+}
+
+#[cfg(test)]
+mod tests {
+    use super::*;
+    use crate::program::{Argument, Branch, Method, Operator, RuleAtom};
+    use hp_syntax::{FaultKind, Name, Span};
+    use std::test::Fail;
+
+    const SPAN: Span = Span { from: 3, to: 5 };
+
+    fn ground(alloc: Global, name: &[u8], arg: &[u8]) -> Result<Rc<GroundAtom>, Fail> {
+        let name = Name::new(alloc, name)?;
+        let args = vec![in alloc; Name::new(alloc, arg)?]?;
+        Ok(Rc::new(alloc, GroundAtom { name, args })?)
+    }
+
+    /// An atom of the variable by that number.
+    fn about(alloc: Global, name: &[u8], number: u32) -> Result<RuleAtom, Fail> {
+        Ok(RuleAtom {
+            span: SPAN,
+            name: Name::new(alloc, name)?,
+            args: vec![in alloc; Argument::Variable(SPAN, number)]?,
+        })
+    }
+
+    /// An atom of its own name.
+    fn plain(alloc: Global, name: &[u8]) -> Result<RuleAtom, Fail> {
+        Ok(RuleAtom {
+            span: SPAN,
+            name: Name::new(alloc, name)?,
+            args: vec![in alloc; Argument::Name(SPAN, Name::new(alloc, name)?)]?,
+        })
+    }
+
+    fn names(alloc: Global) -> Result<Vec<Name>, Fail> {
+        Ok(vec![in alloc; Name::new(alloc, b"?x")?]?)
+    }
+
+    /// A branch with this precondition and this task, both of the first variable.
+    fn branch(alloc: Global, pre: &[u8], task: RuleAtom) -> Result<Branch, Fail> {
+        Ok(Branch {
+            pre: vec![in alloc; about(alloc, pre, 0)?]?,
+            tasks: vec![in alloc; task]?,
+        })
+    }
+
+    /// `go` is done by `!drop`, of what is `on`, or where nothing is, of what is `at`.
+    fn go(alloc: Global, task: RuleAtom) -> Result<Rule, Fail> {
+        Ok(Rule::Method(Method {
+            span: SPAN,
+            vars: names(alloc)?,
+            head: plain(alloc, b"go")?,
+            branches: vec![in alloc;
+                branch(alloc, b"on", about(alloc, b"!bad", 0)?)?,
+                branch(alloc, b"at", task)?,
+            ]?,
+        }))
+    }
+
+    fn drop_it(alloc: Global) -> Result<Rule, Fail> {
+        Ok(Rule::Operator(Operator {
+            span: SPAN,
+            vars: names(alloc)?,
+            head: about(alloc, b"!drop", 0)?,
+            pre: vec![in alloc; about(alloc, b"at", 0)?]?,
+            deletes: vec![in alloc; about(alloc, b"at", 0)?]?,
+            adds: vec![in alloc; about(alloc, b"gone", 0)?]?,
+        }))
+    }
+
+    fn problem(alloc: Global) -> Result<Problem, Fail> {
+        let a = ground(alloc, b"at", b"a")?;
+        let b = ground(alloc, b"at", b"b")?;
+        Ok(Problem {
+            name: Name::new(alloc, b"p")?,
+            domain: Name::new(alloc, b"d")?,
+            state: vec![in alloc; a, b]?,
+            tasks: vec![in alloc; ground(alloc, b"go", b"go")?]?,
+        })
+    }
+
+    /// The answers of a walk, of which there are at most ten.
+    fn answers(alloc: Global, walk: &mut Walk) -> Result<Vec<Step>, Fail> {
+        let mut all = Vec::new(alloc);
+        for _i in 0..10 {
+            let step = walk.next()?;
+            all.push(step)?;
+            if step == Step::End {
+                break;
+            }
+        }
+        Ok(all)
+    }
+
+    #[test]
+    fn walks_in_order(rt: HostRuntime) -> Result<(), Fail> {
+        let alloc = rt.alloc();
+        let rules = vec![in alloc; go(alloc, about(alloc, b"!drop", 0)?)?, drop_it(alloc)?]?;
+        let mut walk = Walk::new(alloc, &rules, &problem(alloc)?, 2)?;
+        let all = answers(alloc, &mut walk)?;
+        let wanted = [
+            Step::Did,
+            Step::Did,
+            Step::Plan,
+            Step::Did,
+            Step::Did,
+            Step::Plan,
+            Step::End,
+        ];
+        assert!(rt; all.as_slice() == wanted.as_slice());
+        assert!(rt; walk.steps().len() == 1);
+        assert!(rt; *walk.steps()[0] == *ground(alloc, b"!drop", b"b")?);
+        Ok(())
+    }
+
+    #[test]
+    fn is_cut_off(rt: HostRuntime) -> Result<(), Fail> {
+        let alloc = rt.alloc();
+        let rules = vec![in alloc; go(alloc, about(alloc, b"!drop", 0)?)?, drop_it(alloc)?]?;
+        let mut walk = Walk::new(alloc, &rules, &problem(alloc)?, 1)?;
+        let all = answers(alloc, &mut walk)?;
+        let wanted = [Step::Did, Step::Cut, Step::Did, Step::Cut, Step::End];
+        assert!(rt; all.as_slice() == wanted.as_slice());
+        Ok(())
+    }
+
+    #[test]
+    fn ends_at_a_fault(rt: HostRuntime) -> Result<(), Fail> {
+        let alloc = rt.alloc();
+        let rules = vec![in alloc; go(alloc, about(alloc, b"!drop", 1)?)?]?;
+        let mut walk = Walk::new(alloc, &rules, &problem(alloc)?, 2)?;
+        let all = answers(alloc, &mut walk)?;
+        let fault = RunFault {
+            kind: FaultKind::NotGround,
+            span: SPAN,
+        };
+        assert!(rt; all.as_slice() == [Step::Fault(fault), Step::End].as_slice());
+        Ok(())
+    }
+}

@@ -1,0 +1,100 @@
+//! The words of a command.
+
+ghost use Rattle.std.specs.List.{list_all};
+ghost use Rattle.std.specs.Prelude.{true, nat_le, ◌≡◌, ◌≤◌, ◌^◌, ◌<◌, ℕ, List, None, Some, MatchOption, length, map, string_bytes, slice_get, unwrap_or, [], option_map};
+ghost use Rattle.hp_top.specs.Words.{AsksFor, Spelled};
+ghost use Rattle.hp_top.specs.Command.{accepts, make_command, number_within, number_from, is_number};
+ghost use Rattle.hp_syntax.specs.Text.{is_digit};
+ghost use Rattle.hp_syntax.specs.Form.{only_if};
+
+/// The numbers of a command: how many plans are asked, and down to which depth.
+#[derive(Clone, Copy)]
+pub struct Asked {
+    pub plans: u64,
+    pub depth: u32,
+}
+
+/// No command asks for more plans.
+const MOST_PLANS: u64 = 1_000_000_000;
+
+/// No command asks for a greater depth.
+const MOST_DEPTH: u64 = 1_000;
+
+/// Whether all bytes are digits.
+fn are_digits(bytes: &[u8]) -> bool
+    ensures { result ≡ list_all is_digit bytes.now }
+{
+    for byte in bytes {
+        if !is_digit(*byte) {
+            return false;
+        }
+    }
+    true
+}
+
+fn is_digit(byte: u8) -> bool
+    ensures { result ≡ is_digit byte }
+{
+    (b'0'..=b'9').contains(&byte)
+}
+
+/// Whether a word is `0`, or digits without a leading zero.
+fn is_number(word: &[u8]) -> bool
+    ensures { result ≡ is_number word.now }
+{
+    !word.is_empty() && are_digits(word) && (word.len() == 1 || word[0] != b'0')
+}
+
+/// The number that digits spell, where it is at most `most`.
+fn number_up_to(digits: &[u8], most: u64) -> Option<u64>
+    requires digits { list_all is_digit digits.now ≡ true }
+    requires most { most ≤ 1000000000 }
+    ensures { result ≡ only_if (nat_le (number_from 0 digits.now) most) (Some (number_from 0 digits.now)) }
+{
+    let mut number = 0u64;
+    for digit in digits {
+        number = number * 10 + u64::from(*digit - b'0');
+        if number > most {
+            return None;
+        }
+    }
+    Some(number)
+}
+
+/// The number that a word spells, where it is within these bounds.
+fn number_within(word: &[u8], least: u64, most: u64) -> Option<u64>
+    requires { most ≤ 1000000000 }
+    ensures { result ≡ number_within least most word.now }
+{
+    if !is_number(word) {
+        return None;
+    }
+    let number = number_up_to(word, most)?;
+    if number < least { None } else { Some(number) }
+}
+
+/// How many plans and which depth two words ask for.
+fn both_numbers(plans: &[u8], depth: &[u8]) -> Option<Asked>
+    ensures { Spelled result (number_within 1 1000000000 plans.now) (number_within 0 1000 depth.now) }
+{
+    let plans = number_within(plans, 1, MOST_PLANS)?;
+    let depth = number_within(depth, 0, MOST_DEPTH)?;
+    Some(Asked {
+        plans,
+        depth: depth as u32,
+    })
+}
+
+/// What a command asks, where the words are one.
+pub fn numbers_asked(words: &[String]) -> Option<Asked>
+    ensures { MatchOption result (accepts (map string_bytes words.now) ≡ None) (AsksFor (map string_bytes words.now)) }
+{
+    let [word, _, _, plans, depth] = words else {
+        return None;
+    };
+    if word.as_str() == "plan" {
+        both_numbers(plans.as_bytes(), depth.as_bytes())
+    } else {
+        None
+    }
+}
