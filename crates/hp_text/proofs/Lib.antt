@@ -1,0 +1,6 @@
+pub mod Bytes
+pub mod Refusals
+pub mod Runs
+pub mod Made
+pub mod Exits
+pub mod Excludes

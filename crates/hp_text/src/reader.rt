@@ -24,7 +24,8 @@ struct Run {
     end: usize,
 }
 
-/// Reads a text of names and lists. A name's bytes are copied once; nothing else is.
+/// Reads a text of names and lists, in time linear in its length. A text that is too large is
+/// refused before its bytes are looked at. A name's bytes are copied once; nothing else is.
 pub fn read(alloc: Global, bytes: &[u8]) -> Result<Forest, TextRefusal>
     ensures forest { IfOk result (λ f. IsForest bytes.now (forest_of f)) }
     ensures length { IfOk result (λ f. f.len ≡ length bytes.now) }
@@ -43,7 +44,7 @@ pub fn read(alloc: Global, bytes: &[u8]) -> Result<Forest, TextRefusal>
     })
 }
 
-// The nodes from a place on, below so many open brackets.
+// The nodes from a place on. `depth` counts the brackets that are open there, here and below.
 #[cycle(read)]
 fn nodes(alloc: Global, bytes: &[u8], from: usize, depth: usize) -> Result<Run, TextRefusal>
     requires short { length bytes.now ≤ 4194304 }
@@ -63,6 +64,7 @@ fn nodes(alloc: Global, bytes: &[u8], from: usize, depth: usize) -> Result<Run, 
     Ok(Run { nodes, end })
 }
 
+// The node that begins at a place.
 #[cycle(read)]
 fn node(alloc: Global, bytes: &[u8], from: usize, depth: usize) -> Result<Node, TextRefusal>
     requires short { length bytes.now ≤ 4194304 }
@@ -81,6 +83,7 @@ fn node(alloc: Global, bytes: &[u8], from: usize, depth: usize) -> Result<Node, 
     }
 }
 
+// The list whose opening bracket stands at a place.
 #[cycle(read)]
 fn list(alloc: Global, bytes: &[u8], from: usize, depth: usize) -> Result<Node, TextRefusal>
     requires short { length bytes.now ≤ 4194304 }
@@ -139,18 +142,101 @@ fn word(alloc: Global, bytes: &[u8], from: usize) -> Result<Node, TextRefusal>
 #[cfg(test)]
 mod tests {
     use super::*;
+    use std::alloc::AllocError;
     use std::process::Abort;
     use std::test::Fail;
 
+    fn bytes_of(alloc: Global, parts: &[(u8, usize)]) -> Result<Vec<u8>, AllocError> {
+        let mut bytes = Vec::new(alloc);
+        for (byte, count) in parts {
+            for _ in 0..*count {
+                bytes.push(*byte)?;
+            }
+        }
+        Ok(bytes)
+    }
+
+    fn parts_of<'a>(rt: &impl Abort, node: &'a Node) -> &'a [Node] {
+        match &node.kind {
+            NodeKind::List(parts) => parts.as_slice(),
+            _ => panic!(rt; "not a list"),
+        }
+    }
+
+    fn has_span(node: &Node, from: u32, to: u32) -> bool {
+        node.span == Span { from, to }
+    }
+
     #[test]
-    fn reads_texts(rt: HostRuntime) -> Result<(), Fail> {
+    fn reads_and_refuses(rt: HostRuntime) -> Result<(), Fail> {
         for (text, count) in [
-            (b"".as_slice(), 0),
-            (b" (a b) ".as_slice(), 1),
-            (b"((a)(b c))".as_slice(), 1),
+            (b"".as_slice(), Some(0)),
+            (b" (a b) ".as_slice(), Some(1)),
+            (b"((a)(b c))".as_slice(), Some(1)),
+            (b"a (b)c\t\r\nd".as_slice(), Some(4)),
+            (b"()".as_slice(), Some(1)),
+            (b"+ - .a -a ?x :m !m nils".as_slice(), Some(8)),
+            (b"(".as_slice(), None),
+            (b")".as_slice(), None),
+            (b"(a))".as_slice(), None),
+            (b"nil".as_slice(), None),
+            (b"(.)".as_slice(), None),
+            (b"1a".as_slice(), None),
+            (b"+1".as_slice(), None),
+            (b"-.5".as_slice(), None),
+            (b".5".as_slice(), None),
+            (b"a;b".as_slice(), None),
+            (b"\"a\"".as_slice(), None),
+            (b"a\xc8".as_slice(), None),
+            (b"a\x00".as_slice(), None),
+            (b"a\x7f".as_slice(), None),
         ] {
-            let forest = read(rt.alloc(), text)?;
-            assert_eq!(rt; forest.nodes.len(), count);
+            match read(rt.alloc(), text) {
+                Ok(forest) => assert_eq!(rt; Some(forest.nodes.len()), count, "in {text:?}"),
+                Err(refusal) => {
+                    assert_eq!(rt; refusal, TextRefusal::Other);
+                    assert_eq!(rt; count, None, "in {text:?}");
+                }
+            }
+        }
+        Ok(())
+    }
+
+    #[test]
+    fn gives_spans(rt: HostRuntime) -> Result<(), Fail> {
+        let forest = read(rt.alloc(), b" ((a)(bc d)) ")?;
+        assert_eq!(rt; forest.len, 13);
+        assert_eq!(rt; forest.nodes.len(), 1);
+        assert!(rt; has_span(&forest.nodes[0], 1, 12));
+        let lists = parts_of(&rt, &forest.nodes[0]);
+        assert_eq!(rt; lists.len(), 2);
+        assert!(rt; has_span(&lists[0], 2, 5));
+        assert!(rt; has_span(&lists[1], 5, 11));
+        let names = parts_of(&rt, &lists[1]);
+        assert_eq!(rt; names.len(), 2);
+        assert!(rt; has_span(&names[0], 6, 8));
+        assert!(rt; has_span(&names[1], 9, 10));
+        match &names[0].kind {
+            NodeKind::Name(name) => assert_eq!(rt; name.bytes(), b"bc".as_slice()),
+            _ => panic!(rt; "not a name"),
+        }
+        Ok(())
+    }
+
+    #[test]
+    fn keeps_limits(rt: HostRuntime) -> Result<(), Fail> {
+        for (parts, is_read) in [
+            ([(b'(', 64), (b')', 64)], true),
+            ([(b'(', 65), (b')', 65)], false),
+            ([(b'(', 65), (b' ', 0)], false),
+            ([(b'a', 256), (b' ', 1)], true),
+            ([(b'a', 257), (b' ', 1)], false),
+            ([(b' ', 4_194_304), (b' ', 0)], true),
+            ([(b' ', 4_194_304), (b' ', 1)], false),
+        ] {
+            let text = bytes_of(rt.alloc(), &parts)?;
+            let answer = read(rt.alloc(), text.as_slice());
+            assert_eq!(rt; answer.is_ok(), is_read);
         }
         Ok(())
     }

@@ -10,19 +10,20 @@ const LONGEST_TOKEN: usize = 256;
 fn is_blank(byte: u8) -> bool
     ensures { result ≡ text.is_blank byte }
 {
-    byte == b' ' || byte == b'\t' || byte == b'\r' || byte == b'\n'
+    matches!(byte, b' ' | b'\t' | b'\r' | b'\n')
 }
 
+/// Whether a token may hold the byte.
 pub fn is_name_byte(byte: u8) -> bool
     ensures { result ≡ text.is_name_byte byte }
 {
-    b'!' <= byte && byte <= b'~' && !(byte == b'(' || byte == b')' || byte == b';' || byte == b'"')
+    matches!(byte, b'!'..=b'~') && !matches!(byte, b'(' | b')' | b';' | b'"')
 }
 
 fn is_digit(byte: u8) -> bool
     ensures { result ≡ text.is_digit byte }
 {
-    b'0' <= byte && byte <= b'9'
+    byte.is_ascii_digit()
 }
 
 // A digit, or a point and a digit, begins these bytes.

@@ -25,6 +25,13 @@ fn child_from(reached: Result<Node, Stop>) -> Result<Child, AllocError>
     }
 }
 
+/// How many decompositions may follow a child of the node.
+fn depth_below(node: &Node) -> u32
+    ensures { result ≡ node.now.depth - 1 }
+{
+    node.depth.saturating_sub(1)
+}
+
 /// The node after a step.
 fn after_step(
     alloc: Global,
@@ -41,7 +48,7 @@ fn after_step(
         state,
         tasks: copy_atoms(alloc, behind)?,
         steps,
-        depth: node.depth.saturating_sub(1),
+        depth: depth_below(node),
     })
 }
 
@@ -61,6 +68,25 @@ fn node_by_operator(
     Ok(after_step(alloc, node, task, behind, state)?)
 }
 
+/// Appends a child by an operator for each satisfier of it.
+fn add_under_operator(
+    alloc: Global,
+    node: &Node,
+    task: &Rc<GroundAtom>,
+    behind: &[Rc<GroundAtom>],
+    operator: &Operator,
+    all: &[Bindings],
+    found: &mut Vec<Child>,
+) -> Result<(), AllocError>
+    ensures { OnOk result (map flat_child found.new.items ≡ map flat_child found.old.items ++ map (by_operator (flat_node node.now) (shared_term task.now) (terms_of behind.now) operator.now) (map bindings_of all.now)) }
+{
+    for satisfier in all {
+        let reached = node_by_operator(alloc, node, task, behind, operator, satisfier);
+        found.push(child_from(reached)?)?;
+    }
+    Ok(())
+}
+
 /// Appends the children by an operator.
 fn add_by_operator(
     alloc: Global,
@@ -73,14 +99,13 @@ fn add_by_operator(
     ensures { OnOk result (map flat_child found.new.items ≡ map flat_child found.old.items ++ by_rule (flat_node node.now) (shared_term task.now) (terms_of behind.now) (kinds.Operator operator.now)) }
 {
     let unbound = nothing_bound(alloc, operator.vars.len())?;
-    if let Some(bindings) = match_atom(alloc, &operator.head, task, &unbound)? {
-        let all = satisfiers(alloc, &node.state, &operator.pre, &bindings)?;
-        for satisfier in &all {
-            let reached = node_by_operator(alloc, node, task, behind, operator, satisfier);
-            found.push(child_from(reached)?)?;
+    match match_atom(alloc, &operator.head, task, &unbound)? {
+        Some(bindings) => {
+            let all = satisfiers(alloc, &node.state, &operator.pre, &bindings)?;
+            add_under_operator(alloc, node, task, behind, operator, &all, found)
         }
+        None => Ok(()),
     }
-    Ok(())
 }
 
 fn node_by_branch(
@@ -98,12 +123,12 @@ fn node_by_branch(
         state: copy_atoms(alloc, &node.state)?,
         tasks,
         steps: copy_atoms(alloc, &node.steps)?,
-        depth: node.depth.saturating_sub(1),
+        depth: depth_below(node),
     })
 }
 
 /// Appends a child by a branch for each satisfier of it.
-fn add_by_branch(
+fn add_under_branch(
     alloc: Global,
     node: &Node,
     behind: &[Rc<GroundAtom>],
@@ -134,7 +159,7 @@ fn add_by_branches(
     for branch in branches {
         let all = satisfiers(alloc, &node.state, &branch.pre, bindings)?;
         if !all.is_empty() {
-            return add_by_branch(alloc, node, behind, branch, &all, found);
+            return add_under_branch(alloc, node, behind, branch, &all, found);
         }
     }
     Ok(())

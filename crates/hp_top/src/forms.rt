@@ -13,7 +13,7 @@ mod tests;
 mod variables;
 
 use crate::program::{Domain, Problem};
-use basics::{headed, is, list, sole, word};
+use basics::{begun, headed, is, list, sole};
 use facts::fixed_atoms;
 use hp_text::Forest;
 pub use refusal::FormRefusal;
@@ -26,15 +26,14 @@ pub fn domain(alloc: Global, forest: &Forest) -> Result<Domain, FormRefusal>
     ensures expected { IsErrOf result FormRefusal.Expected → form.domain_of (forest_of forest.now) ≡ None }
 {
     let (key, parts) = headed(sole(forest.nodes.as_slice())?)?;
-    let [name, listed] = parts else {
-        return Err(FormRefusal::Expected);
-    };
+    let (name, rest) = begun(parts)?;
+    let listed = list(sole(rest)?)?;
     if !is(key, b"defdomain") {
         return Err(FormRefusal::Expected);
     }
     Ok(Domain {
-        name: word(name)?.copy(alloc)?,
-        rules: rules(alloc, list(listed)?)?,
+        name: name.copy(alloc)?,
+        rules: rules(alloc, listed)?,
     })
 }
 
@@ -44,15 +43,17 @@ pub fn problem(alloc: Global, forest: &Forest) -> Result<Problem, FormRefusal>
     ensures expected { IsErrOf result FormRefusal.Expected → form.problem_of (forest_of forest.now) ≡ None }
 {
     let (key, parts) = headed(sole(forest.nodes.as_slice())?)?;
-    let [name, domain, state, tasks] = parts else {
+    let (name, rest) = begun(parts)?;
+    let (domain, rest) = begun(rest)?;
+    let [state, tasks] = rest else {
         return Err(FormRefusal::Expected);
     };
     if !is(key, b"defproblem") {
         return Err(FormRefusal::Expected);
     }
     Ok(Problem {
-        name: word(name)?.copy(alloc)?,
-        domain: word(domain)?.copy(alloc)?,
+        name: name.copy(alloc)?,
+        domain: domain.copy(alloc)?,
         state: fixed_atoms(alloc, state)?,
         tasks: fixed_atoms(alloc, tasks)?,
     })

@@ -3,6 +3,7 @@
 
 mod changing;
 mod children;
+mod command;
 mod forms;
 mod lines;
 mod loading;
@@ -11,7 +12,6 @@ mod node;
 mod planning;
 mod program;
 mod reading;
-mod run;
 mod satisfying;
 mod status;
 mod valuing;
@@ -19,5 +19,5 @@ mod walk;
 mod words;
 mod writing;
 
-pub use run::run;
+pub use command::run;
 pub use status::Status;

@@ -52,7 +52,10 @@ fn problem_in(alloc: Global, bytes: &[u8], domain: &Domain) -> Result<Problem, F
     ensures refused { IsErrOf result FormRefusal.Expected → IsNoProblem bytes.now (domain_of domain.now) }
 {
     match read(alloc, bytes) {
-        Ok(forest) => of_domain(forms::problem(alloc, &forest)?, &domain.name),
+        Ok(forest) => match forms::problem(alloc, &forest) {
+            Ok(problem) => of_domain(problem, &domain.name),
+            Err(refusal) => Err(refusal),
+        },
         Err(TextRefusal::Other) => Err(FormRefusal::Expected),
         Err(TextRefusal::NoMemory) => Err(FormRefusal::NoMemory),
     }
@@ -145,7 +148,12 @@ pub fn load<F: Folder>(
     ensures stops { IfErr result (λ e. Stops e (F.file folder.old domain.now) (F.file folder.old problem.now)
         (F.faults folder.old inputs.Domain) (F.faults folder.new inputs.Domain) (F.faults folder.old inputs.Problem) (F.faults folder.new inputs.Problem)) }
 {
-    let domain = load_domain(alloc, folder, domain)?;
-    let problem = load_problem(alloc, folder, problem, &domain)?;
-    Ok(Loaded { domain, problem })
+    let domain = match load_domain(alloc, folder, domain) {
+        Ok(domain) => domain,
+        Err(stop) => return Err(stop),
+    };
+    match load_problem(alloc, folder, problem, &domain) {
+        Ok(problem) => Ok(Loaded { domain, problem }),
+        Err(stop) => Err(stop),
+    }
 }

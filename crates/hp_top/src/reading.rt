@@ -1,5 +1,6 @@
 ghost use Rattle.std.specs.Prelude.{◌≡◌, ◌≤◌, ◌<◌, ◌+◌, ◌^◌, ℕ, true, List, Option, Some, None, length, IfOk, IfErr, IsErrOf, ◌++◌, take, drop, ◌⊎◌};
 ghost use Rattle.hp_io.specs.Rules.{Rose};
+ghost use Rattle.hp_io.specs.declared.folder.Input.{Input};
 ghost use Rattle.hp_top.specs.Reading.{ReadsTo, Left, Grows};
 
 use hp_io::{BeginError, Failed, Folder, Input};
@@ -29,7 +30,7 @@ fn read_more<F: Folder>(
     ensures grown { IfOk result (λ n. Grows n bytes.old.items bytes.new.items (F.rest folder.old which) (F.rest folder.new which)) }
     ensures length { IfOk result (λ n. (length bytes.new.items ≡ length bytes.old.items + n) × (n ≤ room)) }
     ensures files { (n : List ℕ) → F.file folder.new n ≡ F.file folder.old n }
-    ensures later { F.faults folder.old which ≤ F.faults folder.new which }
+    ensures later { (w : Input) → F.faults folder.old w ≤ F.faults folder.new w }
     ensures cause { IsErrOf result ReadError.Failed → Rose (F.faults folder.old which) (F.faults folder.new which) }
 {
     let mut buffer = [0u8; PIECE];
@@ -52,7 +53,7 @@ pub fn read_rest<F: Folder>(
     requires { F.begun folder.old which ≡ true }
     ensures bytes { IfOk result (λ bytes. ReadsTo MOST bytes.items (F.rest folder.old which)) }
     ensures files { (n : List ℕ) → F.file folder.new n ≡ F.file folder.old n }
-    ensures later { F.faults folder.old which ≤ F.faults folder.new which }
+    ensures later { (w : Input) → F.faults folder.old w ≤ F.faults folder.new w }
     ensures cause { IsErrOf result ReadError.Failed → Rose (F.faults folder.old which) (F.faults folder.new which) }
 {
     let mut bytes = Vec::new(alloc);

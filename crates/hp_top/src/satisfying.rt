@@ -1,5 +1,5 @@
 //! The bindings under which atoms are in a state.
-ghost use Rattle.std.specs.Prelude.{◌≡◌, ◌++◌, IfOk, OnOk, map};
+ghost use Rattle.std.specs.Prelude.{◌≡◌, ◌++◌, IfOk, OnOk, map, option_map, option_to_list};
 ghost use Rattle.std.specs.List.{flat_map};
 ghost use Rattle.hp_top.specs.Program.{atom_of, atoms_of, terms_of};
 ghost use Rattle.hp_top.specs.Flat.{bindings_of, matches, satisfiers};
@@ -9,6 +9,15 @@ use crate::node::Bindings;
 use crate::program::{GroundAtom, RuleAtom};
 use std::alloc::{AllocError, Global};
 use std::rc::Rc;
+
+fn add_match(extension: Option<Bindings>, found: &mut Vec<Bindings>) -> Result<(), AllocError>
+    ensures { OnOk result (map bindings_of found.new.items ≡ map bindings_of found.old.items ++ option_to_list (option_map bindings_of extension)) }
+{
+    if let Some(bindings) = extension {
+        found.push(bindings)?;
+    }
+    Ok(())
+}
 
 /// Appends the bindings under which the atom is in the state.
 fn add_matches(
@@ -21,9 +30,7 @@ fn add_matches(
     ensures { OnOk result (map bindings_of found.new.items ≡ map bindings_of found.old.items ++ matches (terms_of state.now) (atom_of atom.now) (bindings_of bindings.now)) }
 {
     for ground in state {
-        if let Some(extension) = match_atom(alloc, atom, ground, bindings)? {
-            found.push(extension)?;
-        }
+        add_match(match_atom(alloc, atom, ground, bindings)?, found)?;
     }
     Ok(())
 }

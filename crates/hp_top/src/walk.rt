@@ -1,6 +1,6 @@
 //! The walk of the tree: depth first, one visit a call.
 
-ghost use Rattle.std.specs.Prelude.{◌≡◌, ◌++◌, reverse, true, false, IfOk, OnOk, IfSome, IfNone};
+ghost use Rattle.std.specs.Prelude.{◌≡◌, ◌++◌, reverse, false, IfOk, OnOk, IfSome, IfNone};
 ghost use Rattle.hp_top.specs.Program.{terms_of};
 ghost use Rattle.hp_top.specs.Flat.{flat_node, heard_shown, shown_at};
 ghost use Rattle.hp_top.specs.Rest.{rest, Answers, flat_root};
@@ -60,12 +60,10 @@ impl<'a> Walk<'a> {
         ensures answer { IfOk result (λ step. Answers step self.old self.new) }
         ensures rules { self.new.rules.now ≡ self.old.rules.now }
     {
-        if self.is_fresh {
-            if let Some(step) = self.open()? {
-                return Ok(step);
-            }
+        match self.open()? {
+            Some(step) => Ok(step),
+            None => Ok(self.take_next()),
         }
-        Ok(self.take_next())
     }
 
     /// The steps of the node reached.
@@ -75,14 +73,17 @@ impl<'a> Walk<'a> {
         &self.node.steps
     }
 
-    /// Looks at the node reached: it is a plan or cut off, or its children become pending.
+    /// Looks at the node reached, where it wasn't looked at yet: it is a plan or cut off, or its
+    /// children become pending.
     fn open(&mut self) -> Result<Option<Step>, AllocError>
-        requires { self.old.is_fresh ≡ true }
         ensures seen { IfOk result (λ o. IfSome o (λ step. Answers step self.old self.new)) }
         ensures opened { IfOk result (λ o. IfNone o (rest self.new ≡ rest self.old)) }
-        ensures old { OnOk result (self.new.is_fresh ≡ false) }
+        ensures looked { OnOk result (self.new.is_fresh ≡ false) }
         ensures rules { self.new.rules.now ≡ self.old.rules.now }
     {
+        if !self.is_fresh {
+            return Ok(None);
+        }
         self.is_fresh = false;
         if self.node.tasks.is_empty() {
             return Ok(Some(Step::Plan));
@@ -182,16 +183,16 @@ mod tests {
         })
     }
 
-    /// `go` is done by `!drop`, of what is `on`, or where nothing is, of what is `at`.
+    /// `go` is done by `!bad` for what is `on`, or else by this task for what is `at`.
     fn go(alloc: Global, task: RuleAtom) -> Result<Rule, Fail> {
+        let first = branch(alloc, b"on", about(alloc, b"!bad", 0)?)?;
+        let second = branch(alloc, b"at", task)?;
+        let third = branch(alloc, b"at", about(alloc, b"!bad", 0)?)?;
         Ok(Rule::Method(Method {
             span: SPAN,
             vars: names(alloc)?,
             head: plain(alloc, b"go")?,
-            branches: vec![in alloc;
-                branch(alloc, b"on", about(alloc, b"!bad", 0)?)?,
-                branch(alloc, b"at", task)?,
-            ]?,
+            branches: vec![in alloc; first, second, third]?,
         }))
     }
 
@@ -213,19 +214,18 @@ mod tests {
             name: Name::new(alloc, b"p")?,
             domain: Name::new(alloc, b"d")?,
             state: vec![in alloc; a, b]?,
-            tasks: vec![in alloc; ground(alloc, b"go", b"go")?]?,
+            tasks: vec![in alloc;
+                ground(alloc, b"go", b"go")?,
+                ground(alloc, b"!drop", b"b")?,
+            ]?,
         })
     }
 
-    /// The answers of a walk, of which there are at most ten.
-    fn answers(alloc: Global, walk: &mut Walk) -> Result<Vec<Step>, Fail> {
+    /// So many answers of a walk.
+    fn answers(alloc: Global, walk: &mut Walk, count: u32) -> Result<Vec<Step>, Fail> {
         let mut all = Vec::new(alloc);
-        for _i in 0..10 {
-            let step = walk.next()?;
-            all.push(step)?;
-            if step == Step::End {
-                break;
-            }
+        for _i in 0..count {
+            all.push(walk.next()?)?;
         }
         Ok(all)
     }
@@ -234,20 +234,14 @@ mod tests {
     fn walks_in_order(rt: HostRuntime) -> Result<(), Fail> {
         let alloc = rt.alloc();
         let rules = vec![in alloc; go(alloc, about(alloc, b"!drop", 0)?)?, drop_it(alloc)?]?;
-        let mut walk = Walk::new(alloc, &rules, &problem(alloc)?, 2)?;
-        let all = answers(alloc, &mut walk)?;
-        let wanted = [
-            Step::Did,
-            Step::Did,
-            Step::Plan,
-            Step::Did,
-            Step::Did,
-            Step::Plan,
-            Step::End,
-        ];
-        assert!(rt; all.as_slice() == wanted.as_slice());
-        assert!(rt; walk.steps().len() == 1);
-        assert!(rt; *walk.steps()[0] == *ground(alloc, b"!drop", b"b")?);
+        let mut walk = Walk::new(alloc, &rules, &problem(alloc)?, 3)?;
+        let first = answers(alloc, &mut walk, 4)?;
+        assert!(rt; first.as_slice() == [Step::Did, Step::Did, Step::Did, Step::Plan].as_slice());
+        assert!(rt; walk.steps().len() == 2);
+        assert!(rt; *walk.steps()[0] == *ground(alloc, b"!drop", b"a")?);
+        assert!(rt; *walk.steps()[1] == *ground(alloc, b"!drop", b"b")?);
+        let second = answers(alloc, &mut walk, 4)?;
+        assert!(rt; second.as_slice() == [Step::Did, Step::Did, Step::End, Step::End].as_slice());
         Ok(())
     }
 
@@ -256,7 +250,7 @@ mod tests {
         let alloc = rt.alloc();
         let rules = vec![in alloc; go(alloc, about(alloc, b"!drop", 0)?)?, drop_it(alloc)?]?;
         let mut walk = Walk::new(alloc, &rules, &problem(alloc)?, 1)?;
-        let all = answers(alloc, &mut walk)?;
+        let all = answers(alloc, &mut walk, 5)?;
         let wanted = [Step::Did, Step::Cut, Step::Did, Step::Cut, Step::End];
         assert!(rt; all.as_slice() == wanted.as_slice());
         Ok(())
@@ -267,7 +261,7 @@ mod tests {
         let alloc = rt.alloc();
         let rules = vec![in alloc; go(alloc, about(alloc, b"!drop", 1)?)?]?;
         let mut walk = Walk::new(alloc, &rules, &problem(alloc)?, 2)?;
-        let all = answers(alloc, &mut walk)?;
+        let all = answers(alloc, &mut walk, 2)?;
         let fault = RunFault {
             kind: FaultKind::NotGround,
             span: SPAN,

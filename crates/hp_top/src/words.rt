@@ -1,7 +1,7 @@
 //! The words of a command.
 
 ghost use Rattle.std.specs.List.{list_all};
-ghost use Rattle.std.specs.Prelude.{true, nat_le, ◌≡◌, ◌≤◌, ◌^◌, ◌<◌, ℕ, List, None, Some, MatchOption, length, map, string_bytes, slice_get, unwrap_or, [], option_map};
+ghost use Rattle.std.specs.Prelude.{true, nat_le, IfSome, ◌≡◌, ◌≤◌, ◌^◌, ◌<◌, ℕ, List, None, Some, MatchOption, length, map, string_bytes, slice_get, unwrap_or, [], option_map};
 ghost use Rattle.hp_top.specs.Words.{AsksFor, Spelled};
 ghost use Rattle.hp_top.specs.Command.{accepts, make_command, number_within, number_from, is_number};
 ghost use Rattle.hp_syntax.specs.Text.{is_digit};
@@ -75,7 +75,8 @@ fn number_within(word: &[u8], least: u64, most: u64) -> Option<u64>
 
 /// How many plans and which depth two words ask for.
 fn both_numbers(plans: &[u8], depth: &[u8]) -> Option<Asked>
-    ensures { Spelled result (number_within 1 1000000000 plans.now) (number_within 0 1000 depth.now) }
+    ensures spelled { Spelled result (number_within 1 1000000000 plans.now) (number_within 0 1000 depth.now) }
+    ensures some { IfSome result (λ a. 0 < a.plans) }
 {
     let plans = number_within(plans, 1, MOST_PLANS)?;
     let depth = number_within(depth, 0, MOST_DEPTH)?;
@@ -87,7 +88,9 @@ fn both_numbers(plans: &[u8], depth: &[u8]) -> Option<Asked>
 
 /// What a command asks, where the words are one.
 pub fn numbers_asked(words: &[String]) -> Option<Asked>
-    ensures { MatchOption result (accepts (map string_bytes words.now) ≡ None) (AsksFor (map string_bytes words.now)) }
+    ensures asks { MatchOption result (accepts (map string_bytes words.now) ≡ None) (AsksFor (map string_bytes words.now)) }
+    ensures five { IfSome result (λ a. length words.now ≡ 5) }
+    ensures some { IfSome result (λ a. 0 < a.plans) }
 {
     let [word, _, _, plans, depth] = words else {
         return None;

@@ -4,7 +4,7 @@ ghost use Rattle.std.specs.List.{list_any};
 ghost use Rattle.hp_syntax.specs.Names as names;
 ghost use Rattle.hp_syntax.specs.Names.{reserved};
 ghost use Rattle.hp_text.specs.Nodes.{node_of, nodes_of};
-ghost use Rattle.hp_top.specs.Reads.{Reads, word_of, list_of, headed_of, sole_of, fits_of};
+ghost use Rattle.hp_top.specs.FormReads.{Reads, word_of, list_of, headed_of, begun_of, sole_of, fits_of};
 
 use crate::forms::refusal::FormRefusal;
 use hp_syntax::Name;
@@ -99,14 +99,21 @@ pub fn list(node: &Node) -> Result<&[Node], FormRefusal>
     }
 }
 
+/// The name that nodes begin with, and what follows it.
+pub fn begun(nodes: &[Node]) -> Result<(&Name, &[Node]), FormRefusal>
+    ensures { Reads (λ p. (p.0.now, nodes_of p.1.now)) result (begun_of (nodes_of nodes.now)) }
+{
+    match nodes {
+        [] => Err(FormRefusal::Expected),
+        [first, rest @ ..] => Ok((word(first)?, rest)),
+    }
+}
+
 /// The name that a list begins with, and what follows it.
 pub fn headed(node: &Node) -> Result<(&Name, &[Node]), FormRefusal>
     ensures { Reads (λ p. (p.0.now, nodes_of p.1.now)) result (headed_of (node_of node.now)) }
 {
-    match list(node)? {
-        [] => Err(FormRefusal::Expected),
-        [first, rest @ ..] => Ok((word(first)?, rest)),
-    }
+    begun(list(node)?)
 }
 
 /// The node of a list of one.

@@ -3,7 +3,7 @@ ghost use Rattle.std.specs.Prelude.{◌≡◌};
 ghost use Rattle.hp_syntax.specs.Form as form;
 ghost use Rattle.hp_text.specs.Nodes.{node_of, nodes_of};
 ghost use Rattle.hp_top.specs.Program.{symbols_of, shared_term, terms_of};
-ghost use Rattle.hp_top.specs.Reads.{Reads, fixed_name_of};
+ghost use Rattle.hp_top.specs.FormReads.{Reads, fixed_name_of};
 
 use crate::forms::basics::{headed, is_plain, is_variable, list, word};
 use crate::forms::refusal::FormRefusal;

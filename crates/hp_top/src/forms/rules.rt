@@ -4,7 +4,7 @@ ghost use Rattle.hp_syntax.specs.Names.{variables_of, are_among};
 ghost use Rattle.hp_syntax.specs.Form as form;
 ghost use Rattle.hp_text.specs.Nodes.{node_of, nodes_of};
 ghost use Rattle.hp_top.specs.Program.{pattern_of, patterns_of, atom_of, atoms_of, branch_of, rule_of};
-ghost use Rattle.hp_top.specs.Reads.{Reads, fits_of, branch_in, branches_in};
+ghost use Rattle.hp_top.specs.FormReads.{Reads, fits_of, branch_in, branches_in};
 
 use crate::forms::basics::{AtomKind, headed, is, is_variable, list, word};
 use crate::forms::refusal::FormRefusal;
@@ -86,12 +86,13 @@ fn operator(
     if !binds(alloc, head, pre, deletes, adds)? {
         return Err(FormRefusal::Expected);
     }
+    let known = names.as_slice();
     Ok(Rule::Operator(Operator {
         span,
-        head: atom(alloc, AtomKind::Primitive, names.as_slice(), head)?,
-        pre: atoms(alloc, names.as_slice(), pre)?,
-        deletes: atoms(alloc, names.as_slice(), deletes)?,
-        adds: atoms(alloc, names.as_slice(), adds)?,
+        head: atom(alloc, AtomKind::Primitive, known, head)?,
+        pre: atoms(alloc, known, pre)?,
+        deletes: atoms(alloc, known, deletes)?,
+        adds: atoms(alloc, known, adds)?,
         vars: names,
     }))
 }
@@ -161,14 +162,15 @@ fn method(alloc: Global, span: Span, names: Vec<Name>, parts: &[Node]) -> Result
     requires few { length names.items ≤ 256 }
     ensures { Reads rule_of result (form.method_of span names.items (nodes_of parts.now)) }
 {
-    let [head, rest @ ..] = parts else {
+    let Some((head, rest)) = parts.split_first() else {
         return Err(FormRefusal::Expected);
     };
     let of_head = names_in(alloc, head)?;
+    let known = names.as_slice();
     Ok(Rule::Method(Method {
         span,
-        head: atom(alloc, AtomKind::Compound, names.as_slice(), head)?,
-        branches: branches(alloc, names.as_slice(), of_head.as_slice(), rest)?,
+        head: atom(alloc, AtomKind::Compound, known, head)?,
+        branches: branches(alloc, known, of_head.as_slice(), rest)?,
         vars: names,
     }))
 }

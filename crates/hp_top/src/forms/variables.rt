@@ -4,7 +4,7 @@ ghost use Rattle.std.specs.List.{list_all};
 ghost use Rattle.hp_syntax.specs.Names as plain;
 ghost use Rattle.hp_syntax.specs.Names.{is_among, with_name, with_names, variables_of, variables_of_all, names_of};
 ghost use Rattle.hp_text.specs.Nodes.{node_of, nodes_of};
-ghost use Rattle.hp_top.specs.Reads.{Reads, few_names, is_in_either};
+ghost use Rattle.hp_top.specs.FormReads.{Reads, few_names, is_in_either};
 
 use crate::forms::basics::is_variable;
 use crate::forms::refusal::FormRefusal;
@@ -113,11 +113,12 @@ pub fn rule_names(alloc: Global, rule: &Node) -> Result<Vec<Name>, FormRefusal>
     Ok(names)
 }
 
-/// The variables of a node, each once and in reading order.
+/// The variables of a part of a rule, each once and in reading order.
 pub fn names_in(alloc: Global, node: &Node) -> Result<Vec<Name>, FormRefusal>
     ensures { Reads (λ v. v.items) result (Some (names_of (node_of node.now))) }
 {
     let mut names = Vec::new(alloc);
+    // The rule's own names are few, so those of a part need no limit.
     add_names(alloc, node, usize::MAX, &mut names)?;
     Ok(names)
 }

@@ -1,4 +1,5 @@
 use Rattle.std.proofs.Common.{◌≡◌, ◌≤◌, ◌-◌, ℕ, true, List, length}
+use Rattle.hp_io.specs.declared.folder.Input.{Input}
 use Rattle.hp_top.specs.Reading.{Left}
 use Rattle.hp_top.proofs.reading.read_rest.Given as goal
 
@@ -10,7 +11,7 @@ invariant-loop-which g l =
       left : Left l.bytes.items (folder.rest l.fn.folder l.fn.which) (folder.rest l.folder l.which);
       begun : folder.begun l.folder l.which ≡ true;
       files : (n : List ℕ) → folder.file l.folder n ≡ folder.file l.fn.folder n;
-      later : folder.faults l.fn.folder l.fn.which ≤ folder.faults l.folder l.which;
+      later : (w : Input) → folder.faults l.fn.folder w ≤ folder.faults l.folder w;
     }
 
 abbrev pub decreases-loop-which : goal.decreases-loop-which

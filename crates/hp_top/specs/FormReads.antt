@@ -1,8 +1,7 @@
 -- What reading a form gives: a value that stands for what the definition gives, or a refusal where
 -- it gives none; and what the steps of reading give.
-use Rattle.std.specs.Prelude.{◌≡◌, ℕ, Bool, ◌||◌, ◌&&◌, not, List, [], ◌∷◌, length, nat_le, Option, Some, None, Result, Ok, Err}
+use Rattle.std.specs.Prelude.{◌≡◌, ℕ, Bool, ◌||◌, not, List, [], ◌∷◌, length, nat_le, Option, Some, None, Result, Ok, Err}
 use Rattle.std.specs.List.{list_all}
-use Rattle.hp_syntax.specs.declared.name.Name.{Name}
 use Rattle.hp_syntax.specs.Forest.{Node, Word, Numeral, Group, Forest, Bare, Grow}
 use Rattle.hp_syntax.specs.Names.{is_variable, is_plain, is_primitive, is_compound, is_among, variables_of, names_of}
 use Rattle.hp_syntax.specs.Rules.{Branch}
@@ -33,6 +32,13 @@ abbrev pub list_of : Node → Option Forest
 list_of (Word s name) = None
 list_of (Numeral s n) = None
 list_of (Group s parts) = Some parts
+
+-- the name that nodes begin with, and what follows it
+abbrev pub begun_of : Forest → Option (List ℕ × Forest)
+begun_of Bare = None
+begun_of (Grow (Word t name) f) = Some (name, f)
+begun_of (Grow (Numeral t n) f) = None
+begun_of (Grow (Group t parts) f) = None
 
 -- the name that a list begins with, and what follows it
 abbrev pub headed_of : Node → Option (List ℕ × Forest)

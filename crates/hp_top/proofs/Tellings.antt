@@ -1,0 +1,51 @@
+-- One visit more that was told, and the whole telling.
+use Rattle.std.proofs.Common.{◌≡◌, ℕ, ◌+◌, ◌-◌, ◌^◌, ◌<◌, ◌≤◌, min, Bool, false, cond, List, [], ◌∷◌, ◌++◌, length, Option, Some, None, arith, refl, ap, sym, ◌∙◌, subst, append_assoc, append-nil}
+use Rattle.hp_syntax.specs.Report.{ending_text}
+use Rattle.hp_top.specs.declared.lines.Ending.{Ending}
+use Rattle.hp_top.specs.declared.planning.Progress.{Progress}
+use Rattle.hp_top.specs.declared.status.Status.{Status}
+use Rattle.hp_top.specs.Flat.{Shown, DidShown}
+use Rattle.hp_top.specs.Outcome.{planned_status}
+use Rattle.hp_top.specs.Told.{told, told_status, ending_of}
+use Rattle.hp_top.specs.Telling.{left, left_status, Goes, Closes}
+use Rattle.hp_top.specs.Writing.{Wrote}
+use Rattle.hp_top.proofs.ToldReport.{told-saturates}
+
+pub wrote_nothing : (b : Option (List ℕ)) → Wrote [] b b
+wrote_nothing None = refl
+wrote_nothing (Some b) = ap Some (sym (append-nil b))
+
+pub wrote_both : (x y : List ℕ) (a b c : Option (List ℕ)) → Wrote x a b → Wrote y b c → Wrote (x ++ y) a c
+wrote_both x y None b c h k = subst (λ m. Wrote y m c) h k
+wrote_both x y (Some a) b c h k = subst (λ m. Wrote y m c) h k ∙ ap Some (append_assoc a x y)
+
+-- a decomposition is counted, up to the end of the count
+pub goes_on : (k : ℕ) (p q : Progress) (vs ws : List Shown) (b : Option (List ℕ)) → vs ≡ DidShown ∷ ws → q.plans ≡ p.plans → q.is_cut ≡ p.is_cut → q.expansions ≡ min (p.expansions + 1) (2 ^ 64 - 1) → Goes k p q vs ws b b
+goes_on k p q vs ws b e i j n = record {
+  text = [];
+  written = wrote_nothing b;
+  rest = ap (left k p) e ∙ (sym (told-saturates k p.plans (p.expansions + 1) p.is_cut ws) ∙ rw (i, j, n) refl);
+  status = ap (left_status k p) e ∙ rw (i, j) refl;
+}
+
+-- two pieces of a telling are one
+pub goes_through : (k : ℕ) (p q r : Progress) (us vs ws : List Shown) (a b c : Option (List ℕ)) → Goes k p q us vs a b → Goes k q r vs ws b c → Goes k p r us ws a c
+goes_through k p q r us vs ws a b c g h = record {
+  text = g.text ++ h.text;
+  written = wrote_both g.text h.text a b c g.written h.written;
+  rest = g.rest ∙ (ap (λ t. g.text ++ t) h.rest ∙ sym (append_assoc g.text h.text (left k r ws)));
+  status = g.status ∙ h.status;
+}
+
+-- and so is the last piece
+pub goes_to_close : (k : ℕ) (p q r : Progress) (us vs : List Shown) (x : Ending) (a b c : Option (List ℕ)) → Goes k p q us vs a b → Closes k q r vs x b c → Closes k p r us x a c
+goes_to_close k p q r us vs x a b c g h = record {
+  text = g.text ++ h.text;
+  written = wrote_both g.text h.text a b c g.written h.written;
+  rest = g.rest ∙ (ap (λ t. g.text ++ t) h.rest ∙ sym (append_assoc g.text h.text (ending_text (ending_of x) r.plans r.expansions)));
+  status = g.status ∙ h.status;
+}
+
+-- with the ending line the whole text is written
+pub closed_text : (k : ℕ) (p q : Progress) (vs : List Shown) (x : Ending) (a b c : Option (List ℕ)) → Closes k p q vs x a b → Wrote (ending_text (ending_of x) q.plans q.expansions) b c → Wrote (left k p vs) a c
+closed_text k p q vs x a b c h w = subst (λ t. Wrote t a c) (sym h.rest) (wrote_both h.text (ending_text (ending_of x) q.plans q.expansions) a b c h.written w)

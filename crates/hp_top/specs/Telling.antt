@@ -1,0 +1,61 @@
+-- What telling a walk has written, and what is left to tell.
+use Rattle.std.specs.Prelude.{◌≡◌, ◌⊎◌, ℕ, ◌+◌, ◌<◌, ◌==◌, Bool, cond, List, ◌++◌, Option, Some, None, length}
+use Rattle.hp_io.specs.Rules.{Rose}
+use Rattle.hp_syntax.specs.Terms.{Term}
+use Rattle.hp_syntax.specs.Report.{ending_text}
+use Rattle.hp_top.specs.declared.lines.Ending.{Ending}
+use Rattle.hp_top.specs.declared.lines.Ending.TheVariants.{Stopped}
+use Rattle.hp_top.specs.declared.planning.Progress.{Progress}
+use Rattle.hp_top.specs.declared.planning.Halt.{Halt}
+use Rattle.hp_top.specs.declared.planning.Halt.TheVariants.{NoMemory, Failed}
+use Rattle.hp_top.specs.declared.status.Status.{Status}
+use Rattle.hp_top.specs.declared.status.Status.TheVariants as status
+use Rattle.hp_top.specs.Flat.{Shown}
+use Rattle.hp_top.specs.Outcome.{Answer, planned_status}
+use Rattle.hp_top.specs.Told.{told, told_status, ending_of}
+use Rattle.hp_top.specs.Writing.{Wrote}
+
+-- the text that is left, and the status to end with, of k plans asked
+abbrev pub left : ℕ → Progress → List Shown → List ℕ
+left k p vs = told k p.plans p.expansions p.is_cut vs
+
+abbrev pub left_status : ℕ → Progress → List Shown → Status
+left_status k p vs = told_status k p.plans p.is_cut vs
+
+-- a text was written, which leaves the rest of what was left before
+pub record Goes (k : ℕ) (p q : Progress) (before after : List Shown) (old new : Option (List ℕ)) : Type 0 where
+  pub text : List ℕ
+  pub written : Wrote text old new
+  pub rest : left k p before ≡ text ++ left k q after
+  pub status : left_status k p before ≡ left_status k q after
+
+-- a text was written, and the ending line is all that is left
+pub record Closes (k : ℕ) (p q : Progress) (before : List Shown) (x : Ending) (old new : Option (List ℕ)) : Type 0 where
+  pub text : List ℕ
+  pub written : Wrote text old new
+  pub rest : left k p before ≡ text ++ ending_text (ending_of x) q.plans q.expansions
+  pub status : left_status k p before ≡ planned_status (ending_of x) q.plans
+
+-- after one visit the telling goes on with fewer visits, or closes
+abbrev pub Visited : Option Ending → ℕ → Progress → Progress → List Shown → List Shown → Option (List ℕ) → Option (List ℕ) → Type 0
+Visited None k p q before after old new = Goes k p q before after old new × (q.plans < k) × (length after < length before)
+Visited (Some x) k p q before after old new = Closes k p q before x old new
+
+-- the telling stops for want of memory, or because the sink's count rose
+abbrev pub Halts : Halt → ℕ → ℕ → Type 0
+Halts NoMemory before now = Unit {0}
+Halts Failed before now = Rose before now
+
+-- one more plan is counted
+abbrev pub counted : Progress → Progress
+counted p = record { plans = p.plans + 1; expansions = p.expansions; is_cut = p.is_cut }
+
+-- the telling stops at the last plan that was asked
+abbrev pub stop_at : ℕ → ℕ → Option Ending
+stop_at k n = cond (n == k) (Some Stopped) None
+
+-- how a run ends that is to write a text and to end with a status
+pub data Tells (a : Answer) (s : Status) (before now : ℕ) (old new : Option (List ℕ)) : Type 0 where
+  WithoutMemory : s ≡ status.NoMemory → Tells a s before now old new
+  Unwritten : s ≡ status.WriteFault → Rose before now → Tells a s before now old new
+  Written : s ≡ a.1 → Wrote a.0 old new → Tells a s before now old new
