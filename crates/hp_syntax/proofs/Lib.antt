@@ -1,1 +1,14 @@
 pub mod Spelled
+pub mod Bytes
+pub mod OneForest
+pub mod Refusals
+pub mod OneForm
+pub mod NextTasks
+pub mod Children
+pub mod Paths
+pub mod Matching
+pub mod WellFormed
+pub mod Sound
+pub mod Reading
+pub mod Found
+pub mod Solved

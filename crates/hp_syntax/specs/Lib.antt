@@ -9,3 +9,5 @@ pub mod Form
 pub mod Walk
 pub mod Report
 pub mod Samples
+pub mod Laws
+pub mod Soundness

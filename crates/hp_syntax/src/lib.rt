@@ -8,6 +8,7 @@
 mod domain;
 mod expression;
 mod fault;
+pub mod laws;
 mod name;
 mod pattern;
 pub mod samples;

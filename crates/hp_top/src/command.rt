@@ -68,12 +68,7 @@ fn serve_command<F: Folder, K: Sink>(
 }
 
 /// Serves the command that the words are.
-fn serve<F: Folder, K: Sink>(
-    alloc: Global,
-    words: &[String],
-    folder: &mut F,
-    out: &mut K,
-) -> Status
+fn serve<F: Folder, K: Sink>(alloc: Global, words: &[String], folder: &mut F, out: &mut K) -> Status
     ensures ends { Ends (map string_bytes words.now) (F.file folder.old) result
         (F.faults folder.old Domain) (F.faults folder.new Domain) (F.faults folder.old Problem) (F.faults folder.new Problem)
         (K.faults out.old) (K.faults out.new) (K.bytes out.old) (K.bytes out.new) }

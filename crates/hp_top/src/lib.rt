@@ -14,6 +14,8 @@ mod program;
 mod reading;
 mod satisfying;
 mod status;
+#[cfg(test)]
+mod tests;
 mod valuing;
 mod walk;
 mod words;

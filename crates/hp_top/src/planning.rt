@@ -149,12 +149,7 @@ fn close<K: Sink>(
 }
 
 /// Writes the plans of the walk, as many as are asked, and the ending line.
-fn tell<K: Sink>(
-    alloc: Global,
-    walk: &mut Walk,
-    most: u64,
-    out: &mut K,
-) -> Result<Status, Halt>
+fn tell<K: Sink>(alloc: Global, walk: &mut Walk, most: u64, out: &mut K) -> Result<Status, Halt>
     requires { 0 < most }
     ensures written { OnOk result (Wrote (told most 0 0 false (rest walk.old)) (K.bytes out.old) (K.bytes out.new)) }
     ensures status { IfOk result (λ s. s ≡ told_status most 0 false (rest walk.old)) }
