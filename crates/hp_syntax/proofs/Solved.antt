@@ -88,8 +88,8 @@ leads_on (i ∷ p) q h k = (h.0, leads_on p q h.1 k)
 
 -- what is done first may be done instead of what stands at the first place
 redone : (domain : Domain) (net : Network) (p : Place) (old new : Network) (pre : List Term) (s s0 : State) → Leads p → part_at net p ≡ Some old →
-  ((ys : List Term) (s1 : State) → Solves domain s0 new ys s1 → Solves domain s old (pre ++ ys) s1) →
-  (xs : List Term) (after : State) → Solves domain s0 (with_part net p new) xs after → Solves domain s net (pre ++ xs) after
+    ((ys : List Term) (s1 : State) → Solves domain s0 new ys s1 → Solves domain s old (pre ++ ys) s1) →
+    (xs : List Term) (after : State) → Solves domain s0 (with_part net p new) xs after → Solves domain s net (pre ++ xs) after
 redone domain net [] old new pre s s0 z e f xs after h = let q : old ≡ net = cc in subst (λ n. Solves domain s n (pre ++ xs) after) q (f xs after h)
 redone domain Empty (i ∷ p) old new pre s s0 z e f xs after h = absurd (none-some old e)
 redone domain (Task t j) (i ∷ p) old new pre s s0 z e f xs after h = absurd (none-some old e)

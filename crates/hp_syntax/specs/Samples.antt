@@ -3,6 +3,7 @@ use Rattle.std.specs.Prelude.{◌≡◌, ℕ, List, [], ◌∷◌, ◌++◌, map
 use Rattle.hp_syntax.specs.declared.pattern.Span.{Span}
 use Rattle.hp_syntax.specs.Forest.{Node, Word, Group, Forest, Bare, Grow}
 use Rattle.hp_syntax.specs.Form.{domain_of, problem_of}
+use Rattle.hp_syntax.specs.Networks.{Empty}
 use Rattle.hp_syntax.specs.Rules.{Domain, Problem}
 use Rattle.hp_syntax.specs.Walk.{Visit, Sight, Did, Plan, CutHere, FaultHere, walk}
 use Rattle.hp_syntax.specs.Report.{report, steps_text}
@@ -77,6 +78,14 @@ fetch_forest = grown (
     (g 34 47 ((w 35 37 (codes "at")) ∷ (w 38 41 (codes "pan")) ∷ (w 42 46 (codes "hook")) ∷ [])) ∷ [])) ∷
     (g 49 58 ((g 50 57 ((w 51 56 (codes "fetch")) ∷ [])) ∷ [])) ∷ [])) ∷ [])
 
+-- a problem with nothing to do
+abbrev pub empty_text : List ℕ
+empty_text = codes "(defproblem p basic () ())\n"
+
+abbrev pub empty_forest : Forest
+empty_forest = grown (
+    (g 0 26 ((w 1 11 (codes "defproblem")) ∷ (w 12 13 (codes "p")) ∷ (w 14 19 (codes "basic")) ∷ (g 20 22 ([])) ∷ (g 23 25 ([])) ∷ [])) ∷ [])
+
 abbrev pub walk_if : Option Domain → Option Problem → ℕ → List Visit
 walk_if None p d = []
 walk_if (Some x) None d = []
@@ -92,3 +101,22 @@ sight_of v = (v.path, v.sight)
 -- the paths of the visits, with what is seen
 abbrev pub sights : List Visit → List (List ℕ × Sight)
 sights vs = map sight_of vs
+
+-- a domain that is there, or one without rules
+abbrev pub domain_if : Option Domain → Domain
+domain_if None = record { name = []; rules = [] }
+domain_if (Some d) = d
+
+abbrev pub problem_if : Option Problem → Problem
+problem_if None = record { name = []; domain = []; state = []; tasks = Empty }
+problem_if (Some p) = p
+
+-- what the forests of the samples are the forms of
+abbrev pub basic_domain : Domain
+basic_domain = domain_if (domain_of basic_forest)
+
+abbrev pub swap_problem : Problem
+swap_problem = problem_if (problem_of swap_forest)
+
+abbrev pub empty_problem : Problem
+empty_problem = problem_if (problem_of empty_forest)

@@ -4,7 +4,7 @@ ghost use Rattle.std.specs.Prelude.{◌≡◌, [], ◌∷◌, ◌++◌, codes};
 ghost use Rattle.hp_syntax.specs.Forest.{IsForest};
 ghost use Rattle.hp_syntax.specs.Walk.{Did, Plan, CutHere};
 ghost use Rattle.hp_syntax.specs.Report.{report};
-ghost use Rattle.hp_syntax.specs.Samples.{basic_text, basic_forest, swap_text, swap_forest, two_text, two_forest, fetch_text, fetch_forest, walk_of, sights};
+ghost use Rattle.hp_syntax.specs.Samples.{basic_text, basic_forest, swap_text, swap_forest, two_text, two_forest, fetch_text, fetch_forest, empty_text, empty_forest, walk_of, sights};
 
 /// The texts of the samples spell their forests.
 pub fn samples_are_spelled()
@@ -12,6 +12,7 @@ pub fn samples_are_spelled()
     ensures swap { IsForest swap_text swap_forest }
     ensures two { IsForest two_text two_forest }
     ensures fetch { IsForest fetch_text fetch_forest }
+    ensures empty { IsForest empty_text empty_forest }
 {}
 
 /// The walk of the sample `basic`: the second branch of its method is used, and the one plan has
@@ -23,6 +24,7 @@ pub fn basic_is_walked()
         ≡ (0 ∷ [], Did) ∷ (0 ∷ 0 ∷ [], Did) ∷ (0 ∷ 0 ∷ 0 ∷ [], Did) ∷ (0 ∷ 0 ∷ 0 ∷ [], Plan) ∷ [] }
     ensures cut { sights (walk_of basic_forest swap_forest 2)
         ≡ (0 ∷ [], Did) ∷ (0 ∷ 0 ∷ [], Did) ∷ (0 ∷ 0 ∷ [], CutHere) ∷ [] }
+    ensures empty { sights (walk_of basic_forest empty_forest 0) ≡ ([], Plan) ∷ [] }
 {}
 
 /// What is written of the sample `basic`.
@@ -31,7 +33,10 @@ pub fn basic_is_reported()
         ≡ codes "plan 1 cost 2 steps 2\n(!drop kiwi)\n(!pickup banjo)\nend plans 1 expansions 3\n" }
     ensures stopped { report 1 (walk_of basic_forest swap_forest 10)
         ≡ codes "plan 1 cost 2 steps 2\n(!drop kiwi)\n(!pickup banjo)\nstopped plans 1 expansions 3\n" }
+    ensures enough { report 5 (walk_of basic_forest swap_forest 3)
+        ≡ codes "plan 1 cost 2 steps 2\n(!drop kiwi)\n(!pickup banjo)\nend plans 1 expansions 3\n" }
     ensures cut { report 5 (walk_of basic_forest swap_forest 2) ≡ codes "cut plans 0 expansions 2\n" }
+    ensures empty { report 5 (walk_of basic_forest empty_forest 0) ≡ codes "plan 1 cost 0 steps 0\nend plans 1 expansions 0\n" }
 {}
 
 /// A domain with two plans at each depth, of which the rest is cut off.

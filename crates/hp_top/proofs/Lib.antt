@@ -23,3 +23,4 @@ pub mod Steps
 pub mod Tellings
 pub mod ToldReport
 pub mod Walks
+pub mod Outcomes

@@ -14,3 +14,4 @@ pub mod Telling
 pub mod Told
 pub mod Words
 pub mod Writing
+pub mod Samples

@@ -1,4 +1,5 @@
 //! Lists of shared atoms, and what an operator makes of a state.
+
 ghost use Rattle.std.specs.Prelude.{◌≡◌, ◌++◌, ◌∷◌, [], not, filter, IfOk, OnOk};
 ghost use Rattle.hp_syntax.specs.Terms.{same_term};
 ghost use Rattle.hp_syntax.specs.Rules.{member, added};

@@ -1,4 +1,5 @@
 //! The children of a node.
+
 ghost use Rattle.std.specs.Prelude.{◌≡◌, ◌++◌, ◌∷◌, ◌-◌, [], map, IfOk, OnOk};
 ghost use Rattle.hp_top.specs.declared.program.Rule.TheVariants as kinds;
 ghost use Rattle.hp_top.specs.Program.{shared_term, term_of, terms_of};

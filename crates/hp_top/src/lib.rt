@@ -5,6 +5,7 @@ mod changing;
 mod children;
 mod command;
 mod forms;
+pub mod laws;
 mod lines;
 mod loading;
 mod matching;
@@ -12,6 +13,7 @@ mod node;
 mod planning;
 mod program;
 mod reading;
+pub mod samples;
 mod satisfying;
 mod status;
 #[cfg(test)]

@@ -67,11 +67,12 @@ pub fn plan_lines(
     ensures { IfOk result (λ text. text.items ≡ flat_plan_text number (terms_of steps.now)) }
 {
     let count = steps.len() as u64;
+    let cost = count;
     let mut text = Vec::new(alloc);
     text.extend_from_slice(b"plan ")?;
     push_number(&mut text, number)?;
     text.extend_from_slice(b" cost ")?;
-    push_number(&mut text, count)?;
+    push_number(&mut text, cost)?;
     text.extend_from_slice(b" steps ")?;
     push_number(&mut text, count)?;
     text.push(b'\n')?;

@@ -1,4 +1,5 @@
 //! Bindings, and matching an atom of a rule with an atom without variables.
+
 ghost use Rattle.std.specs.Prelude.{◌≡◌, IfOk, option_map, option_copied, slice_set};
 ghost use Rattle.hp_syntax.specs.Terms.{Symbol, bound, meet, match_term, match_parts, unbound};
 ghost use Rattle.hp_syntax.specs.Expressions.{match_atom};

@@ -1,4 +1,5 @@
 //! The bindings under which atoms are in a state.
+
 ghost use Rattle.std.specs.Prelude.{◌≡◌, ◌++◌, IfOk, OnOk, map, option_map, option_to_list};
 ghost use Rattle.std.specs.List.{flat_map};
 ghost use Rattle.hp_top.specs.Program.{atom_of, atoms_of, terms_of};

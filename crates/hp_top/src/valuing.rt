@@ -1,4 +1,5 @@
 //! The atoms that atoms of a rule stand for under bindings.
+
 ghost use Rattle.std.specs.Prelude.{◌≡◌};
 ghost use Rattle.hp_syntax.specs.Terms.{Symbol, bound, value, value_of_variable, values as part_values};
 ghost use Rattle.hp_syntax.specs.Expressions.{atom_value};

@@ -16,10 +16,15 @@ use std::rc::Rc;
 /// What a call of the walk came to.
 #[derive(Clone, Copy, PartialEq, Eq)]
 pub enum Step {
+    /// A child was reached.
     Did,
+    /// The node reached has no tasks left: its steps are a plan.
     Plan,
+    /// It has tasks left, and no decomposition may follow.
     Cut,
+    /// A fault, after which nothing is left.
     Fault(RunFault),
+    /// Nothing is left.
     End,
 }
 
@@ -55,7 +60,7 @@ impl<'a> Walk<'a> {
         })
     }
 
-    /// The next visit, or the end.
+    /// The next visit, or the end. After an error of memory parts of the tree may be missing.
     pub fn next(&mut self) -> Result<Step, AllocError>
         ensures answer { IfOk result (λ step. Answers step self.old self.new) }
         ensures rules { self.new.rules.now ≡ self.old.rules.now }

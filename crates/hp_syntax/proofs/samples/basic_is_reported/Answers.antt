@@ -16,3 +16,11 @@ returns-clause-stopped c = refl
 pub returns-clause-cut : goal.returns-clause-cut
 unfolding walk_of walk visits visits_within children report plan_text ending_text digits
 returns-clause-cut c = refl
+
+pub returns-clause-empty : goal.returns-clause-empty
+unfolding walk_of walk visits visits_within children report plan_text ending_text digits
+returns-clause-empty c = refl
+
+pub returns-clause-enough : goal.returns-clause-enough
+unfolding walk_of walk visits visits_within children report plan_text ending_text digits
+returns-clause-enough c = refl

@@ -14,3 +14,7 @@ returns-clause-enough c = refl
 pub returns-clause-cut : goal.returns-clause-cut
 unfolding walk_of walk visits visits_within children
 returns-clause-cut c = refl
+
+pub returns-clause-empty : goal.returns-clause-empty
+unfolding walk_of walk visits visits_within children
+returns-clause-empty c = refl

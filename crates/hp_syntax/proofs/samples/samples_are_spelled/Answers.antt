@@ -1,5 +1,5 @@
 use Rattle.std.proofs.Common.{refl}
-use Rattle.hp_syntax.specs.Samples.{basic_text, basic_forest, swap_text, swap_forest, two_text, two_forest, fetch_text, fetch_forest}
+use Rattle.hp_syntax.specs.Samples.{basic_text, basic_forest, swap_text, swap_forest, two_text, two_forest, fetch_text, fetch_forest, empty_text, empty_forest}
 use Rattle.hp_syntax.proofs.Spelled.{tested}
 use Rattle.hp_syntax.proofs.samples.samples_are_spelled.Goals as goal
 
@@ -14,3 +14,6 @@ returns-clause-two c = tested two_text two_forest refl
 
 pub returns-clause-fetch : goal.returns-clause-fetch
 returns-clause-fetch c = tested fetch_text fetch_forest refl
+
+pub returns-clause-empty : goal.returns-clause-empty
+returns-clause-empty c = tested empty_text empty_forest refl
