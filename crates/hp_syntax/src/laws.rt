@@ -81,3 +81,23 @@ pub fn plans_do_their_tasks()
     ensures { (forest : Forest) (domain : Domain) (problem : Problem) (depth : ℕ) → domain_of forest ≡ Some domain
         → All (λ v. v.sight ≡ Plan → Solves domain (added [] problem.state) problem.tasks v.node.steps v.node.state) (walk domain problem depth) }
 {}
+
+#[cfg(test)]
+mod tests {
+    use super::*;
+
+    /// A law does nothing, and so can always be cited.
+    #[test]
+    fn laws_can_be_cited() {
+        texts_spell_one_forest();
+        no_text_is_both();
+        every_text_is_one_or_the_other();
+        forests_have_one_form();
+        candidates_are_tasks();
+        visits_are_in_the_tree();
+        plans_have_paths_of_their_own();
+        terms_are_compared();
+        plans_are_sound();
+        plans_do_their_tasks();
+    }
+}

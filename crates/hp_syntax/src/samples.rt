@@ -48,3 +48,16 @@ pub fn two_is_reported()
     ensures written { report 9 (walk_of two_forest fetch_forest 2)
         ≡ codes "plan 1 cost 1 steps 1\n(!take cup shelf)\nplan 2 cost 1 steps 1\n(!take pan hook)\ncut plans 2 expansions 8\n" }
 {}
+
+#[cfg(test)]
+mod tests {
+    use super::*;
+
+    #[test]
+    fn samples_can_be_cited() {
+        samples_are_spelled();
+        basic_is_walked();
+        basic_is_reported();
+        two_is_reported();
+    }
+}

@@ -1,5 +1,7 @@
 //! Whole runs over a folder and a sink in memory: the bytes that are written, and the status.
 
+use crate::laws::{every_run_has_an_outcome, outcomes_are_one};
+use crate::samples::basic_comes_to_its_plan;
 use crate::{Status, run};
 use hp_io::{MemFolder, MemSink};
 use std::alloc::Global;
@@ -249,4 +251,12 @@ fn statuses_have_their_numbers(rt: HostRuntime) {
     ] {
         assert_eq!(rt; status.code(), code);
     }
+}
+
+/// A law does nothing, and so can always be cited.
+#[test]
+fn laws_can_be_cited() {
+    outcomes_are_one();
+    every_run_has_an_outcome();
+    basic_comes_to_its_plan();
 }
