@@ -12,3 +12,5 @@ pub mod Sound
 pub mod Reading
 pub mod Found
 pub mod Solved
+pub mod StandsLayers
+pub mod StandsOnce

@@ -11,3 +11,4 @@ pub mod Report
 pub mod Samples
 pub mod Laws
 pub mod Soundness
+pub mod Stands

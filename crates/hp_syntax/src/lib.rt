@@ -12,6 +12,7 @@ pub mod laws;
 mod name;
 mod pattern;
 pub mod samples;
+pub mod stands;
 mod tasks;
 
 pub use domain::{Axiom, Branch, Clause, Domain, Effect, Method, Operator, Pair, Problem, Rule};

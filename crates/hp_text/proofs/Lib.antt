@@ -3,4 +3,3 @@ pub mod Refusals
 pub mod Runs
 pub mod Made
 pub mod Exits
-pub mod Excludes
