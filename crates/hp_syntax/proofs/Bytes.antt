@@ -15,9 +15,11 @@ part_byte p text a b k h l m n =
     let w : k - a < length (slice_range text a b) = simp (length-take, length-drop) (omega arith) in
     ⊎_elim (λ t. t) (λ f. absurd (both_ways _ (list_all_at p (slice_range text a b) (k - a) 0 w (ap p e ∙ f)) h)) (cases_Bool (p (slice_index text k)))
 
+-- each byte of a gap is blank
 pub gap_byte : (text : List ℕ) (a b k : ℕ) → IsGap text a b → a ≤ k → k < b → k < length text → is_blank (slice_index text k) ≡ true
 gap_byte text a b k g l m n = part_byte is_blank text a b k g.blank l m n
 
+-- each byte of a token is a name byte
 pub token_byte : (text : List ℕ) (a b k : ℕ) → IsToken text a b → a ≤ k → k < b → is_name_byte (slice_index text k) ≡ true
 token_byte text a b k t l m =
     let w : b ≤ length text = t.within in
@@ -70,33 +72,42 @@ blank_below b h =
     (λ e. let w = eqb-true b 10 e in omega arith)
     (or_cases (eqb b 32 || eqb b 9 || eqb b 13) (eqb b 10) h)
 
+-- an opening bracket is not blank
 pub open_not_blank : (b : ℕ) → b ≡ 40 → is_blank b ≡ false
 open_not_blank b e = rw e
 
+-- nor is a closing one
 pub close_not_blank : (b : ℕ) → b ≡ 41 → is_blank b ≡ false
 close_not_blank b e = rw e
 
+-- an opening bracket is no name byte
 pub open_not_name : (b : ℕ) → b ≡ 40 → is_name_byte b ≡ false
 open_not_name b e = rw e
 
+-- nor is a closing one
 pub close_not_name : (b : ℕ) → b ≡ 41 → is_name_byte b ≡ false
 close_not_name b e = rw e
 
+-- a name byte is visible
 pub name_above : (b : ℕ) → is_name_byte b ≡ true → 33 ≤ b
 name_above b h = leb-true 33 b (and_parts (leb 33 b) _ (and_parts (leb 33 b && leb b 126) _ h).0).0
 
+-- a name byte is not blank
 pub name_not_blank : (b : ℕ) → is_name_byte b ≡ true → is_blank b ≡ false
 name_not_blank b h =
     let l : 33 ≤ b = name_above b h in
     rw (ne_eqb b 32 (λ e. omega arith), ne_eqb b 9 (λ e. omega arith), ne_eqb b 13 (λ e. omega arith), ne_eqb b 10 (λ e. omega arith))
 
+-- and no bracket
 pub name_not_bracket : (b : ℕ) → is_name_byte b ≡ true → is_bracket b ≡ false
 name_not_bracket b h =
     (or_parts (is_bracket b) _ (or_parts (is_bracket b || eqb b 59) _ (not-true _ (and_parts (leb 33 b && leb b 126) _ h).1)).0).0
 
+-- a blank is no name byte
 pub blank_not_name : (b : ℕ) → is_blank b ≡ true → is_name_byte b ≡ false
 blank_not_name b h = false_from_ne_true (is_name_byte b) (λ n. both_ways (is_blank b) (name_not_blank b n) h)
 
+-- and no bracket
 pub blank_not_bracket : (b : ℕ) → is_blank b ≡ true → is_bracket b ≡ false
 blank_not_bracket b h =
     let l : b < 40 = blank_below b h in
@@ -106,6 +117,7 @@ blank_not_bracket b h =
 pub end_not_blank : (text : List ℕ) (i : ℕ) → i ≡ length text → is_blank (slice_index text i) ≡ false
 end_not_blank text i e = rw (get_or_past text i 0 (omega arith))
 
+-- no name byte stands at the end
 pub end_not_name : (text : List ℕ) (i : ℕ) → i ≡ length text → is_name_byte (slice_index text i) ≡ false
 end_not_name text i e = rw (get_or_past text i 0 (omega arith))
 

@@ -12,6 +12,7 @@ use Rattle.hp_syntax.proofs.Bytes.{one_gap, one_token, token_byte, name_not_blan
 unfoldable pub IsEnd : List ℕ → ℕ → Type 0
 IsEnd text e = (slice_index text e ≡ 41) ⊎ (e ≡ length text)
 
+-- an end lies within the text
 pub end_within : (text : List ℕ) (e : ℕ) → IsEnd text e → e ≤ length text
 unfolding IsEnd
 end_within text e (inl h) = let l = stands text e 40 h in omega arith
@@ -23,14 +24,17 @@ unfolding IsEnd
 end_blank text e (inl h) = close_not_blank _ h
 end_blank text e (inr h) = end_not_blank text e h
 
+-- no name byte stands at an end
 end_name : (text : List ℕ) (e : ℕ) → IsEnd text e → is_name_byte (slice_index text e) ≡ false
 unfolding IsEnd
 end_name text e (inl h) = close_not_name _ h
 end_name text e (inr h) = end_not_name text e h
 
+-- a number is not two numbers
 apart : (a b c : ℕ) → a ≡ b → a ≡ c → b < c → ⊥
 apart a b c p q l = omega arith
 
+-- no opening bracket stands at an end
 end_open : (text : List ℕ) (e : ℕ) → IsEnd text e → slice_index text e ≡ 40 → ⊥
 unfolding IsEnd
 end_open text e (inl h) o = apart (slice_index text e) 40 41 o h (omega arith)
@@ -45,6 +49,7 @@ node_within text (Word s name) h =
 node_within text (Numeral s n) h = absurd h
 node_within text (Group s parts) h = stands text s.from 39 h.0
 
+-- the first byte of a node is not blank
 pub node_blank : (text : List ℕ) (n : Node) → SpellsNode text n → is_blank (slice_index text (span_of n).from) ≡ false
 node_blank text (Word s name) h =
     let a : s.from < s.to = h.0.some in
@@ -60,6 +65,7 @@ node_end text (Word s name) e h d q =
 node_end text (Numeral s n) e h d q = absurd h
 node_end text (Group s parts) e h d q = end_open text e d (ap (slice_index text) (sym q) ∙ h.0)
 
+-- spans with the same ends are the same
 same_span : (s t : Span) → s.from ≡ t.from → s.to ≡ t.to → s ≡ t
 same_span s t p q = λ i. record { from = p i; to = q i }
 
@@ -69,6 +75,7 @@ word_no_list text a b t o =
     let l : a < b = t.some in
     both_ways _ (open_not_name _ o) (token_byte text a b a t (omega arith) l)
 
+-- two words from one offset are the same
 same_word : (text : List ℕ) (s t : Span) (x y : List ℕ) → SpellsNode text (Word s x) → SpellsNode text (Word t y) → s.from ≡ t.from → Word s x ≡ Word t y
 same_word text s t x y h k q =
     let e : s.to ≡ t.to = one_token text s.from s.to t.to h.0 (subst (λ i. IsToken text i t.to) (sym q) k.0) in
@@ -76,10 +83,12 @@ same_word text s t x y h k q =
     let r : x ≡ y = h.1 ∙ (ap (λ (u : Span). slice_range text u.from u.to) p ∙ sym k.1) in
     cc
 
+-- the parts of a list end before its closing bracket
 list_end : (text : List ℕ) (s : Span) → s.from + 2 ≤ s.to → slice_index text (s.to - 1) ≡ 41 → IsEnd text (s.to - 1)
 unfolding IsEnd
 list_end text s l h = inl h
 
+-- two lists from one offset with the same parts are the same
 same_list : (s t : Span) (f g : Forest) → s.from ≡ t.from → s.from + 2 ≤ s.to → t.from + 2 ≤ t.to → (s.to - 1 ≡ t.to - 1) × (f ≡ g) → Group s f ≡ Group t g
 same_list s t f g q l m h =
     let e : s.to - 1 ≡ t.to - 1 = h.0 in
@@ -87,6 +96,7 @@ same_list s t f g q l m h =
     let r = h.1 in
     cc
 
+-- two nodes from one offset are the same
 mutual
   same_node : (text : List ℕ) (n m : Node) → SpellsNode text n → SpellsNode text m → (span_of n).from ≡ (span_of m).from → n ≡ m
   same_node text (Word s x) (Word t y) h k q = same_word text s t x y h k q
@@ -99,6 +109,7 @@ mutual
       same_list s t f g q h.1 k.1
       (same_forest text (s.from + 1) (t.from + 1) (s.to - 1) (t.to - 1) f g (ap (λ i. i + 1) q) h.3 k.3 (list_end text s h.1 h.2) (list_end text t k.1 k.2))
 
+  -- two forests from one offset, each up to an end, are the same and end together
   same_forest : (text : List ℕ) (a b d e : ℕ) (f g : Forest) → a ≡ b → Spells text a d f → Spells text b e g → IsEnd text d → IsEnd text e → (d ≡ e) × (f ≡ g)
   same_forest text a b d e Bare Bare q h k x y =
       (one_gap text a d e h (subst (λ i. IsGap text i e) (sym q) k) (end_within text d x) (end_within text e y) (end_blank text d x) (end_blank text e y), refl)
@@ -114,9 +125,11 @@ mutual
       let r = same_forest text (span_of n).to (span_of m).to d e f g (ap (λ z. (span_of z).to) p) h.2 k.2 x y in
       (r.0, ap₂ Grow p r.1)
 
+-- a text ends at its length
 whole_end : (text : List ℕ) → IsEnd text (length text)
 unfolding IsEnd
 whole_end text = inr refl
 
+-- so a text spells one forest at most
 pub one_forest : (text : List ℕ) (f g : Forest) → IsForest text f → IsForest text g → f ≡ g
 one_forest text f g h k = (same_forest text 0 0 (length text) (length text) f g refl h.spelled k.spelled (whole_end text) (whole_end text)).1

@@ -29,6 +29,7 @@ record RunTo (p : ℕ → Bool) (text : List ℕ) (a b : ℕ) : Type 0 where
   passes : (k : ℕ) → a ≤ k → k < b → p (slice_index text k) ≡ true
   stops : p (slice_index text b) ≡ false
 
+-- a byte that passes before a run makes it longer
 one_more_passes : (p : ℕ → Bool) (text : List ℕ) (a b : ℕ) → p (slice_index text a) ≡ true → RunTo p text (a + 1) b → RunTo p text a b
 one_more_passes p text a b t r = record {
   order = (let l = r.order in omega arith);
@@ -37,6 +38,7 @@ one_more_passes p text a b t r = record {
   stops = r.stops;
 }
 
+-- from each offset on there is such a run
 run_from : (p : ℕ → Bool) → p 0 ≡ false → (text : List ℕ) (d a : ℕ) → a + d ≡ length text → (b : ℕ) × RunTo p text a b
 run_from p z text zero a e =
     (a, record { order = omega arith; within = omega arith; passes = λ k l m. absurd (omega arith); stops = ap p (get_or_past text a 0 (omega arith)) ∙ z })
@@ -45,6 +47,7 @@ run_from p z text (suc d) a e =
     (λ f. (a, record { order = omega arith; within = omega arith; passes = λ k l m. absurd (omega arith); stops = f }))
     (cases_Bool (p (slice_index text a)))
 
+-- a run of blanks is a gap
 run_gap : (text : List ℕ) (a b : ℕ) → RunTo is_blank text a b → IsGap text a b
 run_gap text a b r = record { order = r.order; blank = part_passes is_blank text a b r.order r.within r.passes }
 
@@ -52,11 +55,13 @@ run_gap text a b r = record { order = r.order; blank = part_passes is_blank text
 outside_at : (text : List ℕ) (i : ℕ) → is_name_byte (slice_index text i) ≡ false → is_inside text i ≡ false
 outside_at text i h = and_right (ltb 0 i && is_name_byte (slice_index text (i - 1))) (is_name_byte (slice_index text i)) h
 
+-- no run of name bytes goes on after another byte
 outside_after : (text : List ℕ) (i j : ℕ) → i + 1 ≡ j → is_name_byte (slice_index text i) ≡ false → is_inside text j ≡ false
 outside_after text i j e h =
     let q : is_name_byte (slice_index text (j - 1)) ≡ false = ap (λ k. is_name_byte (slice_index text k)) (omega arith) ∙ h in
     and_left (ltb 0 j && is_name_byte (slice_index text (j - 1))) (is_name_byte (slice_index text j)) (and_right (ltb 0 j) (is_name_byte (slice_index text (j - 1))) q)
 
+-- nor through the end of a gap
 outside_gap : (text : List ℕ) (a b : ℕ) → RunTo is_blank text a b → is_inside text a ≡ false → is_inside text b ≡ false
 outside_gap text a b r h =
     let l = r.order in
@@ -64,6 +69,7 @@ outside_gap text a b r h =
     (λ n. outside_after text (b - 1) b (omega arith) (blank_not_name (slice_index text (b - 1)) (r.passes (b - 1) (omega arith) (omega arith))))
     (cases_eq a b)
 
+-- a run of name bytes that doesn't go on is a token
 run_token : (text : List ℕ) (a b : ℕ) → RunTo is_name_byte text a b → a < b → is_inside text a ≡ false → IsToken text a b
 run_token text a b r l o = record {
   some = l;
@@ -83,6 +89,7 @@ record ReadTo (text : List ℕ) (a k : ℕ) : Type 0 where
   words : has_words forest ≡ true
   nested : nesting forest + k ≤ 64
 
+-- it is read, or the text is refused
 Reading : List ℕ → ℕ → ℕ → Type 0
 Reading text a k = ReadTo text a k ⊎ Refused text
 
@@ -118,6 +125,7 @@ read_grown text a k n s r = record {
   nested = (let l = s.nested in let m = r.nested in omega arith);
 }
 
+-- a node is read with what comes after it, or the text is refused
 read_on : (text : List ℕ) (a k : ℕ) (n : Node) → Stands text a k n → Reading text (span_of n).to k → Reading text a k
 unfolding Reading
 read_on text a k n s (inl r) = inl (read_grown text a k n s r)
@@ -139,6 +147,7 @@ module _ (text : List ℕ) (fuel a k b : ℕ) (ready : Ready text (suc fuel) a k
       let y = ready.deep in
       omega arith
 
+  -- after the node reading may begin
   ready_after : (n : Node) → Stands text a k n → b < (span_of n).to → (span_of n).to ≤ length text → is_inside text (span_of n).to ≡ false → Ready text fuel (span_of n).to k
   ready_after n s l m o = record {
     left = (let x = ready.left in let y = run.order in omega arith);
@@ -148,6 +157,7 @@ module _ (text : List ℕ) (fuel a k b : ℕ) (ready : Ready text (suc fuel) a k
     depth = ready.depth;
   }
 
+  -- so the rest is read
   read_after : (n : Node) → Stands text a k n → b < (span_of n).to → (span_of n).to ≤ length text → is_inside text (span_of n).to ≡ false → Reading text a k
   read_after n s l m o = read_on text a k n s (again (span_of n).to k (ready_after n s l m o))
 
@@ -155,6 +165,7 @@ module _ (text : List ℕ) (fuel a k b : ℕ) (ready : Ready text (suc fuel) a k
   word_node : ℕ → Node
   word_node c = Word (record { from = b; to = c }) (slice_range text b c)
 
+  -- a token that is a word stands after the gap
   word_stands : (c : ℕ) → IsToken text b c → is_word (slice_range text b c) ≡ true → Stands text a k (word_node c)
   unfolding word_node
   word_stands c t w = record {
@@ -165,12 +176,14 @@ module _ (text : List ℕ) (fuel a k b : ℕ) (ready : Ready text (suc fuel) a k
     order = (let l = run.order in let m : b < c = t.some in omega arith);
   }
 
+  -- a token is read or refused
   read_token : (c : ℕ) → RunTo is_name_byte text b c → b < c → Reading text a k
   unfolding word_node Reading
   read_token c r l =
       let t = run_token text b c r l (outside_gap text a b run ready.outside) in
       ⊎_elim (λ w. read_after (word_node c) (word_stands c t w) l r.within (outside_at text c r.stops)) (λ w. inr (BadToken b c t w)) (cases_Bool (is_word (slice_range text b c)))
 
+  -- so is what begins with a name byte
   read_word : is_name_byte (slice_index text b) ≡ true → Reading text a k
   read_word h =
       let w = run.within in
@@ -186,6 +199,7 @@ module _ (text : List ℕ) (fuel a k b : ℕ) (ready : Ready text (suc fuel) a k
   list_node : (e : ℕ) → Forest → Node
   list_node e f = Group (record { from = b; to = e + 1 }) f
 
+  -- what was read in brackets stands after the gap
   list_stands : slice_index text b ≡ 40 → (r : ReadTo text (b + 1) (k + 1)) → slice_index text r.end ≡ 41 → Stands text a k (list_node r.end r.forest)
   unfolding list_node
   list_stands o r c = record {
@@ -211,6 +225,7 @@ module _ (text : List ℕ) (fuel a k b : ℕ) (ready : Ready text (suc fuel) a k
       let z = deep_here in
       subst (λ i. closed text i < opened text i) e (omega arith)
 
+  -- it is read if its bracket is closed
   read_closed : slice_index text b ≡ 40 → (r : ReadTo text (b + 1) (k + 1)) → IsEnd text r.end → Reading text a k
   unfolding list_node Reading IsEnd
   read_closed o r (inl c) =
@@ -219,11 +234,13 @@ module _ (text : List ℕ) (fuel a k b : ℕ) (ready : Ready text (suc fuel) a k
       read_after (list_node r.end r.forest) (list_stands o r c) (omega arith) (let s = stands text r.end 40 c in omega arith) (outside_after text r.end (r.end + 1) refl (close_not_name (slice_index text r.end) c))
   read_closed o r (inr e) = inr (Unclosed (unclosed o r e))
 
+  -- if its parts could be read
   read_inner : slice_index text b ≡ 40 → Reading text (b + 1) (k + 1) → Reading text a k
   unfolding Reading
   read_inner o (inl r) = read_closed o r r.ends
   read_inner o (inr r) = inr r
 
+  -- reading may begin in brackets that aren't too deep
   ready_inner : slice_index text b ≡ 40 → k < 64 → Ready text fuel (b + 1) (k + 1)
   ready_inner o l = record {
     left = (let x = ready.left in let y = run.order in omega arith);
@@ -233,6 +250,7 @@ module _ (text : List ℕ) (fuel a k b : ℕ) (ready : Ready text (suc fuel) a k
     depth = omega arith;
   }
 
+  -- else the text is refused
   too_nested : slice_index text b ≡ 40 → 64 ≤ k → Refused text
   too_nested o l =
       let y = open_more text b o in
@@ -241,6 +259,7 @@ module _ (text : List ℕ) (fuel a k b : ℕ) (ready : Ready text (suc fuel) a k
       let z = deep_here in
       TooNested (b + 1) (let x = stands text b 39 o in omega arith) (omega arith)
 
+  -- so is what begins with a bracket
   read_list : slice_index text b ≡ 40 → Reading text a k
   unfolding Reading
   read_list o =
@@ -251,14 +270,17 @@ module _ (text : List ℕ) (fuel a k b : ℕ) (ready : Ready text (suc fuel) a k
   no_text x p q r s =
       or_from (is_blank x || is_bracket x) (is_name_byte x) (or_from (is_blank x) (is_bracket x) p (or_from (eqb x 40) (eqb x 41) q r)) s
 
+  -- a closing bracket ends what is read
   read_close : slice_index text b ≡ 41 → Reading text a k
   unfolding Reading IsEnd
   read_close c = inl (read_bare text a b k (run_gap text a b run) (inl c) ready.depth)
 
+  -- and so does the end of the text
   read_end : b ≡ length text → Reading text a k
   unfolding Reading IsEnd
   read_end e = inl (read_bare text a b k (run_gap text a b run) (inr e) ready.depth)
 
+  -- one of these stands here
   read_here : Reading text a k
   unfolding Reading
   read_here =
@@ -273,6 +295,7 @@ module _ (text : List ℕ) (fuel a k b : ℕ) (ready : Ready text (suc fuel) a k
       (λ l. read_end (omega arith))
       (cases_lt b (length text))
 
+-- so each forest is read or the text refused
 read : (text : List ℕ) (fuel a k : ℕ) → Ready text fuel a k → Reading text a k
 read text zero a k r = absurd (let l = r.left in let m = r.within in omega arith)
 read text (suc fuel) a k r =
@@ -280,9 +303,11 @@ read text (suc fuel) a k r =
     let g = run_from is_blank refl text (length text - a) a (omega arith) in
     read_here text fuel a k g.0 r g.1 (λ b l s. read text fuel b l s)
 
+-- reading may begin at the start
 ready_whole : (text : List ℕ) → Ready text (suc (length text)) 0 0
 ready_whole text = record { left = omega arith; within = omega arith; outside = refl; deep = refl; depth = omega arith }
 
+-- a bracket that closes nothing is refused
 extra_close : (text : List ℕ) (r : ReadTo text 0 0) → slice_index text r.end ≡ 41 → Refused text
 extra_close text r c =
     let x = (forest_balanced text 0 r.end r.forest r.spelled).level in
@@ -291,6 +316,7 @@ extra_close text r c =
     let y1 = y.1 in
     ExtraClose (r.end + 1) (let l = stands text r.end 40 c in omega arith) (omega arith)
 
+-- what is read up to the end is the forest of the text
 whole_forest : (text : List ℕ) (r : ReadTo text 0 0) → length text ≤ 4194304 → r.end ≡ length text → IsForest text r.forest
 whole_forest text r l e = record {
   short = l;
@@ -299,16 +325,19 @@ whole_forest text r l e = record {
   nested = (let m = r.nested in omega arith);
 }
 
+-- the whole text is read or refused
 whole_end : (text : List ℕ) (r : ReadTo text 0 0) → length text ≤ 4194304 → IsEnd text r.end → ((f : Forest) × IsForest text f) ⊎ Refused text
 unfolding IsEnd
 whole_end text r l (inl c) = inr (extra_close text r c)
 whole_end text r l (inr e) = inl (r.forest, whole_forest text r l e)
 
+-- if what was read can be
 whole_reading : (text : List ℕ) → length text ≤ 4194304 → Reading text 0 0 → ((f : Forest) × IsForest text f) ⊎ Refused text
 unfolding Reading
 whole_reading text l (inl r) = whole_end text r l r.ends
 whole_reading text l (inr r) = inr r
 
+-- so each text spells a forest or is refused
 pub one_or_the_other : (text : List ℕ) → ((f : Forest) × IsForest text f) ⊎ Refused text
 one_or_the_other text =
     ⊎_elim (λ l. inr (TooLarge l)) (λ l. whole_reading text l (read text (suc (length text)) 0 0 (ready_whole text))) (cases_lt 4194304 (length text))

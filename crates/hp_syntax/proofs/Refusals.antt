@@ -12,18 +12,23 @@ use Rattle.hp_syntax.proofs.Bytes.{gap_byte, token_byte, name_not_blank, name_no
 blank_byte : (b : ℕ) → is_blank b ≡ true → is_text_byte b ≡ true
 blank_byte b h = rw h
 
+-- a bracket may stand in a text
 bracket_byte : (b : ℕ) → is_bracket b ≡ true → is_text_byte b ≡ true
 bracket_byte b h = grind (arith, h)
 
+-- and so may a name byte
 name_byte : (b : ℕ) → is_name_byte b ≡ true → is_text_byte b ≡ true
 name_byte b h = or_right (is_blank b || is_bracket b) (is_name_byte b) h
 
+-- an opening bracket
 open_byte : (b : ℕ) → b ≡ 40 → is_text_byte b ≡ true
 open_byte b e = rw e
 
+-- and a closing one
 close_byte : (b : ℕ) → b ≡ 41 → is_text_byte b ≡ true
 close_byte b e = rw e
 
+-- so each byte of a node may
 mutual
   node_bytes : (text : List ℕ) (n : Node) (k : ℕ) → SpellsNode text n → (span_of n).from ≤ k → k < (span_of n).to → k < length text → is_text_byte (slice_index text k) ≡ true
   node_bytes text (Word s name) k h l m w = name_byte (slice_index text k) (token_byte text s.from s.to k h.0 l m)
@@ -35,6 +40,7 @@ mutual
       (cases_lt k (s.to - 1)))
       (cases_lt k (s.from + 1))
 
+  -- and each of a forest
   forest_bytes : (text : List ℕ) (a e : ℕ) (f : Forest) (k : ℕ) → Spells text a e f → a ≤ k → k < e → k < length text → is_text_byte (slice_index text k) ≡ true
   forest_bytes text a e Bare k h l m w = blank_byte (slice_index text k) (gap_byte text a e k h l m w)
   forest_bytes text a e (Grow n f) k h l m w =
@@ -46,17 +52,20 @@ mutual
 name_at : (text : List ℕ) (p q : ℕ) → IsToken text p q → is_name_byte (slice_index text p) ≡ true
 name_at text p q t = let l : p < q = t.some in token_byte text p q p t (omega arith) l
 
+-- no token begins in a gap
 no_token_in_gap : (text : List ℕ) (a b p q : ℕ) → IsGap text a b → IsToken text p q → a ≤ p → p < b → ⊥
 no_token_in_gap text a b p q g t l m =
     let u : p < q = t.some in
     let v : q ≤ length text = t.within in
     both_ways _ (name_not_blank (slice_index text p) (name_at text p q t)) (gap_byte text a b p g l m (omega arith))
 
+-- a token that begins where a word begins is that word
 is_that_word : (text : List ℕ) (a b p q : ℕ) (name : List ℕ) → IsToken text a b → IsToken text p q → a ≡ p → name ≡ slice_range text a b → is_word name ≡ true → is_word (slice_range text p q) ≡ true
 is_that_word text a b p q name t u e n w =
     let f : b ≡ q = one_token text a b q t (subst (λ i. IsToken text i q) (sym e) u) in
     subst (λ x. is_word x ≡ true) (n ∙ ap₂ (slice_range text) e f) w
 
+-- a token that begins in a node is one of its words
 mutual
   node_words : (text : List ℕ) (n : Node) (p q : ℕ) → SpellsNode text n → node_has_words n ≡ true → IsToken text p q → (span_of n).from ≤ p → p < (span_of n).to → is_word (slice_range text p q) ≡ true
   node_words text (Word s name) p q h w t l m = is_that_word text s.from s.to p q name h.0 t (one_begin text s.from s.to p q h.0 t l m) h.1 w
@@ -68,6 +77,7 @@ mutual
       (cases_lt p (s.to - 1)))
       (cases_lt p (s.from + 1))
 
+  -- and one that begins in a forest
   forest_words : (text : List ℕ) (a e : ℕ) (f : Forest) (p q : ℕ) → Spells text a e f → has_words f ≡ true → IsToken text p q → a ≤ p → p < e → is_word (slice_range text p q) ≡ true
   forest_words text a e Bare p q h w t l m = absurd (no_token_in_gap text a e p q h t l m)
   forest_words text a e (Grow n f) p q h w t l m =
@@ -89,14 +99,17 @@ past_no p text i z h =
     (λ l. ap (count_by p) (take_all (i + 1) text (omega arith) ∙ sym (take_all i text l)))
     (cases_lt i (length text))
 
+-- an opening bracket is one more that is opened
 pub open_more : (text : List ℕ) (i : ℕ) → slice_index text i ≡ 40 → (opened text (i + 1) ≡ opened text i + 1) × (closed text (i + 1) ≡ closed text i)
 open_more text i h =
     (count_by_more_yes (λ b. eqb b 40) text i 0 (stands text i 39 h) (rw h), past_no (λ b. eqb b 41) text i refl (rw h))
 
+-- a closing one is one more that is closed
 pub close_more : (text : List ℕ) (i : ℕ) → slice_index text i ≡ 41 → (opened text (i + 1) ≡ opened text i) × (closed text (i + 1) ≡ closed text i + 1)
 close_more text i h =
     (past_no (λ b. eqb b 40) text i refl (rw h), count_by_more_yes (λ b. eqb b 41) text i 0 (stands text i 40 h) (rw h))
 
+-- another byte is neither
 plain_more : (text : List ℕ) (i : ℕ) → is_bracket (slice_index text i) ≡ false → (opened text (i + 1) ≡ opened text i) × (closed text (i + 1) ≡ closed text i)
 plain_more text i h =
     let p = or_parts (eqb (slice_index text i) 40) (eqb (slice_index text i) 41) h in
@@ -110,11 +123,13 @@ plain_stays text a (suc d) h =
     let s = plain_more text (a + d) (h (a + d) (omega arith) (omega arith)) in
     (ap (opened text) (omega arith) ∙ (s.0 ∙ r.0), ap (closed text) (omega arith) ∙ (s.1 ∙ r.1))
 
+-- so the counts are the same at each offset there
 plain_at : (text : List ℕ) (a b i : ℕ) → ((k : ℕ) → a ≤ k → k < b → is_bracket (slice_index text k) ≡ false) → a ≤ i → i ≤ b → (opened text i ≡ opened text a) × (closed text i ≡ closed text a)
 plain_at text a b i h l m =
     subst (λ j. (opened text j ≡ opened text a) × (closed text j ≡ closed text a)) (let e : a + (i - a) ≡ i = omega arith in e)
     (plain_stays text a (i - a) (λ k x y. h k x (omega arith)))
 
+-- such a piece is balanced
 plain_balanced : (text : List ℕ) (a b : ℕ) → a ≤ b → ((k : ℕ) → a ≤ k → k < b → is_bracket (slice_index text k) ≡ false) → Balanced text a b 0
 plain_balanced text a b l h = record {
   low = λ i x y. (let p = plain_at text a b i h x y in let q = p.0 in let r = p.1 in omega arith);
@@ -122,11 +137,13 @@ plain_balanced text a b l h = record {
   level = (let p = plain_at text a b b h l (omega arith) in let q = p.0 in let r = p.1 in omega arith);
 }
 
+-- so is a gap
 pub gap_balanced : (text : List ℕ) (a b : ℕ) → IsGap text a b → Balanced text a b 0
 gap_balanced text a b g =
     plain_balanced text a b g.order
     (λ k l m. ⊎_elim (λ w. blank_not_bracket (slice_index text k) (gap_byte text a b k g l m w)) (λ w. rw (get_or_past text k 0 w)) (cases_lt k (length text)))
 
+-- so is a word
 word_balanced : (text : List ℕ) (a b : ℕ) → IsToken text a b → Balanced text a b 0
 word_balanced text a b t =
     let l : a < b = t.some in
@@ -156,6 +173,7 @@ record Between (text : List ℕ) (a e n : ℕ) : Type 0 where
   closes : closed text e ≡ closed text (e - 1) + 1
   inner : Balanced text (a + 1) (e - 1) n
 
+-- what a balanced piece between brackets counts
 between : (text : List ℕ) (a e n : ℕ) → a + 2 ≤ e → slice_index text a ≡ 40 → slice_index text (e - 1) ≡ 41 → Balanced text (a + 1) (e - 1) n → Between text a e n
 between text a e n l o c x =
     let p = open_more text a o in
@@ -169,9 +187,11 @@ between text a e n l o c x =
       inner = x;
     }
 
+-- the counts at equal offsets are equal
 same_place : (text : List ℕ) (i j : ℕ) → i ≡ j → (opened text i ≡ opened text j) × (closed text i ≡ closed text j)
 same_place text i j e = (ap (opened text) e, ap (closed text) e)
 
+-- at its end as many are closed as opened
 between_level : (text : List ℕ) (a e n : ℕ) → Between text a e n → opened text e + closed text a ≡ closed text e + opened text a
 between_level text a e n b =
     let z = b.inner.level in
@@ -181,6 +201,7 @@ between_level text a e n b =
     let b3 = b.closes in
     omega arith
 
+-- before that never more
 between_low : (text : List ℕ) (a e n i : ℕ) → Between text a e n → a ≤ i → i ≤ e → closed text i + opened text a ≤ opened text i + closed text a
 between_low text a e n i b l m =
     let b0 = b.opens in
@@ -192,6 +213,7 @@ between_low text a e n i b l m =
     (cases_lt i e))
     (cases_lt i (a + 1))
 
+-- and at most one more than within
 between_high : (text : List ℕ) (a e n i : ℕ) → Between text a e n → a ≤ i → i ≤ e → opened text i + closed text a ≤ closed text i + opened text a + (1 + n)
 between_high text a e n i b l m =
     let b0 = b.opens in
@@ -203,6 +225,7 @@ between_high text a e n i b l m =
     (cases_lt i e))
     (cases_lt i (a + 1))
 
+-- so it is balanced
 list_balanced : (text : List ℕ) (a e n : ℕ) → Between text a e n → Balanced text a e (1 + n)
 list_balanced text a e n b = record {
   low = λ i u v. between_low text a e n i b u v;
@@ -210,6 +233,7 @@ list_balanced text a e n b = record {
   level = between_level text a e n b;
 }
 
+-- each node is balanced, up to its nesting
 mutual
   pub node_balanced : (text : List ℕ) (n : Node) → SpellsNode text n → Balanced text (span_of n).from (span_of n).to (nesting_of_node n)
   node_balanced text (Word s name) h = word_balanced text s.from s.to h.0
@@ -218,6 +242,7 @@ mutual
       list_balanced text s.from s.to (nesting parts)
       (between text s.from s.to (nesting parts) h.1 h.0 h.2 (forest_balanced text (s.from + 1) (s.to - 1) parts h.3))
 
+  -- and so is each forest
   pub forest_balanced : (text : List ℕ) (a e : ℕ) (f : Forest) → Spells text a e f → Balanced text a e (nesting f)
   forest_balanced text a e Bare h = gap_balanced text a e h
   forest_balanced text a e (Grow n f) h =
@@ -228,6 +253,7 @@ mutual
 whole_balanced : (text : List ℕ) (f : Forest) → IsForest text f → Balanced text 0 (length text) (nesting f)
 whole_balanced text f h = forest_balanced text 0 (length text) f h.spelled
 
+-- so no text that spells a forest is refused
 pub not_both : (text : List ℕ) (f : Forest) → IsForest text f → Refused text → ⊥
 not_both text f h (TooLarge l) = let s : length text ≤ 4194304 = h.short in omega arith
 not_both text f h (BadByte i l e) = both_ways _ e (forest_bytes text 0 (length text) f i h.spelled (omega arith) l l)

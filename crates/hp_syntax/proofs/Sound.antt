@@ -23,10 +23,12 @@ and_go_went : {A B : Type 0} (g : Going A) (f : A → Going B) (y : B) → and_g
 and_go_went (Went x) f y h = (x, refl, h)
 and_go_went (Stops x) f y h = absurd cc
 
+-- a value that went is a value
 go_on_went : {A : Type 0} (r : Result A RunFault) (x : A) → go_on r ≡ Went x → r ≡ Ok x
 go_on_went (Ok y) x h = let e : y ≡ x = cc in ap Ok e
 go_on_went (Err f) x h = absurd cc
 
+-- the atoms of effects have the values that went
 effect_values : (cs : List Effect) (e : Bindings) (ts : List Term) → effect_atoms cs e ≡ Went ts → AreValues cs e ts
 effect_values [] e ts h = let q : [] ≡ ts = cc in subst (AreValues [] e) q tt
 effect_values (Change a ∷ cs) e ts h =
@@ -36,11 +38,13 @@ effect_values (Change a ∷ cs) e ts h =
     let q : x.0 ∷ y.0 ≡ ts = cc in
     subst (AreValues (Change a ∷ cs) e) q (go_on_went (atom_value a e) x.0 x.1, effect_values cs e y.0 y.1)
 
+-- a cost that went is a number
 cost_value : (s : Span) (t : Term) (k : ℤ) → cost_of s t ≡ Went k → t ≡ Number k
 cost_value s (Number n) k h = let e : n ≡ k = cc in ap Number e
 cost_value s (Symbol name) k h = absurd cc
 cost_value s (Listed ts) k h = absurd cc
 
+-- the cost of an operator has the value that went
 cost_went : (o : Operator) (e : Bindings) (k : ℤ) → and_go (go_on (value o.cost e)) (cost_of (pattern_span o.cost)) ≡ Went k → value o.cost e ≡ Ok (Number k)
 cost_went o e k h =
     let w = and_go_went (go_on (value o.cost e)) (cost_of (pattern_span o.cost)) k h in
@@ -52,6 +56,7 @@ record AreEffects (o : Operator) (e : Bindings) (c : Changes) (k : ℤ) : Type 0
   appended : AreValues o.adds e c.add
   costs : value o.cost e ≡ Ok (Number k)
 
+-- so an operator that went has the values that it writes
 are_effects : (o : Operator) (e : Bindings) (c : Changes) (k : ℤ) → effects o e ≡ Went (c, k) → AreEffects o e c k
 are_effects o e c k h =
     let x = and_go_went (effect_atoms o.dels e)
@@ -74,6 +79,7 @@ are_effects o e c k h =
           costs = w ∙ ap (λ (q : Changes × ℤ). Ok (Number q.1)) p;
         }
 
+-- changes that were applied give the changed state
 now_state : (o : Option Term) (s : State) (g : List Term) (s1 : State) (g1 : List Term) → unless_guarded o s g ≡ Now s1 g1 → s1 ≡ s
 now_state None s g s1 g1 h = cc
 now_state (Some d) s g s1 g1 h = absurd cc
@@ -83,6 +89,7 @@ pub met_pre : (s : State) (pre : Precondition) (f e : Bindings) → PreBelow (le
 met_pre s (Plain E) f e b c =
     All-contains (OnSat (λ g. Grows f g × IsTrueIn s E g)) (heard (sat s E f)) (Sat e) (heard_good (λ g. Grows f g × IsTrueIn s E g) (sat s E f) (sat_good s E f b)) c
 
+-- so many variables are unbound
 pub unbound_length : (n : ℕ) → length (unbound n) ≡ n
 unbound_length n = length-replicate n None
 
@@ -97,6 +104,7 @@ did_step domain n p t o e c k s g good did =
     record {
       operator = o;
       bindings = e;
+      each = q.0.same_length ∙ (m.0.same_length ∙ l);
       deletes = c.delete;
       adds = c.add;
       known = did.tried.known;
@@ -117,6 +125,7 @@ executes_more domain (u ∷ ts) s s1 s2 t k c h x =
 
 -- what holds at the root and goes on to children holds of each visit's node
 module _ (domain : Domain) (P : Node → Type 0) (goes_on : (n : Node) → P n → All (OfChild P) (children domain n)) where
+  -- so it holds of the visits of children
   hold_of : (d : ℕ) (deep : (m : Node) (q : List ℕ) → P m → All (λ v. P v.node) (visits_within domain d m q)) (n : Node) (p : List ℕ) → P n → (i : ℕ) (cs : List Child) → All (OfChild P) cs → All (λ v. P v.node) (visits_of (visits_within domain d) n p i cs)
   hold_of d deep n p h i [] a = All-nil (λ (v : Visit). P v.node)
   hold_of d deep n p h i (CutChild ∷ cs) a =
@@ -130,6 +139,7 @@ module _ (domain : Domain) (P : Node → Type 0) (goes_on : (n : Node) → P n �
       (All-append (λ (v : Visit). P v.node) (visits_within domain d m at) (visits_of (visits_within domain d) n p (i + 1) cs) (deep m at k)
       (hold_of d deep n p h (i + 1) cs (All-tail (OfChild P) (DidChild m) cs a)))
 
+  -- of those at and below a node
   hold_within : (d : ℕ) (n : Node) (p : List ℕ) → P n → All (λ v. P v.node) (visits_within domain d n p)
   unfolding visits_within
   hold_within zero n p h =
@@ -139,6 +149,7 @@ module _ (domain : Domain) (P : Node → Type 0) (goes_on : (n : Node) → P n �
       (λ t. All-cons (λ (v : Visit). P v.node) (visit p n Plan) [] h (All-nil (λ (v : Visit). P v.node)))
       (λ t. hold_of d (λ m q k. hold_within d m q k) n p h 0 (children domain n) (goes_on n h))
 
+  -- and of those from the root
   pub hold_in_visits : (n : Node) → P n → All (λ v. P v.node) (visits domain n [])
   unfolding visits
   hold_in_visits n h = hold_within n.depth n [] h
@@ -150,13 +161,15 @@ heard_one P v vs Did h a = a
 heard_one P v vs Plan h a = a
 heard_one P v vs CutHere h a = a
 
+-- so what holds of all visits holds of those that are heard
 pub heard_hold : (P : Visit → Type 0) (vs : List Visit) → All P vs → All P (heard_visits vs)
 heard_hold P [] a = All-nil P
 heard_hold P (v ∷ vs) a =
     let h = All-head P v vs a in
     heard_one P v (heard_visits vs) v.sight h (All-cons P v (heard_visits vs) h (heard_hold P vs (All-tail P v vs a)))
 
-cost_is_one : (o : Operator) (e : Bindings) (k : ℤ) → GoodOperator o → value o.cost e ≡ Ok (Number k) → k ≡ pos 1
+-- an operator's cost is one
+pub cost_is_one : (o : Operator) (e : Bindings) (k : ℤ) → GoodOperator o → value o.cost e ≡ Ok (Number k) → k ≡ pos 1
 cost_is_one o e k g h =
     let p : value o.cost e ≡ Ok (Number (pos 1)) = ap (λ c. value c e) g.cost in
     same_number k (pos 1) (sym h ∙ p)
@@ -164,11 +177,13 @@ cost_is_one o e k g h =
     same_number : (a b : ℤ) → ◌≡◌ {A = Result Term RunFault} (Ok (Number a)) (Ok (Number b)) → a ≡ b
     same_number a b q = cc
 
+-- one more step is one more in the cost
 one_more_step : (ts : List Term) (t : Term) (c k : ℤ) → c ≡ pos (length ts) → k ≡ pos 1 → c +ℤ k ≡ pos (length (ts ++ t ∷ []))
 one_more_step ts t c k a b = ap₂ (λ x y. x +ℤ y) a b ∙ ap pos (sym (length_push ts t))
 
 -- a node's steps lead from the first state to the node's state
 module _ (domain : Domain) (good : All GoodRule domain.rules) where
+  -- so its children's steps do
   step_on : (s : State) (n : Node) → Executes domain s n.steps n.cost n.state → All (OfChild (λ m. Executes domain s m.steps m.cost m.state)) (children domain n)
   step_on s n h =
       of_children domain n (λ m. Executes domain s m.steps m.cost m.state)
@@ -176,6 +191,7 @@ module _ (domain : Domain) (good : All GoodRule domain.rules) where
       (did_step domain n p t o e c k s1 g (All-contains GoodRule domain.rules (Does o) good d.tried.known) d))
       (λ p t m b e sub d. h)
 
+  -- so those of all visits do
   pub visits_execute : (root : Node) → root.steps ≡ [] → root.cost ≡ pos 0 → All (λ v. Executes domain root.state v.node.steps v.node.cost v.node.state) (visits domain root [])
   visits_execute root e f =
       hold_in_visits domain (λ n. Executes domain root.state n.steps n.cost n.state) (λ n h. step_on root.state n h) root
@@ -189,15 +205,18 @@ module _ (domain : Domain) (good : All GoodRule domain.rules) where
       (cost_is_one o e k (All-contains GoodRule domain.rules (Does o) good d.tried.known) (are_effects o e c k d.goes).costs))
       (λ p t m b e sub d. h)
 
+  -- so the cost is the number of steps
   pub visits_count : (root : Node) → root.steps ≡ [] → root.cost ≡ pos 0 → All (λ v. v.node.cost ≡ pos (length v.node.steps)) (visits domain root [])
   visits_count root e f =
       hold_in_visits domain (λ n. n.cost ≡ pos (length n.steps)) (λ n h. counted n h) root (f ∙ ap (λ ts. pos (length ts)) (sym e))
 
+-- and of the walk's visits
 pub walk_executes : (domain : Domain) → All GoodRule domain.rules → (problem : Problem) (d : ℕ) → All (λ v. Executes domain (added [] problem.state) v.node.steps v.node.cost v.node.state) (walk domain problem d)
 unfolding walk
 walk_executes domain good problem d =
     heard_hold (λ v. Executes domain (added [] problem.state) v.node.steps v.node.cost v.node.state) (visits domain (root problem d) []) (visits_execute domain good (root problem d) refl refl)
 
+-- and in the walk
 pub walk_counts : (domain : Domain) → All GoodRule domain.rules → (problem : Problem) (d : ℕ) → All (λ v. v.node.cost ≡ pos (length v.node.steps)) (walk domain problem d)
 unfolding walk
 walk_counts domain good problem d =
@@ -207,10 +226,12 @@ walk_counts domain good problem d =
 PlanDone : Visit → Type 0
 PlanDone v = v.sight ≡ Plan → is_empty v.node.network ≡ true
 
+-- nothing is to be shown where there is no plan
 no_plan_done : (p : List ℕ) (n : Node) (s : Sight) → (s ≡ Plan → ⊥) → PlanDone (visit p n s)
 unfolding PlanDone
 no_plan_done p n s h = λ e. absurd (h e)
 
+-- a plan at the last depth has nothing left
 here_done : (p : List ℕ) (n : Node) → PlanDone (visit p n (cond (is_empty n.network) Plan CutHere))
 unfolding PlanDone
 here_done p n = λ e. is_plan (is_empty n.network) e
@@ -219,10 +240,12 @@ here_done p n = λ e. is_plan (is_empty n.network) e
     is_plan true e = refl
     is_plan false e = absurd cc
 
+-- nor has one before that
 plan_done : (p : List ℕ) (n : Node) → is_empty n.network ≡ true → PlanDone (visit p n Plan)
 unfolding PlanDone
 plan_done p n h = λ e. h
 
+-- so have the plans below children
 done_of : (domain : Domain) (d : ℕ) (deep : (m : Node) (q : List ℕ) → All PlanDone (visits_within domain d m q)) (n : Node) (p : List ℕ) (i : ℕ) (cs : List Child) → All PlanDone (visits_of (visits_within domain d) n p i cs)
 done_of domain d deep n p i [] = All-nil PlanDone
 done_of domain d deep n p i (CutChild ∷ cs) =
@@ -234,6 +257,7 @@ done_of domain d deep n p i (DidChild m ∷ cs) =
     All-cons PlanDone (visit at m Did) (visits_within domain d m at ++ visits_of (visits_within domain d) n p (i + 1) cs) (no_plan_done at m Did (λ e. absurd cc))
     (All-append PlanDone (visits_within domain d m at) (visits_of (visits_within domain d) n p (i + 1) cs) (deep m at) (done_of domain d deep n p (i + 1) cs))
 
+-- those at and below a node
 done_within : (domain : Domain) (d : ℕ) (n : Node) (p : List ℕ) → All PlanDone (visits_within domain d n p)
 unfolding visits_within
 done_within domain zero n p = All-cons PlanDone (visit p n (cond (is_empty n.network) Plan CutHere)) [] (here_done p n) (All-nil PlanDone)
@@ -242,16 +266,19 @@ done_within domain (suc d) n p =
     (λ t. All-cons PlanDone (visit p n Plan) [] (plan_done p n t) (All-nil PlanDone))
     (λ t. done_of domain d (λ m q. done_within domain d m q) n p 0 (children domain n))
 
+-- what is tested as empty is empty
 pub empty_is : (n : Network) → is_empty n ≡ true → n ≡ Empty
 empty_is Empty h = refl
 empty_is (Task t i) h = absurd cc
 empty_is (Ordered ns) h = absurd cc
 
+-- so nothing is left at the plans of a tree
 pub visits_done : (domain : Domain) (root : Node) → All (λ v. v.sight ≡ Plan → v.node.network ≡ Empty) (visits domain root [])
 unfolding visits PlanDone
 visits_done domain root =
     All-weaker PlanDone (λ v. v.sight ≡ Plan → v.node.network ≡ Empty) (λ v h e. empty_is v.node.network (h e)) (visits_within domain root.depth root []) (done_within domain root.depth root [])
 
+-- and of a walk
 pub walk_done : (domain : Domain) (problem : Problem) (d : ℕ) → All (λ v. v.sight ≡ Plan → v.node.network ≡ Empty) (walk domain problem d)
 unfolding walk
 walk_done domain problem d =

@@ -4,7 +4,7 @@ use Rattle.std.specs.List.{All}
 use Rattle.hp_syntax.specs.Terms.{Term, and_then}
 use Rattle.hp_syntax.specs.Networks.{Network, Task, Place, part_at, candidates}
 use Rattle.hp_syntax.specs.Rules.{Domain}
-use Rattle.hp_syntax.specs.Walk.{Node, Child, DidChild, CutChild, FaultChild, children}
+use Rattle.hp_syntax.specs.Walk.{Node, Child, DidChild, CutChild, FaultChild, children, Sight, Did, Plan, CutHere, FaultHere}
 
 -- a task stands at a place of the network
 abbrev pub IsTaskAt : Network → Place → Type 0
@@ -27,3 +27,10 @@ did_at (FaultChild f ∷ cs) i = did_at cs i
 unfoldable pub node_at : Domain → Node → List ℕ → Option Node
 node_at domain n [] = Some n
 node_at domain n (i ∷ p) = cond (n.depth == 0) None (and_then (did_at (children domain n) i) (λ m. node_at domain m p))
+
+-- what is seen is no fault
+abbrev pub IsFaultless : Sight → Type 0
+IsFaultless Did = Unit {0}
+IsFaultless Plan = Unit {0}
+IsFaultless CutHere = Unit {0}
+IsFaultless (FaultHere f) = ⊥

@@ -1,12 +1,10 @@
 -- Two domains that are read and walked by the definitions alone.
-use Rattle.std.specs.Prelude.{◌≡◌, ℕ, List, [], ◌∷◌, ◌++◌, map, Option, Some, None, codes}
-use Rattle.hp_syntax.specs.declared.pattern.Span.{Span}
+use Rattle.std.specs.Prelude.{ℕ, List, [], ◌∷◌, map, Option, Some, None, codes}
 use Rattle.hp_syntax.specs.Forest.{Node, Word, Group, Forest, Bare, Grow}
 use Rattle.hp_syntax.specs.Form.{domain_of, problem_of}
 use Rattle.hp_syntax.specs.Networks.{Empty}
 use Rattle.hp_syntax.specs.Rules.{Domain, Problem}
-use Rattle.hp_syntax.specs.Walk.{Visit, Sight, Did, Plan, CutHere, FaultHere, walk}
-use Rattle.hp_syntax.specs.Report.{report, steps_text}
+use Rattle.hp_syntax.specs.Walk.{Visit, Sight, walk}
 
 abbrev pub grown : List Node → Forest
 grown [] = Bare

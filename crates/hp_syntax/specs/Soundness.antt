@@ -1,5 +1,5 @@
 -- What it is to execute a plan, and to do a network of tasks, said without the tree.
-use Rattle.std.specs.Prelude.{◌≡◌, ℕ, ◌<◌, Bool, not, ℤ, pos, ◌+ℤ◌, List, [], ◌∷◌, ◌++◌, length, slice_get, filter, Some, Ok, Contains}
+use Rattle.std.specs.Prelude.{◌≡◌, ℕ, suc, ◌+◌, ◌<◌, Bool, not, ℤ, pos, ◌+ℤ◌, List, [], ◌∷◌, ◌++◌, length, slice_get, filter, Some, Ok, Contains}
 use Rattle.hp_syntax.specs.Terms.{Term, Number, Bindings, value}
 use Rattle.hp_syntax.specs.Expressions.{Expression, Expressions, Holds, Both, NoExpression, Also, State, atom_value}
 use Rattle.hp_syntax.specs.Networks.{Network, Empty, Task, Ordered, Networks, NoNetwork, And}
@@ -15,6 +15,7 @@ abbrev mutual
   AreTrueIn s NoExpression e = Unit {0}
   AreTrueIn s (Also p ps) e = IsTrueIn s p e × AreTrueIn s ps e
 
+-- a precondition is met where its expression is true
 abbrev pub IsMetIn : State → Precondition → Bindings → Type 0
 IsMetIn s (Plain E) e = IsTrueIn s E e
 
@@ -25,11 +26,12 @@ AreValues [] e (t ∷ ts) = ⊥
 AreValues (c ∷ cs) e [] = ⊥
 AreValues (Change a ∷ cs) e (t ∷ ts) = (atom_value a e ≡ Ok t) × AreValues cs e ts
 
--- a step is the value of the head of an operator of the domain, under bindings that meet its
--- precondition; the deletes go from the state, and then the adds that are absent are appended in turn
+-- a step is the value of the head of an operator of the domain, under bindings of its variables that
+-- meet its precondition; the deletes go from the state, and then the adds that are absent are appended in turn
 pub record Step (domain : Domain) (before : State) (step : Term) (cost : ℤ) (after : State) : Type 0 where
   pub operator : Operator
   pub bindings : Bindings
+  pub each : length bindings ≡ length operator.vars
   pub deletes : List Term
   pub adds : List Term
   pub known : Contains domain.rules (Does operator)
@@ -53,6 +55,7 @@ pub record Decomposes (domain : Domain) (state : State) (task : Term) (subtasks 
   pub number : ℕ
   pub branch : Branch
   pub bindings : Bindings
+  pub each : length bindings ≡ length method.vars
   pub known : Contains domain.rules (Refines method)
   pub head : atom_value method.head bindings ≡ Ok task
   pub there : slice_get method.branches number ≡ Some branch
@@ -62,15 +65,16 @@ pub record Decomposes (domain : Domain) (state : State) (task : Term) (subtasks 
       i < number → slice_get method.branches i ≡ Some earlier → length e ≡ length method.vars → atom_value method.head e ≡ Ok task → IsMetIn state earlier.pre e → ⊥
   pub gives : tasks_value branch.tasks bindings ≡ Ok subtasks
 
--- steps that do a network and lead from one state to another: a task is done by an operator's step,
--- or by doing what a method decomposes it into; the parts of a list are done one after another
+-- steps that do a network by so many steps and decompositions, and lead from one state to another: a
+-- task is done by an operator's step, or by doing what a method decomposes it into; the parts of a
+-- list are done one after another
 mutual
-  pub data Solves (domain : Domain) : State → Network → List Term → State → Type 0 where
-    Nothing : (before : State) → Solves domain before Empty [] before
-    ByOperator : (before after : State) (t : Term) (i : Bool) (cost : ℤ) → Step domain before t cost after → Solves domain before (Task t i) (t ∷ []) after
-    ByMethod : (before after : State) (t : Term) (i : Bool) (sub : Network) (steps : List Term) → Decomposes domain before t sub → Solves domain before sub steps after → Solves domain before (Task t i) steps after
-    InTurn : (before after : State) (parts : Networks) (steps : List Term) → SolvesAll domain before parts steps after → Solves domain before (Ordered parts) steps after
+  pub data Solves (domain : Domain) : ℕ → State → Network → List Term → State → Type 0 where
+    Nothing : (before : State) → Solves domain 0 before Empty [] before
+    ByOperator : (before after : State) (t : Term) (i : Bool) (cost : ℤ) → Step domain before t cost after → Solves domain 1 before (Task t i) (t ∷ []) after
+    ByMethod : (k : ℕ) (before after : State) (t : Term) (i : Bool) (sub : Network) (steps : List Term) → Decomposes domain before t sub → Solves domain k before sub steps after → Solves domain (suc k) before (Task t i) steps after
+    InTurn : (k : ℕ) (before after : State) (parts : Networks) (steps : List Term) → SolvesAll domain k before parts steps after → Solves domain k before (Ordered parts) steps after
 
-  pub data SolvesAll (domain : Domain) : State → Networks → List Term → State → Type 0 where
-    NoneLeft : (before : State) → SolvesAll domain before NoNetwork [] before
-    AndThen : (before between after : State) (first : Network) (rest : Networks) (xs ys : List Term) → Solves domain before first xs between → SolvesAll domain between rest ys after → SolvesAll domain before (And first rest) (xs ++ ys) after
+  pub data SolvesAll (domain : Domain) : ℕ → State → Networks → List Term → State → Type 0 where
+    NoneLeft : (before : State) → SolvesAll domain 0 before NoNetwork [] before
+    AndThen : (j k : ℕ) (before between after : State) (first : Network) (rest : Networks) (xs ys : List Term) → Solves domain j before first xs between → SolvesAll domain k between rest ys after → SolvesAll domain (j + k) before (And first rest) (xs ++ ys) after

@@ -3,11 +3,12 @@
 //! Each function does nothing, and its contract is the law.
 
 ghost use Rattle.std.specs.Bool.{Decides};
-ghost use Rattle.std.specs.List.{All, AllPairs};
-ghost use Rattle.std.specs.Prelude.{◌≡◌, ◌≢◌, ◌⊎◌, ℕ, pos, List, [], length, Some, None};
+ghost use Rattle.std.specs.List.{All, AllPairs, Any};
+ghost use Rattle.std.specs.Prelude.{◌≡◌, ◌≢◌, ◌⊎◌, ◌≤◌, ℕ, pos, List, [], length, Some, None};
+ghost use Rattle.hp_syntax.specs.Expressions.{State};
 ghost use Rattle.hp_syntax.specs.Forest.{Forest, IsForest, Refused};
 ghost use Rattle.hp_syntax.specs.Form.{domain_of, problem_of};
-ghost use Rattle.hp_syntax.specs.Laws.{HasNext, node_at};
+ghost use Rattle.hp_syntax.specs.Laws.{HasNext, IsFaultless, node_at};
 ghost use Rattle.hp_syntax.specs.Networks.{Network, Empty, Place, normal, part_at};
 ghost use Rattle.hp_syntax.specs.Rules.{Domain, Problem, added};
 ghost use Rattle.hp_syntax.specs.Soundness.{Executes, Solves};
@@ -71,15 +72,35 @@ pub fn plans_are_sound()
         → All (λ v. Executes domain (added [] problem.state) v.node.steps v.node.cost v.node.state) (walk domain problem depth) }
     ensures cost { (forest : Forest) (domain : Domain) (problem : Problem) (depth : ℕ) → domain_of forest ≡ Some domain
         → All (λ v. v.node.cost ≡ pos (length v.node.steps)) (walk domain problem depth) }
-    ensures complete { (domain : Domain) (problem : Problem) (depth : ℕ)
+    ensures finished { (domain : Domain) (problem : Problem) (depth : ℕ)
         → All (λ v. v.sight ≡ Plan → v.node.network ≡ Empty) (walk domain problem depth) }
 {}
 
 /// The steps of a plan do the tasks of the problem, in their order: each task by the step of an
-/// operator, or by the subtasks of the first branch of a method whose precondition can be met.
+/// operator, or by the subtasks of the first branch of a method whose precondition can be met. The
+/// plan's path is as long as that takes steps and decompositions, and no longer than was asked.
 pub fn plans_do_their_tasks()
     ensures { (forest : Forest) (domain : Domain) (problem : Problem) (depth : ℕ) → domain_of forest ≡ Some domain
-        → All (λ v. v.sight ≡ Plan → Solves domain (added [] problem.state) problem.tasks v.node.steps v.node.state) (walk domain problem depth) }
+        → All (λ v. v.sight ≡ Plan → (length v.path ≤ depth)
+        × Solves domain (length v.path) (added [] problem.state) problem.tasks v.node.steps v.node.state) (walk domain problem depth) }
+{}
+
+/// No walk of a domain that a forest is the form of meets a fault, since each variable of an effect
+/// or a task is bound by the head or by the precondition. So the walk is the whole tree.
+pub fn walks_meet_no_fault()
+    ensures faultless { (forest : Forest) (domain : Domain) (problem : Problem) (depth : ℕ) → domain_of forest ≡ Some domain
+        → All (λ v. IsFaultless v.sight) (walk domain problem depth) }
+    ensures whole { (forest : Forest) (domain : Domain) (problem : Problem) (depth : ℕ) → domain_of forest ≡ Some domain
+        → walk domain problem depth ≡ visits domain (root problem depth) [] }
+{}
+
+/// No plan is missing: what solves the tasks of a problem within the depth is a plan of the walk.
+pub fn solutions_are_plans()
+    ensures { (forest : Forest) (domain : Domain) (problem : Problem) (depth k : ℕ) (steps : List Term) (after : State)
+        → domain_of forest ≡ Some domain
+        → Solves domain k (added [] problem.state) problem.tasks steps after → k ≤ depth
+        → Any (λ v. (v.sight ≡ Plan) × (length v.path ≡ k) × (v.node.steps ≡ steps) × (v.node.state ≡ after))
+        (walk domain problem depth) }
 {}
 
 #[cfg(test)]
@@ -99,5 +120,7 @@ mod tests {
         terms_are_compared();
         plans_are_sound();
         plans_do_their_tasks();
+        walks_meet_no_fault();
+        solutions_are_plans();
     }
 }

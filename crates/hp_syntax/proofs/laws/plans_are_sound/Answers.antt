@@ -11,5 +11,5 @@ returns-clause-walk c = λ forest domain problem depth h. walk_executes domain (
 pub returns-clause-cost : goal.returns-clause-cost
 returns-clause-cost c = λ forest domain problem depth h. walk_counts domain (good_domain forest domain h) problem depth
 
-pub returns-clause-complete : goal.returns-clause-complete
-returns-clause-complete c = walk_done
+pub returns-clause-finished : goal.returns-clause-finished
+returns-clause-finished c = walk_done
