@@ -1,11 +1,15 @@
 -- From how a run ends to what the top call promises.
-use Rattle.std.proofs.Common.{◌≡◌, ◌≢◌, ◌⊎◌, inl, inr, ℕ, ◌+◌, ◌<◌, ◌≤◌, List, [], ◌∷◌, ◌++◌, length, map, Bool, true, false, cond, nat_lt, Option, Some, None, String, Global, string_bytes, get_or, arith, refl, ap, sym, ◌∙◌, subst}
+use Rattle.std.proofs.Common.{◌≡◌, ◌≢◌, ◌⊎◌, inl, inr, ℕ, ◌-◌, List, [], ◌∷◌, length, map, Bool, true, false, cond, nat_lt, nat_le, nat_eq, Option, Some, None, String, Global, string_bytes, get_or, arith, refl, sym, ◌∙◌, subst}
 use Rattle.std.specs.Prelude.{slice_index_or}
+use Rattle.std.specs.List.{All}
+use Rattle.std.proofs.lemmas.Bool.{cond_both}
+use Rattle.std.proofs.lemmas.List.Elements.{All-nil, All-cons, All-head, All-tail}
 use Rattle.hp_io.specs.declared.folder.Input.TheVariants as inputs
 use Rattle.hp_io.specs.Rules.{Rose}
 use Rattle.hp_syntax.specs.Rules as plain
-use Rattle.hp_syntax.specs.Report.{Ending, Stopped, AtFault, AtCut, AtEnd, ending, seen, plans}
-use Rattle.hp_syntax.specs.Walk.{Visit, walk}
+use Rattle.hp_syntax.specs.Laws.{IsFaultless}
+use Rattle.hp_syntax.specs.Report.{Ending, Stopped, AtFault, AtCut, AtEnd, closing, ending, seen, plans, report}
+use Rattle.hp_syntax.specs.Walk.{Sight, Did, Plan, CutHere, FaultHere, Visit, walk}
 use Rattle.hp_top.specs.declared.loading.Stop.{Stop}
 use Rattle.hp_top.specs.declared.loading.Stop.TheVariants as stops
 use Rattle.hp_top.specs.declared.status.Status.{Status}
@@ -197,3 +201,64 @@ named_command [] d p dn pn k n l i j x y e = absurd (omega arith)
 named_command (u ∷ []) d p dn pn k n l i j x y e = absurd (omega arith)
 named_command (u ∷ v ∷ []) d p dn pn k n l i j x y e = absurd (omega arith)
 named_command (u ∷ v ∷ w ∷ ws) d p dn pn k n l i j x y e = e ∙ (rw (x, y, i, j) refl)
+
+-- an ending that is at no fault
+abbrev IsQuiet : Ending → Type 0
+IsQuiet Stopped = Unit {0}
+IsQuiet (AtFault f) = ⊥
+IsQuiet AtCut = Unit {0}
+IsQuiet AtEnd = Unit {0}
+
+-- a visit that sees no fault
+abbrev IsClear : Visit → Type 0
+IsClear v = IsFaultless v.sight
+
+-- what is seen of visits without faults has none either
+seen_one : (k : ℕ) (v : Visit) (vs : List Visit) (s : Sight) → IsClear v → All IsClear (seen (k - 1) vs) → All IsClear (seen k vs) →
+    All IsClear (elim s [ Plan ↦ v ∷ cond (nat_le k 1) [] (seen (k - 1) vs) | Did ↦ v ∷ seen k vs | CutHere ↦ v ∷ seen k vs | FaultHere f ↦ v ∷ seen k vs ])
+seen_one k v vs Plan h a b = All-cons IsClear v _ h (cond_both (nat_le k 1) [] (seen (k - 1) vs) (All IsClear) (λ e. All-nil IsClear) (λ e. a))
+seen_one k v vs Did h a b = All-cons IsClear v (seen k vs) h b
+seen_one k v vs CutHere h a b = All-cons IsClear v (seen k vs) h b
+seen_one k v vs (FaultHere f) h a b = All-cons IsClear v (seen k vs) h b
+
+seen_clear : (k : ℕ) (vs : List Visit) → All IsClear vs → All IsClear (seen k vs)
+seen_clear k [] a = All-nil IsClear
+seen_clear k (v ∷ vs) a =
+    let rest = All-tail IsClear v vs a in
+    seen_one k v vs v.sight (All-head IsClear v vs a) (seen_clear (k - 1) vs rest) (seen_clear k vs rest)
+
+-- and it closes at none
+after_cut : (x : Ending) → IsQuiet x → IsQuiet (elim x [ AtFault f ↦ AtFault f | Stopped ↦ AtCut | AtCut ↦ AtCut | AtEnd ↦ AtCut ])
+after_cut Stopped h = tt
+after_cut (AtFault f) h = h
+after_cut AtCut h = tt
+after_cut AtEnd h = tt
+
+closing_one : (x : Ending) (s : Sight) → IsFaultless s → IsQuiet x →
+    IsQuiet (elim s [ FaultHere f ↦ AtFault f | CutHere ↦ elim x [ AtFault f ↦ AtFault f | Stopped ↦ AtCut | AtCut ↦ AtCut | AtEnd ↦ AtCut ] | Did ↦ x | Plan ↦ x ])
+closing_one x Did h q = q
+closing_one x Plan h q = q
+closing_one x CutHere h q = after_cut x q
+closing_one x (FaultHere f) h q = h
+
+closing_quiet : (vs : List Visit) → All IsClear vs → IsQuiet (closing vs)
+closing_quiet [] a = tt
+closing_quiet (v ∷ vs) a = closing_one (closing vs) v.sight (All-head IsClear v vs a) (closing_quiet vs (All-tail IsClear v vs a))
+
+-- so the status is another
+status_quiet : (x : Ending) (p : ℕ) → IsQuiet x → planned_status x p ≢ status.RunFault
+status_quiet Stopped p h = λ e. cc
+status_quiet (AtFault f) p h = absurd h
+status_quiet AtCut p h = cond_both (nat_lt 0 p) status.Done status.CutShort (λ s. s ≢ status.RunFault) (λ t e. cc) (λ t e. cc)
+status_quiet AtEnd p h = cond_both (nat_lt 0 p) status.Done status.NoPlan (λ s. s ≢ status.RunFault) (λ t e. cc) (λ t e. cc)
+
+walk_quiet : (k : ℕ) (vs : List Visit) → All IsClear vs → walk_status k vs ≢ status.RunFault
+unfolding walk_status
+walk_quiet k vs a =
+    let heard = seen k vs in
+    status_quiet (ending k heard) (plans heard) (cond_both (nat_eq (plans heard) k) Stopped (closing heard) IsQuiet (λ e. tt) (λ e. closing_quiet heard (seen_clear k vs a)))
+
+-- and what was told of such a walk ends with another status
+pub told_quiet : (k : ℕ) (vs : List Visit) (s : Status) (k0 k1 : ℕ) (old new : Option (List ℕ)) → All IsClear vs → Tells (report k vs, walk_status k vs) s k0 k1 old new → s ≢ status.RunFault
+told_quiet k vs s k0 k1 old new a t =
+    λ u. told_status (report k vs, walk_status k vs) s k0 k1 old new ⊥ t (λ m. other s _ _ (λ x. cc) m u) (λ m r. other s _ _ (λ x. cc) m u) (λ m w. other s _ _ (walk_quiet k vs a) m u)

@@ -2,10 +2,12 @@
 use Rattle.std.specs.Prelude.{◌≡◌, ◌⊎◌, ℕ, List, Option, Some, None, take}
 use Rattle.hp_io.specs.declared.folder.Input.TheVariants as inputs
 use Rattle.hp_io.specs.Rules.{Rose}
+use Rattle.hp_syntax.specs.Forest.{Forest}
+use Rattle.hp_syntax.specs.Form as form
 use Rattle.hp_syntax.specs.Rules as plain
 use Rattle.hp_top.specs.declared.loading.Stop.{Stop}
 use Rattle.hp_top.specs.declared.loading.Stop.TheVariants.{NoMemory, Unread, Refused}
-use Rattle.hp_top.specs.Outcome.{IsDomain, IsNoDomain, IsProblem, IsNoProblem}
+use Rattle.hp_top.specs.Outcome.{IsDomain, IsNoDomain, IsNoProblem}
 
 -- what a folder tells of a file: nothing, that there is none, or its bytes
 abbrev pub ToldFile : Type 0
@@ -22,6 +24,10 @@ abbrev pub Holds : (List ℕ → Type 0) → ToldFile → Type 0
 Holds P None = Unit {0}
 Holds P (Some None) = ⊥
 Holds P (Some (Some text)) = P text
+
+-- a domain of the language: it is the form of some forest
+abbrev pub IsFormed : plain.Domain → Type 0
+IsFormed d = (f : Forest) × (form.domain_of f ≡ Some d)
 
 -- an input is unread only where its count of faults rose, or where its file is told to be missing
 abbrev pub IsUnread : ToldFile → ℕ → ℕ → Type 0

@@ -15,6 +15,7 @@ use crate::status::Status;
 use crate::words::{Asked, numbers_asked};
 use crate::writing::write_all;
 use hp_io::{Folder, Input, Sink};
+use hp_syntax::laws::walks_meet_no_fault;
 use std::alloc::Global;
 
 /// Writes a text, and answers this status.
@@ -32,6 +33,7 @@ fn end_with<K: Sink>(out: &mut K, text: &[u8], status: Status) -> Status
 /// Writes why nothing is planned.
 fn refuse<K: Sink>(out: &mut K, stop: Stop) -> Status
     ensures tells { Tells (refusal_of stop) result (K.faults out.old) (K.faults out.new) (K.bytes out.old) (K.bytes out.new) }
+    ensures faultless { result ≢ Status.RunFault }
     ensures later { K.faults out.old ≤ K.faults out.new }
 {
     match stop {
@@ -60,9 +62,14 @@ fn serve_command<F: Folder, K: Sink>(
     ensures serves { Serves (make_command domain.now problem.now asked.plans asked.depth) (F.file folder.old) result
         (F.faults folder.old Domain) (F.faults folder.new Domain) (F.faults folder.old Problem) (F.faults folder.new Problem)
         (K.faults out.old) (K.faults out.new) (K.bytes out.old) (K.bytes out.new) }
+    ensures faultless { result ≢ Status.RunFault }
 {
     match load(alloc, folder, domain, problem) {
-        Ok(loaded) => plan(alloc, &loaded, asked, out),
+        Ok(loaded) => {
+            // Nothing runs here: the law makes known that the walk meets no fault.
+            walks_meet_no_fault();
+            plan(alloc, &loaded, asked, out)
+        }
         Err(stop) => refuse(out, stop),
     }
 }
@@ -72,6 +79,7 @@ fn serve<F: Folder, K: Sink>(alloc: Global, words: &[String], folder: &mut F, ou
     ensures ends { Ends (map string_bytes words.now) (F.file folder.old) result
         (F.faults folder.old Domain) (F.faults folder.new Domain) (F.faults folder.old Problem) (F.faults folder.new Problem)
         (K.faults out.old) (K.faults out.new) (K.bytes out.old) (K.bytes out.new) }
+    ensures faultless { result ≢ Status.RunFault }
     ensures untouched { accepts (map string_bytes words.now) ≡ None → (folder.new ≡ folder.old) × RefusesWords result (K.bytes out.old) (K.bytes out.new) }
 {
     match numbers_asked(words) {
@@ -119,6 +127,9 @@ pub fn run<F: Folder, K: Sink>(
     ensures read { result ≡ Status.ReadFault → ReadFails (map string_bytes words.now) (F.file folder.old)
         (F.faults folder.old Domain) (F.faults folder.new Domain) (F.faults folder.old Problem) (F.faults folder.new Problem) (K.bytes out.old) (K.bytes out.new) }
     ensures write { result ≡ Status.WriteFault → Rose (K.faults out.old) (K.faults out.new) }
+
+    // No walk of the language meets a fault.
+    ensures faultless { result ≢ Status.RunFault }
 {
     serve(alloc, words, folder, out)
 }

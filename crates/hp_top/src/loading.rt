@@ -6,7 +6,7 @@ ghost use Rattle.hp_io.specs.declared.folder.Input.{Input};
 ghost use Rattle.hp_io.specs.declared.folder.Input.TheVariants as inputs;
 ghost use Rattle.hp_top.specs.Program.{domain_of, problem_of};
 ghost use Rattle.hp_top.specs.Outcome.{IsDomain, IsNoDomain, IsProblem, IsNoProblem};
-ghost use Rattle.hp_top.specs.Loading.{ReadsFile, Holds, DomainStops, ProblemStops, Stops};
+ghost use Rattle.hp_top.specs.Loading.{ReadsFile, Holds, IsFormed, DomainStops, ProblemStops, Stops};
 
 use crate::forms;
 use crate::forms::FormRefusal;
@@ -95,6 +95,7 @@ fn file_front<F: Folder>(
 /// The domain in a file.
 fn load_domain<F: Folder>(alloc: Global, folder: &mut F, name: &str) -> Result<Domain, Stop>
     ensures domain { IfOk result (λ d. Holds (λ t. IsDomain t (domain_of d)) (F.file folder.old name.now)) }
+    ensures formed { IfOk result (λ d. IsFormed (domain_of d)) }
     ensures stops { IfErr result (λ e. DomainStops e (F.file folder.old name.now) (F.faults folder.old inputs.Domain) (F.faults folder.new inputs.Domain)) }
     ensures files { (n : List ℕ) → F.file folder.new n ≡ F.file folder.old n }
     ensures later { (w : Input) → F.faults folder.old w ≤ F.faults folder.new w }
@@ -144,6 +145,7 @@ pub fn load<F: Folder>(
     problem: &str,
 ) -> Result<Loaded, Stop>
     ensures domain { IfOk result (λ l. Holds (λ t. IsDomain t (domain_of l.domain)) (F.file folder.old domain.now)) }
+    ensures formed { IfOk result (λ l. IsFormed (domain_of l.domain)) }
     ensures problem { IfOk result (λ l. Holds (λ t. IsProblem t (domain_of l.domain) (problem_of l.problem)) (F.file folder.old problem.now)) }
     ensures stops { IfErr result (λ e. Stops e (F.file folder.old domain.now) (F.file folder.old problem.now)
         (F.faults folder.old inputs.Domain) (F.faults folder.new inputs.Domain) (F.faults folder.old inputs.Problem) (F.faults folder.new inputs.Problem)) }
