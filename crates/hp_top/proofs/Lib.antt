@@ -24,3 +24,4 @@ pub mod Tellings
 pub mod ToldReport
 pub mod Walks
 pub mod Outcomes
+pub mod InitialStates

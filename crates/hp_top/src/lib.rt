@@ -5,6 +5,7 @@ mod changing;
 mod children;
 mod command;
 mod forms;
+mod initial;
 pub mod laws;
 mod lines;
 mod loading;

@@ -5,7 +5,7 @@ use hp_syntax::{Name, Span};
 use std::rc::Rc;
 
 /// An atom without variables: of a state, a task or a step. Several holders share one.
-#[derive(PartialEq, Eq, Drop)]
+#[derive(PartialEq, Eq, Hash, Drop)]
 pub struct GroundAtom {
     pub name: Name,
     pub args: Vec<Name>,

@@ -5,8 +5,9 @@ ghost use Rattle.hp_top.specs.Program.{terms_of};
 ghost use Rattle.hp_top.specs.Flat.{flat_node, heard_shown, shown_at};
 ghost use Rattle.hp_top.specs.Rest.{rest, Answers, flat_root};
 
-use crate::changing::{changed, copy_atoms};
+use crate::changing::copy_atoms;
 use crate::children::children;
+use crate::initial::initial_state;
 use crate::node::{Child, Node};
 use crate::program::{GroundAtom, GroundAtoms, Problem, Rule};
 use hp_syntax::RunFault;
@@ -136,7 +137,7 @@ fn root(alloc: Global, problem: &Problem, depth: u32) -> Result<Node, AllocError
     ensures { IfOk result (λ n. flat_node n ≡ flat_root problem.now depth) }
 {
     Ok(Node {
-        state: changed(alloc, &[], &[], &problem.state)?,
+        state: initial_state(alloc, &problem.state)?,
         tasks: copy_atoms(alloc, &problem.tasks)?,
         steps: Vec::new(alloc),
         depth,

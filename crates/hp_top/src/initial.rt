@@ -1,0 +1,70 @@
+//! The state at the root of the tree.
+
+ghost use Rattle.std.specs.Prelude.{◌≡◌, ◌∷◌, [], IfOk, OnOk};
+ghost use Rattle.hp_syntax.specs.Rules.{added};
+ghost use Rattle.hp_top.specs.Program.{shared_term, terms_of};
+
+use crate::changing::{copy_atoms, share};
+use crate::program::{GroundAtom, GroundAtoms};
+use indexmap::IndexSet;
+use std::alloc::{AllocError, Global};
+use std::rc::Rc;
+
+fn add(distinct: &mut IndexSet<Rc<GroundAtom>>, atom: &Rc<GroundAtom>) -> Result<(), AllocError>
+    ensures { OnOk result (terms_of distinct.new.keys ≡ added (terms_of distinct.old.keys) (shared_term atom.now ∷ [])) }
+{
+    distinct.insert(share(atom)?)?;
+    Ok(())
+}
+
+/// The state that the atoms are at first: each once, in the order of first appearance.
+pub(crate) fn initial_state(
+    alloc: Global,
+    atoms: &[Rc<GroundAtom>],
+) -> Result<GroundAtoms, AllocError>
+    ensures { IfOk result (λ v. terms_of v.items ≡ added [] (terms_of atoms.now)) }
+{
+    // A set finds an atom by its hash. A list would be gone through for each atom.
+    let mut distinct = IndexSet::new(alloc);
+    for atom in atoms {
+        add(&mut distinct, atom)?;
+    }
+    copy_atoms(alloc, distinct.as_slice())
+}
+
+#[cfg(test)]
+mod tests {
+    use super::*;
+    use hp_syntax::Name;
+    use std::test::Fail;
+
+    fn atoms(alloc: Global, texts: &[(&str, &str)]) -> Result<GroundAtoms, Fail> {
+        let mut all = Vec::new(alloc);
+        for (name, arg) in texts {
+            let name = Name::new(alloc, name.as_bytes())?;
+            let args = vec![in alloc; Name::new(alloc, arg.as_bytes())?]?;
+            all.push(Rc::new(alloc, GroundAtom { name, args })?)?;
+        }
+        Ok(all)
+    }
+
+    #[test]
+    fn repeats_keep_the_first_place(rt: HostRuntime) -> Result<(), Fail> {
+        let alloc = rt.alloc();
+        let written = [
+            ("at", "b"),
+            ("on", "b"),
+            ("at", "b"),
+            ("at", "a"),
+            ("on", "b"),
+            ("on", "a"),
+        ];
+        let state = initial_state(alloc, &atoms(alloc, &written)?)?;
+        let wanted = atoms(alloc, &[("at", "b"), ("on", "b"), ("at", "a"), ("on", "a")])?;
+        assert!(rt; state.len() == wanted.len());
+        for (a, b) in state.iter().zip(&wanted) {
+            assert!(rt; **a == **b);
+        }
+        Ok(())
+    }
+}
