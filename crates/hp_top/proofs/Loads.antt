@@ -1,21 +1,18 @@
 -- From what was read of a file to the whole file.
-use Rattle.std.proofs.Common.{◌≡◌, ◌⊎◌, inl, inr, ℕ, ◌<◌, ◌≤◌, List, length, take, Option, Some, None, Result, Ok, Err, IfOk, IfErr, IsErrOf, arith, refl, ap, sym, ◌∙◌, subst, length-take}
+use Rattle.std.proofs.Common.{◌≡◌, ◌⊎◌, inl, inr, ℕ, ◌<◌, ◌≤◌, List, length, take, Some, None, Result, Ok, Err, IfOk, IfErr, IsErrOf, arith, ap, sym, ◌∙◌, subst, length-take}
 use Rattle.std.proofs.lemmas.List.{take_all}
 use Rattle.std.proofs.lemmas.Bool.{cases_lt}
 use Rattle.hp_io.specs.declared.folder.Input.TheVariants as inputs
 use Rattle.hp_io.specs.Rules.{Rose}
-use Rattle.hp_syntax.specs.Forest.{Refused, TooLarge, IsForest}
+use Rattle.hp_syntax.specs.Forest.{TooLarge}
 use Rattle.hp_syntax.specs.Rules as plain
 use Rattle.hp_top.specs.declared.forms.refusal.FormRefusal.{FormRefusal}
 use Rattle.hp_top.specs.declared.forms.refusal.FormRefusal.TheVariants.{Expected}
 use Rattle.hp_top.specs.declared.loading.Stop.{Stop}
 use Rattle.hp_top.specs.declared.loading.Stop.TheVariants.{NoMemory, Unread, Refused as RefusedInput}
-use Rattle.hp_top.specs.declared.program.Domain.{Domain}
-use Rattle.hp_top.specs.declared.program.Problem.{Problem}
-use Rattle.hp_top.specs.Program.{domain_of, problem_of}
 use Rattle.hp_top.specs.Outcome as outcome
 use Rattle.hp_top.specs.Outcome.{IsDomain, IsNoDomain, IsProblem, IsNoProblem}
-use Rattle.hp_top.specs.Loading.{ToldFile, ReadsFile, Holds, DomainStops, ProblemStops, Stops, IsUnread}
+use Rattle.hp_top.specs.Loading.{ToldFile, ReadsFile, Holds, ProblemStops, Stops}
 
 -- a front that is no longer than a text may be is the whole
 whole : (bytes text : List ℕ) → bytes ≡ take 4194305 text → length bytes ≤ 4194304 → bytes ≡ text

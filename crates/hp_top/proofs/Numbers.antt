@@ -1,5 +1,5 @@
 -- Numbers of a command.
-use Rattle.std.proofs.Common.{◌≡◌, ℕ, ◌+◌, ◌-◌, ◌*◌, ◌<◌, ◌≤◌, nat_le, drop, add-one, drop-cons, ◌∙◌, Bool, true, false, cond, List, [], ◌∷◌, length, map, Option, Some, None, String, Global, string_bytes, bytes_eq, codes, get_or, arith, refl, sym, ap, MatchOption}
+use Rattle.std.proofs.Common.{◌≡◌, ℕ, ◌+◌, ◌-◌, ◌*◌, ◌<◌, ◌≤◌, nat_le, drop, add-one, drop-cons, ◌∙◌, Bool, true, false, List, [], ◌∷◌, length, map, Option, Some, None, String, Global, string_bytes, bytes_eq, codes, get_or, arith, refl, sym, MatchOption}
 use Rattle.std.specs.Prelude.{slice_index_or}
 use Rattle.std.proofs.lemmas.Bool.{lt-leb}
 use Rattle.hp_syntax.specs.Form.{only_if, joined}

@@ -1,5 +1,5 @@
 -- Words and files come to one answer.
-use Rattle.std.proofs.Common.{◌≡◌, ◌⊎◌, inl, inr, ℕ, Bool, true, false, List, [], ◌∷◌, Option, Some, None, refl, ap, sym, ◌∙◌, subst, codes, bytes_eq}
+use Rattle.std.proofs.Common.{◌≡◌, ◌⊎◌, inl, inr, ℕ, Bool, true, false, List, Option, Some, None, refl, ap, sym, ◌∙◌, subst, codes, bytes_eq}
 use Rattle.hp_syntax.specs.Forest.{Forest, IsForest, Refused}
 use Rattle.hp_syntax.specs.Form.{domain_of, problem_of}
 use Rattle.hp_syntax.specs.Rules.{Domain, Problem}

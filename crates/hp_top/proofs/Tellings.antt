@@ -1,12 +1,10 @@
 -- One visit more that was told, and the whole telling.
-use Rattle.std.proofs.Common.{◌≡◌, ℕ, ◌+◌, ◌-◌, ◌^◌, ◌<◌, ◌≤◌, min, Bool, false, cond, List, [], ◌∷◌, ◌++◌, length, Option, Some, None, arith, refl, ap, sym, ◌∙◌, subst, append_assoc, append-nil}
+use Rattle.std.proofs.Common.{◌≡◌, ℕ, ◌+◌, ◌-◌, ◌^◌, min, List, [], ◌∷◌, ◌++◌, Option, Some, None, refl, ap, sym, ◌∙◌, subst, append_assoc, append-nil}
 use Rattle.hp_syntax.specs.Report.{ending_text}
 use Rattle.hp_top.specs.declared.lines.Ending.{Ending}
 use Rattle.hp_top.specs.declared.planning.Progress.{Progress}
-use Rattle.hp_top.specs.declared.status.Status.{Status}
 use Rattle.hp_top.specs.Flat.{Shown, DidShown}
-use Rattle.hp_top.specs.Outcome.{planned_status}
-use Rattle.hp_top.specs.Told.{told, told_status, ending_of}
+use Rattle.hp_top.specs.Told.{ending_of}
 use Rattle.hp_top.specs.Telling.{left, left_status, Goes, Closes}
 use Rattle.hp_top.specs.Writing.{Wrote}
 use Rattle.hp_top.proofs.ToldReport.{told-saturates}

@@ -9,7 +9,7 @@ use Rattle.std.specs.declared.rc.Rc.{Rc}
 use Rattle.hp_syntax.specs.declared.fault.RunFault.{RunFault}
 use Rattle.hp_syntax.specs.Terms.{Term, Bindings, unbound}
 use Rattle.hp_syntax.specs.Expressions.{match_atom}
-use Rattle.hp_top.specs.declared.node.Child.{Child}
+use Rattle.hp_top.specs.declared.node.Choice.{Choice}
 use Rattle.hp_top.specs.declared.program.GroundAtom.{GroundAtom}
 use Rattle.hp_top.specs.declared.program.Rule.{Rule}
 use Rattle.hp_top.specs.declared.program.Rule.TheVariants as kinds
@@ -17,7 +17,7 @@ use Rattle.hp_top.specs.declared.program.Operator.{Operator}
 use Rattle.hp_top.specs.declared.program.Branch.{Branch}
 use Rattle.hp_top.specs.declared.program.Method.{Method}
 use Rattle.hp_top.specs.Program.{atom_of, atoms_of, terms_of}
-use Rattle.hp_top.specs.Flat.{FlatNode, FlatChild, FlatDid, FlatFault, flat_child, Shown, DidShown, PlanShown, CutShown, FaultShown, is_done, shown_at, shown_within, shown_child, heard_shown, flat_children, children_for, by_rule, by_operator, by_operators, by_branch, by_branches, by_method, first_used, satisfiers, after_deletes, after_subtasks, atom_values}
+use Rattle.hp_top.specs.Flat.{FlatNode, FlatChild, FlatDid, FlatFault, flat_choice, Shown, DidShown, PlanShown, CutShown, FaultShown, is_done, shown_at, shown_within, shown_child, heard_shown, flat_children, children_for, by_rule, by_operator, by_operators, by_branch, by_branches, by_method, first_used, satisfiers, after_deletes, after_subtasks, atom_values}
 use Rattle.hp_top.specs.Rest.{shown_below, shown_here}
 
 -- no tasks
@@ -122,11 +122,11 @@ map_reversed f [] ys = refl
 map_reversed f (x ∷ xs) ys = map_reversed f xs (x ∷ ys)
 
 -- children that were appended the last first come in turn
-in_turn : (old found : List Child) → reverse (map flat_child (old ++ reverse found)) ≡ map flat_child found ++ reverse (map flat_child old)
+in_turn : (old found : List Choice) → reverse (map flat_choice (old ++ reverse found)) ≡ map flat_choice found ++ reverse (map flat_choice old)
 in_turn old found =
-    ap reverse (map-append flat_child old (reverse found))
-    ∙ (reverse-append (map flat_child old) (map flat_child (reverse found))
-    ∙ ap (λ cs. cs ++ reverse (map flat_child old)) (ap reverse (map_reversed flat_child found []) ∙ reverse-reverse (map flat_child found)))
+    ap reverse (map-append flat_choice old (reverse found))
+    ∙ (reverse-append (map flat_choice old) (map flat_choice (reverse found))
+    ∙ ap (λ cs. cs ++ reverse (map flat_choice old)) (ap reverse (map_reversed flat_choice found []) ∙ reverse-reverse (map flat_choice found)))
 
 module _ (rules : List Rule) where
   -- without tasks a node is a plan
@@ -151,29 +151,29 @@ module _ (rules : List Rule) where
       ∙ seen_below rules d (flat_children rules n) (subst (λ (k : ℕ). HaveDepth k (flat_children rules n)) less (children_have rules n))
 
   -- what is left, by its parts
-  abbrev pub left : Bool → FlatNode → List Child → List Shown
-  left fresh n pending = heard_shown (shown_here rules fresh n ++ shown_below rules (reverse (map flat_child pending)))
+  abbrev pub left : Bool → FlatNode → List Choice → List Shown
+  left fresh n pending = heard_shown (shown_here rules fresh n ++ shown_below rules (reverse (map flat_choice pending)))
 
   -- the node reached is a plan
-  pub plan_left : (fresh : Bool) (n : FlatNode) (pending : List Child) → fresh ≡ true → is_done n.tasks ≡ true → left fresh n pending ≡ PlanShown n ∷ left false n pending
+  pub plan_left : (fresh : Bool) (n : FlatNode) (pending : List Choice) → fresh ≡ true → is_done n.tasks ≡ true → left fresh n pending ≡ PlanShown n ∷ left false n pending
   unfolding shown_at
   plan_left fresh n pending is done =
       ap (λ b. left b n pending) is
-      ∙ ap (λ vs. heard_shown (vs ++ shown_below rules (reverse (map flat_child pending)))) (plan_within n.depth n done)
+      ∙ ap (λ vs. heard_shown (vs ++ shown_below rules (reverse (map flat_choice pending)))) (plan_within n.depth n done)
 
   -- it is cut off
-  pub cut_left : (fresh : Bool) (n : FlatNode) (pending : List Child) → fresh ≡ true → is_done n.tasks ≡ false → n.depth ≡ 0 → left fresh n pending ≡ CutShown ∷ left false n pending
+  pub cut_left : (fresh : Bool) (n : FlatNode) (pending : List Choice) → fresh ≡ true → is_done n.tasks ≡ false → n.depth ≡ 0 → left fresh n pending ≡ CutShown ∷ left false n pending
   unfolding shown_at
   cut_left fresh n pending is done none =
       ap (λ b. left b n pending) is
-      ∙ ap (λ vs. heard_shown (vs ++ shown_below rules (reverse (map flat_child pending)))) (cut_within n.depth n done none)
+      ∙ ap (λ vs. heard_shown (vs ++ shown_below rules (reverse (map flat_choice pending)))) (cut_within n.depth n done none)
 
   -- its children come next
-  pub open_left : (fresh : Bool) (n : FlatNode) (old new found : List Child) → fresh ≡ true → is_done n.tasks ≡ false → n.depth ≢ 0 → map flat_child found ≡ flat_children rules n → new ≡ old ++ reverse found → left false n new ≡ left fresh n old
+  pub open_left : (fresh : Bool) (n : FlatNode) (old new found : List Choice) → fresh ≡ true → is_done n.tasks ≡ false → n.depth ≢ 0 → map flat_choice found ≡ flat_children rules n → new ≡ old ++ reverse found → left false n new ≡ left fresh n old
   unfolding shown_at
   open_left fresh n old new found is done some all grown =
-      ap (λ cs. heard_shown (shown_below rules (reverse (map flat_child cs)))) grown
-      ∙ (ap (λ cs. heard_shown (shown_below rules cs)) (in_turn old found ∙ ap (λ cs. cs ++ reverse (map flat_child old)) all)
-      ∙ (ap heard_shown (flat_map-append (shown_child (shown_at rules)) (flat_children rules n) (reverse (map flat_child old)))
-      ∙ (ap (λ vs. heard_shown (vs ++ shown_below rules (reverse (map flat_child old)))) (sym (open_within n.depth n refl done some))
+      ap (λ cs. heard_shown (shown_below rules (reverse (map flat_choice cs)))) grown
+      ∙ (ap (λ cs. heard_shown (shown_below rules cs)) (in_turn old found ∙ ap (λ cs. cs ++ reverse (map flat_choice old)) all)
+      ∙ (ap heard_shown (flat_map-append (shown_child (shown_at rules)) (flat_children rules n) (reverse (map flat_choice old)))
+      ∙ (ap (λ vs. heard_shown (vs ++ shown_below rules (reverse (map flat_choice old)))) (sym (open_within n.depth n refl done some))
       ∙ ap (λ b. left b n old) (sym is))))

@@ -1,21 +1,21 @@
 -- The walk as the engine goes through it: what is left to do is a list of tasks, and a visit shows
 -- no path. The definitions of the tree say the same with networks and places.
-use Rattle.std.specs.Prelude.{ℕ, zero, suc, ◌-◌, Bool, true, false, not, cond, List, [], ◌∷◌, ◌++◌, map, filter, length, Option, Some, None, Result, Ok, Err, option_map}
+use Rattle.std.specs.Prelude.{ℕ, zero, suc, ◌-◌, Bool, true, false, not, cond, List, [], ◌∷◌, ◌++◌, map, filter, drop, length, Option, Some, None, Result, Ok, Err, option_map}
 use Rattle.std.specs.List.{filter_map, flat_map}
 use Rattle.hp_syntax.specs.declared.fault.RunFault.{RunFault}
 use Rattle.hp_syntax.specs.Terms.{Term, Symbol, Bindings, unbound, on_ok}
 use Rattle.hp_syntax.specs.Expressions.{Atom, State, match_atom, atom_value}
 use Rattle.hp_syntax.specs.Rules.{member, added}
 use Rattle.hp_top.specs.declared.node.Node.{Node}
-use Rattle.hp_top.specs.declared.node.Child.{Child}
-use Rattle.hp_top.specs.declared.node.Child.TheVariants as kept
+use Rattle.hp_top.specs.declared.node.Choice.{Choice}
+use Rattle.hp_top.specs.declared.node.Choice.TheVariants as chosen
 use Rattle.hp_top.specs.declared.node.Bindings as kept_bindings
 use Rattle.hp_top.specs.declared.program.Operator.{Operator}
 use Rattle.hp_top.specs.declared.program.Branch.{Branch}
 use Rattle.hp_top.specs.declared.program.Method.{Method}
 use Rattle.hp_top.specs.declared.program.Rule.{Rule}
 use Rattle.hp_top.specs.declared.program.Rule.TheVariants as kinds
-use Rattle.hp_top.specs.Program.{terms_of, atom_of, atoms_of}
+use Rattle.hp_top.specs.Program.{shared_term, terms_of, atom_of, atoms_of}
 
 -- a node, its tasks in order; its cost is the number of its steps
 pub record FlatNode : Type 0 where
@@ -28,13 +28,9 @@ pub data FlatChild : Type 0 where
   FlatDid : (node : FlatNode) → FlatChild
   FlatFault : (f : RunFault) → FlatChild
 
--- what a node and a child that the engine holds stand for
+-- what a node that the engine holds stands for
 abbrev pub flat_node : Node → FlatNode
 flat_node n = record { state = terms_of n.state.items; tasks = terms_of n.tasks.items; steps = terms_of n.steps.items; depth = n.depth }
-
-abbrev pub flat_child : Child → FlatChild
-flat_child (kept.Did n) = FlatDid (flat_node n)
-flat_child (kept.Fault f) = FlatFault f
 
 abbrev pub bindings_of : kept_bindings.Bindings → Bindings
 bindings_of b = map (option_map Symbol) b.names.items
@@ -82,6 +78,11 @@ after_subtasks n behind (Ok sub) = did_method n behind sub
 -- the child of a method's branch for one satisfier
 abbrev pub by_branch : FlatNode → List Term → Branch → Bindings → FlatChild
 by_branch n behind b e = after_subtasks n behind (atom_values (atoms_of b.tasks.items) e)
+
+-- the child that a choice stands for, whose other tasks are those behind the node's first
+abbrev pub flat_choice : Choice → FlatChild
+flat_choice (chosen.Operator n t o e) = by_operator (flat_node n.value) (shared_term t) (drop 1 (flat_node n.value).tasks) o.now (bindings_of e)
+flat_choice (chosen.Branch n b e) = by_branch (flat_node n.value) (drop 1 (flat_node n.value).tasks) b.now (bindings_of e)
 
 abbrev pub by_operators : FlatNode → Term → List Term → Operator → Option Bindings → List FlatChild
 by_operators n t behind o None = []

@@ -1,5 +1,5 @@
 -- What the words and the files of a run come to: the text that is written, and the status.
-use Rattle.std.specs.Prelude.{◌≡◌, ◌≢◌, ◌⊎◌, ℕ, ◌<◌, Bool, true, false, cond, nat_lt, List, [], ◌∷◌, ◌++◌, Option, Some, None, codes, bytes_eq}
+use Rattle.std.specs.Prelude.{◌≡◌, ℕ, true, false, cond, nat_lt, List, Option, Some, None, codes, bytes_eq}
 use Rattle.hp_syntax.specs.Forest.{Forest, IsForest, Refused}
 use Rattle.hp_syntax.specs.Form.{domain_of, problem_of}
 use Rattle.hp_syntax.specs.Rules.{Domain, Problem}
@@ -7,7 +7,7 @@ use Rattle.hp_syntax.specs.Walk.{Visit, walk}
 use Rattle.hp_syntax.specs.Report.{Ending, Stopped, AtFault, AtCut, AtEnd, seen, plans, ending, report}
 use Rattle.hp_top.specs.Command.{Command, accepts}
 use Rattle.hp_top.specs.declared.status.Status.{Status}
-use Rattle.hp_top.specs.declared.status.Status.TheVariants.{Done, NoMemory, Usage, ReadFault, DomainRefused, ProblemRefused, RunFault, WriteFault, NoPlan, CutShort}
+use Rattle.hp_top.specs.declared.status.Status.TheVariants.{Done, Usage, ReadFault, DomainRefused, ProblemRefused, RunFault, NoPlan, CutShort}
 
 -- what each file holds, by its name; there may be no such file
 abbrev pub Files : Type 0

@@ -1,5 +1,5 @@
 -- A folder with the sample basic, and the words that plan it.
-use Rattle.std.specs.Prelude.{ℕ, cond, List, [], ◌∷◌, Option, Some, None, bytes_eq, codes}
+use Rattle.std.specs.Prelude.{ℕ, cond, List, [], ◌∷◌, Some, None, bytes_eq, codes}
 use Rattle.hp_syntax.specs.Samples.{basic_text}
 use Rattle.hp_top.specs.Outcome.{Files}
 

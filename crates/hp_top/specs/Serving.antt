@@ -1,17 +1,15 @@
 -- How a run ends, and why.
-use Rattle.std.specs.Prelude.{◌≡◌, ◌≢◌, ◌⊎◌, ℕ, List, ◌++◌, Option, Some, None, codes}
+use Rattle.std.specs.Prelude.{◌≡◌, ℕ, List, Option, Some, None, codes}
 use Rattle.hp_io.specs.declared.folder.Input.TheVariants as inputs
-use Rattle.hp_io.specs.Rules.{Rose}
 use Rattle.hp_syntax.specs.Rules as plain
 use Rattle.hp_top.specs.declared.loading.Stop.{Stop}
 use Rattle.hp_top.specs.declared.loading.Stop.TheVariants as stops
 use Rattle.hp_top.specs.declared.status.Status.{Status}
 use Rattle.hp_top.specs.declared.status.Status.TheVariants as status
 use Rattle.hp_top.specs.Command.{Command, accepts}
-use Rattle.hp_top.specs.Outcome.{Files, Answer, Outcome, answer_of, IsDomain, IsNoDomain, IsProblem, IsNoProblem}
-use Rattle.hp_top.specs.Loading.{ToldFile, Holds, IsUnread, Stops}
+use Rattle.hp_top.specs.Outcome.{Answer, answer_of, IsDomain, IsProblem}
+use Rattle.hp_top.specs.Loading.{ToldFile, Holds, Stops}
 use Rattle.hp_top.specs.Telling.{Tells}
-use Rattle.hp_top.specs.Writing.{Wrote}
 
 -- the lines of refusals
 abbrev pub refused_usage : List ℕ

@@ -1,30 +1,19 @@
-//! The children of a node.
+//! The children of a node: the choices of it, and the node or the fault that a choice leads to.
 
-ghost use Rattle.std.specs.Prelude.{◌≡◌, ◌++◌, ◌∷◌, ◌-◌, [], map, IfOk, OnOk};
+ghost use Rattle.std.specs.Prelude.{◌≡◌, ◌++◌, ◌∷◌, ◌-◌, [], map, drop, IfOk, OnOk};
 ghost use Rattle.hp_top.specs.declared.program.Rule.TheVariants as kinds;
 ghost use Rattle.hp_top.specs.Program.{shared_term, term_of, terms_of};
-ghost use Rattle.hp_top.specs.Flat.{FlatChild, flat_node, flat_child, bindings_of, by_operator, by_branch, by_branches, by_rule, by_rules, flat_children};
+ghost use Rattle.hp_top.specs.Flat.{flat_node, flat_choice, bindings_of, by_operator, by_branch, by_branches, by_rule, by_rules, flat_children};
 ghost use Rattle.hp_top.specs.Stops.{Stands};
 
 use crate::changing::{changed, copy_atoms, share, share_all};
-use crate::matching::{match_atom, nothing_bound};
-use crate::node::{Bindings, Child, Node};
+use crate::matching::match_head;
+use crate::node::{Bindings, Choice, Node};
 use crate::program::{Branch, GroundAtom, GroundAtoms, Method, Operator, Rule};
 use crate::satisfying::satisfiers;
 use crate::valuing::{Stop, values};
 use std::alloc::{AllocError, Global};
 use std::rc::Rc;
-
-/// The child that was reached, or the fault in its place.
-fn child_from(reached: Result<Node, Stop>) -> Result<Child, AllocError>
-    ensures { IfOk result (λ child. (flat : FlatChild) → Stands reached flat → flat_child child ≡ flat) }
-{
-    match reached {
-        Ok(node) => Ok(Child::Did(node)),
-        Err(Stop::Fault(fault)) => Ok(Child::Fault(fault)),
-        Err(Stop::NoMemory) => Err(AllocError),
-    }
-}
 
 /// How many decompositions may follow a child of the node.
 fn depth_below(node: &Node) -> u32
@@ -69,46 +58,6 @@ fn node_by_operator(
     Ok(after_step(alloc, node, task, behind, state)?)
 }
 
-/// Appends a child by an operator for each satisfier of it.
-fn add_under_operator(
-    alloc: Global,
-    node: &Node,
-    task: &Rc<GroundAtom>,
-    behind: &[Rc<GroundAtom>],
-    operator: &Operator,
-    all: &[Bindings],
-    found: &mut Vec<Child>,
-) -> Result<(), AllocError>
-    ensures { OnOk result (map flat_child found.new.items ≡ map flat_child found.old.items ++ map (by_operator (flat_node node.now) (shared_term task.now) (terms_of behind.now) operator.now) (map bindings_of all.now)) }
-{
-    for satisfier in all {
-        let reached = node_by_operator(alloc, node, task, behind, operator, satisfier);
-        found.push(child_from(reached)?)?;
-    }
-    Ok(())
-}
-
-/// Appends the children by an operator.
-fn add_by_operator(
-    alloc: Global,
-    node: &Node,
-    task: &Rc<GroundAtom>,
-    behind: &[Rc<GroundAtom>],
-    operator: &Operator,
-    found: &mut Vec<Child>,
-) -> Result<(), AllocError>
-    ensures { OnOk result (map flat_child found.new.items ≡ map flat_child found.old.items ++ by_rule (flat_node node.now) (shared_term task.now) (terms_of behind.now) (kinds.Operator operator.now)) }
-{
-    let unbound = nothing_bound(alloc, operator.vars.len())?;
-    match match_atom(alloc, &operator.head, task, &unbound)? {
-        Some(bindings) => {
-            let all = satisfiers(alloc, &node.state, &operator.pre, &bindings)?;
-            add_under_operator(alloc, node, task, behind, operator, &all, found)
-        }
-        None => Ok(()),
-    }
-}
-
 fn node_by_branch(
     alloc: Global,
     node: &Node,
@@ -128,102 +77,162 @@ fn node_by_branch(
     })
 }
 
-/// Appends a child by a branch for each satisfier of it.
-fn add_under_branch(
-    alloc: Global,
-    node: &Node,
-    behind: &[Rc<GroundAtom>],
-    branch: &Branch,
-    all: &[Bindings],
-    found: &mut Vec<Child>,
-) -> Result<(), AllocError>
-    ensures { OnOk result (map flat_child found.new.items ≡ map flat_child found.old.items ++ map (by_branch (flat_node node.now) (terms_of behind.now) branch.now) (map bindings_of all.now)) }
+/// The tasks behind the first.
+fn behind_first(node: &Node) -> &[Rc<GroundAtom>]
+    ensures { terms_of result.now ≡ drop 1 (flat_node node.now).tasks }
 {
-    for satisfier in all {
-        let reached = node_by_branch(alloc, node, behind, branch, satisfier);
-        found.push(child_from(reached)?)?;
+    match node.tasks.split_first() {
+        Some((_, behind)) => behind,
+        None => &[],
     }
-    Ok(())
 }
 
-/// Appends the children by the first branch that has a satisfier.
-fn add_by_branches(
-    alloc: Global,
-    node: &Node,
-    behind: &[Rc<GroundAtom>],
-    branches: &[Branch],
-    bindings: &Bindings,
-    found: &mut Vec<Child>,
-) -> Result<(), AllocError>
-    ensures { OnOk result (map flat_child found.new.items ≡ map flat_child found.old.items ++ by_branches (flat_node node.now) (terms_of behind.now) branches.now (bindings_of bindings.now)) }
+/// Makes the node that a choice leads to.
+pub(crate) fn taken(alloc: Global, choice: &Choice) -> Result<Node, Stop>
+    ensures { Stands result (flat_choice choice.now) }
 {
-    for branch in branches {
-        let all = satisfiers(alloc, &node.state, &branch.pre, bindings)?;
-        if !all.is_empty() {
-            return add_under_branch(alloc, node, behind, branch, &all, found);
+    match choice {
+        Choice::Operator(node, task, operator, bindings) => {
+            node_by_operator(alloc, node, task, behind_first(node), operator, bindings)
+        }
+        Choice::Branch(node, branch, bindings) => {
+            node_by_branch(alloc, node, behind_first(node), branch, bindings)
         }
     }
+}
+
+/// Another holder of the same node.
+fn share_node(node: &Rc<Node>) -> Result<Rc<Node>, AllocError>
+    ensures { IfOk result (λ other. other.value ≡ node.now.value) }
+{
+    node.clone()
+}
+
+/// Appends a choice of an operator for each satisfier of it.
+fn add_under_operator<'a>(
+    node: &Rc<Node>,
+    task: &Rc<GroundAtom>,
+    operator: &'a Operator,
+    all: Vec<Bindings>,
+    found: &mut Vec<Choice<'a>>,
+) -> Result<(), AllocError>
+    ensures { OnOk result (map flat_choice found.new.items ≡ map flat_choice found.old.items ++ map (by_operator (flat_node node.now.value) (shared_term task.now) (drop 1 (flat_node node.now.value).tasks) operator.now) (map bindings_of all.items)) }
+{
+    for satisfier in all {
+        found.push(Choice::Operator(share_node(node)?, share(task)?, operator, satisfier))?;
+    }
     Ok(())
 }
 
-/// Appends the children by a method.
-fn add_by_method(
+/// Appends the choices of an operator.
+fn add_by_operator<'a>(
     alloc: Global,
-    node: &Node,
-    task: &GroundAtom,
-    behind: &[Rc<GroundAtom>],
-    method: &Method,
-    found: &mut Vec<Child>,
+    node: &Rc<Node>,
+    task: &Rc<GroundAtom>,
+    operator: &'a Operator,
+    found: &mut Vec<Choice<'a>>,
 ) -> Result<(), AllocError>
-    ensures { OnOk result (map flat_child found.new.items ≡ map flat_child found.old.items ++ by_rule (flat_node node.now) (term_of task.now) (terms_of behind.now) (kinds.Method method.now)) }
+    ensures { OnOk result (map flat_choice found.new.items ≡ map flat_choice found.old.items ++ by_rule (flat_node node.now.value) (shared_term task.now) (drop 1 (flat_node node.now.value).tasks) (kinds.Operator operator.now)) }
 {
-    let unbound = nothing_bound(alloc, method.vars.len())?;
-    match match_atom(alloc, &method.head, task, &unbound)? {
+    match match_head(alloc, &operator.head, task, operator.vars.len())? {
         Some(bindings) => {
-            add_by_branches(alloc, node, behind, &method.branches, &bindings, found)
+            let all = satisfiers(alloc, &node.state, &operator.pre, &bindings)?;
+            add_under_operator(node, task, operator, all, found)
         }
         None => Ok(()),
     }
 }
 
-fn add_by_rule(
-    alloc: Global,
-    node: &Node,
-    task: &Rc<GroundAtom>,
-    behind: &[Rc<GroundAtom>],
-    rule: &Rule,
-    found: &mut Vec<Child>,
+/// Appends a choice of a branch for each satisfier of it.
+fn add_under_branch<'a>(
+    node: &Rc<Node>,
+    branch: &'a Branch,
+    all: Vec<Bindings>,
+    found: &mut Vec<Choice<'a>>,
 ) -> Result<(), AllocError>
-    ensures { OnOk result (map flat_child found.new.items ≡ map flat_child found.old.items ++ by_rule (flat_node node.now) (shared_term task.now) (terms_of behind.now) rule.now) }
+    ensures { OnOk result (map flat_choice found.new.items ≡ map flat_choice found.old.items ++ map (by_branch (flat_node node.now.value) (drop 1 (flat_node node.now.value).tasks) branch.now) (map bindings_of all.items)) }
 {
-    match rule {
-        Rule::Operator(operator) => add_by_operator(alloc, node, task, behind, operator, found),
-        Rule::Method(method) => add_by_method(alloc, node, task, behind, method, found),
+    for satisfier in all {
+        found.push(Choice::Branch(share_node(node)?, branch, satisfier))?;
+    }
+    Ok(())
+}
+
+/// Appends the choices of the first branch that has a satisfier.
+fn add_by_branches<'a>(
+    alloc: Global,
+    node: &Rc<Node>,
+    branches: &'a [Branch],
+    bindings: &Bindings,
+    found: &mut Vec<Choice<'a>>,
+) -> Result<(), AllocError>
+    ensures { OnOk result (map flat_choice found.new.items ≡ map flat_choice found.old.items ++ by_branches (flat_node node.now.value) (drop 1 (flat_node node.now.value).tasks) branches.now (bindings_of bindings.now)) }
+{
+    for branch in branches {
+        let all = satisfiers(alloc, &node.state, &branch.pre, bindings)?;
+        if !all.is_empty() {
+            return add_under_branch(node, branch, all, found);
+        }
+    }
+    Ok(())
+}
+
+/// Appends the choices of a method.
+fn add_by_method<'a>(
+    alloc: Global,
+    node: &Rc<Node>,
+    task: &GroundAtom,
+    method: &'a Method,
+    found: &mut Vec<Choice<'a>>,
+) -> Result<(), AllocError>
+    ensures { OnOk result (map flat_choice found.new.items ≡ map flat_choice found.old.items ++ by_rule (flat_node node.now.value) (term_of task.now) (drop 1 (flat_node node.now.value).tasks) (kinds.Method method.now)) }
+{
+    match match_head(alloc, &method.head, task, method.vars.len())? {
+        Some(bindings) => add_by_branches(alloc, node, &method.branches, &bindings, found),
+        None => Ok(()),
     }
 }
 
-fn by_rules(
+fn add_by_rule<'a>(
     alloc: Global,
-    rules: &[Rule],
-    node: &Node,
+    node: &Rc<Node>,
     task: &Rc<GroundAtom>,
-    behind: &[Rc<GroundAtom>],
-) -> Result<Vec<Child>, AllocError>
-    ensures { IfOk result (λ v. map flat_child v.items ≡ by_rules (flat_node node.now) (shared_term task.now) (terms_of behind.now) rules.now) }
+    rule: &'a Rule,
+    found: &mut Vec<Choice<'a>>,
+) -> Result<(), AllocError>
+    ensures { OnOk result (map flat_choice found.new.items ≡ map flat_choice found.old.items ++ by_rule (flat_node node.now.value) (shared_term task.now) (drop 1 (flat_node node.now.value).tasks) rule.now) }
+{
+    match rule {
+        Rule::Operator(operator) => add_by_operator(alloc, node, task, operator, found),
+        Rule::Method(method) => add_by_method(alloc, node, task, method, found),
+    }
+}
+
+fn by_rules<'a>(
+    alloc: Global,
+    rules: &'a [Rule],
+    node: &Rc<Node>,
+    task: &Rc<GroundAtom>,
+) -> Result<Vec<Choice<'a>>, AllocError>
+    ensures { IfOk result (λ v. map flat_choice v.items ≡ by_rules (flat_node node.now.value) (shared_term task.now) (drop 1 (flat_node node.now.value).tasks) rules.now) }
 {
     let mut found = Vec::new(alloc);
     for rule in rules {
-        add_by_rule(alloc, node, task, behind, rule, &mut found)?;
+        add_by_rule(alloc, node, task, rule, &mut found)?;
     }
     Ok(found)
 }
 
-/// The children of a node, in the order in which they are visited.
-pub(crate) fn children(alloc: Global, rules: &[Rule], node: &Node) -> Result<Vec<Child>, AllocError>
-    ensures { IfOk result (λ v. map flat_child v.items ≡ flat_children rules.now (flat_node node.now)) }
+/// The choices of a node, in the order in which they are visited.
+pub(crate) fn choices<'a>(
+    alloc: Global,
+    rules: &'a [Rule],
+    node: &Rc<Node>,
+) -> Result<Vec<Choice<'a>>, AllocError>
+    ensures { IfOk result (λ v. map flat_choice v.items ≡ flat_children rules.now (flat_node node.now.value)) }
 {
     match node.tasks.split_first() {
-        Some((task, behind)) => by_rules(alloc, rules, node, task, behind),
+        Some((task, _)) => by_rules(alloc, rules, node, task),
         None => Ok(Vec::new(alloc)),
     }
 }

@@ -33,7 +33,7 @@ pub(crate) fn copy_bindings(alloc: Global, bindings: &Bindings) -> Result<Bindin
 }
 
 /// So many variables, none of them bound.
-pub(crate) fn nothing_bound(alloc: Global, count: usize) -> Result<Bindings, AllocError>
+fn nothing_bound(alloc: Global, count: usize) -> Result<Bindings, AllocError>
     ensures { IfOk result (λ b. bindings_of b ≡ unbound count) }
 {
     let mut names = Vec::with_capacity(alloc, count)?;
@@ -116,6 +116,22 @@ fn match_arguments(
     Ok(true)
 }
 
+/// The extension of the bindings under which the arguments equal the names, if there is one.
+fn extension(
+    alloc: Global,
+    arguments: &[Argument],
+    names: &[Name],
+    mut bindings: Bindings,
+) -> Result<Option<Bindings>, AllocError>
+    ensures { IfOk result (λ m. option_map bindings_of m ≡ match_parts (patterns_of arguments.now) (symbols_of names.now) (bindings_of bindings)) }
+{
+    if match_arguments(alloc, arguments, names, &mut bindings)? {
+        Ok(Some(bindings))
+    } else {
+        Ok(None)
+    }
+}
+
 /// The least extension of the bindings under which the atoms are equal, if there is one.
 pub(crate) fn match_atom(
     alloc: Global,
@@ -128,10 +144,23 @@ pub(crate) fn match_atom(
     if atom.name != ground.name {
         return Ok(None);
     }
-    let mut extension = copy_bindings(alloc, bindings)?;
-    if match_arguments(alloc, &atom.args, &ground.args, &mut extension)? {
-        Ok(Some(extension))
-    } else {
-        Ok(None)
+    let copied = copy_bindings(alloc, bindings)?;
+    extension(alloc, &atom.args, &ground.args, copied)
+}
+
+/// The least bindings of so many variables under which the head is the task, if there are any.
+/// Most heads have another name, and for those no memory is taken.
+pub(crate) fn match_head(
+    alloc: Global,
+    head: &RuleAtom,
+    task: &GroundAtom,
+    vars: usize,
+) -> Result<Option<Bindings>, AllocError>
+    ensures { IfOk result (λ m. option_map bindings_of m ≡ match_atom (atom_of head.now) (term_of task.now) (unbound vars)) }
+{
+    if head.name != task.name {
+        return Ok(None);
     }
+    let unbound = nothing_bound(alloc, vars)?;
+    extension(alloc, &head.args, &task.args, unbound)
 }

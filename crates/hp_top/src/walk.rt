@@ -6,10 +6,11 @@ ghost use Rattle.hp_top.specs.Flat.{flat_node, heard_shown, shown_at};
 ghost use Rattle.hp_top.specs.Rest.{rest, Answers, flat_root};
 
 use crate::changing::copy_atoms;
-use crate::children::children;
+use crate::children::{choices, taken};
 use crate::initial::initial_state;
-use crate::node::{Child, Node};
+use crate::node::{Choice, Node};
 use crate::program::{GroundAtom, GroundAtoms, Problem, Rule};
+use crate::valuing::Stop;
 use hp_syntax::RunFault;
 use std::alloc::{AllocError, Global};
 use std::rc::Rc;
@@ -29,17 +30,17 @@ pub enum Step {
     End,
 }
 
-/// A walk of the tree of a problem. At each moment it holds the node reached and the children
-/// that are still to be visited.
+/// A walk of the tree of a problem. At each moment it holds the node reached and the choices
+/// that are still to be taken, of which each shares the node that it begins at.
 #[derive(Drop)]
 pub struct Walk<'a> {
     alloc: Global,
     rules: &'a [Rule],
-    node: Node,
+    node: Rc<Node>,
     /// The node wasn't looked at yet.
     is_fresh: bool,
     /// The last is the next.
-    pending: Vec<Child>,
+    pending: Vec<Choice<'a>>,
 }
 
 impl<'a> Walk<'a> {
@@ -55,7 +56,7 @@ impl<'a> Walk<'a> {
         Ok(Walk {
             alloc,
             rules,
-            node: root(alloc, problem, depth)?,
+            node: Rc::new(alloc, root(alloc, problem, depth)?)?,
             is_fresh: true,
             pending: Vec::new(alloc),
         })
@@ -68,19 +69,19 @@ impl<'a> Walk<'a> {
     {
         match self.open()? {
             Some(step) => Ok(step),
-            None => Ok(self.take_next()),
+            None => self.take_next(),
         }
     }
 
     /// The steps of the node reached.
     pub fn steps(&self) -> &[Rc<GroundAtom>]
-        ensures { terms_of result.now ≡ (flat_node self.now.node).steps }
+        ensures { terms_of result.now ≡ (flat_node self.now.node.value).steps }
     {
         &self.node.steps
     }
 
     /// Looks at the node reached, where it wasn't looked at yet: it is a plan or cut off, or its
-    /// children become pending.
+    /// choices become pending.
     fn open(&mut self) -> Result<Option<Step>, AllocError>
         ensures seen { IfOk result (λ o. IfSome o (λ step. Answers step self.old self.new)) }
         ensures opened { IfOk result (λ o. IfNone o (rest self.new ≡ rest self.old)) }
@@ -97,38 +98,44 @@ impl<'a> Walk<'a> {
         if self.node.depth == 0 {
             return Ok(Some(Step::Cut));
         }
-        let found = children(self.alloc, self.rules, &self.node)?;
+        let found = choices(self.alloc, self.rules, &self.node)?;
         move_reversed(found, &mut self.pending)?;
         Ok(None)
     }
 
-    /// Goes to the next pending child.
-    fn take_next(&mut self) -> Step
+    /// Takes the next pending choice.
+    fn take_next(&mut self) -> Result<Step, AllocError>
         requires { self.old.is_fresh ≡ false }
-        ensures answer { Answers result self.old self.new }
+        ensures answer { IfOk result (λ step. Answers step self.old self.new) }
         ensures rules { self.new.rules.now ≡ self.old.rules.now }
     {
-        match self.pending.pop() {
-            Some(Child::Did(node)) => {
-                self.node = node;
+        let Some(choice) = self.pending.pop() else {
+            return Ok(Step::End);
+        };
+        match taken(self.alloc, &choice) {
+            Ok(node) => {
+                self.node = Rc::new(self.alloc, node)?;
                 self.is_fresh = true;
-                Step::Did
+                Ok(Step::Did)
             }
-            Some(Child::Fault(fault)) => {
+            Err(Stop::Fault(fault)) => {
                 self.pending.clear();
-                Step::Fault(fault)
+                Ok(Step::Fault(fault))
             }
-            None => Step::End,
+            Err(Stop::NoMemory) => Err(AllocError),
         }
     }
 }
 
-/// Appends the children, the last first.
-fn move_reversed(mut found: Vec<Child>, pending: &mut Vec<Child>) -> Result<(), AllocError>
-    ensures { OnOk result (pending.new.items ≡ pending.old.items ++ reverse found.items) }
+/// Appends the choices, the last first.
+fn move_reversed<'a>(
+    mut found: Vec<Choice<'a>>,
+    pending: &mut Vec<Choice<'a>>,
+) -> Result<(), AllocError>
+    ensures { OnOk result (pending.new.items ≡ pending.old.items ++ reverse found.entry.items) }
 {
-    while let Some(child) = found.pop() {
-        pending.push(child)?;
+    while let Some(choice) = found.pop() {
+        pending.push(choice)?;
     }
     Ok(())
 }

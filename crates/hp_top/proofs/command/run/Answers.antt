@@ -1,5 +1,4 @@
-use Rattle.std.proofs.Common.{inl, inr, sym, ◌∙◌, ◌≡◌}
-use Rattle.hp_top.specs.declared.status.Status.TheVariants as status
+use Rattle.std.proofs.Common.{inl, inr}
 use Rattle.hp_top.proofs.RunEnds.{ends_well, ends_usage, ends_write, ends_read}
 use Rattle.hp_top.proofs.command.run.Goals as goal
 

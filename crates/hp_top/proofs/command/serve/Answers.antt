@@ -1,5 +1,4 @@
-use Rattle.std.proofs.Common.{refl, ◌∙◌, map, string_bytes, Some}
-use Rattle.hp_top.specs.Command.{accepts, make_command}
+use Rattle.std.proofs.Common.{refl}
 use Rattle.hp_top.specs.Serving.{ByCommand}
 use Rattle.hp_top.proofs.RunEnds.{refused_words, named_command}
 use Rattle.hp_top.proofs.command.serve.Goals as goal

@@ -1,8 +1,6 @@
 use Rattle.hp_io.specs.declared.folder.Input.TheVariants as inputs
 use Rattle.hp_top.specs.declared.loading.Stop.TheVariants.{Refused}
 use Rattle.hp_top.specs.Program.{domain_of}
-use Rattle.hp_top.specs.Loading.{Holds, DomainStops}
-use Rattle.hp_top.specs.Outcome.{IsDomain}
 use Rattle.hp_top.proofs.Loads.{held_domain, held_no_domain, formed_ok, formed_err, formed_weaker}
 use Rattle.hp_top.proofs.loading.load_domain.Goals as goal
 

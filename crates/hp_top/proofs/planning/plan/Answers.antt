@@ -1,7 +1,7 @@
 use Rattle.std.proofs.Common.{◌≡◌, false, ap, ◌∙◌, subst}
 use Rattle.hp_top.specs.Flat.{heard_shown, shown_at}
 use Rattle.hp_top.specs.Rest.{rest, flat_root}
-use Rattle.hp_top.specs.Telling.{Tells, Written}
+use Rattle.hp_top.specs.Telling.{Written}
 use Rattle.hp_top.specs.Told.{told, told_status}
 use Rattle.hp_top.specs.Writing.{Wrote}
 use Rattle.hp_top.proofs.ToldReport.{told-report, told-status}

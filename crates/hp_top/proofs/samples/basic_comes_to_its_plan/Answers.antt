@@ -1,11 +1,10 @@
-use Rattle.std.proofs.Common.{◌≡◌, refl, codes, Some}
+use Rattle.std.proofs.Common.{refl}
 use Rattle.std.specs.Fmt.{digits}
 use Rattle.hp_syntax.specs.Forest.{IsForest}
 use Rattle.hp_syntax.specs.Report.{report, plan_text, ending_text}
 use Rattle.hp_syntax.specs.Samples.{basic_text, basic_forest, basic_domain, swap_text, swap_forest, swap_problem, empty_text, empty_forest, empty_problem}
 use Rattle.hp_syntax.specs.Walk.{walk, visits, visits_within, children}
-use Rattle.hp_top.specs.declared.status.Status.TheVariants.{Done, CutShort}
-use Rattle.hp_top.specs.Outcome.{IsDomain, IsProblem, Planned, ByCommand, Comes, walk_status}
+use Rattle.hp_top.specs.Outcome.{IsDomain, IsProblem, Planned, ByCommand, walk_status}
 use Rattle.hp_top.proofs.samples.basic_comes_to_its_plan.Goals as goal
 
 is_basic : IsForest basic_text basic_forest → IsDomain basic_text basic_domain
