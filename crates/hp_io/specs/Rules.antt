@@ -5,13 +5,15 @@ use Rattle.std.specs.Prelude.{◌≡◌, ℕ, ◌+◌, ◌-◌, ◌^◌, ◌<◌
 abbrev pub Rose : ℕ → ℕ → Type 0
 Rose before now = min (before + 1) (2 ^ 64 - 1) ≤ now
 
--- a begun input has the file as its rest, where the file is told; a file that is told to be missing isn't begun
+-- a begun input has the file as its rest, where the file is told;
+-- a file that is told to be missing isn't begun
 abbrev pub Begins : Option (Option (List ℕ)) → Option (List ℕ) → Type 0
 Begins None rest = Unit {0}
 Begins (Some None) rest = ⊥
 Begins (Some (Some bytes)) rest = rest ≡ Some bytes
 
--- n bytes at the front of a buffer with this room came from the front of the old rest, and none only at its end
+-- n bytes at the front of a buffer with this room came from the front of the old rest,
+-- and none only at its end
 abbrev pub Taken : ℕ → ℕ → List ℕ → Option (List ℕ) → Option (List ℕ) → Type 0
 Taken n room buf None new = new ≡ None
 Taken n room buf (Some old) new =

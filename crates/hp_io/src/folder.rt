@@ -46,10 +46,13 @@ pub trait Folder {
         ensures begun { OnOk result (begun self.new which ≡ true) }
         ensures rest { OnOk result (Begins (file self.old name.now) (rest self.new which)) }
         ensures tells { IsSome (rest self.old which) → IsSome (rest self.new which) }
-        ensures others { (w : Input) → w ≢ which → (rest self.new w ≡ rest self.old w) × (begun self.new w ≡ begun self.old w) }
-        ensures err { OnErr result ((rest self.new which ≡ rest self.old which) × (begun self.new which ≡ begun self.old which)) }
+        ensures others { (w : Input) → w ≢ which
+            → (rest self.new w ≡ rest self.old w) × (begun self.new w ≡ begun self.old w) }
+        ensures err { OnErr result ((rest self.new which ≡ rest self.old which)
+            × (begun self.new which ≡ begun self.old which)) }
         ensures later { (w : Input) → faults self.old w ≤ faults self.new w }
-        ensures cause { IsErrOf result BeginError.Failed → Rose (faults self.old which) (faults self.new which) ⊎ (file self.old name.now ≡ Some None) };
+        ensures cause { IsErrOf result BeginError.Failed
+            → Rose (faults self.old which) (faults self.new which) ⊎ (file self.old name.now ≡ Some None) };
 
     /// Reads the next bytes of an input into the front of `buf`, and says how many.
     /// None, into a buffer that has room, is the end of the input.
@@ -59,7 +62,8 @@ pub trait Folder {
         ensures begun { (w : Input) → begun self.new w ≡ begun self.old w }
         ensures count { IfOk result (λ n. n ≤ length buf.old) }
         ensures length { length buf.new ≡ length buf.old }
-        ensures taken { IfOk result (λ n. Taken n (length buf.old) buf.new (rest self.old which) (rest self.new which)) }
+        ensures taken { IfOk result (λ n.
+            Taken n (length buf.old) buf.new (rest self.old which) (rest self.new which)) }
         ensures others { (w : Input) → w ≢ which → rest self.new w ≡ rest self.old w }
         ensures err { OnErr result (rest self.new which ≡ rest self.old which) }
         ensures later { (w : Input) → faults self.old w ≤ faults self.new w }

@@ -99,8 +99,10 @@ impl Folder for MemFolder {
         ensures begun { OnOk result (is_begun self.new which ≡ true) }
         ensures rest { OnOk result (rest_of self.new which ≡ contents self.old name.now) }
         ensures tells { IsSome (rest_of self.old which) → IsSome (rest_of self.new which) }
-        ensures others { (w : Input) → w ≢ which → (rest_of self.new w ≡ rest_of self.old w) × (is_begun self.new w ≡ is_begun self.old w) }
-        ensures err { OnErr result ((rest_of self.new which ≡ rest_of self.old which) × (is_begun self.new which ≡ is_begun self.old which)) }
+        ensures others { (w : Input) → w ≢ which
+            → (rest_of self.new w ≡ rest_of self.old w) × (is_begun self.new w ≡ is_begun self.old w) }
+        ensures err { OnErr result ((rest_of self.new which ≡ rest_of self.old which)
+            × (is_begun self.new which ≡ is_begun self.old which)) }
     {
         let Some(file) = find(self.files.as_slice(), name) else {
             return Err(BeginError::Failed);
@@ -113,12 +115,14 @@ impl Folder for MemFolder {
     fn read(&mut self, which: Input, buf: &mut [u8]) -> Result<usize, Failed>
         requires { is_begun self.old which ≡ true }
         ensures succeeds { IsOk result }
-        ensures exact { IfOk result (λ n. (rest : List ℕ) → rest_of self.old which ≡ Some rest → n ≡ min (length rest) (length buf.old)) }
+        ensures exact { IfOk result (λ n. (rest : List ℕ) → rest_of self.old which ≡ Some rest
+            → n ≡ min (length rest) (length buf.old)) }
         ensures files { (n : List ℕ) → contents self.new n ≡ contents self.old n }
         ensures begun { (w : Input) → is_begun self.new w ≡ is_begun self.old w }
         ensures count { IfOk result (λ n. n ≤ length buf.old) }
         ensures length { length buf.new ≡ length buf.old }
-        ensures taken { IfOk result (λ n. Taken n (length buf.old) buf.new (rest_of self.old which) (rest_of self.new which)) }
+        ensures taken { IfOk result (λ n.
+            Taken n (length buf.old) buf.new (rest_of self.old which) (rest_of self.new which)) }
         ensures others { (w : Input) → w ≢ which → rest_of self.new w ≡ rest_of self.old w }
     {
         let place = self.place(which).unwrap();

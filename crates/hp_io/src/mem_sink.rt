@@ -55,7 +55,8 @@ impl Sink for MemSink {
         ensures err_room { OnErr result (room_of self.new ≡ room_of self.old) }
         ensures count { IfOk result (λ n. n ≤ length piece.now) }
         ensures some { IfOk result (λ n. 0 < length piece.now → 0 < n) }
-        ensures taken { IfOk result (λ n. Appended n piece.now (Some (bytes_of self.old)) (Some (bytes_of self.new))) }
+        ensures taken { IfOk result (λ n.
+            Appended n piece.now (Some (bytes_of self.old)) (Some (bytes_of self.new))) }
         ensures err { OnErr result (bytes_of self.new ≡ bytes_of self.old) }
         ensures later { faults_of self.old ≤ faults_of self.new }
         ensures cause { OnErr result (Rose (faults_of self.old) (faults_of self.new)) }

@@ -25,12 +25,14 @@ abbrev mutual
   SpellsNode text (Word s name) = IsToken text s.from s.to × (name ≡ slice_range text s.from s.to)
   SpellsNode text (Numeral s n) = ⊥
   SpellsNode text (Group s parts) =
-      (slice_index text s.from ≡ 40) × (s.from + 2 ≤ s.to) × (slice_index text (s.to - 1) ≡ 41) × Spells text (s.from + 1) (s.to - 1) parts
+      (slice_index text s.from ≡ 40) × (s.from + 2 ≤ s.to) × (slice_index text (s.to - 1) ≡ 41)
+      × Spells text (s.from + 1) (s.to - 1) parts
 
   -- between the two offsets the text spells the forest: gaps, with its nodes between them
   pub Spells : List ℕ → ℕ → ℕ → Forest → Type 0
   Spells text from to Bare = IsGap text from to
-  Spells text from to (Grow n f) = IsGap text from (span_of n).from × SpellsNode text n × Spells text (span_of n).to to f
+  Spells text from to (Grow n f) =
+      IsGap text from (span_of n).from × SpellsNode text n × Spells text (span_of n).to to f
 
 -- how deep the lists of a forest nest
 abbrev mutual
@@ -72,7 +74,8 @@ closed text i = count_by (λ b. b == 41) (take i text)
 pub data Refused (text : List ℕ) : Type 0 where
   TooLarge : 4194304 < length text → Refused text
   BadByte : (i : ℕ) → i < length text → is_text_byte (slice_index text i) ≡ false → Refused text
-  BadToken : (from to : ℕ) → IsToken text from to → is_word (slice_range text from to) ≡ false → Refused text
+  BadToken : (from to : ℕ) → IsToken text from to → is_word (slice_range text from to) ≡ false
+      → Refused text
   ExtraClose : (i : ℕ) → i ≤ length text → opened text i < closed text i → Refused text
   TooNested : (i : ℕ) → i ≤ length text → closed text i + 64 < opened text i → Refused text
   Unclosed : closed text (length text) < opened text (length text) → Refused text

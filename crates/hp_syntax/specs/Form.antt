@@ -21,7 +21,8 @@ joined f (Some x) (Some y) = Some (f x y)
 
 -- a term is a variable of the rule, by its number, or another name
 abbrev pub term_of : List (List ℕ) → Node → Option Pattern
-term_of names (Word s name) = cond (is_variable name) (option_map (Variable s) (place_of name names)) (Some (Constant s name))
+term_of names (Word s name) =
+    cond (is_variable name) (option_map (Variable s) (place_of name names)) (Some (Constant s name))
 term_of names (Numeral s n) = None
 term_of names (Group s parts) = None
 
@@ -37,7 +38,8 @@ abbrev pub atom_of : (List ℕ → Bool) → List (List ℕ) → Node → Option
 atom_of fits names (Word s name) = None
 atom_of fits names (Numeral s n) = None
 atom_of fits names (Group s Bare) = None
-atom_of fits names (Group s (Grow (Word t name) args)) = only_if (fits name) (option_map (make_atom s name) (terms_of names args))
+atom_of fits names (Group s (Grow (Word t name) args)) =
+    only_if (fits name) (option_map (make_atom s name) (terms_of names args))
 atom_of fits names (Group s (Grow (Numeral t n) args)) = None
 atom_of fits names (Group s (Grow (Group t parts) args)) = None
 
@@ -101,12 +103,14 @@ make_branch p t = record { pre = conjunction p; tasks = task_list t }
 -- a branch is a precondition and a task list; each variable of a task stands in the head or there
 abbrev pub branch_of : List (List ℕ) → Node → Node → Node → Option Branch
 branch_of names h p t =
-    only_if (are_among (variables_of t) (variables_of h ++ variables_of p)) (joined make_branch (atoms_of names p) (atoms_of names t))
+    only_if (are_among (variables_of t) (variables_of h ++ variables_of p))
+    (joined make_branch (atoms_of names p) (atoms_of names t))
 
 -- one branch or more
 abbrev pub branches_of : List (List ℕ) → Node → Forest → Option (List Branch)
 branches_of names h (Grow p (Grow t Bare)) = option_map (λ b. b ∷ []) (branch_of names h p t)
-branches_of names h (Grow p (Grow t (Grow q f))) = joined (λ b bs. b ∷ bs) (branch_of names h p t) (branches_of names h (Grow q f))
+branches_of names h (Grow p (Grow t (Grow q f))) =
+    joined (λ b bs. b ∷ bs) (branch_of names h p t) (branches_of names h (Grow q f))
 branches_of names h (Grow p Bare) = None
 branches_of names h Bare = None
 
@@ -116,12 +120,14 @@ make_method s names h bs = Refines (record { span = s; vars = names; head = h; b
 -- `(:method head precondition tasks precondition tasks ..)`
 abbrev pub method_of : Span → List (List ℕ) → Forest → Option Rule
 method_of s names Bare = None
-method_of s names (Grow h f) = joined (make_method s names) (atom_of is_compound names h) (branches_of names h f)
+method_of s names (Grow h f) =
+    joined (make_method s names) (atom_of is_compound names h) (branches_of names h f)
 
 -- what a rule is, by its first word
 abbrev pub keyed_rule : Span → List ℕ → List (List ℕ) → Forest → Option Rule
 keyed_rule s key names f =
-    cond (bytes_eq key (codes ":operator")) (operator_of s names f) (cond (bytes_eq key (codes ":method")) (method_of s names f) None)
+    cond (bytes_eq key (codes ":operator")) (operator_of s names f)
+    (cond (bytes_eq key (codes ":method")) (method_of s names f) None)
 
 -- a rule has at most 256 variables
 abbrev pub rule_of : Node → Option Rule
@@ -129,7 +135,8 @@ rule_of (Word s name) = None
 rule_of (Numeral s n) = None
 rule_of (Group s Bare) = None
 rule_of (Group s (Grow (Word t key) f)) =
-    only_if (nat_le (length (names_of (Group s (Grow (Word t key) f)))) 256) (keyed_rule s key (names_of (Group s (Grow (Word t key) f))) f)
+    only_if (nat_le (length (names_of (Group s (Grow (Word t key) f)))) 256)
+    (keyed_rule s key (names_of (Group s (Grow (Word t key) f))) f)
 rule_of (Group s (Grow (Numeral t n) f)) = None
 rule_of (Group s (Grow (Group t parts) f)) = None
 
@@ -149,7 +156,8 @@ domain_of _ = None
 -- in a problem a term is a name that is no variable
 abbrev pub fixed_terms_of : Forest → Option Terms
 fixed_terms_of Bare = Some NoTerm
-fixed_terms_of (Grow (Word s name) f) = only_if (not (is_variable name)) (option_map (More (Symbol name)) (fixed_terms_of f))
+fixed_terms_of (Grow (Word s name) f) =
+    only_if (not (is_variable name)) (option_map (More (Symbol name)) (fixed_terms_of f))
 fixed_terms_of (Grow (Numeral s n) f) = None
 fixed_terms_of (Grow (Group s parts) f) = None
 
@@ -158,7 +166,8 @@ abbrev pub fixed_atom_of : Node → Option Term
 fixed_atom_of (Word s name) = None
 fixed_atom_of (Numeral s n) = None
 fixed_atom_of (Group s Bare) = None
-fixed_atom_of (Group s (Grow (Word t name) args)) = only_if (is_plain name) (option_map (λ ts. Listed (More (Symbol name) ts)) (fixed_terms_of args))
+fixed_atom_of (Group s (Grow (Word t name) args)) =
+    only_if (is_plain name) (option_map (λ ts. Listed (More (Symbol name) ts)) (fixed_terms_of args))
 fixed_atom_of (Group s (Grow (Numeral t n) args)) = None
 fixed_atom_of (Group s (Grow (Group t parts) args)) = None
 
@@ -176,10 +185,13 @@ each_network [] = NoNetwork
 each_network (t ∷ ts) = And (Task t false) (each_network ts)
 
 abbrev pub make_problem : List ℕ → List ℕ → List Term → List Term → Problem
-make_problem name domain state tasks = record { name = name; domain = domain; state = state; tasks = Ordered (each_network tasks) }
+make_problem name domain state tasks =
+    record { name = name; domain = domain; state = state; tasks = Ordered (each_network tasks) }
 
 -- a problem is the one list `(defproblem name domain (atoms) (tasks))`
 abbrev pub problem_of : Forest → Option Problem
-problem_of (Grow (Group s (Grow (Word t key) (Grow (Word u name) (Grow (Word v domain) (Grow atoms (Grow tasks Bare)))))) Bare) =
-    only_if (bytes_eq key (codes "defproblem")) (joined (make_problem name domain) (fixed_atoms_of atoms) (fixed_atoms_of tasks))
+problem_of (Grow (Group s (Grow (Word t key)
+    (Grow (Word u name) (Grow (Word v domain) (Grow atoms (Grow tasks Bare)))))) Bare) =
+    only_if (bytes_eq key (codes "defproblem"))
+    (joined (make_problem name domain) (fixed_atoms_of atoms) (fixed_atoms_of tasks))
 problem_of _ = None

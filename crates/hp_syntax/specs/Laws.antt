@@ -26,7 +26,8 @@ did_at (FaultChild f ∷ cs) i = did_at cs i
 -- the node that a path of numbers of Dids reaches, as long as decompositions are left
 unfoldable pub node_at : Domain → Node → List ℕ → Option Node
 node_at domain n [] = Some n
-node_at domain n (i ∷ p) = cond (n.depth == 0) None (and_then (did_at (children domain n) i) (λ m. node_at domain m p))
+node_at domain n (i ∷ p) =
+    cond (n.depth == 0) None (and_then (did_at (children domain n) i) (λ m. node_at domain m p))
 
 -- what is seen is no fault
 abbrev pub IsFaultless : Sight → Type 0

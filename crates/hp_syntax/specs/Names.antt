@@ -17,7 +17,9 @@ abbrev pub is_variable : List ℕ → Bool
 is_variable name = begins_with 63 name && has_more name
 
 abbrev pub reserved : List (List ℕ)
-reserved = codes "nil" ∷ codes "and" ∷ codes "or" ∷ codes "not" ∷ codes "imply" ∷ codes "forall" ∷ codes "assign" ∷ codes "call" ∷ []
+reserved =
+    codes "nil" ∷ codes "and" ∷ codes "or" ∷ codes "not" ∷ codes "imply"
+    ∷ codes "forall" ∷ codes "assign" ∷ codes "call" ∷ []
 
 -- a plain name may name an atom: it begins with neither `?` nor `:` and has no meaning of its own
 abbrev pub is_plain : List ℕ → Bool

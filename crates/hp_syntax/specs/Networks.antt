@@ -82,7 +82,8 @@ is_immediate _ = false
 -- where one of the places has an immediate task, only those that have one
 abbrev pub immediate_first : Network → List Place → List Place
 immediate_first net ps =
-    cond (list_any (λ p. is_immediate (part_at net p)) ps) (filter (λ p. is_immediate (part_at net p)) ps) ps
+    cond (list_any (λ p. is_immediate (part_at net p)) ps)
+    (filter (λ p. is_immediate (part_at net p)) ps) ps
 
 abbrev pub firsts_below : Place → Option Network → List Place
 firsts_below p None = []

@@ -38,7 +38,8 @@ abbrev mutual
 
   pub task_list_value : TaskList → Bindings → Result Networks RunFault
   task_list_value NoTask e = Ok NoNetwork
-  task_list_value (Then t ts) e = on_ok (tasks_value t e) (λ n. on_ok (task_list_value ts e) (λ ns. Ok (And n ns)))
+  task_list_value (Then t ts) e =
+      on_ok (tasks_value t e) (λ n. on_ok (task_list_value ts e) (λ ns. Ok (And n ns)))
 
 -- a way to do a primitive task; vars are the names of its variables, by number
 pub record Operator : Type 0 where
@@ -119,7 +120,8 @@ unless_guarded (Some d) s g = Guarded d
 
 abbrev pub apply : State → List Term → Changes → Applied
 apply s g c =
-    unless_guarded (first_guarded (cancelled g c.unguard) c.delete) (applied s c) (cancelled g c.unguard ++ c.guard)
+    unless_guarded (first_guarded (cancelled g c.unguard) c.delete) (applied s c)
+    (cancelled g c.unguard ++ c.guard)
 
 -- going through an operator's effects: it went, or an event stops it
 pub data Going (A : Type 0) : Type 0 where
@@ -137,7 +139,8 @@ go_on (Err f) = Stops (Fault f)
 -- the atoms of one list of effects, from left to right
 abbrev pub effect_atoms : List Effect → Bindings → Going (List Term)
 effect_atoms [] e = Went []
-effect_atoms (Change a ∷ rest) e = and_go (go_on (atom_value a e)) (λ t. and_go (effect_atoms rest e) (λ ts. Went (t ∷ ts)))
+effect_atoms (Change a ∷ rest) e =
+    and_go (go_on (atom_value a e)) (λ t. and_go (effect_atoms rest e) (λ ts. Went (t ∷ ts)))
 
 abbrev pub pattern_span : Pattern → Span
 pattern_span (Variable s v) = s

@@ -27,7 +27,8 @@ AreValues (c ∷ cs) e [] = ⊥
 AreValues (Change a ∷ cs) e (t ∷ ts) = (atom_value a e ≡ Ok t) × AreValues cs e ts
 
 -- a step is the value of the head of an operator of the domain, under bindings of its variables that
--- meet its precondition; the deletes go from the state, and then the adds that are absent are appended in turn
+-- meet its precondition; the deletes go from the state, and then the adds that are absent are
+-- appended in turn
 pub record Step (domain : Domain) (before : State) (step : Term) (cost : ℤ) (after : State) : Type 0 where
   pub operator : Operator
   pub bindings : Bindings
@@ -46,7 +47,8 @@ pub record Step (domain : Domain) (before : State) (step : Term) (cost : ℤ) (a
 abbrev pub Executes : Domain → State → List Term → ℤ → State → Type 0
 Executes domain before [] cost after = (before ≡ after) × (cost ≡ pos 0)
 Executes domain before (t ∷ ts) cost after =
-    (first : ℤ) × (rest : ℤ) × (between : State) × Step domain before t first between × Executes domain between ts rest after × (cost ≡ first +ℤ rest)
+    (first : ℤ) × (rest : ℤ) × (between : State) × Step domain before t first between
+    × Executes domain between ts rest after × (cost ≡ first +ℤ rest)
 
 -- a method of the domain, whose head has the task as its value, decomposes it: by the first of its
 -- branches whose precondition any bindings meet under which the head has that value
@@ -62,7 +64,8 @@ pub record Decomposes (domain : Domain) (state : State) (task : Term) (subtasks 
   pub met : IsMetIn state branch.pre bindings
   pub not_earlier :
       (i : ℕ) (earlier : Branch) (e : Bindings) →
-      i < number → slice_get method.branches i ≡ Some earlier → length e ≡ length method.vars → atom_value method.head e ≡ Ok task → IsMetIn state earlier.pre e → ⊥
+      i < number → slice_get method.branches i ≡ Some earlier → length e ≡ length method.vars
+      → atom_value method.head e ≡ Ok task → IsMetIn state earlier.pre e → ⊥
   pub gives : tasks_value branch.tasks bindings ≡ Ok subtasks
 
 -- steps that do a network by so many steps and decompositions, and lead from one state to another: a
@@ -71,10 +74,20 @@ pub record Decomposes (domain : Domain) (state : State) (task : Term) (subtasks 
 mutual
   pub data Solves (domain : Domain) : ℕ → State → Network → List Term → State → Type 0 where
     Nothing : (before : State) → Solves domain 0 before Empty [] before
-    ByOperator : (before after : State) (t : Term) (i : Bool) (cost : ℤ) → Step domain before t cost after → Solves domain 1 before (Task t i) (t ∷ []) after
-    ByMethod : (k : ℕ) (before after : State) (t : Term) (i : Bool) (sub : Network) (steps : List Term) → Decomposes domain before t sub → Solves domain k before sub steps after → Solves domain (suc k) before (Task t i) steps after
-    InTurn : (k : ℕ) (before after : State) (parts : Networks) (steps : List Term) → SolvesAll domain k before parts steps after → Solves domain k before (Ordered parts) steps after
+    ByOperator : (before after : State) (t : Term) (i : Bool) (cost : ℤ) → Step domain before t cost after
+        → Solves domain 1 before (Task t i) (t ∷ []) after
+    ByMethod : (k : ℕ) (before after : State) (t : Term) (i : Bool) (sub : Network) (steps : List Term)
+        → Decomposes domain before t sub
+        → Solves domain k before sub steps after
+        → Solves domain (suc k) before (Task t i) steps after
+    InTurn : (k : ℕ) (before after : State) (parts : Networks) (steps : List Term)
+        → SolvesAll domain k before parts steps after
+        → Solves domain k before (Ordered parts) steps after
 
   pub data SolvesAll (domain : Domain) : ℕ → State → Networks → List Term → State → Type 0 where
     NoneLeft : (before : State) → SolvesAll domain 0 before NoNetwork [] before
-    AndThen : (j k : ℕ) (before between after : State) (first : Network) (rest : Networks) (xs ys : List Term) → Solves domain j before first xs between → SolvesAll domain k between rest ys after → SolvesAll domain (j + k) before (And first rest) (xs ++ ys) after
+    AndThen : (j k : ℕ) (before between after : State) (first : Network) (rest : Networks)
+        (xs ys : List Term)
+        → Solves domain j before first xs between
+        → SolvesAll domain k between rest ys after
+        → SolvesAll domain (j + k) before (And first rest) (xs ++ ys) after

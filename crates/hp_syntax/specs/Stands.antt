@@ -87,7 +87,8 @@ pub record StandsForAtom (a : AtomPat) (x : Atom) : Type 0 where
 
 -- one layer of an expression, given what its parts stand for; of the kinds only an atom and a
 -- conjunction stand for something yet
-abbrev pub ExpressionLayer : {X Y : Type 0} → (Y → Expression → Type 0) → expressions.ExprKind-F X Y → Expression → Type 0
+abbrev pub ExpressionLayer : {X Y : Type 0} → (Y → Expression → Type 0) → expressions.ExprKind-F X Y
+    → Expression → Type 0
 ExpressionLayer stands (expressions.Atom a) (Holds x) = StandsForAtom a x
 ExpressionLayer stands (expressions.And parts) (Both xs) = AllZip stands parts.items (expression_list xs)
 ExpressionLayer stands _ _ = ⊥
@@ -165,7 +166,8 @@ StandsForNetwork n w = (x : Tasks) × StandsForTasks n x × (tasks_value x [] �
 
 -- one pair of a state and tasks; none and several stand for nothing yet
 abbrev pub StandsForOnePair : List Pair → List Term → Network → Type 0
-StandsForOnePair (p ∷ []) state tasks = AllZip StandsForFact p.state.items state × StandsForNetwork p.tasks tasks
+StandsForOnePair (p ∷ []) state tasks =
+    AllZip StandsForFact p.state.items state × StandsForNetwork p.tasks tasks
 StandsForOnePair _ state tasks = ⊥
 
 -- a problem without variables stands for one with the same names, and the state and tasks of its pair

@@ -34,11 +34,14 @@ is_numeral (b ∷ bs) = begins_unsigned (b ∷ bs) || ((b == 43 || b == 45) && b
 
 -- a token of the language: at most 256 bytes, no numeral, no `.` and not `nil`
 abbrev pub is_word : List ℕ → Bool
-is_word token = nat_le (length token) 256 && not (is_numeral token || bytes_eq token (codes ".") || bytes_eq token (codes "nil"))
+is_word token =
+    nat_le (length token) 256
+    && not (is_numeral token || bytes_eq token (codes ".") || bytes_eq token (codes "nil"))
 
 -- the offset lies inside a run of name bytes: the byte before it is one, and the byte at it
 abbrev pub is_inside : List ℕ → ℕ → Bool
-is_inside text i = nat_lt 0 i && is_name_byte (slice_index text (i - 1)) && is_name_byte (slice_index text i)
+is_inside text i =
+    nat_lt 0 i && is_name_byte (slice_index text (i - 1)) && is_name_byte (slice_index text i)
 
 -- these bytes of the text are a token: a longest run of name bytes
 pub record IsToken (text : List ℕ) (from to : ℕ) : Type 0 where

@@ -83,7 +83,8 @@ unless_none (x ∷ xs) own others = own
 abbrev pub method_children : Node → Place → List Branch → Bindings → List Child
 method_children n p [] e = []
 method_children n p (b ∷ bs) e =
-    unless_none (precondition_events n.state b.pre e) (branch_children n p b.tasks (precondition_events n.state b.pre e)) (method_children n p bs e)
+    unless_none (precondition_events n.state b.pre e)
+    (branch_children n p b.tasks (precondition_events n.state b.pre e)) (method_children n p bs e)
 
 abbrev pub matched_operator : Node → Place → Term → Operator → Option Bindings → List Child
 matched_operator n p t o None = []
@@ -152,7 +153,8 @@ is_empty (Ordered ns) = false
 unfoldable pub visits_within : Domain → ℕ → Node → List ℕ → List Visit
 visits_within domain zero n p = visit p n (cond (is_empty n.network) Plan CutHere) ∷ []
 visits_within domain (suc d) n p =
-    cond (is_empty n.network) (visit p n Plan ∷ []) (visits_of (visits_within domain d) n p 0 (children domain n))
+    cond (is_empty n.network) (visit p n Plan ∷ [])
+    (visits_of (visits_within domain d) n p 0 (children domain n))
 
 unfoldable pub visits : Domain → Node → List ℕ → List Visit
 visits domain n p = visits_within domain n.depth n p
@@ -160,7 +162,13 @@ visits domain n p = visits_within domain n.depth n p
 -- up to and including the first fault
 abbrev pub heard_visits : List Visit → List Visit
 heard_visits [] = []
-heard_visits (v ∷ vs) = elim v.sight [ FaultHere f ↦ v ∷ [] | Did ↦ v ∷ heard_visits vs | Plan ↦ v ∷ heard_visits vs | CutHere ↦ v ∷ heard_visits vs ]
+heard_visits (v ∷ vs) =
+    elim v.sight [
+      | FaultHere f ↦ v ∷ []
+      | Did ↦ v ∷ heard_visits vs
+      | Plan ↦ v ∷ heard_visits vs
+      | CutHere ↦ v ∷ heard_visits vs
+    ]
 
 -- the root of a problem at a depth
 abbrev pub root : Problem → ℕ → Node

@@ -34,7 +34,8 @@ pub fn every_text_is_one_or_the_other()
 pub fn forests_have_one_form()
     ensures domain { (f : Forest) (d e : Domain) → domain_of f ≡ Some d → domain_of f ≡ Some e → d ≡ e }
     ensures problem { (f : Forest) (p q : Problem) → problem_of f ≡ Some p → problem_of f ≡ Some q → p ≡ q }
-    ensures apart { (f : Forest) (d : Domain) (p : Problem) → domain_of f ≡ Some d → problem_of f ≡ Some p → ⊥ }
+    ensures apart { (f : Forest) (d : Domain) (p : Problem) → domain_of f ≡ Some d
+        → problem_of f ≡ Some p → ⊥ }
 {}
 
 /// What may be done next is always a task, and in a network that is normal and not empty there is
@@ -47,7 +48,8 @@ pub fn candidates_are_tasks()
 
 /// The path of each visit leads from the root to the visit's node.
 pub fn visits_are_in_the_tree()
-    ensures { (domain : Domain) (root : Node) → All (λ v. node_at domain root v.path ≡ Some v.node) (visits domain root []) }
+    ensures { (domain : Domain) (root : Node)
+        → All (λ v. node_at domain root v.path ≡ Some v.node) (visits domain root []) }
 {}
 
 /// No two plans of a walk have one path, so none is counted twice.
@@ -67,10 +69,14 @@ pub fn terms_are_compared()
 pub fn plans_are_sound()
     ensures tree { (forest : Forest) (domain : Domain) (root : Node) → domain_of forest ≡ Some domain
         → root.steps ≡ [] → root.cost ≡ pos 0
-        → All (λ v. Executes domain root.state v.node.steps v.node.cost v.node.state) (visits domain root []) }
-    ensures walk { (forest : Forest) (domain : Domain) (problem : Problem) (depth : ℕ) → domain_of forest ≡ Some domain
-        → All (λ v. Executes domain (added [] problem.state) v.node.steps v.node.cost v.node.state) (walk domain problem depth) }
-    ensures cost { (forest : Forest) (domain : Domain) (problem : Problem) (depth : ℕ) → domain_of forest ≡ Some domain
+        → All (λ v. Executes domain root.state v.node.steps v.node.cost v.node.state)
+        (visits domain root []) }
+    ensures walk { (forest : Forest) (domain : Domain) (problem : Problem) (depth : ℕ)
+        → domain_of forest ≡ Some domain
+        → All (λ v. Executes domain (added [] problem.state) v.node.steps v.node.cost v.node.state)
+        (walk domain problem depth) }
+    ensures cost { (forest : Forest) (domain : Domain) (problem : Problem) (depth : ℕ)
+        → domain_of forest ≡ Some domain
         → All (λ v. v.node.cost ≡ pos (length v.node.steps)) (walk domain problem depth) }
     ensures finished { (domain : Domain) (problem : Problem) (depth : ℕ)
         → All (λ v. v.sight ≡ Plan → v.node.network ≡ Empty) (walk domain problem depth) }
@@ -80,26 +86,32 @@ pub fn plans_are_sound()
 /// operator, or by the subtasks of the first branch of a method whose precondition can be met. The
 /// plan's path is as long as that takes steps and decompositions, and no longer than was asked.
 pub fn plans_do_their_tasks()
-    ensures { (forest : Forest) (domain : Domain) (problem : Problem) (depth : ℕ) → domain_of forest ≡ Some domain
+    ensures { (forest : Forest) (domain : Domain) (problem : Problem) (depth : ℕ)
+        → domain_of forest ≡ Some domain
         → All (λ v. v.sight ≡ Plan → (length v.path ≤ depth)
-        × Solves domain (length v.path) (added [] problem.state) problem.tasks v.node.steps v.node.state) (walk domain problem depth) }
+        × Solves domain (length v.path) (added [] problem.state) problem.tasks v.node.steps v.node.state)
+        (walk domain problem depth) }
 {}
 
 /// No walk of a domain that a forest is the form of meets a fault, since each variable of an effect
 /// or a task is bound by the head or by the precondition. So the walk is the whole tree.
 pub fn walks_meet_no_fault()
-    ensures faultless { (forest : Forest) (domain : Domain) (problem : Problem) (depth : ℕ) → domain_of forest ≡ Some domain
+    ensures faultless { (forest : Forest) (domain : Domain) (problem : Problem) (depth : ℕ)
+        → domain_of forest ≡ Some domain
         → All (λ v. IsFaultless v.sight) (walk domain problem depth) }
-    ensures whole { (forest : Forest) (domain : Domain) (problem : Problem) (depth : ℕ) → domain_of forest ≡ Some domain
+    ensures whole { (forest : Forest) (domain : Domain) (problem : Problem) (depth : ℕ)
+        → domain_of forest ≡ Some domain
         → walk domain problem depth ≡ visits domain (root problem depth) [] }
 {}
 
 /// No plan is missing: what solves the tasks of a problem within the depth is a plan of the walk.
 pub fn solutions_are_plans()
-    ensures { (forest : Forest) (domain : Domain) (problem : Problem) (depth k : ℕ) (steps : List Term) (after : State)
+    ensures { (forest : Forest) (domain : Domain) (problem : Problem) (depth k : ℕ)
+        (steps : List Term) (after : State)
         → domain_of forest ≡ Some domain
         → Solves domain k (added [] problem.state) problem.tasks steps after → k ≤ depth
-        → Any (λ v. (v.sight ≡ Plan) × (length v.path ≡ k) × (v.node.steps ≡ steps) × (v.node.state ≡ after))
+        → Any (λ v. (v.sight ≡ Plan) × (length v.path ≡ k) × (v.node.steps ≡ steps)
+        × (v.node.state ≡ after))
         (walk domain problem depth) }
 {}
 

@@ -36,7 +36,8 @@ pub fn basic_is_reported()
     ensures enough { report 5 (walk_of basic_forest swap_forest 3)
         ≡ codes "plan 1 cost 2 steps 2\n(!drop kiwi)\n(!pickup banjo)\nend plans 1 expansions 3\n" }
     ensures cut { report 5 (walk_of basic_forest swap_forest 2) ≡ codes "cut plans 0 expansions 2\n" }
-    ensures empty { report 5 (walk_of basic_forest empty_forest 0) ≡ codes "plan 1 cost 0 steps 0\nend plans 1 expansions 0\n" }
+    ensures empty { report 5 (walk_of basic_forest empty_forest 0)
+        ≡ codes "plan 1 cost 0 steps 0\nend plans 1 expansions 0\n" }
 {}
 
 /// A domain with two plans at each depth, of which the rest is cut off.

@@ -38,6 +38,7 @@ unfolding stepped
 node_of-number n z h = by_kind n _ (ap out-NodeKind h ∙ outs-Num z)
 
 -- a list is a group of what its nodes stand for
-pub node_of-list : (n : Node) (nodes : Vec Node Global) → n.kind ≡ kinds.List nodes → node_of n ≡ plain.Group n.span (nodes_of nodes.items)
+pub node_of-list : (n : Node) (nodes : Vec Node Global) → n.kind ≡ kinds.List nodes
+    → node_of n ≡ plain.Group n.span (nodes_of nodes.items)
 unfolding stepped
 node_of-list n nodes h = by_kind n _ (ap out-NodeKind h ∙ outs-List nodes)

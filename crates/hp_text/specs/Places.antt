@@ -28,7 +28,8 @@ abbrev pub joined : List plain.Node → plain.Forest → plain.Forest
 joined [] g = g
 joined (n ∷ ns) g = plain.Grow n (joined ns g)
 
--- nodes that were read between two places, below so many open brackets: any forest that is spelled from there on goes on with them
+-- nodes that were read between two places, below so many open brackets: any forest that is spelled from
+-- there on goes on with them
 pub record IsRead (text : List ℕ) (from to depth : ℕ) (ns : List plain.Node) : Type 0 where
   pub order : from ≤ to
   pub spelled : (end : ℕ) (g : plain.Forest) → Spells text to end g → Spells text from end (joined ns g)

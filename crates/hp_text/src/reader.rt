@@ -118,7 +118,8 @@ fn word(alloc: Global, bytes: &[u8], from: usize) -> Result<Node, TextRefusal>
     requires no_open { slice_index bytes.now from ≡ 40 → ⊥ }
     requires no_close { slice_index bytes.now from ≡ 41 → ⊥ }
     requires no_blank { is_blank (slice_index bytes.now from) ≡ false }
-    ensures node { IfOk result (λ n. (depth : ℕ) → depth ≤ 64 → IsPlace bytes.now from depth → IsNodeAt bytes.now from depth n) }
+    ensures node { IfOk result (λ n. (depth : ℕ) → depth ≤ 64 → IsPlace bytes.now from depth
+        → IsNodeAt bytes.now from depth n) }
     ensures other { IsErrOf result TextRefusal.Other → Refused bytes.now }
 {
     if !is_name_byte(bytes[from]) {

@@ -6,7 +6,8 @@ use Rattle.hp_syntax.specs.Form.{only_if, joined}
 
 -- a number is `0`, or digits without a leading zero
 abbrev pub is_number : List ℕ → Bool
-is_number bs = nat_lt 0 (length bs) && (list_all is_digit bs && (length bs == 1 || not (slice_index bs 0 == 48)))
+is_number bs =
+    nat_lt 0 (length bs) && (list_all is_digit bs && (length bs == 1 || not (slice_index bs 0 == 48)))
 
 -- the number that digits go on to spell
 abbrev pub number_from : ℕ → List ℕ → ℕ
@@ -14,7 +15,9 @@ number_from n [] = n
 number_from n (b ∷ bs) = number_from (n * 10 + (b - 48)) bs
 
 abbrev pub number_within : ℕ → ℕ → List ℕ → Option ℕ
-number_within least most bs = only_if (is_number bs && (nat_le least (number_from 0 bs) && nat_le (number_from 0 bs) most)) (Some (number_from 0 bs))
+number_within least most bs =
+    only_if (is_number bs && (nat_le least (number_from 0 bs) && nat_le (number_from 0 bs) most))
+    (Some (number_from 0 bs))
 
 -- what is asked: two files, how many plans, and down to which depth
 pub record Command : Type 0 where
@@ -29,5 +32,6 @@ make_command d p k n = record { domain = d; problem = p; plans = k; depth = n }
 -- `plan DOMAIN PROBLEM K DEPTH`
 abbrev pub accepts : List (List ℕ) → Option Command
 accepts (word ∷ d ∷ p ∷ k ∷ n ∷ []) =
-    only_if (bytes_eq word (codes "plan")) (joined (make_command d p) (number_within 1 1000000000 k) (number_within 0 1000 n))
+    only_if (bytes_eq word (codes "plan"))
+    (joined (make_command d p) (number_within 1 1000000000 k) (number_within 0 1000 n))
 accepts _ = None

@@ -30,7 +30,13 @@ pub data FlatChild : Type 0 where
 
 -- what a node that the engine holds stands for
 abbrev pub flat_node : Node → FlatNode
-flat_node n = record { state = terms_of n.state.items; tasks = terms_of n.tasks.items; steps = terms_of n.steps.items; depth = n.depth }
+flat_node n =
+    record {
+      state = terms_of n.state.items;
+      tasks = terms_of n.tasks.items;
+      steps = terms_of n.steps.items;
+      depth = n.depth;
+    }
 
 abbrev pub bindings_of : kept_bindings.Bindings → Bindings
 bindings_of b = map (option_map Symbol) b.names.items
@@ -54,22 +60,32 @@ abbrev pub changed : State → List Term → List Term → State
 changed s dels adds = added (filter (λ a. not (member a dels)) s) adds
 
 abbrev pub did_operator : FlatNode → Term → List Term → List Term → List Term → FlatChild
-did_operator n t behind dels adds = FlatDid (record { state = changed n.state dels adds; tasks = behind; steps = n.steps ++ t ∷ []; depth = n.depth - 1 })
+did_operator n t behind dels adds =
+    FlatDid (record {
+      state = changed n.state dels adds;
+      tasks = behind;
+      steps = n.steps ++ t ∷ [];
+      depth = n.depth - 1;
+    })
 
 abbrev pub did_method : FlatNode → List Term → List Term → FlatChild
-did_method n behind sub = FlatDid (record { state = n.state; tasks = sub ++ behind; steps = n.steps; depth = n.depth - 1 })
+did_method n behind sub =
+    FlatDid (record { state = n.state; tasks = sub ++ behind; steps = n.steps; depth = n.depth - 1 })
 
 abbrev pub after_adds : FlatNode → Term → List Term → List Term → Result (List Term) RunFault → FlatChild
 after_adds n t behind dels (Err f) = FlatFault f
 after_adds n t behind dels (Ok adds) = did_operator n t behind dels adds
 
-abbrev pub after_deletes : FlatNode → Term → List Term → Result (List Term) RunFault → Result (List Term) RunFault → FlatChild
+abbrev pub after_deletes : FlatNode → Term → List Term → Result (List Term) RunFault
+    → Result (List Term) RunFault → FlatChild
 after_deletes n t behind (Err f) adds = FlatFault f
 after_deletes n t behind (Ok dels) adds = after_adds n t behind dels adds
 
 -- the child of an operator for one satisfier
 abbrev pub by_operator : FlatNode → Term → List Term → Operator → Bindings → FlatChild
-by_operator n t behind o e = after_deletes n t behind (atom_values (atoms_of o.deletes.items) e) (atom_values (atoms_of o.adds.items) e)
+by_operator n t behind o e =
+    after_deletes n t behind (atom_values (atoms_of o.deletes.items) e)
+    (atom_values (atoms_of o.adds.items) e)
 
 abbrev pub after_subtasks : FlatNode → List Term → Result (List Term) RunFault → FlatChild
 after_subtasks n behind (Err f) = FlatFault f
@@ -81,12 +97,16 @@ by_branch n behind b e = after_subtasks n behind (atom_values (atoms_of b.tasks.
 
 -- the child that a choice stands for, whose other tasks are those behind the node's first
 abbrev pub flat_choice : Choice → FlatChild
-flat_choice (chosen.Operator n t o e) = by_operator (flat_node n.value) (shared_term t) (drop 1 (flat_node n.value).tasks) o.now (bindings_of e)
-flat_choice (chosen.Branch n b e) = by_branch (flat_node n.value) (drop 1 (flat_node n.value).tasks) b.now (bindings_of e)
+flat_choice (chosen.Operator n t o e) =
+    by_operator (flat_node n.value) (shared_term t) (drop 1 (flat_node n.value).tasks) o.now
+    (bindings_of e)
+flat_choice (chosen.Branch n b e) =
+    by_branch (flat_node n.value) (drop 1 (flat_node n.value).tasks) b.now (bindings_of e)
 
 abbrev pub by_operators : FlatNode → Term → List Term → Operator → Option Bindings → List FlatChild
 by_operators n t behind o None = []
-by_operators n t behind o (Some e) = map (by_operator n t behind o) (satisfiers n.state (atoms_of o.pre.items) e)
+by_operators n t behind o (Some e) =
+    map (by_operator n t behind o) (satisfiers n.state (atoms_of o.pre.items) e)
 
 -- the first branch with a satisfier is used, and no other
 abbrev pub first_used : List Bindings → (Bindings → FlatChild) → List FlatChild → List FlatChild
@@ -96,7 +116,8 @@ first_used (e ∷ es) child others = map child (e ∷ es)
 abbrev pub by_branches : FlatNode → List Term → List Branch → Bindings → List FlatChild
 by_branches n behind [] e = []
 by_branches n behind (b ∷ bs) e =
-    first_used (satisfiers n.state (atoms_of b.pre.items) e) (by_branch n behind b) (by_branches n behind bs e)
+    first_used (satisfiers n.state (atoms_of b.pre.items) e) (by_branch n behind b)
+    (by_branches n behind bs e)
 
 abbrev pub by_method : FlatNode → List Term → Method → Option Bindings → List FlatChild
 by_method n behind m None = []
@@ -104,8 +125,10 @@ by_method n behind m (Some e) = by_branches n behind m.branches.items e
 
 -- the children by one rule
 abbrev pub by_rule : FlatNode → Term → List Term → Rule → List FlatChild
-by_rule n t behind (kinds.Operator o) = by_operators n t behind o (match_atom (atom_of o.head) t (unbound (length o.vars.items)))
-by_rule n t behind (kinds.Method m) = by_method n behind m (match_atom (atom_of m.head) t (unbound (length m.vars.items)))
+by_rule n t behind (kinds.Operator o) =
+    by_operators n t behind o (match_atom (atom_of o.head) t (unbound (length o.vars.items)))
+by_rule n t behind (kinds.Method m) =
+    by_method n behind m (match_atom (atom_of m.head) t (unbound (length m.vars.items)))
 
 abbrev pub by_rules : FlatNode → Term → List Term → List Rule → List FlatChild
 by_rules n t behind rules = flat_map (by_rule n t behind) rules
@@ -138,7 +161,8 @@ shown_child below (FlatDid m) = DidShown ∷ below m
 unfoldable pub shown_within : List Rule → ℕ → FlatNode → List Shown
 shown_within rules zero n = cond (is_done n.tasks) (PlanShown n) CutShown ∷ []
 shown_within rules (suc d) n =
-    cond (is_done n.tasks) (PlanShown n ∷ []) (flat_map (shown_child (shown_within rules d)) (flat_children rules n))
+    cond (is_done n.tasks) (PlanShown n ∷ [])
+    (flat_map (shown_child (shown_within rules d)) (flat_children rules n))
 
 unfoldable pub shown_at : List Rule → FlatNode → List Shown
 shown_at rules n = shown_within rules n.depth n

@@ -75,12 +75,15 @@ are_bound of_head p n = list_all (is_in_either of_head (names_of p)) (variables_
 
 -- a branch by the variables of its head
 abbrev pub branch_in : List (List ℕ) → List (List ℕ) → Node → Node → Option Branch
-branch_in names of_head p t = only_if (are_bound of_head p t) (joined make_branch (atoms_of names p) (atoms_of names t))
+branch_in names of_head p t =
+    only_if (are_bound of_head p t) (joined make_branch (atoms_of names p) (atoms_of names t))
 
 -- one branch or more, by the variables of their head
 abbrev pub branches_in : List (List ℕ) → List (List ℕ) → Forest → Option (List Branch)
-branches_in names of_head (Grow p (Grow t Bare)) = joined (λ b bs. b ∷ bs) (branch_in names of_head p t) (Some [])
-branches_in names of_head (Grow p (Grow t (Grow q f))) = joined (λ b bs. b ∷ bs) (branch_in names of_head p t) (branches_in names of_head (Grow q f))
+branches_in names of_head (Grow p (Grow t Bare)) =
+    joined (λ b bs. b ∷ bs) (branch_in names of_head p t) (Some [])
+branches_in names of_head (Grow p (Grow t (Grow q f))) =
+    joined (λ b bs. b ∷ bs) (branch_in names of_head p t) (branches_in names of_head (Grow q f))
 branches_in names of_head (Grow p Bare) = None
 branches_in names of_head Bare = None
 

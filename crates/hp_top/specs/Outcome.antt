@@ -35,7 +35,8 @@ pub record IsProblem (text : List ℕ) (d : Domain) (p : Problem) : Type 0 where
 pub data IsNoProblem (text : List ℕ) (d : Domain) : Type 0 where
   NoForest : Refused text → IsNoProblem text d
   NoForm : (f : Forest) → IsForest text f → problem_of f ≡ None → IsNoProblem text d
-  OfAnother : (f : Forest) (p : Problem) → IsForest text f → problem_of f ≡ Some p → bytes_eq p.domain d.name ≡ false → IsNoProblem text d
+  OfAnother : (f : Forest) (p : Problem) → IsForest text f → problem_of f ≡ Some p
+      → bytes_eq p.domain d.name ≡ false → IsNoProblem text d
 
 -- the status of a run that ends so, after so many plans
 abbrev pub planned_status : Ending → ℕ → Status
@@ -58,10 +59,15 @@ answer_of c d p = (report c.plans (walk d p c.depth), walk_status c.plans (walk 
 -- what a command comes to with these files, in the order in which they are read
 pub data Comes (files : Files) (c : Command) (a : Answer) : Type 0 where
   NoDomainFile : files c.domain ≡ None → a ≡ (codes "refused read domain\n", ReadFault) → Comes files c a
-  BadDomain : (t : List ℕ) → files c.domain ≡ Some t → IsNoDomain t → a ≡ (codes "refused domain Expected\n", DomainRefused) → Comes files c a
-  NoProblemFile : (t : List ℕ) (d : Domain) → files c.domain ≡ Some t → IsDomain t d → files c.problem ≡ None → a ≡ (codes "refused read problem\n", ReadFault) → Comes files c a
-  BadProblem : (t u : List ℕ) (d : Domain) → files c.domain ≡ Some t → IsDomain t d → files c.problem ≡ Some u → IsNoProblem u d → a ≡ (codes "refused problem Expected\n", ProblemRefused) → Comes files c a
-  Planned : (t u : List ℕ) (d : Domain) (p : Problem) → files c.domain ≡ Some t → IsDomain t d → files c.problem ≡ Some u → IsProblem u d p → a ≡ answer_of c d p → Comes files c a
+  BadDomain : (t : List ℕ) → files c.domain ≡ Some t → IsNoDomain t
+      → a ≡ (codes "refused domain Expected\n", DomainRefused) → Comes files c a
+  NoProblemFile : (t : List ℕ) (d : Domain) → files c.domain ≡ Some t → IsDomain t d
+      → files c.problem ≡ None → a ≡ (codes "refused read problem\n", ReadFault) → Comes files c a
+  BadProblem : (t u : List ℕ) (d : Domain) → files c.domain ≡ Some t → IsDomain t d
+      → files c.problem ≡ Some u → IsNoProblem u d
+      → a ≡ (codes "refused problem Expected\n", ProblemRefused) → Comes files c a
+  Planned : (t u : List ℕ) (d : Domain) (p : Problem) → files c.domain ≡ Some t → IsDomain t d
+      → files c.problem ≡ Some u → IsProblem u d p → a ≡ answer_of c d p → Comes files c a
 
 -- what words come to with these files
 pub data Outcome (words : List (List ℕ)) (files : Files) (a : Answer) : Type 0 where

@@ -48,7 +48,8 @@ atoms_of atoms = map atom_of atoms
 
 abbrev pub operator_of : Operator → rules.Operator
 operator_of o =
-    make_operator o.span o.vars.items (atom_of o.head) (atoms_of o.pre.items) (atoms_of o.deletes.items) (atoms_of o.adds.items)
+    make_operator o.span o.vars.items (atom_of o.head) (atoms_of o.pre.items) (atoms_of o.deletes.items)
+    (atoms_of o.adds.items)
 
 abbrev pub branch_of : Branch → rules.Branch
 branch_of b = make_branch (atoms_of b.pre.items) (atoms_of b.tasks.items)

@@ -12,7 +12,13 @@ use Rattle.hp_top.specs.Flat.{FlatNode, FlatChild, flat_node, flat_choice, Shown
 
 -- the node from which a problem is walked
 abbrev pub flat_root : Problem → ℕ → FlatNode
-flat_root p depth = record { state = added [] (terms_of p.state.items); tasks = terms_of p.tasks.items; steps = []; depth = depth }
+flat_root p depth =
+    record {
+      state = added [] (terms_of p.state.items);
+      tasks = terms_of p.tasks.items;
+      steps = [];
+      depth = depth;
+    }
 
 -- what is seen at children and below, one child after the other
 abbrev pub shown_below : List Rule → List FlatChild → List Shown
@@ -24,7 +30,9 @@ shown_here rules is_fresh n = cond is_fresh (shown_at rules n) []
 
 -- what is left to be heard of a walk; the last of the pending choices is the next
 abbrev pub rest : Walk → List Shown
-rest w = heard_shown (shown_here w.rules.now w.is_fresh (flat_node w.node.value) ++ shown_below w.rules.now (reverse (map flat_choice w.pending.items)))
+rest w =
+    heard_shown (shown_here w.rules.now w.is_fresh (flat_node w.node.value)
+    ++ shown_below w.rules.now (reverse (map flat_choice w.pending.items)))
 
 -- what an answer says of the walk before it and after it
 abbrev pub Answers : Step → Walk → Walk → Type 0

@@ -14,7 +14,8 @@ abbrev pub TellsFiles : (List ℕ → ToldFile) → Files → Type 0
 TellsFiles file files = (name : List ℕ) → file name ≡ Some (files name)
 
 -- the words come to this status with these files, and the whole text of that was written
-pub record IsOutcome (words : List (List ℕ)) (files : Files) (s : Status) (before : List ℕ) (now : Option (List ℕ)) : Type 0 where
+pub record IsOutcome (words : List (List ℕ)) (files : Files) (s : Status) (before : List ℕ)
+    (now : Option (List ℕ)) : Type 0 where
   pub text : List ℕ
   pub outcome : Outcome words files (text, s)
   pub written : now ≡ Some (before ++ text)
@@ -24,18 +25,22 @@ abbrev pub RefusesWords : Status → Option (List ℕ) → Option (List ℕ) →
 RefusesWords s old new = ((s ≡ status.Usage) × Wrote refused_usage old new) ⊎ (s ≡ status.WriteFault)
 
 -- the domain couldn't be read, and the one line says so
-pub record DomainUnread (c : Command) (file : List ℕ → ToldFile) (before now : ℕ) (old new : Option (List ℕ)) : Type 0 where
+pub record DomainUnread (c : Command) (file : List ℕ → ToldFile)
+    (before now : ℕ) (old new : Option (List ℕ)) : Type 0 where
   pub cause : IsUnread (file c.domain) before now
   pub written : Wrote refused_read_domain old new
 
 -- the problem couldn't be read, and the one line says so; the domain's file is there and accepted
-pub record ProblemUnread (c : Command) (file : List ℕ → ToldFile) (before now : ℕ) (old new : Option (List ℕ)) : Type 0 where
+pub record ProblemUnread (c : Command) (file : List ℕ → ToldFile)
+    (before now : ℕ) (old new : Option (List ℕ)) : Type 0 where
   pub domain : plain.Domain
   pub accepted : Holds (λ text. IsDomain text domain) (file c.domain)
   pub cause : IsUnread (file c.problem) before now
   pub written : Wrote refused_read_problem old new
 
 -- an input that the words name couldn't be read
-abbrev pub ReadFails : List (List ℕ) → (List ℕ → ToldFile) → ℕ → ℕ → ℕ → ℕ → Option (List ℕ) → Option (List ℕ) → Type 0
+abbrev pub ReadFails : List (List ℕ) → (List ℕ → ToldFile) → ℕ → ℕ → ℕ → ℕ
+    → Option (List ℕ) → Option (List ℕ) → Type 0
 ReadFails words file d0 d1 p0 p1 old new =
-    (c : Command) × (accepts words ≡ Some c) × (DomainUnread c file d0 d1 old new ⊎ ProblemUnread c file p0 p1 old new)
+    (c : Command) × (accepts words ≡ Some c)
+    × (DomainUnread c file d0 d1 old new ⊎ ProblemUnread c file p0 p1 old new)

@@ -5,7 +5,9 @@ use Rattle.hp_top.specs.Outcome.{Files}
 
 -- the domain `d` and a problem `p`
 abbrev pub basic_files : List ℕ → Files
-basic_files problem name = cond (bytes_eq name (codes "d")) (Some basic_text) (cond (bytes_eq name (codes "p")) (Some problem) None)
+basic_files problem name =
+    cond (bytes_eq name (codes "d")) (Some basic_text)
+    (cond (bytes_eq name (codes "p")) (Some problem) None)
 
 -- `plan d p K DEPTH`
 abbrev pub plan_words : List ℕ → List ℕ → List (List ℕ)

@@ -30,12 +30,18 @@ refusal_of (stops.Refused inputs.Domain) = (codes "refused domain Expected\n", s
 refusal_of (stops.Refused inputs.Problem) = (codes "refused problem Expected\n", status.ProblemRefused)
 
 -- how a command ends: it stops and its refusal is told, or it plans and its report is
-pub data Serves (c : Command) (file : List ℕ → ToldFile) (s : Status) (d0 d1 p0 p1 k0 k1 : ℕ) (old new : Option (List ℕ)) : Type 0 where
-  Stopped : (stop : Stop) → Stops stop (file c.domain) (file c.problem) d0 d1 p0 p1 → Tells (refusal_of stop) s k0 k1 old new → Serves c file s d0 d1 p0 p1 k0 k1 old new
-  Planned : (d : plain.Domain) (p : plain.Problem) → Holds (λ t. IsDomain t d) (file c.domain) → Holds (λ u. IsProblem u d p) (file c.problem) →
+pub data Serves (c : Command) (file : List ℕ → ToldFile) (s : Status)
+    (d0 d1 p0 p1 k0 k1 : ℕ) (old new : Option (List ℕ)) : Type 0 where
+  Stopped : (stop : Stop) → Stops stop (file c.domain) (file c.problem) d0 d1 p0 p1
+      → Tells (refusal_of stop) s k0 k1 old new → Serves c file s d0 d1 p0 p1 k0 k1 old new
+  Planned : (d : plain.Domain) (p : plain.Problem) → Holds (λ t. IsDomain t d) (file c.domain)
+      → Holds (λ u. IsProblem u d p) (file c.problem) →
       Tells (answer_of c d p) s k0 k1 old new → Serves c file s d0 d1 p0 p1 k0 k1 old new
 
 -- how a run ends: the words are no command, or they are one, which is served
-pub data Ends (words : List (List ℕ)) (file : List ℕ → ToldFile) (s : Status) (d0 d1 p0 p1 k0 k1 : ℕ) (old new : Option (List ℕ)) : Type 0 where
-  NoCommand : accepts words ≡ None → Tells (refused_usage, status.Usage) s k0 k1 old new → Ends words file s d0 d1 p0 p1 k0 k1 old new
-  ByCommand : (c : Command) → accepts words ≡ Some c → Serves c file s d0 d1 p0 p1 k0 k1 old new → Ends words file s d0 d1 p0 p1 k0 k1 old new
+pub data Ends (words : List (List ℕ)) (file : List ℕ → ToldFile) (s : Status)
+    (d0 d1 p0 p1 k0 k1 : ℕ) (old new : Option (List ℕ)) : Type 0 where
+  NoCommand : accepts words ≡ None → Tells (refused_usage, status.Usage) s k0 k1 old new
+      → Ends words file s d0 d1 p0 p1 k0 k1 old new
+  ByCommand : (c : Command) → accepts words ≡ Some c → Serves c file s d0 d1 p0 p1 k0 k1 old new
+      → Ends words file s d0 d1 p0 p1 k0 k1 old new

@@ -22,22 +22,26 @@ abbrev pub left_status : ℕ → Progress → List Shown → Status
 left_status k p vs = told_status k p.plans p.is_cut vs
 
 -- a text was written, which leaves the rest of what was left before
-pub record Goes (k : ℕ) (p q : Progress) (before after : List Shown) (old new : Option (List ℕ)) : Type 0 where
+pub record Goes (k : ℕ) (p q : Progress) (before after : List Shown)
+    (old new : Option (List ℕ)) : Type 0 where
   pub text : List ℕ
   pub written : Wrote text old new
   pub rest : left k p before ≡ text ++ left k q after
   pub status : left_status k p before ≡ left_status k q after
 
 -- a text was written, and the ending line is all that is left
-pub record Closes (k : ℕ) (p q : Progress) (before : List Shown) (x : Ending) (old new : Option (List ℕ)) : Type 0 where
+pub record Closes (k : ℕ) (p q : Progress) (before : List Shown) (x : Ending)
+    (old new : Option (List ℕ)) : Type 0 where
   pub text : List ℕ
   pub written : Wrote text old new
   pub rest : left k p before ≡ text ++ ending_text (ending_of x) q.plans q.expansions
   pub status : left_status k p before ≡ planned_status (ending_of x) q.plans
 
 -- after one visit the telling goes on with fewer visits, or closes
-abbrev pub Visited : Option Ending → ℕ → Progress → Progress → List Shown → List Shown → Option (List ℕ) → Option (List ℕ) → Type 0
-Visited None k p q before after old new = Goes k p q before after old new × (q.plans < k) × (length after < length before)
+abbrev pub Visited : Option Ending → ℕ → Progress → Progress → List Shown → List Shown
+    → Option (List ℕ) → Option (List ℕ) → Type 0
+Visited None k p q before after old new =
+    Goes k p q before after old new × (q.plans < k) × (length after < length before)
 Visited (Some x) k p q before after old new = Closes k p q before x old new
 
 -- the telling stops for want of memory, or because the sink's count rose

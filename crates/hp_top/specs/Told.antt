@@ -19,7 +19,8 @@ ending_of End = report.AtEnd
 -- a plan whose steps cost 1 each
 unfoldable pub flat_plan_text : ℕ → List Term → List ℕ
 flat_plan_text i steps =
-    codes "plan " ++ decimal i ++ codes " cost " ++ decimal (length steps) ++ codes " steps " ++ decimal (length steps) ++ codes "\n" ++ steps_text steps
+    codes "plan " ++ decimal i ++ codes " cost " ++ decimal (length steps)
+    ++ codes " steps " ++ decimal (length steps) ++ codes "\n" ++ steps_text steps
 
 -- without a fault a walk ends at a cut or at its end
 abbrev pub quiet_ending : Bool → report.Ending
@@ -30,7 +31,8 @@ abbrev pub told : ℕ → ℕ → ℕ → Bool → List Shown → List ℕ
 told k p n cut [] = ending_text (quiet_ending cut) p n
 told k p n cut (DidShown ∷ vs) = told k p (n + 1) cut vs
 told k p n cut (PlanShown m ∷ vs) =
-    flat_plan_text (p + 1) m.steps ++ cond (p + 1 == k) (ending_text report.Stopped (p + 1) n) (told k (p + 1) n cut vs)
+    flat_plan_text (p + 1) m.steps
+    ++ cond (p + 1 == k) (ending_text report.Stopped (p + 1) n) (told k (p + 1) n cut vs)
 told k p n cut (CutShown ∷ vs) = told k p n true vs
 told k p n cut (FaultShown f ∷ vs) = ending_text (report.AtFault f) p n
 
@@ -38,6 +40,7 @@ told k p n cut (FaultShown f ∷ vs) = ending_text (report.AtFault f) p n
 abbrev pub told_status : ℕ → ℕ → Bool → List Shown → Status
 told_status k p cut [] = planned_status (quiet_ending cut) p
 told_status k p cut (DidShown ∷ vs) = told_status k p cut vs
-told_status k p cut (PlanShown m ∷ vs) = cond (p + 1 == k) (planned_status report.Stopped (p + 1)) (told_status k (p + 1) cut vs)
+told_status k p cut (PlanShown m ∷ vs) =
+    cond (p + 1 == k) (planned_status report.Stopped (p + 1)) (told_status k (p + 1) cut vs)
 told_status k p cut (CutShown ∷ vs) = told_status k p true vs
 told_status k p cut (FaultShown f ∷ vs) = planned_status (report.AtFault f) p

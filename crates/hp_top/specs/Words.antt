@@ -5,7 +5,9 @@ use Rattle.hp_top.specs.declared.words.Asked.{Asked}
 
 -- the words are a command of two files, for these numbers
 abbrev pub AsksFor : List (List ℕ) → Asked → Type 0
-AsksFor words a = accepts words ≡ Some (make_command (slice_index_or words 1 []) (slice_index_or words 2 []) a.plans a.depth)
+AsksFor words a =
+    accepts words
+    ≡ Some (make_command (slice_index_or words 1 []) (slice_index_or words 2 []) a.plans a.depth)
 
 -- both numbers are spelled, and what is asked; or one of them isn't
 abbrev pub Spelled : Option Asked → Option ℕ → Option ℕ → Type 0

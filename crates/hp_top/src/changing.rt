@@ -59,7 +59,9 @@ fn keep(
     atom: &Rc<GroundAtom>,
     deletes: &[Rc<GroundAtom>],
 ) -> Result<(), AllocError>
-    ensures { OnOk result (terms_of left.new.items ≡ terms_of left.old.items ++ filter (λ a. not (member a (terms_of deletes.now))) (shared_term atom.now ∷ [])) }
+    ensures { OnOk result (terms_of left.new.items
+        ≡ terms_of left.old.items
+        ++ filter (λ a. not (member a (terms_of deletes.now))) (shared_term atom.now ∷ [])) }
 {
     if !is_member(atom, deletes) {
         left.push(share(atom)?)?;
@@ -72,7 +74,8 @@ fn without(
     state: &[Rc<GroundAtom>],
     deletes: &[Rc<GroundAtom>],
 ) -> Result<GroundAtoms, AllocError>
-    ensures { IfOk result (λ v. terms_of v.items ≡ filter (λ a. not (member a (terms_of deletes.now))) (terms_of state.now)) }
+    ensures { IfOk result (λ v. terms_of v.items
+        ≡ filter (λ a. not (member a (terms_of deletes.now))) (terms_of state.now)) }
 {
     let mut left = Vec::new(alloc);
     for atom in state {
@@ -82,7 +85,8 @@ fn without(
 }
 
 fn add(state: &mut GroundAtoms, atom: &Rc<GroundAtom>) -> Result<(), AllocError>
-    ensures { OnOk result (terms_of state.new.items ≡ added (terms_of state.old.items) (shared_term atom.now ∷ [])) }
+    ensures { OnOk result (terms_of state.new.items
+        ≡ added (terms_of state.old.items) (shared_term atom.now ∷ [])) }
 {
     if !is_member(atom, state) {
         state.push(share(atom)?)?;
@@ -98,7 +102,8 @@ pub(crate) fn changed(
     deletes: &[Rc<GroundAtom>],
     adds: &[Rc<GroundAtom>],
 ) -> Result<GroundAtoms, AllocError>
-    ensures { IfOk result (λ v. terms_of v.items ≡ changed (terms_of state.now) (terms_of deletes.now) (terms_of adds.now)) }
+    ensures { IfOk result (λ v. terms_of v.items
+        ≡ changed (terms_of state.now) (terms_of deletes.now) (terms_of adds.now)) }
 {
     let mut next = without(alloc, state, deletes)?;
     for atom in adds {

@@ -30,7 +30,13 @@ fn after_step(
     behind: &[Rc<GroundAtom>],
     state: GroundAtoms,
 ) -> Result<Node, AllocError>
-    ensures { IfOk result (λ n. flat_node n ≡ record { state = terms_of state.items; tasks = terms_of behind.now; steps = terms_of node.now.steps.items ++ shared_term task.now ∷ []; depth = node.now.depth - 1 }) }
+    ensures { IfOk result (λ n. flat_node n
+        ≡ record {
+          state = terms_of state.items;
+          tasks = terms_of behind.now;
+          steps = terms_of node.now.steps.items ++ shared_term task.now ∷ [];
+          depth = node.now.depth - 1;
+        }) }
 {
     let mut steps = copy_atoms(alloc, &node.steps)?;
     steps.push(share(task)?)?;
@@ -50,7 +56,8 @@ fn node_by_operator(
     operator: &Operator,
     bindings: &Bindings,
 ) -> Result<Node, Stop>
-    ensures { Stands result (by_operator (flat_node node.now) (shared_term task.now) (terms_of behind.now) operator.now (bindings_of bindings.now)) }
+    ensures { Stands result (by_operator (flat_node node.now) (shared_term task.now) (terms_of behind.now)
+        operator.now (bindings_of bindings.now)) }
 {
     let deletes = values(alloc, &operator.deletes, bindings)?;
     let adds = values(alloc, &operator.adds, bindings)?;
@@ -65,7 +72,8 @@ fn node_by_branch(
     branch: &Branch,
     bindings: &Bindings,
 ) -> Result<Node, Stop>
-    ensures { Stands result (by_branch (flat_node node.now) (terms_of behind.now) branch.now (bindings_of bindings.now)) }
+    ensures { Stands result (by_branch (flat_node node.now) (terms_of behind.now) branch.now
+        (bindings_of bindings.now)) }
 {
     let mut tasks = values(alloc, &branch.tasks, bindings)?;
     share_all(behind, &mut tasks)?;
@@ -116,7 +124,10 @@ fn add_under_operator<'a>(
     all: Vec<Bindings>,
     found: &mut Vec<Choice<'a>>,
 ) -> Result<(), AllocError>
-    ensures { OnOk result (map flat_choice found.new.items ≡ map flat_choice found.old.items ++ map (by_operator (flat_node node.now.value) (shared_term task.now) (drop 1 (flat_node node.now.value).tasks) operator.now) (map bindings_of all.items)) }
+    ensures { OnOk result (map flat_choice found.new.items
+        ≡ map flat_choice found.old.items
+        ++ map (by_operator (flat_node node.now.value) (shared_term task.now)
+        (drop 1 (flat_node node.now.value).tasks) operator.now) (map bindings_of all.items)) }
 {
     for satisfier in all {
         found.push(Choice::Operator(share_node(node)?, share(task)?, operator, satisfier))?;
@@ -132,7 +143,10 @@ fn add_by_operator<'a>(
     operator: &'a Operator,
     found: &mut Vec<Choice<'a>>,
 ) -> Result<(), AllocError>
-    ensures { OnOk result (map flat_choice found.new.items ≡ map flat_choice found.old.items ++ by_rule (flat_node node.now.value) (shared_term task.now) (drop 1 (flat_node node.now.value).tasks) (kinds.Operator operator.now)) }
+    ensures { OnOk result (map flat_choice found.new.items
+        ≡ map flat_choice found.old.items
+        ++ by_rule (flat_node node.now.value) (shared_term task.now)
+        (drop 1 (flat_node node.now.value).tasks) (kinds.Operator operator.now)) }
 {
     match match_head(alloc, &operator.head, task, operator.vars.len())? {
         Some(bindings) => {
@@ -150,7 +164,10 @@ fn add_under_branch<'a>(
     all: Vec<Bindings>,
     found: &mut Vec<Choice<'a>>,
 ) -> Result<(), AllocError>
-    ensures { OnOk result (map flat_choice found.new.items ≡ map flat_choice found.old.items ++ map (by_branch (flat_node node.now.value) (drop 1 (flat_node node.now.value).tasks) branch.now) (map bindings_of all.items)) }
+    ensures { OnOk result (map flat_choice found.new.items
+        ≡ map flat_choice found.old.items
+        ++ map (by_branch (flat_node node.now.value) (drop 1 (flat_node node.now.value).tasks) branch.now)
+        (map bindings_of all.items)) }
 {
     for satisfier in all {
         found.push(Choice::Branch(share_node(node)?, branch, satisfier))?;
@@ -166,7 +183,10 @@ fn add_by_branches<'a>(
     bindings: &Bindings,
     found: &mut Vec<Choice<'a>>,
 ) -> Result<(), AllocError>
-    ensures { OnOk result (map flat_choice found.new.items ≡ map flat_choice found.old.items ++ by_branches (flat_node node.now.value) (drop 1 (flat_node node.now.value).tasks) branches.now (bindings_of bindings.now)) }
+    ensures { OnOk result (map flat_choice found.new.items
+        ≡ map flat_choice found.old.items
+        ++ by_branches (flat_node node.now.value)
+        (drop 1 (flat_node node.now.value).tasks) branches.now (bindings_of bindings.now)) }
 {
     for branch in branches {
         let all = satisfiers(alloc, &node.state, &branch.pre, bindings)?;
@@ -185,7 +205,10 @@ fn add_by_method<'a>(
     method: &'a Method,
     found: &mut Vec<Choice<'a>>,
 ) -> Result<(), AllocError>
-    ensures { OnOk result (map flat_choice found.new.items ≡ map flat_choice found.old.items ++ by_rule (flat_node node.now.value) (term_of task.now) (drop 1 (flat_node node.now.value).tasks) (kinds.Method method.now)) }
+    ensures { OnOk result (map flat_choice found.new.items
+        ≡ map flat_choice found.old.items
+        ++ by_rule (flat_node node.now.value) (term_of task.now)
+        (drop 1 (flat_node node.now.value).tasks) (kinds.Method method.now)) }
 {
     match match_head(alloc, &method.head, task, method.vars.len())? {
         Some(bindings) => add_by_branches(alloc, node, &method.branches, &bindings, found),
@@ -200,7 +223,10 @@ fn add_by_rule<'a>(
     rule: &'a Rule,
     found: &mut Vec<Choice<'a>>,
 ) -> Result<(), AllocError>
-    ensures { OnOk result (map flat_choice found.new.items ≡ map flat_choice found.old.items ++ by_rule (flat_node node.now.value) (shared_term task.now) (drop 1 (flat_node node.now.value).tasks) rule.now) }
+    ensures { OnOk result (map flat_choice found.new.items
+        ≡ map flat_choice found.old.items
+        ++ by_rule (flat_node node.now.value) (shared_term task.now)
+        (drop 1 (flat_node node.now.value).tasks) rule.now) }
 {
     match rule {
         Rule::Operator(operator) => add_by_operator(alloc, node, task, operator, found),
@@ -214,7 +240,9 @@ fn by_rules<'a>(
     node: &Rc<Node>,
     task: &Rc<GroundAtom>,
 ) -> Result<Vec<Choice<'a>>, AllocError>
-    ensures { IfOk result (λ v. map flat_choice v.items ≡ by_rules (flat_node node.now.value) (shared_term task.now) (drop 1 (flat_node node.now.value).tasks) rules.now) }
+    ensures { IfOk result (λ v. map flat_choice v.items
+        ≡ by_rules (flat_node node.now.value) (shared_term task.now)
+        (drop 1 (flat_node node.now.value).tasks) rules.now) }
 {
     let mut found = Vec::new(alloc);
     for rule in rules {
@@ -229,7 +257,8 @@ pub(crate) fn choices<'a>(
     rules: &'a [Rule],
     node: &Rc<Node>,
 ) -> Result<Vec<Choice<'a>>, AllocError>
-    ensures { IfOk result (λ v. map flat_choice v.items ≡ flat_children rules.now (flat_node node.now.value)) }
+    ensures { IfOk result (λ v. map flat_choice v.items
+        ≡ flat_children rules.now (flat_node node.now.value)) }
 {
     match node.tasks.split_first() {
         Some((task, _)) => by_rules(alloc, rules, node, task),

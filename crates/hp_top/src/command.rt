@@ -20,7 +20,8 @@ use std::alloc::Global;
 
 /// Writes a text, and answers this status.
 fn end_with<K: Sink>(out: &mut K, text: &[u8], status: Status) -> Status
-    ensures tells { Tells (text.now, status) result (K.faults out.old) (K.faults out.new) (K.bytes out.old) (K.bytes out.new) }
+    ensures tells { Tells (text.now, status) result
+        (K.faults out.old) (K.faults out.new) (K.bytes out.old) (K.bytes out.new) }
     ensures either { (result ≡ status) ⊎ (result ≡ Status.WriteFault) }
     ensures later { K.faults out.old ≤ K.faults out.new }
 {
@@ -32,7 +33,8 @@ fn end_with<K: Sink>(out: &mut K, text: &[u8], status: Status) -> Status
 
 /// Writes why nothing is planned.
 fn refuse<K: Sink>(out: &mut K, stop: Stop) -> Status
-    ensures tells { Tells (refusal_of stop) result (K.faults out.old) (K.faults out.new) (K.bytes out.old) (K.bytes out.new) }
+    ensures tells { Tells (refusal_of stop) result
+        (K.faults out.old) (K.faults out.new) (K.bytes out.old) (K.bytes out.new) }
     ensures faultless { result ≢ Status.RunFault }
     ensures later { K.faults out.old ≤ K.faults out.new }
 {
@@ -59,8 +61,10 @@ fn serve_command<F: Folder, K: Sink>(
     out: &mut K,
 ) -> Status
     requires { 0 < asked.plans }
-    ensures serves { Serves (make_command domain.now problem.now asked.plans asked.depth) (F.file folder.old) result
-        (F.faults folder.old Domain) (F.faults folder.new Domain) (F.faults folder.old Problem) (F.faults folder.new Problem)
+    ensures serves { Serves (make_command domain.now problem.now asked.plans asked.depth) (F.file folder.old)
+        result
+        (F.faults folder.old Domain) (F.faults folder.new Domain)
+        (F.faults folder.old Problem) (F.faults folder.new Problem)
         (K.faults out.old) (K.faults out.new) (K.bytes out.old) (K.bytes out.new) }
     ensures faultless { result ≢ Status.RunFault }
 {
@@ -77,10 +81,12 @@ fn serve_command<F: Folder, K: Sink>(
 /// Serves the command that the words are.
 fn serve<F: Folder, K: Sink>(alloc: Global, words: &[String], folder: &mut F, out: &mut K) -> Status
     ensures ends { Ends (map string_bytes words.now) (F.file folder.old) result
-        (F.faults folder.old Domain) (F.faults folder.new Domain) (F.faults folder.old Problem) (F.faults folder.new Problem)
+        (F.faults folder.old Domain) (F.faults folder.new Domain)
+        (F.faults folder.old Problem) (F.faults folder.new Problem)
         (K.faults out.old) (K.faults out.new) (K.bytes out.old) (K.bytes out.new) }
     ensures faultless { result ≢ Status.RunFault }
-    ensures untouched { accepts (map string_bytes words.now) ≡ None → (folder.new ≡ folder.old) × RefusesWords result (K.bytes out.old) (K.bytes out.new) }
+    ensures untouched { accepts (map string_bytes words.now) ≡ None
+        → (folder.new ≡ folder.old) × RefusesWords result (K.bytes out.old) (K.bytes out.new) }
 {
     match numbers_asked(words) {
         None => end_with(out, b"refused usage\n", Status::Usage),
@@ -109,23 +115,28 @@ pub fn run<F: Folder, K: Sink>(
 ) -> Status
     // A status other than want of memory and the faults of reading and writing is that of the
     // outcome, and its whole text was written.
-    ensures exact { (files : Files) (before : List ℕ) → TellsFiles (F.file folder.old) files → K.bytes out.old ≡ Some before →
+    ensures exact { (files : Files) (before : List ℕ) → TellsFiles (F.file folder.old) files →
+        K.bytes out.old ≡ Some before →
         result ≢ Status.NoMemory → result ≢ Status.ReadFault → result ≢ Status.WriteFault →
         IsOutcome (map string_bytes words.now) files result before (K.bytes out.new) }
 
     // Where no count of faults rises, every status but want of memory is the outcome's.
-    ensures complete { (files : Files) (before : List ℕ) → TellsFiles (F.file folder.old) files → K.bytes out.old ≡ Some before →
-        ¬ Rose (F.faults folder.old Domain) (F.faults folder.new Domain) → ¬ Rose (F.faults folder.old Problem) (F.faults folder.new Problem) →
+    ensures complete { (files : Files) (before : List ℕ) → TellsFiles (F.file folder.old) files →
+        K.bytes out.old ≡ Some before →
+        ¬ Rose (F.faults folder.old Domain) (F.faults folder.new Domain) →
+        ¬ Rose (F.faults folder.old Problem) (F.faults folder.new Problem) →
         ¬ Rose (K.faults out.old) (K.faults out.new) → result ≢ Status.NoMemory →
         IsOutcome (map string_bytes words.now) files result before (K.bytes out.new) }
 
     // Words that are no command touch nothing but the sink, and no other words are refused.
-    ensures refused { accepts (map string_bytes words.now) ≡ None → (folder.new ≡ folder.old) × RefusesWords result (K.bytes out.old) (K.bytes out.new) }
+    ensures refused { accepts (map string_bytes words.now) ≡ None
+        → (folder.new ≡ folder.old) × RefusesWords result (K.bytes out.old) (K.bytes out.new) }
     ensures usage { result ≡ Status.Usage → accepts (map string_bytes words.now) ≡ None }
 
     // A fault of reading has its cause in an input that the words name, and of writing in the sink.
     ensures read { result ≡ Status.ReadFault → ReadFails (map string_bytes words.now) (F.file folder.old)
-        (F.faults folder.old Domain) (F.faults folder.new Domain) (F.faults folder.old Problem) (F.faults folder.new Problem) (K.bytes out.old) (K.bytes out.new) }
+        (F.faults folder.old Domain) (F.faults folder.new Domain)
+        (F.faults folder.old Problem) (F.faults folder.new Problem) (K.bytes out.old) (K.bytes out.new) }
     ensures write { result ≡ Status.WriteFault → Rose (K.faults out.old) (K.faults out.new) }
 
     // No walk of the language meets a fault.

@@ -11,7 +11,8 @@ use std::alloc::{AllocError, Global};
 use std::rc::Rc;
 
 fn add(distinct: &mut IndexSet<Rc<GroundAtom>>, atom: &Rc<GroundAtom>) -> Result<(), AllocError>
-    ensures { OnOk result (terms_of distinct.new.keys ≡ added (terms_of distinct.old.keys) (shared_term atom.now ∷ [])) }
+    ensures { OnOk result (terms_of distinct.new.keys
+        ≡ added (terms_of distinct.old.keys) (shared_term atom.now ∷ [])) }
 {
     distinct.insert(share(atom)?)?;
     Ok(())

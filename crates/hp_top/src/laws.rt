@@ -9,7 +9,8 @@ use hp_syntax::laws::{every_text_is_one_or_the_other, no_text_is_both, texts_spe
 
 /// Words and files come to one answer at most: one text and one status.
 pub fn outcomes_are_one()
-    ensures { (words : List (List ℕ)) (files : Files) (a b : Answer) → Outcome words files a → Outcome words files b → a ≡ b }
+    ensures { (words : List (List ℕ)) (files : Files) (a b : Answer) → Outcome words files a
+        → Outcome words files b → a ≡ b }
 {
     texts_spell_one_forest();
     no_text_is_both();

@@ -95,7 +95,8 @@ fn kind_name(kind: FaultKind) -> &'static [u8]
 }
 
 fn push_fault(text: &mut Vec<u8>, fault: RunFault) -> Result<(), AllocError>
-    ensures { OnOk result (text.new.items ≡ text.old.items ++ ending_word (ending_of (Ending.Fault fault))) }
+    ensures { OnOk result (text.new.items ≡ text.old.items
+        ++ ending_word (ending_of (Ending.Fault fault))) }
 {
     text.extend_from_slice(b"fault ")?;
     text.extend_from_slice(kind_name(fault.kind))?;

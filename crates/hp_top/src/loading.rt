@@ -83,7 +83,9 @@ fn file_front<F: Folder>(
     ensures bytes { IfOk result (λ bytes. ReadsFile bytes.items (F.file folder.old name.now)) }
     ensures files { (n : List ℕ) → F.file folder.new n ≡ F.file folder.old n }
     ensures later { (w : Input) → F.faults folder.old w ≤ F.faults folder.new w }
-    ensures cause { IsErrOf result ReadError.Failed → Rose (F.faults folder.old which) (F.faults folder.new which) ⊎ (F.file folder.old name.now ≡ Some None) }
+    ensures cause { IsErrOf result ReadError.Failed
+        → Rose (F.faults folder.old which) (F.faults folder.new which)
+        ⊎ (F.file folder.old name.now ≡ Some None) }
 {
     match folder.begin(which, name) {
         Ok(()) => read_rest(alloc, folder, which),
@@ -96,7 +98,8 @@ fn file_front<F: Folder>(
 fn load_domain<F: Folder>(alloc: Global, folder: &mut F, name: &str) -> Result<Domain, Stop>
     ensures domain { IfOk result (λ d. Holds (λ t. IsDomain t (domain_of d)) (F.file folder.old name.now)) }
     ensures formed { IfOk result (λ d. IsFormed (domain_of d)) }
-    ensures stops { IfErr result (λ e. DomainStops e (F.file folder.old name.now) (F.faults folder.old inputs.Domain) (F.faults folder.new inputs.Domain)) }
+    ensures stops { IfErr result (λ e. DomainStops e (F.file folder.old name.now)
+        (F.faults folder.old inputs.Domain) (F.faults folder.new inputs.Domain)) }
     ensures files { (n : List ℕ) → F.file folder.new n ≡ F.file folder.old n }
     ensures later { (w : Input) → F.faults folder.old w ≤ F.faults folder.new w }
 {
@@ -114,8 +117,10 @@ fn load_problem<F: Folder>(
     name: &str,
     domain: &Domain,
 ) -> Result<Problem, Stop>
-    ensures problem { IfOk result (λ p. Holds (λ t. IsProblem t (domain_of domain.now) (problem_of p)) (F.file folder.old name.now)) }
-    ensures stops { IfErr result (λ e. ProblemStops e (domain_of domain.now) (F.file folder.old name.now) (F.faults folder.old inputs.Problem) (F.faults folder.new inputs.Problem)) }
+    ensures problem { IfOk result (λ p. Holds (λ t. IsProblem t (domain_of domain.now) (problem_of p))
+        (F.file folder.old name.now)) }
+    ensures stops { IfErr result (λ e. ProblemStops e (domain_of domain.now) (F.file folder.old name.now)
+        (F.faults folder.old inputs.Problem) (F.faults folder.new inputs.Problem)) }
     ensures later { (w : Input) → F.faults folder.old w ≤ F.faults folder.new w }
 {
     match file_front(alloc, folder, Input::Problem, name) {
@@ -128,7 +133,8 @@ fn load_problem<F: Folder>(
 /// What was formed, or why the whole run stops.
 fn stopped<T>(formed: Result<T, FormRefusal>, which: Input) -> Result<T, Stop>
     ensures ok { IfOk result (λ x. formed ≡ Ok x) }
-    ensures err { IfErr result (λ e. ((e ≡ Stop.Refused which) × (formed ≡ Err FormRefusal.Expected)) ⊎ (e ≡ Stop.NoMemory)) }
+    ensures err { IfErr result (λ e. ((e ≡ Stop.Refused which) × (formed ≡ Err FormRefusal.Expected))
+        ⊎ (e ≡ Stop.NoMemory)) }
 {
     match formed {
         Ok(value) => Ok(value),
@@ -144,11 +150,14 @@ pub fn load<F: Folder>(
     domain: &str,
     problem: &str,
 ) -> Result<Loaded, Stop>
-    ensures domain { IfOk result (λ l. Holds (λ t. IsDomain t (domain_of l.domain)) (F.file folder.old domain.now)) }
+    ensures domain { IfOk result (λ l. Holds (λ t. IsDomain t (domain_of l.domain))
+        (F.file folder.old domain.now)) }
     ensures formed { IfOk result (λ l. IsFormed (domain_of l.domain)) }
-    ensures problem { IfOk result (λ l. Holds (λ t. IsProblem t (domain_of l.domain) (problem_of l.problem)) (F.file folder.old problem.now)) }
+    ensures problem { IfOk result (λ l. Holds (λ t. IsProblem t (domain_of l.domain) (problem_of l.problem))
+        (F.file folder.old problem.now)) }
     ensures stops { IfErr result (λ e. Stops e (F.file folder.old domain.now) (F.file folder.old problem.now)
-        (F.faults folder.old inputs.Domain) (F.faults folder.new inputs.Domain) (F.faults folder.old inputs.Problem) (F.faults folder.new inputs.Problem)) }
+        (F.faults folder.old inputs.Domain) (F.faults folder.new inputs.Domain)
+        (F.faults folder.old inputs.Problem) (F.faults folder.new inputs.Problem)) }
 {
     let domain = match load_domain(alloc, folder, domain) {
         Ok(domain) => domain,

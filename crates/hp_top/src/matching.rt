@@ -70,7 +70,8 @@ fn meet_name(
     number: u32,
     name: &Name,
 ) -> Result<bool, AllocError>
-    ensures { IfOk result (λ does. meet (bound (bindings_of bindings.old) number) number (Symbol name.now) (bindings_of bindings.old) ≡ extended does (bindings_of bindings.new)) }
+    ensures { IfOk result (λ does. meet (bound (bindings_of bindings.old) number) number (Symbol name.now)
+        (bindings_of bindings.old) ≡ extended does (bindings_of bindings.new)) }
 {
     match bound_name(bindings, number) {
         Some(old) => Ok(old == name),
@@ -88,7 +89,8 @@ fn match_argument(
     name: &Name,
     bindings: &mut Bindings,
 ) -> Result<bool, AllocError>
-    ensures { IfOk result (λ does. match_term (pattern_of argument.now) (Symbol name.now) (bindings_of bindings.old) ≡ extended does (bindings_of bindings.new)) }
+    ensures { IfOk result (λ does. match_term (pattern_of argument.now) (Symbol name.now)
+        (bindings_of bindings.old) ≡ extended does (bindings_of bindings.new)) }
 {
     match argument {
         Argument::Variable(_, number) => meet_name(alloc, bindings, *number, name),
@@ -103,7 +105,8 @@ fn match_arguments(
     names: &[Name],
     bindings: &mut Bindings,
 ) -> Result<bool, AllocError>
-    ensures { IfOk result (λ does. match_parts (patterns_of arguments.now) (symbols_of names.now) (bindings_of bindings.old) ≡ extended does (bindings_of bindings.new)) }
+    ensures { IfOk result (λ does. match_parts (patterns_of arguments.now) (symbols_of names.now)
+        (bindings_of bindings.old) ≡ extended does (bindings_of bindings.new)) }
 {
     if arguments.len() != names.len() {
         return Ok(false);
@@ -123,7 +126,8 @@ fn extension(
     names: &[Name],
     mut bindings: Bindings,
 ) -> Result<Option<Bindings>, AllocError>
-    ensures { IfOk result (λ m. option_map bindings_of m ≡ match_parts (patterns_of arguments.now) (symbols_of names.now) (bindings_of bindings)) }
+    ensures { IfOk result (λ m. option_map bindings_of m
+        ≡ match_parts (patterns_of arguments.now) (symbols_of names.now) (bindings_of bindings)) }
 {
     if match_arguments(alloc, arguments, names, &mut bindings)? {
         Ok(Some(bindings))
@@ -139,7 +143,8 @@ pub(crate) fn match_atom(
     ground: &GroundAtom,
     bindings: &Bindings,
 ) -> Result<Option<Bindings>, AllocError>
-    ensures { IfOk result (λ m. option_map bindings_of m ≡ match_atom (atom_of atom.now) (term_of ground.now) (bindings_of bindings.now)) }
+    ensures { IfOk result (λ m. option_map bindings_of m
+        ≡ match_atom (atom_of atom.now) (term_of ground.now) (bindings_of bindings.now)) }
 {
     if atom.name != ground.name {
         return Ok(None);
@@ -156,7 +161,8 @@ pub(crate) fn match_head(
     task: &GroundAtom,
     vars: usize,
 ) -> Result<Option<Bindings>, AllocError>
-    ensures { IfOk result (λ m. option_map bindings_of m ≡ match_atom (atom_of head.now) (term_of task.now) (unbound vars)) }
+    ensures { IfOk result (λ m. option_map bindings_of m
+        ≡ match_atom (atom_of head.now) (term_of task.now) (unbound vars)) }
 {
     if head.name != task.name {
         return Ok(None);

@@ -81,7 +81,8 @@ fn plan_found<K: Sink>(
     out: &mut K,
 ) -> Result<Option<Ending>, Halt>
     requires { progress.old.plans < most }
-    ensures written { OnOk result (Wrote (flat_plan_text (progress.old.plans + 1) (terms_of steps.now)) (K.bytes out.old) (K.bytes out.new)) }
+    ensures written { OnOk result (Wrote (flat_plan_text (progress.old.plans + 1) (terms_of steps.now))
+        (K.bytes out.old) (K.bytes out.new)) }
     ensures counted { OnOk result (progress.new ≡ counted progress.old) }
     ensures stops { IfOk result (λ o. o ≡ stop_at most (progress.old.plans + 1)) }
     ensures err { IfErr result (λ h. Halts h (K.faults out.old) (K.faults out.new)) }
@@ -107,7 +108,8 @@ fn visit<K: Sink>(
     out: &mut K,
 ) -> Result<Option<Ending>, Halt>
     requires { progress.old.plans < most }
-    ensures visited { IfOk result (λ o. Visited o most progress.old progress.new (rest walk.old) (rest walk.new) (K.bytes out.old) (K.bytes out.new)) }
+    ensures visited { IfOk result (λ o. Visited o most progress.old progress.new
+        (rest walk.old) (rest walk.new) (K.bytes out.old) (K.bytes out.new)) }
     ensures err { IfErr result (λ h. Halts h (K.faults out.old) (K.faults out.new)) }
     ensures later { K.faults out.old ≤ K.faults out.new }
 {
@@ -134,7 +136,8 @@ fn close<K: Sink>(
     progress: Progress,
     out: &mut K,
 ) -> Result<Status, Halt>
-    ensures written { OnOk result (Wrote (ending_text (ending_of ending) progress.plans progress.expansions) (K.bytes out.old) (K.bytes out.new)) }
+    ensures written { OnOk result (Wrote (ending_text (ending_of ending) progress.plans progress.expansions)
+        (K.bytes out.old) (K.bytes out.new)) }
     ensures status { IfOk result (λ s. s ≡ planned_status (ending_of ending) progress.plans) }
     ensures err { IfErr result (λ h. Halts h (K.faults out.old) (K.faults out.new)) }
     ensures later { K.faults out.old ≤ K.faults out.new }
@@ -151,7 +154,8 @@ fn close<K: Sink>(
 /// Writes the plans of the walk, as many as are asked, and the ending line.
 fn tell<K: Sink>(alloc: Global, walk: &mut Walk, most: u64, out: &mut K) -> Result<Status, Halt>
     requires { 0 < most }
-    ensures written { OnOk result (Wrote (told most 0 0 false (rest walk.old)) (K.bytes out.old) (K.bytes out.new)) }
+    ensures written { OnOk result (Wrote (told most 0 0 false (rest walk.old)) (K.bytes out.old)
+        (K.bytes out.new)) }
     ensures status { IfOk result (λ s. s ≡ told_status most 0 false (rest walk.old)) }
     ensures err { IfErr result (λ h. Halts h (K.faults out.old) (K.faults out.new)) }
     ensures later { K.faults out.old ≤ K.faults out.new }
@@ -174,7 +178,8 @@ fn tell<K: Sink>(alloc: Global, walk: &mut Walk, most: u64, out: &mut K) -> Resu
 pub fn plan<K: Sink>(alloc: Global, loaded: &Loaded, asked: Asked, out: &mut K) -> Status
     requires { 0 < asked.plans }
     ensures tells { let visits = walk (domain_of loaded.now.domain) (problem_of loaded.now.problem) asked.depth in
-        Tells (report asked.plans visits, walk_status asked.plans visits) result (K.faults out.old) (K.faults out.new) (K.bytes out.old) (K.bytes out.new) }
+        Tells (report asked.plans visits, walk_status asked.plans visits) result
+        (K.faults out.old) (K.faults out.new) (K.bytes out.old) (K.bytes out.new) }
     ensures later { K.faults out.old ≤ K.faults out.new }
 {
     let rules = loaded.domain.rules.as_slice();

@@ -27,11 +27,13 @@ fn read_more<F: Folder>(
     requires begun { F.begun folder.old which ≡ true }
     requires room { 0 < room }
     ensures begun { F.begun folder.new which ≡ true }
-    ensures grown { IfOk result (λ n. Grows n bytes.old.items bytes.new.items (F.rest folder.old which) (F.rest folder.new which)) }
+    ensures grown { IfOk result (λ n. Grows n bytes.old.items bytes.new.items (F.rest folder.old which)
+        (F.rest folder.new which)) }
     ensures length { IfOk result (λ n. (length bytes.new.items ≡ length bytes.old.items + n) × (n ≤ room)) }
     ensures files { (n : List ℕ) → F.file folder.new n ≡ F.file folder.old n }
     ensures later { (w : Input) → F.faults folder.old w ≤ F.faults folder.new w }
-    ensures cause { IsErrOf result ReadError.Failed → Rose (F.faults folder.old which) (F.faults folder.new which) }
+    ensures cause { IsErrOf result ReadError.Failed
+        → Rose (F.faults folder.old which) (F.faults folder.new which) }
 {
     let mut buffer = [0u8; PIECE];
     let room = room.min(PIECE);
@@ -54,7 +56,8 @@ pub fn read_rest<F: Folder>(
     ensures bytes { IfOk result (λ bytes. ReadsTo MOST bytes.items (F.rest folder.old which)) }
     ensures files { (n : List ℕ) → F.file folder.new n ≡ F.file folder.old n }
     ensures later { (w : Input) → F.faults folder.old w ≤ F.faults folder.new w }
-    ensures cause { IsErrOf result ReadError.Failed → Rose (F.faults folder.old which) (F.faults folder.new which) }
+    ensures cause { IsErrOf result ReadError.Failed
+        → Rose (F.faults folder.old which) (F.faults folder.new which) }
 {
     let mut bytes = Vec::new(alloc);
     while bytes.len() <= MOST {

@@ -12,7 +12,8 @@ use std::alloc::{AllocError, Global};
 use std::rc::Rc;
 
 fn add_match(extension: Option<Bindings>, found: &mut Vec<Bindings>) -> Result<(), AllocError>
-    ensures { OnOk result (map bindings_of found.new.items ≡ map bindings_of found.old.items ++ option_to_list (option_map bindings_of extension)) }
+    ensures { OnOk result (map bindings_of found.new.items
+        ≡ map bindings_of found.old.items ++ option_to_list (option_map bindings_of extension)) }
 {
     if let Some(bindings) = extension {
         found.push(bindings)?;
@@ -28,7 +29,9 @@ fn add_matches(
     bindings: &Bindings,
     found: &mut Vec<Bindings>,
 ) -> Result<(), AllocError>
-    ensures { OnOk result (map bindings_of found.new.items ≡ map bindings_of found.old.items ++ matches (terms_of state.now) (atom_of atom.now) (bindings_of bindings.now)) }
+    ensures { OnOk result (map bindings_of found.new.items
+        ≡ map bindings_of found.old.items ++ matches (terms_of state.now) (atom_of atom.now)
+        (bindings_of bindings.now)) }
 {
     for ground in state {
         add_match(match_atom(alloc, atom, ground, bindings)?, found)?;
@@ -43,7 +46,8 @@ fn matches_under(
     atom: &RuleAtom,
     current: &[Bindings],
 ) -> Result<Vec<Bindings>, AllocError>
-    ensures { IfOk result (λ v. map bindings_of v.items ≡ flat_map (matches (terms_of state.now) (atom_of atom.now)) (map bindings_of current.now)) }
+    ensures { IfOk result (λ v. map bindings_of v.items
+        ≡ flat_map (matches (terms_of state.now) (atom_of atom.now)) (map bindings_of current.now)) }
 {
     let mut found = Vec::new(alloc);
     for bindings in current {
@@ -59,7 +63,8 @@ pub(crate) fn satisfiers(
     atoms: &[RuleAtom],
     bindings: &Bindings,
 ) -> Result<Vec<Bindings>, AllocError>
-    ensures { IfOk result (λ v. map bindings_of v.items ≡ satisfiers (terms_of state.now) (atoms_of atoms.now) (bindings_of bindings.now)) }
+    ensures { IfOk result (λ v. map bindings_of v.items
+        ≡ satisfiers (terms_of state.now) (atoms_of atoms.now) (bindings_of bindings.now)) }
 {
     let mut current = Vec::new(alloc);
     current.push(copy_bindings(alloc, bindings)?)?;

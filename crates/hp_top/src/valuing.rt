@@ -72,7 +72,8 @@ fn values_of_arguments(
     arguments: &[Argument],
     bindings: &Bindings,
 ) -> Result<Vec<Name>, Stop>
-    ensures { Gives (λ v. symbols_of v.items) result (part_values (patterns_of arguments.now) (bindings_of bindings.now)) }
+    ensures { Gives (λ v. symbols_of v.items) result
+        (part_values (patterns_of arguments.now) (bindings_of bindings.now)) }
 {
     let mut names = Vec::new(alloc);
     for argument in arguments {
@@ -99,7 +100,8 @@ pub(crate) fn values(
     atoms: &[RuleAtom],
     bindings: &Bindings,
 ) -> Result<GroundAtoms, Stop>
-    ensures { Gives (λ v. terms_of v.items) result (atom_values (atoms_of atoms.now) (bindings_of bindings.now)) }
+    ensures { Gives (λ v. terms_of v.items) result
+        (atom_values (atoms_of atoms.now) (bindings_of bindings.now)) }
 {
     let mut found = Vec::new(alloc);
     for atom in atoms {

@@ -51,7 +51,8 @@ impl<'a> Walk<'a> {
         problem: &Problem,
         depth: u32,
     ) -> Result<Walk<'a>, AllocError>
-        ensures rest { IfOk result (λ w. rest w ≡ heard_shown (shown_at rules.now (flat_root problem.now depth))) }
+        ensures rest { IfOk result (λ w. rest w
+            ≡ heard_shown (shown_at rules.now (flat_root problem.now depth))) }
     {
         Ok(Walk {
             alloc,

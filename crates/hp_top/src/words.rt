@@ -75,7 +75,8 @@ fn number_within(word: &[u8], least: u64, most: u64) -> Option<u64>
 
 /// How many plans and which depth two words ask for.
 fn both_numbers(plans: &[u8], depth: &[u8]) -> Option<Asked>
-    ensures spelled { Spelled result (number_within 1 1000000000 plans.now) (number_within 0 1000 depth.now) }
+    ensures spelled { Spelled result (number_within 1 1000000000 plans.now)
+        (number_within 0 1000 depth.now) }
     ensures some { IfSome result (λ a. 0 < a.plans) }
 {
     let plans = number_within(plans, 1, MOST_PLANS)?;
@@ -88,7 +89,8 @@ fn both_numbers(plans: &[u8], depth: &[u8]) -> Option<Asked>
 
 /// What a command asks, where the words are one.
 pub fn numbers_asked(words: &[String]) -> Option<Asked>
-    ensures asks { MatchOption result (accepts (map string_bytes words.now) ≡ None) (AsksFor (map string_bytes words.now)) }
+    ensures asks { MatchOption result (accepts (map string_bytes words.now) ≡ None)
+        (AsksFor (map string_bytes words.now)) }
     ensures five { IfSome result (λ a. length words.now ≡ 5) }
     ensures some { IfSome result (λ a. 0 < a.plans) }
 {

@@ -105,7 +105,9 @@ fn binds(
     deletes: &Node,
     adds: &Node,
 ) -> Result<bool, FormRefusal>
-    ensures { Reads (λ b. b) result (Some (are_among (variables_of (node_of deletes.now) ++ variables_of (node_of adds.now)) (variables_of (node_of head.now) ++ variables_of (node_of pre.now)))) }
+    ensures { Reads (λ b. b) result (Some (are_among
+        (variables_of (node_of deletes.now) ++ variables_of (node_of adds.now))
+        (variables_of (node_of head.now) ++ variables_of (node_of pre.now)))) }
 {
     let of_head = names_in(alloc, head)?;
     let own = names_in(alloc, pre)?;
@@ -124,7 +126,8 @@ fn branch(
     tasks: &Node,
 ) -> Result<Branch, FormRefusal>
     requires few { length names.now ≤ 256 }
-    ensures { Reads branch_of result (branch_in names.now of_head.now (node_of pre.now) (node_of tasks.now)) }
+    ensures { Reads branch_of result
+        (branch_in names.now of_head.now (node_of pre.now) (node_of tasks.now)) }
 {
     let own = names_in(alloc, pre)?;
     if !are_known(tasks, of_head, own.as_slice()) {
@@ -143,7 +146,8 @@ fn branches(
     parts: &[Node],
 ) -> Result<Vec<Branch>, FormRefusal>
     requires few { length names.now ≤ 256 }
-    ensures { Reads (λ v. map branch_of v.items) result (branches_in names.now of_head.now (nodes_of parts.now)) }
+    ensures { Reads (λ v. map branch_of v.items) result
+        (branches_in names.now of_head.now (nodes_of parts.now)) }
 {
     let mut branches = Vec::new(alloc);
     let mut rest = parts;

@@ -48,7 +48,8 @@ fn add_name(
 ) -> Result<(), FormRefusal>
     ensures added { OnOk result (names.new.items ≡ with_name names.old.items name.now) }
     ensures few { OnOk result (length names.old.items ≤ limit → length names.new.items ≤ limit) }
-    ensures many { IsErrOf result FormRefusal.Expected → limit < length (with_name names.old.items name.now) }
+    ensures many { IsErrOf result FormRefusal.Expected
+        → limit < length (with_name names.old.items name.now) }
     ensures counted { IsErrOf result FormRefusal.Expected → limit < usize.MAX }
 {
     if is_known(name, names.as_slice()) {
@@ -69,9 +70,11 @@ fn add_names(
     limit: usize,
     names: &mut Vec<Name>,
 ) -> Result<(), FormRefusal>
-    ensures added { OnOk result (names.new.items ≡ with_names names.old.items (variables_of (node_of node.now))) }
+    ensures added { OnOk result (names.new.items
+        ≡ with_names names.old.items (variables_of (node_of node.now))) }
     ensures few { OnOk result (length names.old.items ≤ limit → length names.new.items ≤ limit) }
-    ensures many { IsErrOf result FormRefusal.Expected → limit < length (with_names names.old.items (variables_of (node_of node.now))) }
+    ensures many { IsErrOf result FormRefusal.Expected
+        → limit < length (with_names names.old.items (variables_of (node_of node.now))) }
     ensures counted { IsErrOf result FormRefusal.Expected → limit < usize.MAX }
 {
     match &node.kind {
@@ -93,9 +96,11 @@ fn add_all_names(
     limit: usize,
     names: &mut Vec<Name>,
 ) -> Result<(), FormRefusal>
-    ensures added { OnOk result (names.new.items ≡ with_names names.old.items (variables_of_all (nodes_of nodes.now))) }
+    ensures added { OnOk result (names.new.items
+        ≡ with_names names.old.items (variables_of_all (nodes_of nodes.now))) }
     ensures few { OnOk result (length names.old.items ≤ limit → length names.new.items ≤ limit) }
-    ensures many { IsErrOf result FormRefusal.Expected → limit < length (with_names names.old.items (variables_of_all (nodes_of nodes.now))) }
+    ensures many { IsErrOf result FormRefusal.Expected
+        → limit < length (with_names names.old.items (variables_of_all (nodes_of nodes.now))) }
     ensures counted { IsErrOf result FormRefusal.Expected → limit < usize.MAX }
 {
     for node in nodes {
