@@ -24,7 +24,7 @@ struct Run {
     end: usize,
 }
 
-/// Reads a text of names and lists, in time linear in its length. A text that is too large is
+/// Reads a text of names and lists in one pass. A text that is too large is
 /// refused before its bytes are looked at. A name's bytes are copied once; nothing else is.
 pub fn read(alloc: Global, bytes: &[u8]) -> Result<Forest, TextRefusal>
     ensures forest { IfOk result (λ f. IsForest bytes.now (forest_of f)) }

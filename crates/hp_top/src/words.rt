@@ -35,7 +35,7 @@ fn are_digits(bytes: &[u8]) -> bool
 fn is_digit(byte: u8) -> bool
     ensures { result ≡ is_digit byte }
 {
-    (b'0'..=b'9').contains(&byte)
+    byte.is_ascii_digit()
 }
 
 /// Whether a word is `0`, or digits without a leading zero.
