@@ -1,2 +1,2 @@
-pub mod Named
-pub mod Taking
+pub mod FileLemmas
+pub mod RuleLemmas

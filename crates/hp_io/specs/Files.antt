@@ -1,10 +1,12 @@
--- What a folder in memory holds.
+-- What a folder in memory holds, and which of its calls fail.
 use Rattle.std.specs.Prelude.{◌≡◌, ℕ, ◌<◌, Bool, true, false, cond, List, [], ◌∷◌, length, take, drop, Option, Some, None, is_some, slice_get, bytes_eq, string_bytes}
 use Rattle.hp_io.specs.declared.folder.Input.{Input}
-use Rattle.hp_io.specs.declared.folder.Input.TheVariants.{Domain, Problem}
 use Rattle.hp_io.specs.declared.mem_folder.File.{File}
 use Rattle.hp_io.specs.declared.mem_folder.Place.{Place}
+use Rattle.hp_io.specs.declared.mem_folder.MemInput.{MemInput}
 use Rattle.hp_io.specs.declared.mem_folder.MemFolder.{MemFolder}
+use Rattle.hp_io.specs.Inputs.{by_input}
+use Rattle.hp_io.specs.Schedules.{is_listed}
 
 -- the file has this name
 abbrev pub has_name : List ℕ → File → Bool
@@ -29,10 +31,9 @@ abbrev pub bytes_at : Option File → ℕ → List ℕ
 bytes_at None at' = []
 bytes_at (Some f) at' = drop at' f.bytes.items
 
--- where an input is read
-abbrev pub place_of : MemFolder → Input → Option Place
-place_of folder Domain = folder.domain
-place_of folder Problem = folder.problem
+-- what is kept of an input
+abbrev pub input_of : MemFolder → Input → MemInput
+input_of folder which = by_input which folder.domain folder.problem
 
 -- what stands in the files from a place on
 abbrev pub rest_from : List File → Option Place → Option (List ℕ)
@@ -45,8 +46,31 @@ contents folder n = file_of folder.files.items n
 
 -- what is left to read of an input that was begun
 abbrev pub rest_of : MemFolder → Input → Option (List ℕ)
-rest_of folder which = rest_from folder.files.items (place_of folder which)
+rest_of folder which = rest_from folder.files.items (input_of folder which).place
 
 -- whether the input was begun
 abbrev pub is_begun : MemFolder → Input → Bool
-is_begun folder which = is_some (place_of folder which)
+is_begun folder which = is_some (input_of folder which).place
+
+-- how often a call for this input failed because its number was listed
+abbrev pub faults_of : MemFolder → Input → ℕ
+faults_of folder which = (input_of folder which).faults
+
+-- the number of the next begin or read
+abbrev pub next_call : MemFolder → ℕ
+next_call folder = folder.schedule.next
+
+-- the begin or read of this number is to fail
+abbrev pub fails_at : MemFolder → ℕ → Bool
+fails_at folder n = is_listed folder.schedule n
+
+-- the next begin or read is to fail
+abbrev pub next_fails : MemFolder → Bool
+next_fails folder = fails_at folder (next_call folder)
+
+-- an input is as it was
+abbrev pub SameInput : MemFolder → MemFolder → Input → Type 0
+SameInput old new which =
+    (rest_of new which ≡ rest_of old which)
+    × (is_begun new which ≡ is_begun old which)
+    × (faults_of new which ≡ faults_of old which)

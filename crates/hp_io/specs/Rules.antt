@@ -1,9 +1,13 @@
 -- What folders and sinks do to the bytes that they tell, and when they fail.
 use Rattle.std.specs.Prelude.{◌≡◌, ℕ, ◌+◌, ◌-◌, ◌^◌, ◌<◌, ◌≤◌, min, List, [], ◌++◌, take, Option, Some, None}
 
+-- one more, where the count doesn't stand at its end
+abbrev pub risen : ℕ → ℕ
+risen before = min (before + 1) (2 ^ 64 - 1)
+
 -- the count rose, or stands at its end
 abbrev pub Rose : ℕ → ℕ → Type 0
-Rose before now = min (before + 1) (2 ^ 64 - 1) ≤ now
+Rose before now = risen before ≤ now
 
 -- a begun input has the file as its rest, where the file is told;
 -- a file that is told to be missing isn't begun

@@ -1,7 +1,9 @@
-ghost use Rattle.std.specs.Prelude.{◌≡◌, ◌≤◌, None, true, false, is_some, length, OnOk, OnErr, IfOk};
+ghost use Rattle.std.specs.Prelude.{◌≡◌, ◌≢◌, ◌≤◌, ◌↔◌, None, true, false, is_some, length, IsOk, IsErrAnd, OnOk, OnErr, IfOk};
+ghost use Rattle.std.specs.IoError.{error_kind};
+ghost use Rattle.std.specs.declared.io.ErrorKind.TheVariants.{OutOfMemory};
 ghost use Rattle.hp_io.specs.declared.folder.Input.{Input};
-ghost use Rattle.hp_io.specs.Host.{by_input};
-ghost use Rattle.hp_io.specs.Rules.{Rose};
+ghost use Rattle.hp_io.specs.Inputs.{by_input};
+ghost use Rattle.hp_io.specs.Rules.{risen};
 
 use crate::folder::{BeginError, Failed, Folder, Input};
 use crate::sink::Sink;
@@ -28,16 +30,21 @@ impl<F: Read + Drop> HostInput<F> {
     }
 
     fn begin(&mut self, opened: io::Result<F>) -> Result<(), BeginError>
+        ensures opens { IsOk result ↔ IsOk opened }
+        ensures no_memory { (result ≡ Err BeginError.NoMemory)
+            ↔ IsErrAnd opened (λ e. error_kind e ≡ OutOfMemory) }
         ensures begun { OnOk result (is_some self.new.file ≡ true) }
-        ensures err { OnErr result (is_some self.new.file ≡ is_some self.old.file) }
+        ensures err { OnErr result (self.new.file ≡ self.old.file) }
+        ensures fault { result ≡ Err BeginError.Failed → self.new.faults ≡ risen self.old.faults }
+        ensures calm { result ≢ Err BeginError.Failed → self.new.faults ≡ self.old.faults }
         ensures later { self.old.faults ≤ self.new.faults }
-        ensures cause { OnErr result (Rose self.old.faults self.new.faults) }
     {
         match opened {
             Ok(file) => {
                 self.file = Some(file);
                 Ok(())
             }
+            Err(error) if error.kind() == io::ErrorKind::OutOfMemory => Err(BeginError::NoMemory),
             Err(_) => {
                 self.faults = self.faults.saturating_add(1);
                 Err(BeginError::Failed)
@@ -50,8 +57,9 @@ impl<F: Read + Drop> HostInput<F> {
         ensures begun { is_some self.new.file ≡ true }
         ensures count { IfOk result (λ n. n ≤ length buf.old) }
         ensures length { length buf.new ≡ length buf.old }
+        ensures fault { OnErr result (self.new.faults ≡ risen self.old.faults) }
+        ensures calm { OnOk result (self.new.faults ≡ self.old.faults) }
         ensures later { self.old.faults ≤ self.new.faults }
-        ensures cause { OnErr result (Rose self.old.faults self.new.faults) }
     {
         let Some(file) = &mut self.file else {
             unreachable!()
@@ -97,6 +105,7 @@ impl<'a, R: Files> Folder for HostFolder<'a, R> {
 
     ghost faults = { λ s w. by_input w s.domain.faults s.problem.faults };
 
+    /// Where the system has no memory to open the file, no count rises.
     fn begin(&mut self, which: Input, name: &str) -> Result<(), BeginError> {
         let opened = fs::open(self.rt, name);
         match which {

@@ -5,6 +5,7 @@ mod folder;
 mod host;
 mod mem_folder;
 mod mem_sink;
+mod schedule;
 mod sink;
 
 pub use folder::{BeginError, Failed, Folder, Input};

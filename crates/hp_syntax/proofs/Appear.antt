@@ -1,7 +1,6 @@
 -- What stands among the children of a node.
 use Rattle.std.proofs.Common.{◌≡◌, ℕ, zero, suc, ◌<◌, Bool, ℤ, List, [], ◌∷◌, length, Some, None, Ok, refl, sym, ◌∙◌, ap, subst, arith, ◌⊎◌, ⊎_elim, get_or}
 use Rattle.std.specs.Prelude.{pos, Contains, slice_get}
-use Rattle.std.specs.List.{All}
 use Rattle.std.proofs.lemmas.List.Elements.{Contains-append_left, Contains-append_right, All-contains}
 use Rattle.hp_syntax.specs.Terms.{Term, Bindings, unbound, value}
 use Rattle.hp_syntax.specs.Expressions.{Atom, Event, Sat, Cut, Fault, State, match_atom, atom_value}
@@ -9,11 +8,10 @@ use Rattle.hp_syntax.specs.Networks.{Network, Task, Place, candidates, part_at}
 use Rattle.hp_syntax.specs.Rules.{Precondition, Operator, Branch, Method, Rule, Does, Refines, Domain, Tasks, Changes, Now, Went, precondition_events, tasks_value, effects, apply, applied, and_go, go_on, effect_atoms, cost_of, pattern_span, first_guarded, unless_guarded}
 use Rattle.hp_syntax.specs.Walk.{Node, Child, DidChild, CutChild, FaultChild, operated, operator_child, method_child, operator_children, branch_children, unless_none, method_children, matched_operator, matched_method, rule_children, rules_children, task_children, places_children, children}
 use Rattle.hp_syntax.specs.Soundness.{IsMetIn, AreValues, Step, Decomposes}
+use Rattle.hp_syntax.specs.WellFormed.{Occurs, PreOccurs, AreBelow, PreBelow, IsGoodOperator, IsGoodBranch, IsGoodMethod, IsGoodRule, IsWellFormed}
 use Rattle.hp_syntax.proofs.Children.{after_operator, after_method}
-use Rattle.hp_syntax.proofs.Covered.{Occurs, PreOccurs}
-use Rattle.hp_syntax.proofs.Matching.{AreBelow, Grows, matched_atom, atom_value_grows}
+use Rattle.hp_syntax.proofs.Matching.{Grows, matched_atom, atom_value_grows}
 use Rattle.hp_syntax.proofs.Found.{found_atom, grows_from_unbound}
-use Rattle.hp_syntax.proofs.WellFormed.{PreBelow, GoodOperator, GoodBranch, GoodMethod, GoodRule}
 use Rattle.hp_syntax.proofs.Sound.{unbound_length, met_pre, cost_is_one}
 use Rattle.hp_syntax.proofs.Solved.{branch_good}
 use Rattle.hp_syntax.proofs.Closed.{IsBound, atom_bound, met_bound, effects_back, tasks_back, met_event, no_events}
@@ -120,7 +118,7 @@ went o g ds news k d a c =
     ∙ ap (λ r. and_go r (λ c. Went (changes_of ds news, c))) c)
 
 -- the cost of one is a number
-pub went_cost : (o : Operator) (g : Bindings) → GoodOperator o → and_go (go_on (value o.cost g)) (cost_of (pattern_span o.cost)) ≡ Went (pos 1)
+pub went_cost : (o : Operator) (g : Bindings) → IsGoodOperator o → and_go (go_on (value o.cost g)) (cost_of (pattern_span o.cost)) ≡ Went (pos 1)
 went_cost o g good = ap (λ p. and_go (go_on (value p g)) (cost_of (pattern_span p))) good.cost
 
 -- what matching a head and satisfying a precondition find, below bindings that are known
@@ -155,7 +153,7 @@ binds : (n : Node) (vars : ℕ) (head : Atom) (t : Term) (pre : Precondition) (e
 binds n vars head t pre e m v o = ⊎_elim (λ x. atom_bound head m.found t v m.value x) (λ x. met_bound n.state pre m.found v m.met x) o
 
 -- an operator's child under the bindings that are found
-operator_appears : (domain : Domain) (n : Node) (p : Place) (t : Term) (i : Bool) (o : Operator) (e : Bindings) (ds news : List Term) → n.guards ≡ [] → Contains (candidates n.network n.focus) p → part_at n.network p ≡ Some (Task t i) → Contains domain.rules (Does o) → GoodOperator o → (m : Meets n (length o.vars) o.head t o.pre e) → AreValues o.dels e ds → AreValues o.adds e news → Contains (children domain n) (DidChild (after_operator n p t (pos 1) (applied n.state (changes_of ds news)) []))
+operator_appears : (domain : Domain) (n : Node) (p : Place) (t : Term) (i : Bool) (o : Operator) (e : Bindings) (ds news : List Term) → n.guards ≡ [] → Contains (candidates n.network n.focus) p → part_at n.network p ≡ Some (Task t i) → Contains domain.rules (Does o) → IsGoodOperator o → (m : Meets n (length o.vars) o.head t o.pre e) → AreValues o.dels e ds → AreValues o.adds e news → Contains (children domain n) (DidChild (after_operator n p t (pos 1) (applied n.state (changes_of ds news)) []))
 operator_appears domain n p t i o e ds news free c q k good m d a =
     let bound = binds n (length o.vars) o.head t o.pre e m in
     let w =
@@ -169,17 +167,17 @@ operator_appears domain n p t i o e ds news free c q k good m d a =
     (operator_has n p t o m.found child x (precondition_events n.state o.pre m.first) m.event.0 m.event.1 m.event.2))
 
 -- a step of an operator is a child, where nothing is guarded
-pub step_appears : (domain : Domain) (n : Node) (p : Place) (t : Term) (i : Bool) (k : ℤ) (s : State) → All GoodRule domain.rules → n.guards ≡ [] → Contains (candidates n.network n.focus) p → part_at n.network p ≡ Some (Task t i) → Step domain n.state t k s → Contains (children domain n) (DidChild (after_operator n p t k s []))
+pub step_appears : (domain : Domain) (n : Node) (p : Place) (t : Term) (i : Bool) (k : ℤ) (s : State) → IsWellFormed domain → n.guards ≡ [] → Contains (candidates n.network n.focus) p → part_at n.network p ≡ Some (Task t i) → Step domain n.state t k s → Contains (children domain n) (DidChild (after_operator n p t k s []))
 step_appears domain n p t i k s rules free c q st =
     let o = st.operator in
-    let good = All-contains GoodRule domain.rules (Does o) rules st.known in
+    let good = All-contains IsGoodRule domain.rules (Does o) rules st.known in
     let m = meets n (length o.vars) o.head t o.pre st.bindings good.head good.pre st.each st.head st.met in
     let x = operator_appears domain n p t i o st.bindings st.deletes st.adds free c q st.known good m st.deleted st.appended in
     subst (λ j. Contains (children domain n) (DidChild (after_operator n p t j s []))) (sym (cost_is_one o st.bindings k good st.costs))
     (subst (λ r. Contains (children domain n) (DidChild (after_operator n p t (pos 1) r []))) (sym st.changed) x)
 
 -- a branch's child under the bindings that are found
-branch_appears : (domain : Domain) (n : Node) (p : Place) (t : Term) (i : Bool) (m : Method) (j : ℕ) (b : Branch) (e : Bindings) (sub : Network) → Contains (candidates n.network n.focus) p → part_at n.network p ≡ Some (Task t i) → Contains domain.rules (Refines m) → GoodBranch (length m.vars) m.head b → (x : Meets n (length m.vars) m.head t b.pre e) → slice_get m.branches j ≡ Some b → ((l : ℕ) (d : Branch) → l < j → slice_get m.branches l ≡ Some d → precondition_events n.state d.pre x.first ≡ []) → tasks_value b.tasks e ≡ Ok sub → Contains (children domain n) (DidChild (after_method n p sub))
+branch_appears : (domain : Domain) (n : Node) (p : Place) (t : Term) (i : Bool) (m : Method) (j : ℕ) (b : Branch) (e : Bindings) (sub : Network) → Contains (candidates n.network n.focus) p → part_at n.network p ≡ Some (Task t i) → Contains domain.rules (Refines m) → IsGoodBranch (length m.vars) m.head b → (x : Meets n (length m.vars) m.head t b.pre e) → slice_get m.branches j ≡ Some b → ((l : ℕ) (d : Branch) → l < j → slice_get m.branches l ≡ Some d → precondition_events n.state d.pre x.first ≡ []) → tasks_value b.tasks e ≡ Ok sub → Contains (children domain n) (DidChild (after_method n p sub))
 branch_appears domain n p t i m j b e sub c q k good x there before gives =
     let bound = binds n (length m.vars) m.head t b.pre e x in
     let v = tasks_back b.tasks x.found e sub x.grows (λ v o. bound v (good.tasks v o)) gives in
@@ -193,7 +191,7 @@ branch_appears domain n p t i m j b e sub c q k good x there before gives =
     has_events events z a l = let w : length events ≡ 0 = ap length z in omega arith
 
 -- where no bindings meet the precondition of an earlier branch, that has no events
-none_before : (domain : Domain) (n : Node) (t : Term) (sub : Network) (d : Decomposes domain n.state t sub) → GoodMethod d.method → (f : Bindings) → match_atom d.method.head t (unbound (length d.method.vars)) ≡ Some f → (l : ℕ) (z : Branch) → l < d.number → slice_get d.method.branches l ≡ Some z → precondition_events n.state z.pre f ≡ []
+none_before : (domain : Domain) (n : Node) (t : Term) (sub : Network) (d : Decomposes domain n.state t sub) → IsGoodMethod d.method → (f : Bindings) → match_atom d.method.head t (unbound (length d.method.vars)) ≡ Some f → (l : ℕ) (z : Branch) → l < d.number → slice_get d.method.branches l ≡ Some z → precondition_events n.state z.pre f ≡ []
 none_before domain n t sub d good f e l z w at =
     let vars = length d.method.vars in
     let m = matched_atom d.method.head t (unbound vars) f (subst (λ j. AreBelow j d.method.head.parts) (sym (unbound_length vars)) good.head) e in
@@ -202,10 +200,10 @@ none_before domain n t sub d good f e l z w at =
     (λ g r k. d.not_earlier l z g w at (r.same_length ∙ (m.0.same_length ∙ unbound_length vars)) (atom_value_grows d.method.head f g t r m.1) k)
 
 -- what a method decomposes a task into is a child
-pub decomposition_appears : (domain : Domain) (n : Node) (p : Place) (t : Term) (i : Bool) (sub : Network) → All GoodRule domain.rules → Contains (candidates n.network n.focus) p → part_at n.network p ≡ Some (Task t i) → Decomposes domain n.state t sub → Contains (children domain n) (DidChild (after_method n p sub))
+pub decomposition_appears : (domain : Domain) (n : Node) (p : Place) (t : Term) (i : Bool) (sub : Network) → IsWellFormed domain → Contains (candidates n.network n.focus) p → part_at n.network p ≡ Some (Task t i) → Decomposes domain n.state t sub → Contains (children domain n) (DidChild (after_method n p sub))
 decomposition_appears domain n p t i sub rules c q d =
     let m = d.method in
-    let good = All-contains GoodRule domain.rules (Refines m) rules d.known in
+    let good = All-contains IsGoodRule domain.rules (Refines m) rules d.known in
     let b = branch_good (length m.vars) m.head m.branches d.number d.branch good.branches d.there in
     let x = meets n (length m.vars) m.head t d.branch.pre d.bindings good.head b.pre d.each d.head d.met in
     branch_appears domain n p t i m d.number d.branch d.bindings sub c q d.known b x d.there (λ l z w at. none_before domain n t sub d good x.first x.matches l z w at) d.gives

@@ -7,10 +7,9 @@ use Rattle.hp_syntax.specs.Expressions.{Atom, whole, atom_value, Expression, Exp
 use Rattle.hp_syntax.specs.Networks.{Network, Networks, Task, Ordered, And}
 use Rattle.hp_syntax.specs.Rules.{Precondition, Plain, precondition_events, Effect, Change, Tasks, TaskList, OneTask, InOrder, NoTask, Then, tasks_value, task_list_value, Went, and_go, go_on, effect_atoms}
 use Rattle.hp_syntax.specs.Soundness.{IsTrueIn, AreTrueIn, IsMetIn, AreValues}
-use Rattle.hp_syntax.proofs.Covered.{IsNumber, Occurs, OccursIn, OccursInAny, PreOccurs, EffectsOccur, TasksOccur, TaskListOccurs}
+use Rattle.hp_syntax.specs.WellFormed.{IsVariable, Occurs, OccursIn, OccursInAny, PreOccurs, EffectsOccur, TasksOccur, TaskListOccurs, PreBelow}
 use Rattle.hp_syntax.proofs.Matching.{on_ok_ok, Grows, OnSat, sat_good}
 use Rattle.hp_syntax.proofs.Found.{Has, has_event, bound_value}
-use Rattle.hp_syntax.proofs.WellFormed.{PreBelow}
 
 -- a variable is bound
 abbrev pub IsBound : Bindings → ℕ → Type 0
@@ -24,7 +23,7 @@ occurs_bound (Part p ps) g ts v h o =
     let b = on_ok_ok (values ps g) (λ us. Ok (More a.0 us)) ts a.2 in
     ⊎_elim (λ x. number_bound p a.0 a.1 x) (λ x. occurs_bound ps g b.0 v b.1 x) o
   where
-    number_bound : (p : Pattern) (t : Term) → value p g ≡ Ok t → IsNumber v p → IsBound g v
+    number_bound : (p : Pattern) (t : Term) → value p g ≡ Ok t → IsVariable v p → IsBound g v
     number_bound (Variable s w) t k x = (t, ap (bound g) (sym x) ∙ bound_value s (bound g w) t k)
     number_bound (Constant s name) t k x = absurd x
     number_bound (Numeral s n) t k x = absurd x
@@ -50,7 +49,7 @@ pub met_bound : (s : State) (pre : Precondition) (g : Bindings) (v : ℕ) → Is
 met_bound s (Plain E) g v h o = true_bound s E g v h o
 
 -- where all that occurs is bound, earlier bindings give the value that later ones give
-value_back : (p : Pattern) (g e : Bindings) (t : Term) → Grows g e → ((v : ℕ) → IsNumber v p → IsBound g v) → value p e ≡ Ok t → value p g ≡ Ok t
+value_back : (p : Pattern) (g e : Bindings) (t : Term) → Grows g e → ((v : ℕ) → IsVariable v p → IsBound g v) → value p e ≡ Ok t → value p g ≡ Ok t
 value_back (Variable s v) g e t w c h =
     let b = c v refl in
     ap (value_of_variable s) (b.1 ∙ sym (w.kept v b.0 b.1)) ∙ h

@@ -1,7 +1,7 @@
 -- What solves the tasks of a problem within a depth is a plan.
 use Rattle.std.proofs.Common.{◌≡◌, ℕ, zero, suc, ◌+◌, ◌<◌, ◌≤◌, Bool, true, false, cond, ℤ, List, [], ◌∷◌, ◌++◌, length, map, Option, Some, None, refl, sym, ◌∙◌, ap, subst, arith, ◌⊎◌, inl, inr, ⊎_elim, append_assoc, get_or}
 use Rattle.std.specs.Prelude.{Contains, filter}
-use Rattle.std.specs.List.{All, Any, list_any}
+use Rattle.std.specs.List.{Any, list_any}
 use Rattle.std.proofs.lemmas.Bool.{cond_both, cond-true, cond-false, or_cases}
 use Rattle.std.proofs.lemmas.Option.{none-some}
 use Rattle.std.proofs.lemmas.List.{append-nil}
@@ -12,9 +12,9 @@ use Rattle.hp_syntax.specs.Networks.{Network, Empty, Task, Ordered, Networks, No
 use Rattle.hp_syntax.specs.Rules.{Domain, Problem, added}
 use Rattle.hp_syntax.specs.Walk.{Node, Child, DidChild, CutChild, FaultChild, children, Did, Plan, CutHere, FaultHere, Visit, visit, visits_of, is_empty, visits_within, visits, root}
 use Rattle.hp_syntax.specs.Soundness.{Step, Decomposes, Solves, Nothing, ByOperator, ByMethod, InTurn, SolvesAll, AndThen}
+use Rattle.hp_syntax.specs.WellFormed.{IsWellFormed}
 use Rattle.hp_syntax.proofs.NextTasks.{starts, starts_or_empty, normal_starts}
 use Rattle.hp_syntax.proofs.Children.{after_operator, after_method}
-use Rattle.hp_syntax.proofs.WellFormed.{GoodRule}
 use Rattle.hp_syntax.proofs.Solved.{done_nothing, none_left, in_turn, parts_of, and_then_rest, nothing_by, Leads}
 use Rattle.hp_syntax.proofs.Appear.{step_appears, decomposition_appears}
 
@@ -283,7 +283,7 @@ found_child domain d n m p j k pre ys xs after c e q w deep =
     let f = deep (p ++ r.0 ∷ []) in
     (f.0, r.1 f.0 f.1, finds_above n m p r.0 j k pre ys xs after f.0 e q w f.2)
 
-module _ (domain : Domain) (rules : All GoodRule domain.rules) where
+module _ (domain : Domain) (rules : IsWellFormed domain) where
   -- by a first step or decomposition
   found_first : (d : ℕ) (deep : (m : Node) (q : List ℕ) (j : ℕ) (ys : List Term) (after : State) → Ready m → Solves domain j m.state m.network ys after → j ≤ d → Found (visits_within domain d m q) m q j ys after) (n : Node) (p : List ℕ) (k : ℕ) (xs : List Term) (after : State) → Ready n → starts n.network ≡ true → k ≤ suc d → First domain k n.state n.network xs after → Found (visits_of (visits_within domain d) n p 0 (children domain n)) n p k xs after
   found_first d deep n p k xs after r s l (StepFirst t i c s1 ys j e st q w h) =

@@ -12,16 +12,15 @@ use Rattle.hp_syntax.specs.Rules.{Precondition, Plain, precondition_events, Effe
 use Rattle.hp_syntax.specs.Walk.{Node, Child, DidChild, CutChild, FaultChild, operated, operator_child, method_child, operator_children, branch_children, unless_none, method_children, matched_operator, matched_method, rule_children, rules_children, task_children, places_children, children, Sight, Did, Plan, CutHere, FaultHere, Visit, visit, visits_of, is_empty, visits_within, visits, heard_visits, root, walk}
 use Rattle.hp_syntax.specs.Laws.{IsFaultless}
 use Rattle.hp_syntax.specs.Soundness.{IsMetIn}
+use Rattle.hp_syntax.specs.WellFormed.{IsVariable, Occurs, PreOccurs, EffectsOccur, TasksOccur, TaskListOccurs, AreBelow, PreBelow, IsGoodOperator, IsGoodBranch, IsGoodMethod, IsGoodRule, IsWellFormed}
 use Rattle.hp_syntax.proofs.Children.{after_operator, after_method}
-use Rattle.hp_syntax.proofs.Covered.{IsNumber, Occurs, PreOccurs, EffectsOccur, TasksOccur, TaskListOccurs}
-use Rattle.hp_syntax.proofs.Matching.{AreBelow, Grows, OnSat, matched_atom, atom_value_grows, sat_good}
-use Rattle.hp_syntax.proofs.WellFormed.{PreBelow, GoodOperator, GoodBranch, GoodMethod, GoodRule}
+use Rattle.hp_syntax.proofs.Matching.{Grows, OnSat, matched_atom, atom_value_grows, sat_good}
 use Rattle.hp_syntax.proofs.Sound.{unbound_length}
 use Rattle.hp_syntax.proofs.Closed.{IsBound, IsSat, only_sats, heard_all, atom_bound, met_bound}
 use Rattle.hp_syntax.proofs.Appear.{changes_of, went, went_cost}
 
 -- where all that occurs is bound, there is a value
-some_value : (p : Pattern) (g : Bindings) → ((v : ℕ) → IsNumber v p → IsBound g v) → (t : Term) × (value p g ≡ Ok t)
+some_value : (p : Pattern) (g : Bindings) → ((v : ℕ) → IsVariable v p → IsBound g v) → (t : Term) × (value p g ≡ Ok t)
 some_value (Variable s v) g c = let b = c v refl in (b.0, ap (value_of_variable s) b.1)
 some_value (Constant s name) g c = (Symbol name, refl)
 some_value (Numeral s n) g c = (Number n, refl)
@@ -102,7 +101,7 @@ fine_operated n p t k (Now s g) = one_fine (after_operator n p t k s g)
 fine_operated n p t k (Guarded d) = All-nil Fine
 
 -- an operator has none
-fine_operator : (n : Node) (p : Place) (t : Term) (o : Operator) → GoodOperator o → (xs : List Event) → All (Met n.state o.head t o.pre) xs → All Fine (operator_children n p t o xs)
+fine_operator : (n : Node) (p : Place) (t : Term) (o : Operator) → IsGoodOperator o → (xs : List Event) → All (Met n.state o.head t o.pre) xs → All Fine (operator_children n p t o xs)
 fine_operator n p t o good [] a = All-nil Fine
 fine_operator n p t o good (Sat g ∷ xs) a =
     let bound = met_bound_there n.state o.head t o.pre g (All-head (Met n.state o.head t o.pre) (Sat g) xs a) in
@@ -120,7 +119,7 @@ fine_method_child n p (Ok x) sub e = one_fine (after_method n p x)
 fine_method_child n p (Err f) sub e = absurd cc
 
 -- a branch has none
-fine_branch : (n : Node) (p : Place) (t : Term) (vars : ℕ) (head : Atom) (b : Branch) → GoodBranch vars head b → (xs : List Event) → All (Met n.state head t b.pre) xs → All Fine (branch_children n p b.tasks xs)
+fine_branch : (n : Node) (p : Place) (t : Term) (vars : ℕ) (head : Atom) (b : Branch) → IsGoodBranch vars head b → (xs : List Event) → All (Met n.state head t b.pre) xs → All Fine (branch_children n p b.tasks xs)
 fine_branch n p t vars head b good [] a = All-nil Fine
 fine_branch n p t vars head b good (Sat g ∷ xs) a =
     let bound = met_bound_there n.state head t b.pre g (All-head (Met n.state head t b.pre) (Sat g) xs a) in
@@ -136,17 +135,17 @@ fine_unless [] own others a b = b
 fine_unless (x ∷ xs) own others a b = a
 
 -- nor have several
-fine_branches : (n : Node) (p : Place) (t : Term) (vars : ℕ) (head : Atom) (f : Bindings) → length f ≡ vars → atom_value head f ≡ Ok t → (bs : List Branch) → All (GoodBranch vars head) bs → All Fine (method_children n p bs f)
+fine_branches : (n : Node) (p : Place) (t : Term) (vars : ℕ) (head : Atom) (f : Bindings) → length f ≡ vars → atom_value head f ≡ Ok t → (bs : List Branch) → All (IsGoodBranch vars head) bs → All Fine (method_children n p bs f)
 fine_branches n p t vars head f l h [] a = All-nil Fine
 fine_branches n p t vars head f l h (b ∷ bs) a =
-    let good = All-head (GoodBranch vars head) b bs a in
+    let good = All-head (IsGoodBranch vars head) b bs a in
     let events = precondition_events n.state b.pre f in
     fine_unless events (branch_children n p b.tasks events) (method_children n p bs f)
     (fine_branch n p t vars head b good events (events_met n.state head t b.pre f h (subst (λ i. PreBelow i b.pre) (sym l) good.pre)))
-    (fine_branches n p t vars head f l h bs (All-tail (GoodBranch vars head) b bs a))
+    (fine_branches n p t vars head f l h bs (All-tail (IsGoodBranch vars head) b bs a))
 
 -- an operator whose head was matched has none
-fine_matched_operator : (n : Node) (p : Place) (t : Term) (o : Operator) → GoodOperator o → (f : Option Bindings) → match_atom o.head t (unbound (length o.vars)) ≡ f → All Fine (matched_operator n p t o f)
+fine_matched_operator : (n : Node) (p : Place) (t : Term) (o : Operator) → IsGoodOperator o → (f : Option Bindings) → match_atom o.head t (unbound (length o.vars)) ≡ f → All Fine (matched_operator n p t o f)
 fine_matched_operator n p t o good None e = All-nil Fine
 fine_matched_operator n p t o good (Some f) e =
     let l = unbound_length (length o.vars) in
@@ -155,7 +154,7 @@ fine_matched_operator n p t o good (Some f) e =
     (events_met n.state o.head t o.pre f m.1 (subst (λ i. PreBelow i o.pre) (sym (m.0.same_length ∙ l)) good.pre))
 
 -- nor has a method
-fine_matched_method : (n : Node) (p : Place) (t : Term) (m : Method) → GoodMethod m → (f : Option Bindings) → match_atom m.head t (unbound (length m.vars)) ≡ f → All Fine (matched_method n p m f)
+fine_matched_method : (n : Node) (p : Place) (t : Term) (m : Method) → IsGoodMethod m → (f : Option Bindings) → match_atom m.head t (unbound (length m.vars)) ≡ f → All Fine (matched_method n p m f)
 fine_matched_method n p t m good None e = All-nil Fine
 fine_matched_method n p t m good (Some f) e =
     let l = unbound_length (length m.vars) in
@@ -163,16 +162,16 @@ fine_matched_method n p t m good (Some f) e =
     fine_branches n p t (length m.vars) m.head f (x.0.same_length ∙ l) x.1 m.branches good.branches
 
 -- nor has a rule
-fine_rule : (n : Node) (p : Place) (t : Term) (r : Rule) → GoodRule r → All Fine (rule_children n p t r)
+fine_rule : (n : Node) (p : Place) (t : Term) (r : Rule) → IsGoodRule r → All Fine (rule_children n p t r)
 fine_rule n p t (Does o) good = fine_matched_operator n p t o good (match_atom o.head t (unbound (length o.vars))) refl
 fine_rule n p t (Refines m) good = fine_matched_method n p t m good (match_atom m.head t (unbound (length m.vars))) refl
 
 -- nor have all rules
-fine_rules : (n : Node) (p : Place) (t : Term) (rs : List Rule) → All GoodRule rs → All Fine (rules_children n p t rs)
+fine_rules : (n : Node) (p : Place) (t : Term) (rs : List Rule) → All IsGoodRule rs → All Fine (rules_children n p t rs)
 fine_rules n p t [] a = All-nil Fine
-fine_rules n p t (r ∷ rs) a = All-append Fine (rule_children n p t r) (rules_children n p t rs) (fine_rule n p t r (All-head GoodRule r rs a)) (fine_rules n p t rs (All-tail GoodRule r rs a))
+fine_rules n p t (r ∷ rs) a = All-append Fine (rule_children n p t r) (rules_children n p t rs) (fine_rule n p t r (All-head IsGoodRule r rs a)) (fine_rules n p t rs (All-tail IsGoodRule r rs a))
 
-module _ (domain : Domain) (rules : All GoodRule domain.rules) where
+module _ (domain : Domain) (rules : IsWellFormed domain) where
   -- nor a candidate
   fine_task : (n : Node) (p : Place) (part : Option Network) → All Fine (task_children domain n p part)
   fine_task n p None = All-nil Fine

@@ -14,6 +14,7 @@ use Rattle.hp_syntax.specs.declared.fault.RunFault.{RunFault}
 use Rattle.hp_syntax.specs.Terms.{Term, Terms, Symbol, Number, Listed, NoTerm, More, same_term, same_terms, Pattern, Patterns, Variable, Constant, Numeral, NoPart, Part, Bindings, bound, flat_option, meet, and_then, match_term, match_parts, on_ok, value, values, value_of_variable}
 use Rattle.hp_syntax.specs.Expressions.{Atom, whole, atom_value, Expression, Expressions, Holds, Both, NoExpression, Also, Event, Sat, Cut, Fault, through, events, events_of_both, State, match_atom, sat_if, state_events, heard}
 use Rattle.hp_syntax.specs.Soundness.{IsTrueIn, AreTrueIn}
+use Rattle.hp_syntax.specs.WellFormed.{IsBelow, AreBelow, InBelow, InAllBelow}
 use Rattle.hp_syntax.proofs.Children.{Among, among_all, among_rest, among_first}
 
 -- terms are the same exactly if the test says so
@@ -84,28 +85,6 @@ get-set_other (y ∷ xs) zero zero x n = absurd (n refl)
 get-set_other (y ∷ xs) zero (suc j) x n = refl
 get-set_other (y ∷ xs) (suc i) zero x n = refl
 get-set_other (y ∷ xs) (suc i) (suc j) x n = get-set_other xs i j x (λ e. n (ap suc e))
-
--- the numbers of variables are below the number of names
-abbrev pub IsBelow : ℕ → Pattern → Type 0
-IsBelow n (Variable s v) = v < n
-IsBelow n (Constant s name) = Unit {0}
-IsBelow n (Numeral s m) = Unit {0}
-
--- the same for several patterns
-abbrev pub AreBelow : ℕ → Patterns → Type 0
-AreBelow n NoPart = Unit {0}
-AreBelow n (Part p ps) = IsBelow n p × AreBelow n ps
-
--- for an expression
-abbrev mutual
-  pub InBelow : ℕ → Expression → Type 0
-  InBelow n (Holds a) = AreBelow n a.parts
-  InBelow n (Both ps) = InAllBelow n ps
-
-  -- and for several
-  pub InAllBelow : ℕ → Expressions → Type 0
-  InAllBelow n NoExpression = Unit {0}
-  InAllBelow n (Also p ps) = InBelow n p × InAllBelow n ps
 
 -- a fresh binding keeps the others
 set_grows : (e : Bindings) (v : ℕ) (t : Term) → bound e v ≡ None → Grows e (slice_set e v (Some t))

@@ -12,11 +12,11 @@ use Rattle.hp_syntax.specs.Networks.{Network, Empty, Task, Ordered, Networks, No
 use Rattle.hp_syntax.specs.Rules.{Branch, Method, Operator, Does, Refines, Domain, Problem, Changes, added}
 use Rattle.hp_syntax.specs.Walk.{Node, Child, DidChild, CutChild, FaultChild, children, Sight, Did, Plan, CutHere, FaultHere, Visit, visit, visits_of, is_empty, visits_within, visits, root, walk}
 use Rattle.hp_syntax.specs.Soundness.{IsMetIn, Step, Decomposes, Solves, Nothing, ByOperator, ByMethod, InTurn, SolvesAll, NoneLeft, AndThen}
+use Rattle.hp_syntax.specs.WellFormed.{AreBelow, PreBelow, IsGoodBranch, IsGoodMethod, IsGoodRule, IsWellFormed}
 use Rattle.hp_syntax.proofs.NextTasks.{all_immediate}
 use Rattle.hp_syntax.proofs.Children.{after_operator, after_method, DidOperator, DidMethod, OfChild, of_children}
-use Rattle.hp_syntax.proofs.Matching.{AreBelow, Grows, matched_atom, atom_value_grows}
+use Rattle.hp_syntax.proofs.Matching.{Grows, matched_atom, atom_value_grows}
 use Rattle.hp_syntax.proofs.Found.{found_atom, not_met, grows_from_unbound}
-use Rattle.hp_syntax.proofs.WellFormed.{PreBelow, GoodBranch, GoodMethod, GoodRule}
 use Rattle.hp_syntax.proofs.Sound.{did_step, met_pre, unbound_length, heard_hold, empty_is}
 
 -- what a solution shows of its parts
@@ -162,11 +162,11 @@ operator_done domain before s t i c x k ys s1 h =
     (subst (λ zs. Solves domain 1 before (Task t i) (t ∷ zs) s1) (sym d.1) (subst (Solves domain 1 before (Task t i) (t ∷ [])) (sym d.2) (ByOperator before s t i c x)))
 
 -- the branch at a number has what all branches have
-pub branch_good : (n : ℕ) (head : Atom) (bs : List Branch) (i : ℕ) (b : Branch) → All (GoodBranch n head) bs → slice_get bs i ≡ Some b → GoodBranch n head b
-branch_good n head bs i b a h = subst (GoodBranch n head) (get_or_from_slice_get bs i b b h) (a i b (slice_get_within bs i b h))
+pub branch_good : (n : ℕ) (head : Atom) (bs : List Branch) (i : ℕ) (b : Branch) → All (IsGoodBranch n head) bs → slice_get bs i ≡ Some b → IsGoodBranch n head b
+branch_good n head bs i b a h = subst (IsGoodBranch n head) (get_or_from_slice_get bs i b b h) (a i b (slice_get_within bs i b h))
 
 -- what a Did of a method does is a decomposition
-did_decompose : (domain : Domain) (n : Node) (p : Place) (t : Term) (m : Method) (b : Branch) (e : Bindings) (sub : Network) → GoodMethod m → DidMethod domain n p t m b e sub → Decomposes domain n.state t sub
+did_decompose : (domain : Domain) (n : Node) (p : Place) (t : Term) (m : Method) (b : Branch) (e : Bindings) (sub : Network) → IsGoodMethod m → DidMethod domain n p t m b e sub → Decomposes domain n.state t sub
 did_decompose domain n p t m b e sub good did =
     let start = unbound (length m.vars) in
     let l = unbound_length (length m.vars) in
@@ -204,13 +204,13 @@ record Follows (domain : Domain) (n m : Node) : Type 0 where
   steps : m.steps ≡ n.steps ++ more
   redo : (k : ℕ) (xs : List Term) (after : State) → Solves domain k m.state m.network xs after → Solves domain (suc k) n.state n.network (more ++ xs) after
 
-module _ (domain : Domain) (good : All GoodRule domain.rules) where
+module _ (domain : Domain) (good : IsWellFormed domain) where
   -- a child by an operator follows
   follows_operator : (n : Node) → FocusLeads n.focus → (p : Place) (t : Term) (o : Operator) (e : Bindings) (c : Changes) (k : ℤ) (s : State) (g : List Term) → DidOperator domain n p t o e c k s g → Follows domain n (after_operator n p t k s g)
   follows_operator n f p t o e c k s g did =
       let chosen = did.tried.chosen in
       let lead = All-contains Leads (candidates n.network n.focus) p (candidates_lead n.network n.focus f) chosen.place in
-      let step = did_step domain n p t o e c k s g (All-contains GoodRule domain.rules (Does o) good did.tried.known) did in
+      let step = did_step domain n p t o e c k s g (All-contains IsGoodRule domain.rules (Does o) good did.tried.known) did in
       record {
         focus = tt;
         more = t ∷ [];
@@ -224,7 +224,7 @@ module _ (domain : Domain) (good : All GoodRule domain.rules) where
   follows_method n f p t m b e sub did =
       let chosen = did.tried.chosen in
       let lead = All-contains Leads (candidates n.network n.focus) p (candidates_lead n.network n.focus f) chosen.place in
-      let by = did_decompose domain n p t m b e sub (All-contains GoodRule domain.rules (Refines m) good did.tried.known) did in
+      let by = did_decompose domain n p t m b e sub (All-contains IsGoodRule domain.rules (Refines m) good did.tried.known) did in
       record {
         focus = expanded_leads n.network p (normal sub) lead;
         more = [];

@@ -14,9 +14,9 @@ use Rattle.hp_syntax.specs.Networks.{Network, Empty, Task, Ordered, Place}
 use Rattle.hp_syntax.specs.Rules.{Precondition, Plain, Effect, Change, Operator, Does, Domain, Problem, Changes, Now, Going, Went, Stops, precondition_events, and_go, go_on, effect_atoms, cost_of, pattern_span, effects, added, applied, unless_guarded, first_guarded, cancelled}
 use Rattle.hp_syntax.specs.Walk.{Node, Child, DidChild, CutChild, FaultChild, children, Sight, Did, Plan, CutHere, FaultHere, Visit, visit, visits_of, is_empty, visits_within, visits, heard_visits, root, walk}
 use Rattle.hp_syntax.specs.Soundness.{IsTrueIn, IsMetIn, AreValues, Step, Executes}
+use Rattle.hp_syntax.specs.WellFormed.{AreBelow, PreBelow, IsGoodOperator, IsGoodRule, IsWellFormed}
 use Rattle.hp_syntax.proofs.Children.{DidOperator, OfChild, of_children}
-use Rattle.hp_syntax.proofs.Matching.{AreBelow, Grows, OnSat, matched_atom, atom_value_grows, sat_good, heard_good}
-use Rattle.hp_syntax.proofs.WellFormed.{PreBelow, GoodOperator, GoodRule}
+use Rattle.hp_syntax.proofs.Matching.{Grows, OnSat, matched_atom, atom_value_grows, sat_good, heard_good}
 
 -- what going through shows of its parts
 and_go_went : {A B : Type 0} (g : Going A) (f : A → Going B) (y : B) → and_go g f ≡ Went y → (x : A) × (g ≡ Went x) × (f x ≡ Went y)
@@ -94,7 +94,7 @@ pub unbound_length : (n : ℕ) → length (unbound n) ≡ n
 unbound_length n = length-replicate n None
 
 -- what a Did of an operator does is a step
-pub did_step : (domain : Domain) (n : Node) (p : Place) (t : Term) (o : Operator) (e : Bindings) (c : Changes) (k : ℤ) (s : State) (g : List Term) → GoodOperator o → DidOperator domain n p t o e c k s g → Step domain n.state t k s
+pub did_step : (domain : Domain) (n : Node) (p : Place) (t : Term) (o : Operator) (e : Bindings) (c : Changes) (k : ℤ) (s : State) (g : List Term) → IsGoodOperator o → DidOperator domain n p t o e c k s g → Step domain n.state t k s
 did_step domain n p t o e c k s g good did =
     let start = unbound (length o.vars) in
     let l = unbound_length (length o.vars) in
@@ -169,7 +169,7 @@ heard_hold P (v ∷ vs) a =
     heard_one P v (heard_visits vs) v.sight h (All-cons P v (heard_visits vs) h (heard_hold P vs (All-tail P v vs a)))
 
 -- an operator's cost is one
-pub cost_is_one : (o : Operator) (e : Bindings) (k : ℤ) → GoodOperator o → value o.cost e ≡ Ok (Number k) → k ≡ pos 1
+pub cost_is_one : (o : Operator) (e : Bindings) (k : ℤ) → IsGoodOperator o → value o.cost e ≡ Ok (Number k) → k ≡ pos 1
 cost_is_one o e k g h =
     let p : value o.cost e ≡ Ok (Number (pos 1)) = ap (λ c. value c e) g.cost in
     same_number k (pos 1) (sym h ∙ p)
@@ -182,13 +182,13 @@ one_more_step : (ts : List Term) (t : Term) (c k : ℤ) → c ≡ pos (length ts
 one_more_step ts t c k a b = ap₂ (λ x y. x +ℤ y) a b ∙ ap pos (sym (length_push ts t))
 
 -- a node's steps lead from the first state to the node's state
-module _ (domain : Domain) (good : All GoodRule domain.rules) where
+module _ (domain : Domain) (good : IsWellFormed domain) where
   -- so its children's steps do
   step_on : (s : State) (n : Node) → Executes domain s n.steps n.cost n.state → All (OfChild (λ m. Executes domain s m.steps m.cost m.state)) (children domain n)
   step_on s n h =
       of_children domain n (λ m. Executes domain s m.steps m.cost m.state)
       (λ p t o e c k s1 g d. executes_more domain n.steps s n.state s1 t n.cost k h
-      (did_step domain n p t o e c k s1 g (All-contains GoodRule domain.rules (Does o) good d.tried.known) d))
+      (did_step domain n p t o e c k s1 g (All-contains IsGoodRule domain.rules (Does o) good d.tried.known) d))
       (λ p t m b e sub d. h)
 
   -- so those of all visits do
@@ -202,7 +202,7 @@ module _ (domain : Domain) (good : All GoodRule domain.rules) where
   counted n h =
       of_children domain n (λ m. m.cost ≡ pos (length m.steps))
       (λ p t o e c k s g d. one_more_step n.steps t n.cost k h
-      (cost_is_one o e k (All-contains GoodRule domain.rules (Does o) good d.tried.known) (are_effects o e c k d.goes).costs))
+      (cost_is_one o e k (All-contains IsGoodRule domain.rules (Does o) good d.tried.known) (are_effects o e c k d.goes).costs))
       (λ p t m b e sub d. h)
 
   -- so the cost is the number of steps
@@ -211,13 +211,13 @@ module _ (domain : Domain) (good : All GoodRule domain.rules) where
       hold_in_visits domain (λ n. n.cost ≡ pos (length n.steps)) (λ n h. counted n h) root (f ∙ ap (λ ts. pos (length ts)) (sym e))
 
 -- and of the walk's visits
-pub walk_executes : (domain : Domain) → All GoodRule domain.rules → (problem : Problem) (d : ℕ) → All (λ v. Executes domain (added [] problem.state) v.node.steps v.node.cost v.node.state) (walk domain problem d)
+pub walk_executes : (domain : Domain) → IsWellFormed domain → (problem : Problem) (d : ℕ) → All (λ v. Executes domain (added [] problem.state) v.node.steps v.node.cost v.node.state) (walk domain problem d)
 unfolding walk
 walk_executes domain good problem d =
     heard_hold (λ v. Executes domain (added [] problem.state) v.node.steps v.node.cost v.node.state) (visits domain (root problem d) []) (visits_execute domain good (root problem d) refl refl)
 
 -- and in the walk
-pub walk_counts : (domain : Domain) → All GoodRule domain.rules → (problem : Problem) (d : ℕ) → All (λ v. v.node.cost ≡ pos (length v.node.steps)) (walk domain problem d)
+pub walk_counts : (domain : Domain) → IsWellFormed domain → (problem : Problem) (d : ℕ) → All (λ v. v.node.cost ≡ pos (length v.node.steps)) (walk domain problem d)
 unfolding walk
 walk_counts domain good problem d =
     heard_hold (λ v. v.node.cost ≡ pos (length v.node.steps)) (visits domain (root problem d) []) (visits_count domain good (root problem d) refl refl)

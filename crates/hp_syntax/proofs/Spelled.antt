@@ -1,87 +1,205 @@
 -- A test by which a text is seen to spell a forest.
-use Rattle.std.proofs.Common.{◌≡◌, ℕ, ◌+◌, ◌-◌, Bool, true, false, ◌&&◌, not, ◌==◌, List, length, refl, nat_lt, nat_le, bytes_eq}
+use Rattle.std.proofs.Common.{◌≡◌, ℕ, zero, suc, ◌+◌, ◌-◌, ◌<◌, ◌≤◌, Bool, true, false, ◌&&◌, not, cond, List, [], ◌∷◌, length, get_or, drop, refl, sym, ◌∙◌, ap, arith, add-one, nat_lt, nat_le, bytes_eq}
 use Rattle.std.specs.Prelude.{slice_index, slice_range}
 use Rattle.std.specs.List.{list_all}
-use Rattle.std.proofs.lemmas.Bool.{ltb-true, leb-true, eqb-true}
+use Rattle.std.specs.Ordering.{int_eq}
+use Rattle.std.proofs.lemmas.Bool.{and_parts, ltb-true, leb-true, lt-ltb}
+use Rattle.std.proofs.lemmas.Bool.Decides.{Decides-int_eq}
+use Rattle.std.proofs.lemmas.List.{get_or-take, get_or-drop, length-take, length-drop, drop-drop}
+use Rattle.std.proofs.lemmas.List.Sums.{AllPass-from_list_all}
 use Rattle.std.proofs.lemmas.Slice.Eq.{bytes_eq-Decides}
-use Rattle.hp_syntax.specs.Text.{is_blank, is_name_byte, is_inside, IsToken, IsGap}
-use Rattle.hp_syntax.specs.Forest.{Node, Word, Numeral, Group, Forest, Bare, Grow, span_of, Spells, SpellsNode, nesting, has_words, IsForest}
+use Rattle.hp_syntax.specs.declared.pattern.Span.{Span}
+use Rattle.hp_syntax.specs.declared.limits.TheConstants.{LARGEST_TEXT, LONGEST_TOKEN, DEEPEST_NESTING}
+use Rattle.hp_syntax.specs.Text.{Kind, Blank, Opening, Closing, NameByte, Bad, End, byte_kind, comment_after, in_comment, kind_at, IsOutside, IsGap, Spelling, AName, ANumber, spelling_of}
+use Rattle.hp_syntax.specs.Forest.{Node, Word, Numeral, Group, Forest, Bare, Grow, span_of, IsSpelled, Spells, SpellsNode, IsForest, nesting, longest_token}
+use Rattle.hp_syntax.proofs.TextLemmas.{in_comment-next, kind_at-end}
+use Rattle.hp_syntax.proofs.LimitLemmas.{limits_clear}
 
-both : (a b : Bool) → (a && b) ≡ true → (a ≡ true) × (b ≡ true)
-both true b h = (refl, h)
-both false b h = cc
+-- the kinds of the bytes of a text, before which a comment is open or not
+abbrev kinds : Bool → List ℕ → List Kind
+kinds c [] = []
+kinds c (b ∷ bs) = cond (comment_after c b) Blank (byte_kind b) ∷ kinds (comment_after c b) bs
 
-is_false : (a : Bool) → not a ≡ true → a ≡ false
-is_false true h = cc
-is_false false h = refl
+-- two kinds are the same
+abbrev same_kind : Kind → Kind → Bool
+same_kind Blank Blank = true
+same_kind Opening Opening = true
+same_kind Closing Closing = true
+same_kind NameByte NameByte = true
+same_kind Bad Bad = true
+same_kind End End = true
+same_kind _ _ = false
 
-abbrev token_test : List ℕ → ℕ → ℕ → Bool
-token_test text from to =
-    nat_lt from to && (nat_le to (length text) && (list_all is_name_byte (slice_range text from to) && (not (is_inside text from) && not (is_inside text to))))
+-- two spellings are the same, and none that is refused
+abbrev same_spelling : Spelling → Spelling → Bool
+same_spelling AName AName = true
+same_spelling (ANumber n) (ANumber m) = int_eq n m
+same_spelling _ _ = false
 
-abbrev gap_test : List ℕ → ℕ → ℕ → Bool
-gap_test text from to = nat_le from to && list_all is_blank (slice_range text from to)
+-- one kind stands between two offsets
+abbrev run_test : Kind → List Kind → ℕ → ℕ → Bool
+run_test k ks a b = nat_le b (length ks) && list_all (same_kind k) (slice_range ks a b)
 
+-- a gap stands between two offsets
+abbrev gap_test : List Kind → ℕ → ℕ → Bool
+gap_test ks a b = nat_le a b && run_test Blank ks a b
+
+-- no token stands just before an offset
+abbrev outside_test : List Kind → ℕ → Bool
+outside_test ks a = not (same_kind NameByte (get_or (End ∷ ks) a End))
+
+-- a token stands between two offsets
+abbrev token_test : List Kind → ℕ → ℕ → Bool
+token_test ks a b =
+    nat_lt a b && (run_test NameByte ks a b && (outside_test ks a && not (same_kind NameByte (get_or ks b End))))
+
+-- the token of a span spells this
+abbrev spelled_test : List ℕ → List Kind → Span → Spelling → Bool
+spelled_test text ks s x = token_test ks s.from s.to && same_spelling (spelling_of (slice_range text s.from s.to)) x
+
+-- the text spells a node by its span, and a forest between two offsets
 abbrev mutual
-  node_test : List ℕ → Node → Bool
-  node_test text (Word s name) = token_test text s.from s.to && bytes_eq name (slice_range text s.from s.to)
-  node_test text (Numeral s n) = false
-  node_test text (Group s parts) =
-      (slice_index text s.from == 40) && (nat_le (s.from + 2) s.to && ((slice_index text (s.to - 1) == 41) && forest_test text (s.from + 1) (s.to - 1) parts))
+  node_test : List ℕ → List Kind → Node → Bool
+  node_test text ks (Word s name) = spelled_test text ks s AName && bytes_eq name (slice_range text s.from s.to)
+  node_test text ks (Numeral s n) = spelled_test text ks s (ANumber n)
+  node_test text ks (Group s parts) =
+      same_kind Opening (get_or ks s.from End)
+      && (nat_le (s.from + 2) s.to
+      && (same_kind Closing (get_or ks (s.to - 1) End) && forest_test text ks (s.from + 1) (s.to - 1) parts))
 
-  forest_test : List ℕ → ℕ → ℕ → Forest → Bool
-  forest_test text from to Bare = gap_test text from to
-  forest_test text from to (Grow n f) = gap_test text from (span_of n).from && (node_test text n && forest_test text (span_of n).to to f)
+  forest_test : List ℕ → List Kind → ℕ → ℕ → Forest → Bool
+  forest_test text ks from to Bare = gap_test ks from to
+  forest_test text ks from to (Grow n f) =
+      gap_test ks from (span_of n).from && (node_test text ks n && forest_test text ks (span_of n).to to f)
 
-tested_token : (text : List ℕ) (from to : ℕ) → token_test text from to ≡ true → IsToken text from to
-tested_token text from to h =
-    let a = both (nat_lt from to) _ h in
-    let b = both (nat_le to (length text)) _ a.1 in
-    let c = both (list_all is_name_byte (slice_range text from to)) _ b.1 in
-    let d = both (not (is_inside text from)) _ c.1 in
-    record {
-      some = ltb-true from to a.0;
-      within = leb-true to (length text) b.0;
-      run = c.0;
-      begins = is_false _ d.0;
-      ends = is_false _ d.1;
-    }
-
-tested_gap : (text : List ℕ) (from to : ℕ) → gap_test text from to ≡ true → IsGap text from to
-tested_gap text from to h =
-    let a = both (nat_le from to) _ h in
-    record { order = leb-true from to a.0; blank = a.1 }
-
-mutual
-  tested_node : (text : List ℕ) (n : Node) → node_test text n ≡ true → SpellsNode text n
-  tested_node text (Word s name) h =
-      let a = both (token_test text s.from s.to) _ h in
-      (tested_token text s.from s.to a.0, (bytes_eq-Decides name (slice_range text s.from s.to)).0 a.1)
-  tested_node text (Numeral s n) h = cc
-  tested_node text (Group s parts) h =
-      let a = both (slice_index text s.from == 40) _ h in
-      let b = both (nat_le (s.from + 2) s.to) _ a.1 in
-      let c = both (slice_index text (s.to - 1) == 41) _ b.1 in
-      (eqb-true _ 40 a.0, leb-true (s.from + 2) s.to b.0, eqb-true _ 41 c.0, tested_forest text (s.from + 1) (s.to - 1) parts c.1)
-
-  tested_forest : (text : List ℕ) (from to : ℕ) (f : Forest) → forest_test text from to f ≡ true → Spells text from to f
-  tested_forest text from to Bare h = tested_gap text from to h
-  tested_forest text from to (Grow n f) h =
-      let a = both (gap_test text from (span_of n).from) _ h in
-      let b = both (node_test text n) _ a.1 in
-      (tested_gap text from (span_of n).from a.0, tested_node text n b.0, tested_forest text (span_of n).to to f b.1)
-
+-- the whole text spells the forest within the limits
 abbrev pub whole_test : List ℕ → Forest → Bool
-whole_test text f = nat_le (length text) 4194304 && (forest_test text 0 (length text) f && (has_words f && nat_le (nesting f) 64))
+whole_test text f =
+    forest_test text (kinds false text) 0 (length text) f
+    && (nat_le (length text) LARGEST_TEXT
+    && (nat_le (longest_token f) LONGEST_TOKEN && nat_le (nesting f) DEEPEST_NESTING))
 
+-- the rest of a text begins with the byte at its offset
+rest_begins : (text : List ℕ) (a b : ℕ) (bs : List ℕ) → drop a text ≡ b ∷ bs
+    → (a < length text) × (slice_index text a ≡ b) × (drop (a + 1) text ≡ bs)
+rest_begins text a b bs e =
+    let l = length-drop a text in
+    let m : length (drop a text) ≡ suc (length bs) = ap length e in
+    let z : a + 0 ≡ a = omega arith in (
+      omega arith,
+      ap (slice_index text) (sym z) ∙ (sym (get_or-drop a text 0 0) ∙ ap (λ x. get_or x 0 0) e),
+      sym (drop-drop 1 a text) ∙ ap (drop 1) e,
+    )
+
+-- each of the kinds is the one that stands at its offset
+kinds_at : (text : List ℕ) (xs : List ℕ) (a i : ℕ) → drop a text ≡ xs
+    → get_or (kinds (in_comment text a) xs) i End ≡ kind_at text (a + i)
+unfolding kind_at
+kinds_at text [] a i e =
+    let l = length-drop a text in
+    let m : length (drop a text) ≡ 0 = ap length e in
+    sym (kind_at-end text (a + i) (omega arith))
+kinds_at text (b ∷ bs) a zero e =
+    let r = rest_begins text a b bs e in
+    let z : a + 0 ≡ a = omega arith in
+    rw (z, lt-ltb a (length text) r.0, r.1) refl
+kinds_at text (b ∷ bs) a (suc i) e =
+    let r = rest_begins text a b bs e in
+    let c = in_comment-next text a ∙ ap (comment_after (in_comment text a)) r.1 in
+    let n : a + 1 + i ≡ a + suc i = omega arith in
+    ap (λ d. get_or (kinds d bs) i End) (sym c) ∙ (kinds_at text bs (a + 1) i r.2 ∙ ap (kind_at text) n)
+
+-- kinds that are seen to be the same are the same
+same_kind-true : (x y : Kind) → same_kind x y ≡ true → x ≡ y
+same_kind-true Blank Blank h = refl
+same_kind-true Opening Opening h = refl
+same_kind-true Closing Closing h = refl
+same_kind-true NameByte NameByte h = refl
+same_kind-true Bad Bad h = refl
+same_kind-true End End h = refl
+same_kind-true _ _ h = absurd cc
+
+-- spellings that are seen to be the same are the same
+same_spelling-true : (x y : Spelling) → same_spelling x y ≡ true → x ≡ y
+same_spelling-true AName AName h = refl
+same_spelling-true (ANumber n) (ANumber m) h = ap ANumber ((Decides-int_eq n m).0 h)
+same_spelling-true _ _ h = absurd cc
+
+module _ (text : List ℕ) (ks : List Kind) (same : (i : ℕ) → get_or ks i End ≡ kind_at text i) where
+  -- where one kind is seen it stands
+  tested_run : (k : Kind) (a b : ℕ) → run_test k ks a b ≡ true → (i : ℕ) → a ≤ i → i < b → kind_at text i ≡ k
+  tested_run k a b h i l m =
+      let p = and_parts (nat_le b (length ks)) _ h in
+      let w = leb-true b (length ks) p.0 in
+      let part = slice_range ks a b in
+      let c : length (slice_range ks a b) ≡ b - a = simp (length-take, length-drop) (omega arith) in
+      let t = AllPass-from_list_all (same_kind k) part p.1 (i - a) End (omega arith) in
+      let e = get_or-take (b - a) (drop a ks) (i - a) End (omega arith) ∙ get_or-drop a ks (i - a) End in
+      let n : a + (i - a) ≡ i = omega arith in
+      sym (same_kind-true k (get_or part (i - a) End) t ∙ (e ∙ (ap (λ j. get_or ks j End) n ∙ same i)))
+
+  -- what is seen to be a gap is one
+  tested_gap : (a b : ℕ) → gap_test ks a b ≡ true → IsGap text a b
+  tested_gap a b h =
+      let p = and_parts (nat_le a b) _ h in
+      record { order = leb-true a b p.0; blank = tested_run Blank a b p.1 }
+
+  -- where no token is seen before an offset none is
+  tested_outside : (a : ℕ) → outside_test ks a ≡ true → IsOutside text a
+  tested_outside a h = λ i e n. (let q = rw (← e, add-one i, same i, n) at h in absurd cc)
+
+  -- where no name byte is seen none stands
+  tested_end : (b : ℕ) → not (same_kind NameByte (get_or ks b End)) ≡ true → kind_at text b ≡ NameByte → ⊥
+  tested_end b h n = let q = rw (same b, n) at h in absurd cc
+
+  -- what a token is seen to spell it spells
+  tested_spelled : (s : Span) (x : Spelling) → spelled_test text ks s x ≡ true → IsSpelled text s x
+  tested_spelled s x h =
+      let p = and_parts (token_test ks s.from s.to) _ h in
+      let q = and_parts (nat_lt s.from s.to) _ p.0 in
+      let r = and_parts (run_test NameByte ks s.from s.to) _ q.1 in
+      let o = and_parts (outside_test ks s.from) _ r.1 in
+      record {
+        token = record {
+          some = ltb-true s.from s.to q.0;
+          run = tested_run NameByte s.from s.to r.0;
+          begins = tested_outside s.from o.0;
+          ends = tested_end s.to o.1;
+        };
+        spells = same_spelling-true _ x p.1;
+      }
+
+  -- what the text is seen to spell it spells
+  mutual
+    tested_node : (n : Node) → node_test text ks n ≡ true → SpellsNode text n
+    tested_node (Word s name) h =
+        let p = and_parts (spelled_test text ks s AName) _ h in
+        (tested_spelled s AName p.0, (bytes_eq-Decides name (slice_range text s.from s.to)).0 p.1)
+    tested_node (Numeral s n) h = tested_spelled s (ANumber n) h
+    tested_node (Group s parts) h =
+        let p = and_parts (same_kind Opening (get_or ks s.from End)) _ h in
+        let q = and_parts (nat_le (s.from + 2) s.to) _ p.1 in
+        let r = and_parts (same_kind Closing (get_or ks (s.to - 1) End)) _ q.1 in (
+          sym (same_kind-true Opening _ p.0 ∙ same s.from),
+          leb-true (s.from + 2) s.to q.0,
+          sym (same_kind-true Closing _ r.0 ∙ same (s.to - 1)),
+          tested_forest (s.from + 1) (s.to - 1) parts r.1,
+        )
+
+    tested_forest : (from to : ℕ) (f : Forest) → forest_test text ks from to f ≡ true → Spells text from to f
+    tested_forest from to Bare h = tested_gap from to h
+    tested_forest from to (Grow n f) h =
+        let p = and_parts (gap_test ks from (span_of n).from) _ h in
+        let q = and_parts (node_test text ks n) _ p.1 in
+        (tested_gap from (span_of n).from p.0, tested_node n q.0, tested_forest (span_of n).to to f q.1)
+
+-- what passes the test is the forest of the text
 pub tested : (text : List ℕ) (f : Forest) → whole_test text f ≡ true → IsForest text f
 tested text f h =
-    let a = both (nat_le (length text) 4194304) _ h in
-    let b = both (forest_test text 0 (length text) f) _ a.1 in
-    let c = both (has_words f) _ b.1 in
-    record {
-      short = leb-true (length text) 4194304 a.0;
-      spelled = tested_forest text 0 (length text) f b.0;
-      words = c.0;
-      nested = leb-true (nesting f) 64 c.1;
-    }
+    let p = and_parts (forest_test text (kinds false text) 0 (length text) f) _ h in
+    let q = and_parts (nat_le (length text) LARGEST_TEXT) _ p.1 in
+    let r = and_parts (nat_le (longest_token f) LONGEST_TOKEN) _ q.1 in
+    let same = λ (i : ℕ). kinds_at text text 0 i refl ∙ ap (kind_at text) (let e : 0 + i ≡ i = omega arith in e) in
+    limits_clear text (leb-true (length text) LARGEST_TEXT q.0) f
+    (tested_forest text (kinds false text) same 0 (length text) f p.0)
+    (leb-true (longest_token f) LONGEST_TOKEN r.0) (leb-true (nesting f) DEEPEST_NESTING r.1)

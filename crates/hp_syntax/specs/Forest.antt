@@ -1,7 +1,8 @@
--- The forest that a text spells, and why a text spells none.
-use Rattle.std.specs.Prelude.{◌≡◌, ℕ, ◌+◌, ◌-◌, ◌<◌, ◌≤◌, max, Bool, true, false, ◌&&◌, ◌==◌, ℤ, List, length, take, slice_index, slice_range, count_by}
+-- The forest that a text spells.
+use Rattle.std.specs.Prelude.{◌≡◌, ℕ, ◌+◌, ◌-◌, ◌≤◌, max, ℤ, List, length, slice_range}
 use Rattle.hp_syntax.specs.declared.pattern.Span.{Span}
-use Rattle.hp_syntax.specs.Text.{is_text_byte, is_word, IsToken, IsGap}
+use Rattle.hp_syntax.specs.Text.{Opening, Closing, kind_at, IsToken, IsGap, Spelling, AName, ANumber, spelling_of}
+use Rattle.hp_syntax.specs.Refusal.{IsClear}
 
 -- a node is a name, a number or a list of nodes, and has the span of its bytes
 mutual
@@ -19,13 +20,18 @@ span_of (Word s name) = s
 span_of (Numeral s n) = s
 span_of (Group s parts) = s
 
--- the text spells the node by the bytes of its span; numerals are spelled by nothing yet
+-- the bytes of a span are a token, which spells this
+pub record IsSpelled (text : List ℕ) (s : Span) (spelling : Spelling) : Type 0 where
+  pub token : IsToken text s.from s.to
+  pub spells : spelling_of (slice_range text s.from s.to) ≡ spelling
+
+-- the text spells the node by the bytes of its span
 abbrev mutual
   pub SpellsNode : List ℕ → Node → Type 0
-  SpellsNode text (Word s name) = IsToken text s.from s.to × (name ≡ slice_range text s.from s.to)
-  SpellsNode text (Numeral s n) = ⊥
+  SpellsNode text (Word s name) = IsSpelled text s AName × (name ≡ slice_range text s.from s.to)
+  SpellsNode text (Numeral s n) = IsSpelled text s (ANumber n)
   SpellsNode text (Group s parts) =
-      (slice_index text s.from ≡ 40) × (s.from + 2 ≤ s.to) × (slice_index text (s.to - 1) ≡ 41)
+      (kind_at text s.from ≡ Opening) × (s.from + 2 ≤ s.to) × (kind_at text (s.to - 1) ≡ Closing)
       × Spells text (s.from + 1) (s.to - 1) parts
 
   -- between the two offsets the text spells the forest: gaps, with its nodes between them
@@ -33,6 +39,11 @@ abbrev mutual
   Spells text from to Bare = IsGap text from to
   Spells text from to (Grow n f) =
       IsGap text from (span_of n).from × SpellsNode text n × Spells text (span_of n).to to f
+
+-- the whole text spells the forest, and nothing in it is refused
+pub record IsForest (text : List ℕ) (f : Forest) : Type 0 where
+  pub spelled : Spells text 0 (length text) f
+  pub clear : IsClear text (length text + 1)
 
 -- how deep the lists of a forest nest
 abbrev mutual
@@ -45,37 +56,13 @@ abbrev mutual
   nesting Bare = 0
   nesting (Grow n f) = max (nesting_of_node n) (nesting f)
 
--- whether each token is one of the language
+-- how many bytes the longest token of a forest has
 abbrev mutual
-  pub node_has_words : Node → Bool
-  node_has_words (Word s name) = is_word name
-  node_has_words (Numeral s n) = false
-  node_has_words (Group s parts) = has_words parts
+  pub longest_token_of_node : Node → ℕ
+  longest_token_of_node (Word s name) = s.to - s.from
+  longest_token_of_node (Numeral s n) = s.to - s.from
+  longest_token_of_node (Group s parts) = longest_token parts
 
-  pub has_words : Forest → Bool
-  has_words Bare = true
-  has_words (Grow n f) = node_has_words n && has_words f
-
--- the whole text spells the forest, within the limits of the language
-pub record IsForest (text : List ℕ) (f : Forest) : Type 0 where
-  pub short : length text ≤ 4194304
-  pub spelled : Spells text 0 (length text) f
-  pub words : has_words f ≡ true
-  pub nested : nesting f ≤ 64
-
--- how many brackets are opened, and how many closed, before an offset
-abbrev pub opened : List ℕ → ℕ → ℕ
-opened text i = count_by (λ b. b == 40) (take i text)
-
-abbrev pub closed : List ℕ → ℕ → ℕ
-closed text i = count_by (λ b. b == 41) (take i text)
-
--- what is wrong with a text that spells no forest
-pub data Refused (text : List ℕ) : Type 0 where
-  TooLarge : 4194304 < length text → Refused text
-  BadByte : (i : ℕ) → i < length text → is_text_byte (slice_index text i) ≡ false → Refused text
-  BadToken : (from to : ℕ) → IsToken text from to → is_word (slice_range text from to) ≡ false
-      → Refused text
-  ExtraClose : (i : ℕ) → i ≤ length text → opened text i < closed text i → Refused text
-  TooNested : (i : ℕ) → i ≤ length text → closed text i + 64 < opened text i → Refused text
-  Unclosed : closed text (length text) < opened text (length text) → Refused text
+  pub longest_token : Forest → ℕ
+  longest_token Bare = 0
+  longest_token (Grow n f) = max (longest_token_of_node n) (longest_token f)

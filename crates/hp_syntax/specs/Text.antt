@@ -1,25 +1,64 @@
--- Bytes of a text, and its tokens.
-use Rattle.std.specs.Prelude.{◌≡◌, ℕ, ◌-◌, ◌<◌, ◌≤◌, Bool, true, false, ◌||◌, ◌&&◌, not, nat_lt, nat_le, ◌==◌, List, [], ◌∷◌, length, slice_index, slice_range, bytes_eq, codes}
+-- What each byte of a text is to a reader, and the tokens and gaps of a text.
+use Rattle.std.specs.Prelude.{◌≡◌, ℕ, zero, suc, ◌+◌, ◌^◌, ◌<◌, ◌≤◌, Bool, false, ◌||◌, ◌&&◌, not, cond, nat_lt, nat_le, ◌==◌, ℤ, List, [], ◌∷◌, length, slice_index}
 use Rattle.std.specs.List.{list_all}
+use Rattle.std.specs.Str.Parse.{digits_value, starts_with_minus, without_leading_sign, signed_digits_value}
 
 -- a space, a tab, a carriage return or a line feed
 abbrev pub is_blank : ℕ → Bool
 is_blank b = b == 32 || b == 9 || b == 13 || b == 10
 
--- an opening or a closing bracket
-abbrev pub is_bracket : ℕ → Bool
-is_bracket b = b == 40 || b == 41
-
 -- a visible byte that is no bracket, semicolon or quotation mark
 abbrev pub is_name_byte : ℕ → Bool
-is_name_byte b = nat_le 33 b && nat_le b 126 && not (is_bracket b || b == 59 || b == 34)
-
--- what may stand in a text
-abbrev pub is_text_byte : ℕ → Bool
-is_text_byte b = is_blank b || is_bracket b || is_name_byte b
+is_name_byte b = nat_le 33 b && nat_le b 126 && not (b == 40 || b == 41 || b == 59 || b == 34)
 
 abbrev pub is_digit : ℕ → Bool
 is_digit b = nat_le 48 b && nat_le b 57
+
+-- what stands at an offset of a text. A byte of a comment is as good as a blank
+pub data Kind : Type 0 where
+  Blank : Kind
+  Opening : Kind
+  Closing : Kind
+  NameByte : Kind
+  Bad : Kind
+  End : Kind
+
+-- what a byte is outside a comment
+abbrev pub byte_kind : ℕ → Kind
+byte_kind b =
+    cond (is_blank b) Blank (cond (b == 40) Opening (cond (b == 41) Closing (cond (is_name_byte b) NameByte Bad)))
+
+-- whether a comment is open behind a byte: a semicolon opens one, and a line feed ends it
+abbrev pub comment_after : Bool → ℕ → Bool
+comment_after is_open b = not (b == 10) && (is_open || b == 59)
+
+-- whether a comment is open before an offset
+abbrev pub in_comment : List ℕ → ℕ → Bool
+in_comment text zero = false
+in_comment text (suc i) = comment_after (in_comment text i) (slice_index text i)
+
+-- what stands at an offset, behind which a comment is open or not
+unfoldable pub kind_at : List ℕ → ℕ → Kind
+kind_at text i =
+    cond (nat_lt i (length text))
+    (cond (comment_after (in_comment text i) (slice_index text i)) Blank (byte_kind (slice_index text i)))
+    End
+
+-- no name byte stands just before the offset, so that a token may begin there
+abbrev pub IsOutside : List ℕ → ℕ → Type 0
+IsOutside text at' = (i : ℕ) → i + 1 ≡ at' → kind_at text i ≡ NameByte → ⊥
+
+-- a token: a longest run of name bytes
+pub record IsToken (text : List ℕ) (from to : ℕ) : Type 0 where
+  pub some : from < to
+  pub run : (i : ℕ) → from ≤ i → i < to → kind_at text i ≡ NameByte
+  pub begins : IsOutside text from
+  pub ends : kind_at text to ≡ NameByte → ⊥
+
+-- blanks and comments stand between the two offsets, and nothing else
+pub record IsGap (text : List ℕ) (from to : ℕ) : Type 0 where
+  pub order : from ≤ to
+  pub blank : (i : ℕ) → from ≤ i → i < to → kind_at text i ≡ Blank
 
 -- a digit, or a point and a digit, begins these bytes
 abbrev pub begins_unsigned : List ℕ → Bool
@@ -32,26 +71,27 @@ abbrev pub is_numeral : List ℕ → Bool
 is_numeral [] = false
 is_numeral (b ∷ bs) = begins_unsigned (b ∷ bs) || ((b == 43 || b == 45) && begins_unsigned bs)
 
--- a token of the language: at most 256 bytes, no numeral, no `.` and not `nil`
-abbrev pub is_word : List ℕ → Bool
-is_word token =
-    nat_le (length token) 256
-    && not (is_numeral token || bytes_eq token (codes ".") || bytes_eq token (codes "nil"))
+-- a sign, where there is one, and one digit or more
+abbrev pub is_whole : List ℕ → Bool
+is_whole token =
+    nat_lt 0 (length (without_leading_sign token)) && list_all is_digit (without_leading_sign token)
 
--- the offset lies inside a run of name bytes: the byte before it is one, and the byte at it
-abbrev pub is_inside : List ℕ → ℕ → Bool
-is_inside text i =
-    nat_lt 0 i && is_name_byte (slice_index text (i - 1)) && is_name_byte (slice_index text i)
+-- the number lies between -2^63 and 2^63 - 1
+abbrev pub is_in_range : List ℕ → Bool
+is_in_range token =
+    nat_lt (digits_value 10 (without_leading_sign token)) (cond (starts_with_minus token) (2 ^ 63 + 1) (2 ^ 63))
 
--- these bytes of the text are a token: a longest run of name bytes
-pub record IsToken (text : List ℕ) (from to : ℕ) : Type 0 where
-  pub some : from < to
-  pub within : to ≤ length text
-  pub run : list_all is_name_byte (slice_range text from to) ≡ true
-  pub begins : is_inside text from ≡ false
-  pub ends : is_inside text to ≡ false
+-- what a token spells: a name, a number, or no number though it begins like one
+pub data Spelling : Type 0 where
+  AName : Spelling
+  ANumber : (n : ℤ) → Spelling
+  NoNumber : Spelling
+  OutOfRange : Spelling
 
--- all bytes between the two offsets are blank
-pub record IsGap (text : List ℕ) (from to : ℕ) : Type 0 where
-  pub order : from ≤ to
-  pub blank : list_all is_blank (slice_range text from to) ≡ true
+unfoldable pub spelling_of : List ℕ → Spelling
+spelling_of token =
+    cond (is_numeral token)
+    (cond (is_whole token)
+    (cond (is_in_range token) (ANumber (signed_digits_value 10 token)) OutOfRange)
+    NoNumber)
+    AName

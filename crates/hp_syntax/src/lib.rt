@@ -5,19 +5,26 @@
 //! decomposition holds.
 #![tactic(auto)]
 
+mod check;
+mod copies;
 mod domain;
 mod expression;
 mod fault;
+mod form;
 pub mod laws;
+pub mod limits;
 mod name;
 mod pattern;
 pub mod samples;
-pub mod stands;
 mod tasks;
+mod text;
 
+pub use check::{CheckFault, CheckKind};
 pub use domain::{Axiom, Branch, Clause, Domain, Effect, Method, Operator, Pair, Problem, Rule};
 pub use expression::{Expr, ExprKind, Pre, SortKey, SortOrder};
 pub use fault::{FaultKind, RunFault};
+pub use form::What;
 pub use name::Name;
 pub use pattern::{AtomPat, Ground, Pat, PatKind, Span, Tail};
 pub use tasks::{NetPat, TaskPat};
+pub use text::TextKind;

@@ -1,13 +1,18 @@
+use smallvec::SmallVec;
 use std::alloc::{AllocError, Global};
 use std::hash::{Hash, Hasher};
 use std::marker::Model;
+use std::mem::size_of;
 
 /// A name: of a symbol, a variable, a task or an operator. Contracts see it as its bytes, and two
-/// names are equal exactly where their bytes are.
+/// names are equal exactly where their bytes are. One of at most 16 bytes needs no allocation.
 #[derive(Debug, Drop)]
 pub struct Name {
-    bytes: Vec<u8>,
+    // 16 bytes and their length fit where a longer name has its `Vec`, so they cost no room.
+    bytes: SmallVec<u8, 16>,
 }
+
+const _: () = prove!(size_of::<Name>() == 32);
 
 impl Model for Name {
     ghost use Rattle.std.specs.Prelude.{List, ℕ};
@@ -25,7 +30,7 @@ impl Name {
         ensures same { IfOk result (λ name. name ≡ bytes.now) }
     {
         Ok(Name {
-            bytes: Vec::from_slice(alloc, bytes)?,
+            bytes: SmallVec::from_slice(alloc, bytes)?,
         })
     }
 

@@ -1,10 +1,10 @@
 //! Samples that are read and walked by the definitions alone, before any code does it.
 
-ghost use Rattle.std.specs.Prelude.{◌≡◌, [], ◌∷◌, ◌++◌, codes};
+ghost use Rattle.std.specs.Prelude.{◌≡◌, [], ◌∷◌, ◌++◌, Some, codes};
 ghost use Rattle.hp_syntax.specs.Forest.{IsForest};
 ghost use Rattle.hp_syntax.specs.Walk.{Did, Plan, CutHere};
 ghost use Rattle.hp_syntax.specs.Report.{report};
-ghost use Rattle.hp_syntax.specs.Samples.{basic_text, basic_forest, swap_text, swap_forest, two_text, two_forest, fetch_text, fetch_forest, empty_text, empty_forest, walk_of, sights};
+ghost use Rattle.hp_syntax.specs.Samples.{basic_text, basic_forest, swap_text, swap_forest, two_text, two_forest, fetch_text, fetch_forest, empty_text, empty_forest, domain_in, problem_in, basic_domain, swap_problem, two_domain, fetch_problem, empty_problem, walk_of, sights};
 
 /// The texts of the samples spell their forests.
 pub fn samples_are_spelled()
@@ -13,6 +13,15 @@ pub fn samples_are_spelled()
     ensures two { IsForest two_text two_forest }
     ensures fetch { IsForest fetch_text fetch_forest }
     ensures empty { IsForest empty_text empty_forest }
+{}
+
+/// What is run of the forms of these forests.
+pub fn samples_are_formed()
+    ensures basic { domain_in basic_forest ≡ Some basic_domain }
+    ensures swap { problem_in swap_forest ≡ Some swap_problem }
+    ensures two { domain_in two_forest ≡ Some two_domain }
+    ensures fetch { problem_in fetch_forest ≡ Some fetch_problem }
+    ensures empty { problem_in empty_forest ≡ Some empty_problem }
 {}
 
 /// The walk of the sample `basic`: the second branch of its method is used, and the one plan has
@@ -47,7 +56,8 @@ pub fn two_is_reported()
         ∷ (1 ∷ 0 ∷ [], Plan) ∷ (2 ∷ [], Did) ∷ (2 ∷ 0 ∷ [], Did) ∷ (2 ∷ 0 ∷ [], CutHere)
         ∷ (2 ∷ 1 ∷ [], Did) ∷ (2 ∷ 1 ∷ [], CutHere) ∷ (2 ∷ 2 ∷ [], Did) ∷ (2 ∷ 2 ∷ [], CutHere) ∷ [] }
     ensures written { report 9 (walk_of two_forest fetch_forest 2)
-        ≡ codes "plan 1 cost 1 steps 1\n(!take cup shelf)\nplan 2 cost 1 steps 1\n(!take pan hook)\ncut plans 2 expansions 8\n" }
+        ≡ codes "plan 1 cost 1 steps 1\n(!take cup shelf)\n"
+        ++ codes "plan 2 cost 1 steps 1\n(!take pan hook)\ncut plans 2 expansions 8\n" }
 {}
 
 #[cfg(test)]
@@ -57,6 +67,7 @@ mod tests {
     #[test]
     fn samples_can_be_cited() {
         samples_are_spelled();
+        samples_are_formed();
         basic_is_walked();
         basic_is_reported();
         two_is_reported();

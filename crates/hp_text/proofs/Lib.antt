@@ -1,5 +1,7 @@
-pub mod Bytes
-pub mod Refusals
+pub mod SpellingLemmas
+pub mod ByteLemmas
+pub mod PlaceLemmas
+pub mod ScanLemmas
+pub mod Clear
 pub mod Runs
 pub mod Made
-pub mod Exits

@@ -1,8 +1,8 @@
 ghost use Rattle.std.specs.Prelude.{◌≡◌};
 ghost use Rattle.hp_text.specs.declared.forest.TextRefusal.TheVariants.{NoMemory};
 
-use hp_syntax::{Name, Span};
-use std::alloc::{AllocError, AllocFailed};
+use hp_syntax::{Name, Span, TextKind};
+use std::alloc::AllocError;
 
 /// What a whole text spells: its outermost nodes, in order.
 #[derive(Drop)]
@@ -33,8 +33,8 @@ pub enum NodeKind {
 /// Why a text has no forest.
 #[derive(Clone, Copy, Debug, PartialEq, Eq)]
 pub enum TextRefusal {
-    /// The text spells none: it is too large, or a byte, a token or a bracket is out of place.
-    Other,
+    /// The text is refused for this reason, with the offset that is told with it.
+    Bad(TextKind, u32),
     /// Memory ran out.
     NoMemory,
 }
@@ -43,14 +43,6 @@ impl From<AllocError> for TextRefusal {
     ghost from_gives = { λ _ e. e ≡ NoMemory };
 
     fn from(_error: AllocError) -> TextRefusal {
-        TextRefusal::NoMemory
-    }
-}
-
-impl<T: Drop> From<AllocFailed<T>> for TextRefusal {
-    ghost from_gives = { λ _ e. e ≡ NoMemory };
-
-    fn from(_error: AllocFailed<T>) -> TextRefusal {
         TextRefusal::NoMemory
     }
 }

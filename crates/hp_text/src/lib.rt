@@ -1,9 +1,14 @@
-//! A reader of texts: what a text spells, as a forest of names and lists with their spans.
+//! A reader of texts: what a text spells, as a forest of names, numbers and lists with their spans,
+//! or the first reason for which it is refused.
 #![tactic(auto)]
 
+mod byte;
 mod forest;
+mod gap;
 mod reader;
 mod scan;
+mod spelling;
 
 pub use forest::{Forest, Node, NodeKind, TextRefusal};
+pub use hp_syntax::TextKind;
 pub use reader::read;

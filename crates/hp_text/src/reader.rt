@@ -1,21 +1,20 @@
-//! Reading a whole text by recursion over its lists.
+//! Reading a whole text: first its refusal, and where it has none its nodes, by recursion over its
+//! lists.
 
-ghost use Rattle.std.specs.Prelude.{◌≡◌, ℕ, ◌<◌, ◌≤◌, true, false, length, map, slice_index, IfOk, IsErrOf};
-ghost use Rattle.hp_syntax.specs.Text.{is_blank, is_inside};
-ghost use Rattle.hp_syntax.specs.Forest.{IsForest, Refused};
+ghost use Rattle.std.specs.Prelude.{◌≡◌, ◌⊎◌, ◌+◌, ◌<◌, length, map, IfOk, IfErr};
+ghost use Rattle.hp_syntax.specs.Forest.{IsForest};
+ghost use Rattle.hp_syntax.specs.Refusal.{Refusal, IsClear, IsRefused};
+ghost use Rattle.hp_syntax.specs.Text.{Opening, Closing, NameByte, IsOutside, kind_at};
+ghost use Rattle.hp_text.specs.Refusals.{RefusesText};
 ghost use Rattle.hp_text.specs.Nodes.{node_of, forest_of};
-ghost use Rattle.hp_text.specs.Places.{IsPlace, IsNodeAt, IsRead};
+ghost use Rattle.hp_text.specs.Places.{IsBetween, IsStop, IsNodeAt, IsRead};
 
 use crate::forest::{Forest, Node, NodeKind, TextRefusal};
-use crate::scan::{is_name_byte, is_word, skip_blanks, token_end};
+use crate::gap::{skip_gap, token_end};
+use crate::scan::first_refusal;
+use crate::spelling::{Spelling, spelling_of};
 use hp_syntax::{Name, Span};
-use std::alloc::Global;
-
-/// The most bytes that a text may have.
-const LARGEST_TEXT: usize = 4_194_304;
-
-/// How deep lists may nest.
-const DEEPEST: usize = 64;
+use std::alloc::{AllocError, Global};
 
 /// The nodes up to a closing bracket or the end of the text, and where that is.
 #[derive(Drop)]
@@ -24,60 +23,65 @@ struct Run {
     end: usize,
 }
 
-/// Reads a text of names and lists in one pass. A text that is too large is
-/// refused before its bytes are looked at. A name's bytes are copied once; nothing else is.
+/// Reads a text. What is refused in it is known before memory is taken for the first node, so a text
+/// that has a refusal is answered with it whatever memory there is. A name's bytes are copied once;
+/// nothing else is.
 pub fn read(alloc: Global, bytes: &[u8]) -> Result<Forest, TextRefusal>
     ensures forest { IfOk result (λ f. IsForest bytes.now (forest_of f)) }
     ensures length { IfOk result (λ f. f.len ≡ length bytes.now) }
-    ensures other { IsErrOf result TextRefusal.Other → Refused bytes.now }
+    ensures refused { IfErr result (RefusesText bytes.now) }
+    ensures exact { (r : Refusal) → IsRefused bytes.now r → result ≡ Err (TextRefusal.Bad r.kind r.offset) }
 {
-    if bytes.len() > LARGEST_TEXT {
-        return Err(TextRefusal::Other);
+    match first_refusal(bytes) {
+        Some(refusal) => Err(TextRefusal::Bad(refusal.kind, refusal.offset)),
+        None => Ok(forest(alloc, bytes)?),
     }
-    let run = nodes(alloc, bytes, 0, 0)?;
-    if run.end < bytes.len() {
-        return Err(TextRefusal::Other);
-    }
+}
+
+// The forest of a text in which nothing is refused.
+fn forest(alloc: Global, bytes: &[u8]) -> Result<Forest, AllocError>
+    requires { IsClear bytes.now (length bytes.now + 1) }
+    ensures forest { IfOk result (λ f. IsForest bytes.now (forest_of f)) }
+    ensures length { IfOk result (λ f. f.len ≡ length bytes.now) }
+{
+    let run = nodes(alloc, bytes, 0)?;
     Ok(Forest {
         nodes: run.nodes,
         len: bytes.len() as u32,
     })
 }
 
-// The nodes from a place on. `depth` counts the brackets that are open there, here and below.
+// The nodes from a place on, up to the bracket that closes what they stand in.
 #[cycle(read)]
-fn nodes(alloc: Global, bytes: &[u8], from: usize, depth: usize) -> Result<Run, TextRefusal>
-    requires short { length bytes.now ≤ 4194304 }
-    requires shallow { depth ≤ 64 }
-    requires place { IsPlace bytes.now from depth }
-    ensures read { IfOk result (λ r. IsRead bytes.now from r.end depth (map node_of r.nodes.items)) }
-    ensures stop { IfOk result (λ r. r.end < length bytes.now → slice_index bytes.now r.end ≡ 41) }
-    ensures other { IsErrOf result TextRefusal.Other → Refused bytes.now }
+fn nodes(alloc: Global, bytes: &[u8], from: usize) -> Result<Run, AllocError>
+    requires clear { IsClear bytes.now (length bytes.now + 1) }
+    requires place { IsBetween bytes.now from }
+    ensures read { IfOk result (λ r. IsRead bytes.now from r.end (map node_of r.nodes.items)) }
+    ensures stop { IfOk result (λ r. IsStop bytes.now r.end) }
+    ensures closing { IfOk result (λ r. r.end < length bytes.now → kind_at bytes.now r.end ≡ Closing) }
 {
     let mut nodes = Vec::new(alloc);
-    let mut end = skip_blanks(bytes, from);
+    let mut end = skip_gap(bytes, from);
     while end < bytes.len() && bytes[end] != b')' {
-        let next = node(alloc, bytes, end, depth)?;
-        end = skip_blanks(bytes, next.span.to as usize);
+        let next = node(alloc, bytes, end)?;
+        end = skip_gap(bytes, next.span.to as usize);
         nodes.push(next)?;
     }
+    nodes.shrink_to_fit();
     Ok(Run { nodes, end })
 }
 
 // The node that begins at a place.
 #[cycle(read)]
-fn node(alloc: Global, bytes: &[u8], from: usize, depth: usize) -> Result<Node, TextRefusal>
-    requires short { length bytes.now ≤ 4194304 }
-    requires shallow { depth ≤ 64 }
+fn node(alloc: Global, bytes: &[u8], from: usize) -> Result<Node, AllocError>
+    requires clear { IsClear bytes.now (length bytes.now + 1) }
     requires within { from < length bytes.now }
-    requires place { IsPlace bytes.now from depth }
-    requires no_close { slice_index bytes.now from ≡ 41 → ⊥ }
-    requires no_blank { is_blank (slice_index bytes.now from) ≡ false }
-    ensures node { IfOk result (λ n. IsNodeAt bytes.now from depth n) }
-    ensures other { IsErrOf result TextRefusal.Other → Refused bytes.now }
+    requires stop { IsStop bytes.now from }
+    requires no_close { kind_at bytes.now from ≡ Closing → ⊥ }
+    ensures { IfOk result (λ n. IsNodeAt bytes.now from n) }
 {
     if bytes[from] == b'(' {
-        list(alloc, bytes, from, depth)
+        list(alloc, bytes, from)
     } else {
         word(alloc, bytes, from)
     }
@@ -85,22 +89,12 @@ fn node(alloc: Global, bytes: &[u8], from: usize, depth: usize) -> Result<Node, 
 
 // The list whose opening bracket stands at a place.
 #[cycle(read)]
-fn list(alloc: Global, bytes: &[u8], from: usize, depth: usize) -> Result<Node, TextRefusal>
-    requires short { length bytes.now ≤ 4194304 }
-    requires shallow { depth ≤ 64 }
-    requires within { from < length bytes.now }
-    requires place { IsPlace bytes.now from depth }
-    requires byte { slice_index bytes.now from ≡ 40 }
-    ensures node { IfOk result (λ n. IsNodeAt bytes.now from depth n) }
-    ensures other { IsErrOf result TextRefusal.Other → Refused bytes.now }
+fn list(alloc: Global, bytes: &[u8], from: usize) -> Result<Node, AllocError>
+    requires clear { IsClear bytes.now (length bytes.now + 1) }
+    requires opening { kind_at bytes.now from ≡ Opening }
+    ensures { IfOk result (λ n. IsNodeAt bytes.now from n) }
 {
-    if depth == DEEPEST {
-        return Err(TextRefusal::Other);
-    }
-    let run = nodes(alloc, bytes, from + 1, depth + 1)?;
-    if run.end == bytes.len() {
-        return Err(TextRefusal::Other);
-    }
+    let run = nodes(alloc, bytes, from + 1)?;
     Ok(Node {
         span: Span {
             from: from as u32,
@@ -110,48 +104,47 @@ fn list(alloc: Global, bytes: &[u8], from: usize, depth: usize) -> Result<Node, 
     })
 }
 
-// The token at a place that is neither blank nor a bracket.
-fn word(alloc: Global, bytes: &[u8], from: usize) -> Result<Node, TextRefusal>
-    requires short { length bytes.now ≤ 4194304 }
-    requires within { from < length bytes.now }
-    requires outside { is_inside bytes.now from ≡ false }
-    requires no_open { slice_index bytes.now from ≡ 40 → ⊥ }
-    requires no_close { slice_index bytes.now from ≡ 41 → ⊥ }
-    requires no_blank { is_blank (slice_index bytes.now from) ≡ false }
-    ensures node { IfOk result (λ n. (depth : ℕ) → depth ≤ 64 → IsPlace bytes.now from depth
-        → IsNodeAt bytes.now from depth n) }
-    ensures other { IsErrOf result TextRefusal.Other → Refused bytes.now }
+// The token that begins at a place.
+fn word(alloc: Global, bytes: &[u8], from: usize) -> Result<Node, AllocError>
+    requires clear { IsClear bytes.now (length bytes.now + 1) }
+    requires byte { kind_at bytes.now from ≡ NameByte }
+    requires outside { IsOutside bytes.now from }
+    ensures { IfOk result (λ n. IsNodeAt bytes.now from n) }
 {
-    if !is_name_byte(bytes[from]) {
-        return Err(TextRefusal::Other);
-    }
     let to = token_end(bytes, from);
     let token = &bytes[from..to];
-    if !is_word(token) {
-        return Err(TextRefusal::Other);
+    let span = Span {
+        from: from as u32,
+        to: to as u32,
+    };
+    match spelling_of(token) {
+        Spelling::Name => {
+            let name = Name::new(alloc, token)?;
+            Ok(Node {
+                span,
+                kind: NodeKind::Name(name),
+            })
+        }
+        Spelling::Number(n) => Ok(Node {
+            span,
+            kind: NodeKind::Num(n),
+        }),
+        Spelling::NoNumber | Spelling::OutOfRange => unreachable!(),
     }
-    let name = Name::new(alloc, token)?;
-    Ok(Node {
-        span: Span {
-            from: from as u32,
-            to: to as u32,
-        },
-        kind: NodeKind::Name(name),
-    })
 }
 
 #[cfg(test)]
 mod tests {
     use super::*;
-    use std::alloc::AllocError;
+    use hp_syntax::TextKind;
     use std::process::Abort;
     use std::test::Fail;
 
-    fn bytes_of(alloc: Global, parts: &[(u8, usize)]) -> Result<Vec<u8>, AllocError> {
+    fn bytes_of(alloc: Global, parts: &[(&[u8], usize)]) -> Result<Vec<u8>, AllocError> {
         let mut bytes = Vec::new(alloc);
-        for (byte, count) in parts {
+        for (part, count) in parts {
             for _ in 0..*count {
-                bytes.push(*byte)?;
+                bytes.extend_from_slice(part)?;
             }
         }
         Ok(bytes)
@@ -169,75 +162,168 @@ mod tests {
     }
 
     #[test]
-    fn reads_and_refuses(rt: HostRuntime) -> Result<(), Fail> {
+    fn reads_forests(rt: HostRuntime) -> Result<(), Fail> {
         for (text, count) in [
-            (b"".as_slice(), Some(0)),
-            (b" (a b) ".as_slice(), Some(1)),
-            (b"((a)(b c))".as_slice(), Some(1)),
-            (b"a (b)c\t\r\nd".as_slice(), Some(4)),
-            (b"()".as_slice(), Some(1)),
-            (b"+ - .a -a ?x :m !m nils".as_slice(), Some(8)),
-            (b"(".as_slice(), None),
-            (b")".as_slice(), None),
-            (b"(a))".as_slice(), None),
-            (b"nil".as_slice(), None),
-            (b"(.)".as_slice(), None),
-            (b"1a".as_slice(), None),
-            (b"+1".as_slice(), None),
-            (b"-.5".as_slice(), None),
-            (b".5".as_slice(), None),
-            (b"a;b".as_slice(), None),
-            (b"\"a\"".as_slice(), None),
-            (b"a\xc8".as_slice(), None),
-            (b"a\x00".as_slice(), None),
-            (b"a\x7f".as_slice(), None),
+            (b"".as_slice(), 0),
+            (b" (a b) ", 1),
+            (b"((a)(b c))", 1),
+            (b"a (b)c\t\r\nd", 4),
+            (b"()", 1),
+            (b"+ - . .a -a -. +. .. ?x :m !m nil", 12),
+            (b"0 -1 +007 9223372036854775807 -9223372036854775808", 5),
+            (b"1(2)3", 3),
+            (b"a;b (\nc", 2),
+            (b"a;b", 1),
+            (b";\x00\x7f\xc8\"(;)\r\t1a\n", 0),
+            (b"a ; b\n;c\n\n d;", 2),
         ] {
-            match read(rt.alloc(), text) {
-                Ok(forest) => assert_eq!(rt; Some(forest.nodes.len()), count, "in {text:?}"),
-                Err(refusal) => {
-                    assert_eq!(rt; refusal, TextRefusal::Other);
-                    assert_eq!(rt; count, None, "in {text:?}");
+            let forest = read(rt.alloc(), text);
+            match forest {
+                Ok(forest) => {
+                    assert_eq!(rt; forest.nodes.len(), count, "in {text:?}");
+                    assert_eq!(rt; forest.len as usize, text.len());
                 }
+                Err(refusal) => panic!(rt; "{refusal:?} in {text:?}"),
             }
         }
         Ok(())
     }
 
     #[test]
-    fn gives_spans(rt: HostRuntime) -> Result<(), Fail> {
-        let forest = read(rt.alloc(), b" ((a)(bc d)) ")?;
-        assert_eq!(rt; forest.len, 13);
-        assert_eq!(rt; forest.nodes.len(), 1);
-        assert!(rt; has_span(&forest.nodes[0], 1, 12));
-        let lists = parts_of(&rt, &forest.nodes[0]);
-        assert_eq!(rt; lists.len(), 2);
-        assert!(rt; has_span(&lists[0], 2, 5));
-        assert!(rt; has_span(&lists[1], 5, 11));
-        let names = parts_of(&rt, &lists[1]);
-        assert_eq!(rt; names.len(), 2);
-        assert!(rt; has_span(&names[0], 6, 8));
-        assert!(rt; has_span(&names[1], 9, 10));
-        match &names[0].kind {
-            NodeKind::Name(name) => assert_eq!(rt; name.bytes(), b"bc".as_slice()),
-            _ => panic!(rt; "not a name"),
+    fn reads_numbers(rt: HostRuntime) -> Result<(), Fail> {
+        for (text, wanted) in [
+            (b"0".as_slice(), 0),
+            (b"+0", 0),
+            (b"-0", 0),
+            (b"+007", 7),
+            (b"-12", -12),
+            (b"9223372036854775807", i64::MAX),
+            (b"-9223372036854775808", i64::MIN),
+            (b"-00000000000000000000000009223372036854775808", i64::MIN),
+        ] {
+            let forest = read(rt.alloc(), text)?;
+            match forest.nodes.as_slice() {
+                [
+                    Node {
+                        kind: NodeKind::Num(n),
+                        ..
+                    },
+                ] => assert_eq!(rt; *n, wanted),
+                _ => panic!(rt; "no number: {text:?}"),
+            }
+        }
+        Ok(())
+    }
+
+    #[test]
+    fn refuses(rt: HostRuntime) -> Result<(), Fail> {
+        for (text, kind, offset) in [
+            (b"a\xc8".as_slice(), TextKind::BadByte, 1),
+            (b"a\x00", TextKind::BadByte, 1),
+            (b"\x7f", TextKind::BadByte, 0),
+            (b"(a \"b\")", TextKind::BadByte, 3),
+            (b"; \xc8\n \xc8", TextKind::BadByte, 5),
+            (b" 1a", TextKind::BadNumber, 1),
+            (b"(+.5)", TextKind::BadNumber, 1),
+            (b"-.5", TextKind::BadNumber, 0),
+            (b".5", TextKind::BadNumber, 0),
+            (b"1.5 )", TextKind::BadNumber, 0),
+            (b"a 1-;)", TextKind::BadNumber, 2),
+            (b"9223372036854775808", TextKind::NumberRange, 0),
+            (b" -9223372036854775809", TextKind::NumberRange, 1),
+            (b"+9223372036854775808", TextKind::NumberRange, 0),
+            (
+                b"99999999999999999999999999999999999999999",
+                TextKind::NumberRange,
+                0,
+            ),
+            (b"(", TextKind::Unclosed, 0),
+            (b"((a)", TextKind::Unclosed, 0),
+            (b"(a(b) (c", TextKind::Unclosed, 6),
+            (b"(;)", TextKind::Unclosed, 0),
+            (b")", TextKind::ExtraClose, 0),
+            (b"(a))", TextKind::ExtraClose, 3),
+            (b") \x00", TextKind::ExtraClose, 0),
+            (b"(1a \x00", TextKind::BadNumber, 1),
+            (b"(1\x00", TextKind::BadByte, 2),
+            (b"1a\x00", TextKind::BadNumber, 0),
+        ] {
+            match read(rt.alloc(), text) {
+                Ok(_) => panic!(rt; "reads {text:?}"),
+                Err(refusal) => assert_eq!(rt;
+                    refusal,
+                    TextRefusal::Bad(kind, offset),
+                    "in {text:?}"
+                ),
+            }
         }
         Ok(())
     }
 
     #[test]
     fn keeps_limits(rt: HostRuntime) -> Result<(), Fail> {
-        for (parts, is_read) in [
-            ([(b'(', 64), (b')', 64)], true),
-            ([(b'(', 65), (b')', 65)], false),
-            ([(b'(', 65), (b' ', 0)], false),
-            ([(b'a', 256), (b' ', 1)], true),
-            ([(b'a', 257), (b' ', 1)], false),
-            ([(b' ', 4_194_304), (b' ', 0)], true),
-            ([(b' ', 4_194_304), (b' ', 1)], false),
+        let a = b"a".as_slice();
+        let digit = b"1".as_slice();
+        let blank = b" ".as_slice();
+        let open = b"(".as_slice();
+        let close = b")".as_slice();
+        for (parts, wanted) in [
+            ([(open, 64), (close, 64)], None),
+            ([(open, 65), (close, 65)], Some((TextKind::TooNested, 64))),
+            ([(open, 64), (close, 0)], Some((TextKind::Unclosed, 63))),
+            ([(open, 64), (close, 63)], Some((TextKind::Unclosed, 0))),
+            ([(blank, 3), (a, 256)], None),
+            ([(blank, 3), (a, 257)], Some((TextKind::TokenLong, 3))),
+            ([(digit, 256), (blank, 0)], Some((TextKind::NumberRange, 0))),
+            ([(digit, 257), (blank, 0)], Some((TextKind::TokenLong, 0))),
         ] {
             let text = bytes_of(rt.alloc(), &parts)?;
             let answer = read(rt.alloc(), text.as_slice());
-            assert_eq!(rt; answer.is_ok(), is_read);
+            match wanted {
+                None => assert!(rt; answer.is_ok()),
+                Some((kind, offset)) => assert!(rt;
+                    answer.err() == Some(TextRefusal::Bad(kind, offset))
+                ),
+            }
+        }
+        Ok(())
+    }
+
+    #[test]
+    fn keeps_the_largest_text(rt: HostRuntime) -> Result<(), Fail> {
+        let mut text = vec![in rt.alloc(); b' '; 4_194_304]?;
+        assert!(rt; read(rt.alloc(), text.as_slice()).is_ok());
+        for (last, kind, offset) in [
+            (b"   ".as_slice(), TextKind::TooLarge, 4_194_304),
+            (b"1x", TextKind::BadNumber, 4_194_302),
+            (b"1x ", TextKind::BadNumber, 4_194_302),
+            (b"1xx", TextKind::TooLarge, 4_194_304),
+        ] {
+            text.truncate(4_194_302);
+            text.extend_from_slice(last)?;
+            let refusal = read(rt.alloc(), text.as_slice()).err();
+            assert!(rt; refusal == Some(TextRefusal::Bad(kind, offset)));
+        }
+        Ok(())
+    }
+
+    #[test]
+    fn gives_spans(rt: HostRuntime) -> Result<(), Fail> {
+        let forest = read(rt.alloc(), b" ((a)(bc 12)) ")?;
+        assert_eq!(rt; forest.len, 14);
+        assert_eq!(rt; forest.nodes.len(), 1);
+        assert!(rt; has_span(&forest.nodes[0], 1, 13));
+        let lists = parts_of(&rt, &forest.nodes[0]);
+        assert_eq!(rt; lists.len(), 2);
+        assert!(rt; has_span(&lists[0], 2, 5));
+        assert!(rt; has_span(&lists[1], 5, 12));
+        let words = parts_of(&rt, &lists[1]);
+        assert_eq!(rt; words.len(), 2);
+        assert!(rt; has_span(&words[0], 6, 8));
+        assert!(rt; has_span(&words[1], 9, 11));
+        match &words[0].kind {
+            NodeKind::Name(name) => assert_eq!(rt; name.bytes(), b"bc".as_slice()),
+            _ => panic!(rt; "not a name"),
         }
         Ok(())
     }

@@ -1,14 +1,15 @@
-use Rattle.std.proofs.Common.{refl}
-use Rattle.hp_syntax.specs.Walk.{walk, visits, visits_within, children}
-use Rattle.hp_syntax.specs.Samples.{walk_of}
+use Rattle.std.proofs.Common.{ap}
 use Rattle.std.specs.Fmt.{digits}
+use Rattle.hp_syntax.specs.Walk.{walk, visits, visits_within, children}
 use Rattle.hp_syntax.specs.Report.{report, plan_text, ending_text}
+use Rattle.hp_syntax.specs.Samples.{sights}
+use Rattle.hp_syntax.proofs.SampleForms.{two_walk}
 use Rattle.hp_syntax.proofs.samples.two_is_reported.Goals as goal
 
 pub returns-clause-walked : goal.returns-clause-walked
-unfolding walk_of walk visits visits_within children report plan_text ending_text digits
-returns-clause-walked c = refl
+unfolding walk visits visits_within children
+returns-clause-walked c = ap sights (two_walk 2)
 
 pub returns-clause-written : goal.returns-clause-written
-unfolding walk_of walk visits visits_within children report plan_text ending_text digits
-returns-clause-written c = refl
+unfolding walk visits visits_within children report plan_text ending_text digits
+returns-clause-written c = ap (report 9) (two_walk 2)

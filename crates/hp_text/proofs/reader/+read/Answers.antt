@@ -1,67 +1,146 @@
-use Rattle.std.proofs.Common.{◌≡◌, ℕ, ◌<◌, ◌≤◌, length, IfOk, ◌+◌, [], Result, Ok, Err, refl, arith}
-use Rattle.hp_text.specs.declared.forest.Node.{Node}
-use Rattle.hp_text.specs.declared.forest.TextRefusal.{TextRefusal}
-use Rattle.hp_text.specs.Places.{IsPlace, IsNodeAt, IsRead}
-use Rattle.std.proofs.lemmas.Result.{err_from_is_err_and}
+use Rattle.std.proofs.Common.{rules, ◌<◌, ◌≤◌, length, [], refl, ◌∙◌, ap, arith}
+use Rattle.hp_syntax.specs.declared.limits.TheConstants.{LARGEST_TEXT}
+use Rattle.hp_syntax.specs.Text.{byte_kind, kind_at}
+use Rattle.hp_syntax.proofs.TextLemmas.{open_in_list}
+use Rattle.hp_text.specs.Places.{IsRead}
 use Rattle.hp_text.proofs.reader.+read.Goals as goal
-use Rattle.hp_text.proofs.Exits.{passed_on}
-use Rattle.hp_text.proofs.Refusals.{too_nested}
+use Rattle.hp_text.proofs.reader.+read.Goals.{nodes-then-loop-end-test+else-bytes-end-ne41, nodes-else-loop-end-test}
+use Rattle.hp_text.proofs.ByteLemmas.{unblank_byte, opening_byte, closing_byte, name_left, opening_within, within_no_end}
+use Rattle.hp_text.proofs.Clear.{clear_is_short, no_bad, closes_within}
 use Rattle.hp_text.proofs.Runs.{read_none}
-use Rattle.hp_text.proofs.Made.{list_at, read_pushed}
+use Rattle.hp_text.proofs.Made.{between_brackets, opening_no_name, opening_no_blank, list_at, read_pushed}
 
--- a bracket that opens below 64 open ones is refused
-pub list-returns-then-depth-eq-DEEPEST-clause-other : goal.list-returns-then-depth-eq-DEEPEST-clause-other
-list-returns-then-depth-eq-DEEPEST-clause-other t c _ =
-    let full : c.args.depth ≡ 64 = omega arith in
-    too_nested c.args.bytes.now c.args.from c.requires.within c.requires.byte (rw full at c.requires.place)
+-- the bracket stands within the text
+pub list-overflow_add-from : goal.list-overflow_add-from
+list-overflow_add-from t c =
+    let within : c.args.from < length c.args.bytes.now =
+    opening_within c.args.bytes.now c.args.from c.requires.opening in
+    search rules
 
--- what `nodes` refuses is refused
-pub list-returns-in_err-run-clause-other : goal.list-returns-in_err-run-clause-other
-list-returns-in_err-run-clause-other t c =
-    let p = err_from_is_err_and c.from_residual.result c.from_residual.ensures.1 in
-    rw (p.1, p.2) (passed_on _ _ _ c.in_err-run.ensures.other)
+-- behind its opening bracket a list is shorter
+pub list-nodes-requires : goal.list-nodes-requires
+list-nodes-requires t c =
+    let text = c.args.bytes.now in
+    let from = c.args.from in
+    let within : from < length text = opening_within text from c.requires.opening in (
+      search rules,
+      (
+        c.requires.clear,
+        between_brackets text from within (opening_no_name text from c.requires.opening)
+            (opening_no_blank text from c.requires.opening),
+      ),
+    )
+
+-- a clear text isn't too large
+pub list-overflow_cast-result : goal.list-overflow_cast-result
+list-overflow_cast-result t c =
+    let short : length c.args.bytes.now ≤ LARGEST_TEXT = clear_is_short c.args.bytes.now c.requires.clear in
+    let within : c.args.from < length c.args.bytes.now =
+    opening_within c.args.bytes.now c.args.from c.requires.opening in
+    search rules
+
+-- the list closes within the text
+pub list-overflow_cast-result-2 : goal.list-overflow_cast-result-2
+list-overflow_cast-result-2 t c =
+    let text = c.args.bytes.now in
+    let run = c.in_ok-run.run' in
+    let short : length text ≤ LARGEST_TEXT = clear_is_short text c.requires.clear in
+    let closes : run.end < length text =
+    closes_within text run.end _ _ c.requires.clear c.in_ok-run.ensures.stop.within
+    (c.in_ok-run.ensures.read.brackets ∙ open_in_list text c.args.from c.requires.opening) in
+    search rules
 
 -- the list ends at the closing bracket that stopped `nodes`
-pub list-returns-clause-node : goal.list-returns-clause-node
-list-returns-clause-node t c =
+pub list-returns : goal.list-returns
+list-returns t c =
+    let text = c.args.bytes.now in
     let run = c.in_ok-run.run' in
-    let read = c.in_ok-run.ensures.read in
-    let within : run.end ≤ length c.args.bytes.now = read.place.within in
-    let short : run.end < length c.args.bytes.now = omega arith in
-    let shallow : c.args.depth + 1 ≤ 64 = omega arith in
-    list_at c.args.bytes.now c.args.from run.end c.args.depth _ run.nodes refl refl refl short c.requires.byte (c.in_ok-run.ensures.stop short) shallow read
+    let closes : run.end < length text =
+    closes_within text run.end _ _ c.requires.clear c.in_ok-run.ensures.stop.within
+    (c.in_ok-run.ensures.read.brackets ∙ open_in_list text c.args.from c.requires.opening) in
+    list_at text c.args.from run.end _ run.nodes refl refl refl closes c.requires.opening
+    (c.in_ok-run.ensures.closing closes) c.in_ok-run.ensures.read
 
--- a token is one at each depth, and so at this one
-pub node-returns-else-bytes-from-eq40-clause-node : goal.node-returns-else-bytes-from-eq40-clause-node
-node-returns-else-bytes-from-eq40-clause-node t c =
-    let P : Result Node TextRefusal → Type 0 = λ r. IfOk r (λ n. (depth : ℕ) → depth ≤ 64 → IsPlace c.args.bytes.now c.args.from depth → IsNodeAt c.args.bytes.now c.args.from depth n) → IfOk r (λ n. IsNodeAt c.args.bytes.now c.args.from c.args.depth n) in
-    let at_each : (r : Result Node TextRefusal) → P r = λ r. elim r as P [ Ok n ↦ λ h. h c.args.depth c.requires.shallow c.requires.place | Err e ↦ λ h. h ] in
-    at_each c.word.result c.word.ensures.node
+-- an opening bracket opens a list
+pub node-list-requires : goal.node-list-requires
+node-list-requires t c =
+    let text = c.args.bytes.now in
+    let from = c.args.from in (
+      search rules,
+      (
+        c.requires.clear,
+        unblank_byte text from c.requires.within c.requires.stop.stops
+            ∙ ap byte_kind c.if-bytes-from-eq40.true,
+      ),
+    )
+
+-- what else stands there is a name byte
+pub node-word-requires-clause-byte : goal.node-word-requires-clause-byte
+node-word-requires-clause-byte t c =
+    let text = c.args.bytes.now in
+    let from = c.args.from in
+    name_left (kind_at text from) c.requires.stop.stops
+    (λ k. c.if-bytes-from-eq40.false (opening_byte text from k)) c.requires.no_close
+    (no_bad text from c.requires.clear) (λ k. within_no_end text from c.requires.within k)
+
+-- and a token begins there
+pub node-word-requires-clause-outside : goal.node-word-requires-clause-outside
+node-word-requires-clause-outside t c =
+    let text = c.args.bytes.now in
+    let from = c.args.from in
+    c.requires.stop.begins
+    (name_left (kind_at text from) c.requires.stop.stops
+    (λ k. c.if-bytes-from-eq40.false (opening_byte text from k)) c.requires.no_close
+    (no_bad text from c.requires.clear) (λ k. within_no_end text from c.requires.within k))
 
 -- before the first node there is a gap
 pub nodes-loop-end-init : goal.nodes-loop-end-init
 nodes-loop-end-init t c =
-    let skipped = c.skip_blanks-end in
-    let none : IsRead c.args.bytes.now c.args.from skipped.result c.args.depth [] = read_none c.args.bytes.now c.args.from skipped.result c.args.depth skipped.ensures.gap (skipped.ensures.place c.args.depth c.requires.place) in
+    let skipped = c.skip_gap-end in
+    let none : IsRead c.args.bytes.now c.args.from skipped.result [] =
+    read_none c.args.bytes.now c.args.from skipped.result skipped.ensures.gap in
     record {
-      within = skipped.ensures.within;
+      begins = skipped.ensures.gap.order;
       stop = skipped.ensures.stop;
       read = rw c.new-nodes.ensures.items none;
     }
 
--- what `node` refuses is refused
-pub nodes-returns-in_err-next-clause-other : goal.nodes-returns-in_err-next-clause-other
-nodes-returns-in_err-next-clause-other t c =
-    let p = err_from_is_err_and c.from_residual.result c.from_residual.ensures.1 in
-    rw (p.1, p.2) (passed_on _ _ _ c.in_err-next.ensures.other)
+-- a node begins here, since nothing closes
+pub nodes-node-requires : goal.nodes-node-requires
+nodes-node-requires t c =
+    let text = c.args.bytes.now in
+    let i = c.loop-end.end in
+    let begun : c.args.from ≤ i = c.loop-end.invariant.begins in
+    let within : i < length text = omega arith in (
+      search rules,
+      (
+        c.requires.clear,
+        (within, (c.loop-end.invariant.stop, λ k. c.if-bytes-end-ne41.true (closing_byte text i k))),
+      ),
+    )
 
 -- one more node, and the gap behind it
 pub nodes-loop-end-preserved : goal.nodes-loop-end-preserved
 nodes-loop-end-preserved t c =
-    let skipped = c.skip_blanks-end-in-loop-end in
-    let node = c.in_ok-next.ensures.node in
+    let text = c.args.bytes.now in
+    let skipped = c.skip_gap-end-in-loop-end in
+    let node = c.in_ok-next.ensures in
+    let begun : c.args.from ≤ c.loop-end.end = c.loop-end.invariant.begins in
+    let grown : c.loop-end.end < c.in_ok-next.next.span.to = node.grows in
+    let behind : c.in_ok-next.next.span.to ≤ skipped.result = skipped.ensures.gap.order in
     record {
-      within = skipped.ensures.within;
+      begins = omega arith;
       stop = skipped.ensures.stop;
-      read = read_pushed c.args.bytes.now c.args.from c.loop-end.end skipped.result c.args.depth c.loop-end.nodes.items c.push.new.self.items c.in_ok-next.next c.in_ok-push.ensures.items c.loop-end.invariant.read node skipped.ensures.gap (skipped.ensures.place c.args.depth node.place);
+      read =
+          read_pushed text c.args.from c.loop-end.end skipped.result c.loop-end.nodes.items c.push.new.self.items
+          c.in_ok-next.next c.in_ok-push.ensures.items c.loop-end.invariant.read node skipped.ensures.gap;
     }
+
+-- short of the end only a closing bracket stops the loop
+pub nodes-returns-clause-closing : goal.nodes-returns-clause-closing
+nodes-returns-clause-closing t c within =
+    elim c.loop-end-test.branch [
+      | nodes-then-loop-end-test+else-bytes-end-ne41 w ↦ unblank_byte c.args.bytes.now c.loop-end.end within
+          c.loop-end.invariant.stop.stops ∙ ap byte_kind w.if-bytes-end-ne41.false
+      | nodes-else-loop-end-test w ↦ absurd (omega arith)
+    ]

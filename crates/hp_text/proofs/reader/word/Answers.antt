@@ -1,23 +1,47 @@
-use Rattle.std.proofs.Common.{◌≡◌, true, false, refl, sym, ◌∙◌, slice_index, slice_range}
-use Rattle.hp_syntax.specs.Text.{is_name_byte, is_word}
+use Rattle.std.proofs.Common.{rules, ◌≡◌, ◌<◌, ◌≤◌, length, slice_range, refl, sym, ap, ◌∙◌, w64, to_z-of_z}
+use Rattle.hp_syntax.specs.declared.limits.TheConstants.{LARGEST_TEXT}
+use Rattle.std.specs.Int.RustNames.{FitsSigned as SFits}
+use Rattle.hp_syntax.specs.Text.{ANumber, spelling_of}
+use Rattle.hp_text.specs.Spellings.{plain_spelling}
+use Rattle.hp_text.proofs.Made.{name_at, number_at}
 use Rattle.hp_text.proofs.reader.word.Goals as goal
-use Rattle.hp_text.proofs.Refusals.{bad_byte, bad_token}
-use Rattle.hp_text.proofs.Made.{name_at}
+use Rattle.hp_text.proofs.PlaceLemmas.{name_within}
+use Rattle.hp_text.proofs.Clear.{clear_is_short, token_is_spelled, no_other_spelling}
 
--- a byte that is neither blank, bracket nor name byte may not stand in a text
-pub returns-then-not-is_name_byte-clause-other : goal.returns-then-not-is_name_byte-clause-other
-returns-then-not-is_name_byte-clause-other c _ =
-    let other : is_name_byte (slice_index c.args.bytes.now c.args.from) ≡ false = sym c.is_name_byte.ensures ∙ c.if-not-is_name_byte.true in
-    bad_byte c.args.bytes.now c.args.from c.requires.within c.requires.no_open c.requires.no_close c.requires.no_blank other
+-- a clear text isn't too large
+pub overflow_cast-span : goal.overflow_cast-span
+overflow_cast-span c =
+    let short : length c.args.bytes.now ≤ LARGEST_TEXT = clear_is_short c.args.bytes.now c.requires.clear in
+    let within : c.args.from < length c.args.bytes.now = name_within c.args.bytes.now c.args.from c.requires.byte in
+    search rules
 
--- the token is none of the language
-pub returns-then-not-is_word-clause-other : goal.returns-then-not-is_word-clause-other
-returns-then-not-is_word-clause-other c _ =
-    let other : is_word (slice_range c.args.bytes.now c.args.from c.token_end-to.result) ≡ false = sym c.is_word.ensures ∙ c.if-not-is_word.true in
-    bad_token c.args.bytes.now c.args.from c.token_end-to.result c.token_end-to.ensures.token other
+-- the token ends within the text
+pub overflow_cast-span-2 : goal.overflow_cast-span-2
+overflow_cast-span-2 c =
+    let short : length c.args.bytes.now ≤ LARGEST_TEXT = clear_is_short c.args.bytes.now c.requires.clear in
+    let within : c.token_end-to.result ≤ length c.args.bytes.now = c.token_end-to.ensures.place.within in
+    search rules
 
--- the node is the token
-pub returns-clause-node : goal.returns-clause-node
-returns-clause-node c depth shallow place =
-    let known : is_word (slice_range c.args.bytes.now c.args.from c.token_end-to.result) ≡ true = sym c.is_word.ensures ∙ c.if-not-is_word.false in
-    name_at c.args.bytes.now c.args.from c.token_end-to.result depth _ c.in_ok-name.name refl refl refl c.token_end-to.ensures.token c.in_ok-name.ensures.same known shallow (c.token_end-to.ensures.place depth place)
+-- a token of a clear text is a name or a number
+pub unreachable-requires : goal.unreachable-requires
+unreachable-requires c =
+    no_other_spelling _ c.args.from c.spelling_of.result c.spelling_of.ensures
+    (token_is_spelled c.args.bytes.now c.args.from c.token_end-to.result c.requires.clear
+    c.token_end-to.ensures.token) c.in-NoNumber.is
+
+-- a name is read
+pub returns-in_ok-name-in-Name : goal.returns-in_ok-name-in-Name
+returns-in_ok-name-in-Name c =
+    let token = c.token_end-to.ensures in
+    name_at c.args.bytes.now c.args.from c.token_end-to.result _ c.in_ok-name-in-Name.name refl refl refl token.token
+    token.place c.in_ok-name-in-Name.ensures.same (sym c.spelling_of.ensures ∙ ap plain_spelling c.in-Name.is)
+
+-- a number is read
+pub returns-in-Number : goal.returns-in-Number
+returns-in-Number c =
+    let token = c.token_end-to.ensures in
+    let fits : SFits w64 c.in-Number.n = search rules in
+    let spells : spelling_of (slice_range c.args.bytes.now c.args.from c.token_end-to.result) ≡ ANumber c.in-Number.n =
+    sym c.spelling_of.ensures ∙ ap plain_spelling c.in-Number.is in
+    number_at c.args.bytes.now c.args.from c.token_end-to.result _ _ refl refl refl token.token token.place
+    (rw (to_z-of_z fits) spells)

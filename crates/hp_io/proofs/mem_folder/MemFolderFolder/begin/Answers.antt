@@ -1,9 +1,9 @@
 use Rattle.std.proofs.Common.{arith}
-use Rattle.hp_io.proofs.Named.{first_found}
+use Rattle.hp_io.proofs.FileLemmas.{first_found}
 use Rattle.hp_io.proofs.mem_folder.MemFolderFolder.begin.Goals as goal
 
-pub returns-clause-found : goal.returns-clause-found
-returns-clause-found c =
+pub returns-clause-fails : goal.returns-clause-fails
+returns-clause-fails c =
     let found = first_found _ _ _ c.in-Some.ensures.found in
     let same = c.as_slice.ensures.value in
     grind (arith, found)

@@ -1,17 +1,23 @@
-use Rattle.std.proofs.Common.{List, slice_get, ap, sym, ◌∙◌}
+use Rattle.std.proofs.Common.{◌≡◌, List, Some, slice_get, ap, sym, ◌∙◌}
 use Rattle.hp_io.specs.declared.mem_folder.File.{File}
-use Rattle.hp_io.specs.Files.{bytes_at, place_of, rest_from}
-use Rattle.hp_io.proofs.Taking.{taken_at}
+use Rattle.hp_io.specs.Files.{bytes_at, input_of, rest_of, rest_from}
+use Rattle.hp_io.proofs.RuleLemmas.{taken_at}
 use Rattle.hp_io.proofs.mem_folder.MemFolderFolder.read.Goals as goal
 
 pub returns-clause-taken : goal.returns-clause-taken
 returns-clause-taken c =
+    let which = c.args.which in
     let files = c.args.self.now.files.items in
     let place = c.unwrap-place.result in
-    let new = c.set_place.new.self in
-    taken_at files place _ _ _ c.rest_at.result.now _ _
-    (ap (rest_from files) (sym c.place.ensures ∙ c.unwrap-place.ensures))
-    (c.rest_at.ensures.rest ∙ ap (λ (s : List File). bytes_at (slice_get s place.file) place.at) c.as_slice.ensures.value)
-    c.copy_front-count.ensures.count
-    c.copy_front-count.ensures.front
-    (ap (λ (s : List File). rest_from s (place_of new c.args.which)) (ap (λ v. v.items) c.set_place.ensures.files) ∙ ap (rest_from files) c.set_place.ensures.set)
+    let new = c.set_input.new.self in
+    let called : c.next_fails.new.self.files.items ≡ files = ap (λ v. v.items) c.next_fails.ensures.files in
+    let kept : new.files.items ≡ files = ap (λ v. v.items) c.set_input.ensures.files ∙ called in
+    let input = sym c.if-next_fails.ensures.calm ∙ sym c.input-input.ensures in
+    let before : rest_of c.args.self.now which ≡ rest_from files (Some place)
+    = ap (rest_from files) (ap (λ i. i.place) input ∙ c.unwrap-place.ensures) in
+    let here = ap (λ (s : List File). bytes_at (slice_get s place.file) place.at)
+    (c.as_slice.ensures.value ∙ called) in
+    let after = ap (λ (s : List File). rest_from s (input_of new which).place) kept
+    ∙ ap (λ i. rest_from files i.place) c.set_input.ensures.set in
+    taken_at files place _ _ _ c.rest_at.result.now _ _ before (c.rest_at.ensures.rest ∙ here)
+    c.copy_front-count.ensures.count c.copy_front-count.ensures.front after

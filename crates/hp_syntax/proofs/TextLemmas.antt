@@ -1,0 +1,162 @@
+-- What stands at the offsets of a text, and what is refused there.
+use Rattle.std.proofs.Common.{◌≡◌, ℕ, zero, suc, ◌+◌, ◌<◌, ◌≤◌, Bool, true, false, cond, List, ◌∷◌, length, None, refl, sym, ◌∙◌, ap, arith, add-one, ⊎_elim}
+use Rattle.std.specs.Prelude.{slice_index, drop, nat_lt, ◌==◌, ◌&&◌}
+use Rattle.std.proofs.lemmas.Bool.{lt-ltb, le-ltb, cases_lt, cases_eq, false_from_ne_true, ne_eqb, and_right, cases_cond}
+use Rattle.hp_syntax.specs.declared.limits.TheConstants.{LARGEST_TEXT}
+use Rattle.hp_syntax.specs.Text.{Kind, Blank, Opening, Closing, NameByte, Bad, End, is_blank, is_name_byte, byte_kind, comment_after, in_comment, kind_at, IsOutside, IsToken, IsGap}
+use Rattle.hp_syntax.specs.Refusal.{opened, open_before, token_start, kind_refusal, refused, refusal_at, is_name, IsClear}
+use Rattle.hp_syntax.specs.declared.text.TextKind.TheVariants.{TooLarge}
+
+-- whether a comment is open behind a byte follows from whether one is open before it
+pub in_comment-next : (text : List ℕ) (i : ℕ)
+    → in_comment text (i + 1) ≡ comment_after (in_comment text i) (slice_index text i)
+in_comment-next text i = ap (in_comment text) (add-one i)
+
+-- a byte of a comment is blank
+pub kind_at-comment : (text : List ℕ) (i : ℕ) → i < length text
+    → comment_after (in_comment text i) (slice_index text i) ≡ true → kind_at text i ≡ Blank
+unfolding kind_at
+kind_at-comment text i l h = rw (lt-ltb i (length text) l, h)
+
+-- outside comments a byte is what it is alone
+pub kind_at-byte : (text : List ℕ) (i : ℕ) → i < length text
+    → comment_after (in_comment text i) (slice_index text i) ≡ false → kind_at text i ≡ byte_kind (slice_index text i)
+unfolding kind_at
+kind_at-byte text i l h = rw (lt-ltb i (length text) l, h)
+
+-- past its bytes a text ends
+pub kind_at-end : (text : List ℕ) (i : ℕ) → length text ≤ i → kind_at text i ≡ End
+unfolding kind_at
+kind_at-end text i l = rw (le-ltb i (length text) l)
+
+-- what isn't the end is a byte of the text
+pub kind_within : (text : List ℕ) (i : ℕ) → (kind_at text i ≡ End → ⊥) → i < length text
+kind_within text i h = ⊎_elim (λ l. l) (λ l. absurd (h (kind_at-end text i l))) (cases_lt i (length text))
+
+-- the kind that a test chooses of two is a third kind only if one of them is
+other_kind : (b : Bool) (x y k : Kind) → (x ≡ k → ⊥) → (y ≡ k → ⊥) → cond b x y ≡ k → ⊥
+other_kind true x y k h j e = h e
+other_kind false x y k h j e = j e
+
+-- no byte is the end
+byte_kind-End : (b : ℕ) → byte_kind b ≡ End → ⊥
+byte_kind-End b =
+    other_kind (is_blank b) Blank _ End (λ e. absurd cc)
+    (other_kind (b == 40) Opening _ End (λ e. absurd cc)
+    (other_kind (b == 41) Closing _ End (λ e. absurd cc)
+    (other_kind (is_name_byte b) NameByte Bad End (λ e. absurd cc) (λ e. absurd cc))))
+
+-- where a text ends no byte of it follows
+pub end_of_text : (text : List ℕ) (i : ℕ) → kind_at text i ≡ End → length text ≤ i
+unfolding kind_at
+end_of_text text i h = ⊎_elim (λ l. absurd (a_byte l h)) (λ l. l) (cases_lt i (length text))
+  where
+    a_byte : i < length text → kind_at text i ≡ End → ⊥
+    a_byte l e =
+        let f = rw (lt-ltb i (length text) l) at e in
+        other_kind (comment_after (in_comment text i) (slice_index text i)) Blank (byte_kind (slice_index text i)) End
+        (λ q. absurd cc) (byte_kind-End (slice_index text i)) f
+
+-- behind what isn't blank no comment is open
+pub quiet_behind : (text : List ℕ) (i : ℕ) → (kind_at text i ≡ Blank → ⊥) → i < length text
+    → in_comment text (i + 1) ≡ false
+quiet_behind text i h l =
+    in_comment-next text i ∙ false_from_ne_true (comment_after (in_comment text i) (slice_index text i))
+    (λ e. h (kind_at-comment text i l e))
+
+-- the brackets that are open behind an offset are those before it, with what stands there
+pub open_before-next : (text : List ℕ) (i : ℕ)
+    → open_before text (i + 1) ≡ opened (kind_at text i) i (open_before text i)
+unfolding open_before
+open_before-next text i = ap (open_before text) (add-one i)
+
+-- over what opens and closes nothing the brackets that are open stay
+pub level_over : (text : List ℕ) (a b : ℕ) → a ≤ b
+    → ((i : ℕ) → a ≤ i → i < b → opened (kind_at text i) i (open_before text i) ≡ open_before text i)
+    → open_before text b ≡ open_before text a
+unfolding open_before
+level_over text a zero l h = ap (open_before text) (let e : zero ≡ a = omega arith in e)
+level_over text a (suc b) l h =
+    ⊎_elim (λ e. ap (open_before text) (sym e))
+    (λ n. h b (omega arith) (omega arith) ∙ level_over text a b (omega arith) (λ i x y. h i x (omega arith)))
+    (cases_eq a (suc b))
+
+-- over a gap the brackets that are open stay
+pub level_over_gap : (text : List ℕ) (a b : ℕ) → IsGap text a b → open_before text b ≡ open_before text a
+level_over_gap text a b g =
+    level_over text a b g.order (λ i l m. ap (λ k. opened k i (open_before text i)) (g.blank i l m))
+
+-- over a token the brackets that are open stay
+pub level_over_token : (text : List ℕ) (a b : ℕ) → IsToken text a b → open_before text b ≡ open_before text a
+level_over_token text a b t =
+    let s : a < b = t.some in
+    level_over text a b (omega arith) (λ i l m. ap (λ k. opened k i (open_before text i)) (t.run i l m))
+
+-- behind an opening bracket it is open
+pub open_in_list : (text : List ℕ) (a : ℕ) → kind_at text a ≡ Opening
+    → open_before text (a + 1) ≡ a ∷ open_before text a
+open_in_list text a k = open_before-next text a ∙ ap (λ x. opened x a (open_before text a)) k
+
+-- over a list the brackets that are open stay
+pub level_over_list : (text : List ℕ) (a c : ℕ) → kind_at text a ≡ Opening → kind_at text c ≡ Closing
+    → open_before text c ≡ open_before text (a + 1) → open_before text (c + 1) ≡ open_before text a
+level_over_list text a c k l h =
+    open_before-next text c ∙ (ap (λ x. opened x c (open_before text c)) l ∙ ap (drop 1) (h ∙ open_in_list text a k))
+
+-- behind what is no name byte a token may begin
+pub outside_behind : (text : List ℕ) (a : ℕ) → (kind_at text a ≡ NameByte → ⊥) → IsOutside text (a + 1)
+outside_behind text a h = λ i e n. h (ap (kind_at text) (let q : a ≡ i = omega arith in q) ∙ n)
+
+-- no other kind is that of a name byte
+pub is_name-NameByte : (k : Kind) → (k ≡ NameByte → ⊥) → is_name k ≡ false
+is_name-NameByte NameByte h = absurd (h refl)
+is_name-NameByte Blank h = refl
+is_name-NameByte Opening h = refl
+is_name-NameByte Closing h = refl
+is_name-NameByte Bad h = refl
+is_name-NameByte End h = refl
+
+-- a run of name bytes that begins outside a token is where its token starts
+pub token_start-run : (text : List ℕ) (from i : ℕ) → from ≤ i → IsOutside text from
+    → ((j : ℕ) → from ≤ j → j < i → kind_at text j ≡ NameByte) → token_start text i ≡ from
+unfolding token_start
+token_start-run text from zero l o r = omega arith
+token_start-run text from (suc i) l o r =
+    ⊎_elim (λ e. rw (is_name-NameByte (kind_at text i) (o i (omega arith))) (sym e))
+    (λ n. rw (r i (omega arith) (omega arith))
+    (token_start-run text from i (omega arith) o (λ j x y. r j x (omega arith))))
+    (cases_eq from (suc i))
+
+-- what is clear up to an offset at which nothing is refused is clear beyond it
+pub clear_more : (text : List ℕ) (i : ℕ) → IsClear text i → refusal_at text i ≡ None → IsClear text (i + 1)
+clear_more text i c h = λ j l. ⊎_elim (λ e. ap (refusal_at text) e ∙ h) (λ n. c j (omega arith)) (cases_eq j i)
+
+-- within the limit what is refused follows from what stands there
+pub refusal_at-within : (text : List ℕ) (i : ℕ) → i < LARGEST_TEXT
+    → refusal_at text i ≡ kind_refusal text i (kind_at text i) (open_before text i)
+unfolding refusal_at
+refusal_at-within text i l = rw (ne_eqb i LARGEST_TEXT (λ e. omega arith))
+
+-- where nothing is refused what stands there is no reason for a refusal
+pub nothing_refused : (text : List ℕ) (i : ℕ) → refusal_at text i ≡ None
+    → kind_refusal text i (kind_at text i) (open_before text i) ≡ None
+unfolding refusal_at
+nothing_refused text i h =
+    ⊎_elim (λ e. absurd cc) (λ e. sym e)
+    (cases_cond (i == LARGEST_TEXT && nat_lt i (length text)) (refused TooLarge i)
+    (kind_refusal text i (kind_at text i) (open_before text i)) None (sym h))
+
+-- at the end of a text what is refused follows from the brackets that are open
+pub refusal_at-end : (text : List ℕ) (i : ℕ) → length text ≤ i
+    → refusal_at text i ≡ kind_refusal text i (kind_at text i) (open_before text i)
+unfolding refusal_at
+refusal_at-end text i l = rw (and_right (i == LARGEST_TEXT) (nat_lt i (length text)) (le-ltb i (length text) l))
+
+-- a text is clear no further than the limit
+pub clear_within : (text : List ℕ) (i : ℕ) → IsClear text i → i ≤ length text → i ≤ LARGEST_TEXT
+unfolding refusal_at
+clear_within text i c l =
+    ⊎_elim (λ m. absurd (large (omega arith) (c LARGEST_TEXT m))) (λ m. m) (cases_lt LARGEST_TEXT i)
+  where
+    large : LARGEST_TEXT < length text → refusal_at text LARGEST_TEXT ≡ None → ⊥
+    large m e = let f = rw (lt-ltb LARGEST_TEXT (length text) (omega arith)) at e in cc

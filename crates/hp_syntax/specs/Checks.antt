@@ -1,0 +1,217 @@
+-- What the checks find in a domain and a problem that have their forms, and which of it is told.
+use Rattle.std.specs.Prelude.{ℕ, ◌+◌, Bool, true, false, ◌&&◌, ◌||◌, cond, nat_lt, nat_le, ◌==◌, List, [], ◌∷◌, ◌++◌, length, Option, Some, None, bytes_eq, codes}
+use Rattle.std.specs.List.{list_any, flat_map}
+use Rattle.hp_syntax.specs.declared.pattern.Span.{Span}
+use Rattle.hp_syntax.specs.declared.pattern.Tail.{Tail}
+use Rattle.hp_syntax.specs.declared.check.CheckKind.{CheckKind}
+use Rattle.hp_syntax.specs.declared.check.CheckKind.TheVariants.{OtherDomain, UnknownCall, CallArity, VariableInProblem, CallInHead, TooManyVariables, ExprNested, UnknownOrder}
+use Rattle.hp_syntax.specs.declared.check.CheckFault.{CheckFault}
+use Rattle.hp_syntax.specs.declared.limits.TheConstants.{MOST_VARIABLES, DEEPEST_EXPRESSION}
+use Rattle.hp_syntax.specs.Syntax.{Pattern, Patterns, Variable, Symbol, Number, Listing, Call, NoPattern, Before, Atom, Expression, Expressions, Holds, And, Or, Not, Forall, Assign, Test, NoExpression, Also, Order, Up, Down, Unknown, Precondition, Plain, First, Sorted, Tasks, TaskList, Task, Ordered, Unordered, NoTasks, Then, Effect, Change, Protection, Each, Operator, Branch, Method, Clause, Axiom, Rule, Does, Refines, Concludes, Domain, Pair, Problem}
+
+-- ---- the names of the call table
+
+-- how many arguments a name of the call table takes
+pub data Arity : Type 0 where
+  One : Arity
+  Two : Arity
+  TwoOrMore : Arity
+
+abbrev pub is_one_of : List ℕ → List (List ℕ) → Bool
+is_one_of name names = list_any (bytes_eq name) names
+
+abbrev pub names_of_two : List (List ℕ)
+names_of_two =
+    codes "-" ∷ codes "/" ∷ codes "mod" ∷ codes "^" ∷ codes "min" ∷ codes "max" ∷ codes "<" ∷ codes "<="
+    ∷ codes ">=" ∷ codes ">" ∷ codes "=" ∷ codes "!=" ∷ codes "member" ∷ []
+
+abbrev pub arity_of : List ℕ → Option Arity
+arity_of name =
+    cond (is_one_of name (codes "+" ∷ codes "*" ∷ [])) (Some TwoOrMore)
+    (cond (bytes_eq name (codes "abs")) (Some One)
+    (cond (is_one_of name names_of_two) (Some Two) None))
+
+abbrev pub takes : Arity → ℕ → Bool
+takes One n = n == 1
+takes Two n = n == 2
+takes TwoOrMore n = nat_le 2 n
+
+-- ---- which faults stand in each part
+
+-- where a part stands
+pub data Place : Type 0 where
+  InHead : Place
+  InBody : Place
+  InProblem : Place
+
+abbrev pub is_in_problem : Place → Bool
+is_in_problem InHead = false
+is_in_problem InBody = false
+is_in_problem InProblem = true
+
+abbrev pub found : CheckKind → Place → Span → List CheckFault
+found kind place span = record { kind = kind; in_problem = is_in_problem place; span = span } ∷ []
+
+-- a fault where a test passes
+abbrev pub found_if : Bool → CheckKind → Place → Span → List CheckFault
+found_if b kind place span = cond b (found kind place span) []
+
+abbrev pub count : Patterns → ℕ
+count NoPattern = 0
+count (Before p ps) = 1 + count ps
+
+-- a call is known, with as many arguments
+abbrev pub arity_faults : Option Arity → ℕ → Place → Span → List CheckFault
+arity_faults None n place span = found UnknownCall place span
+arity_faults (Some a) n place span = cond (takes a n) [] (found CallArity place span)
+
+-- and doesn't stand in a head
+abbrev pub head_faults : Place → Span → List CheckFault
+head_faults InHead span = found CallInHead InHead span
+head_faults InBody span = []
+head_faults InProblem span = []
+
+-- a variable doesn't stand in a problem
+abbrev pub variable_faults : Place → Span → List CheckFault
+variable_faults InHead span = []
+variable_faults InBody span = []
+variable_faults InProblem span = found VariableInProblem InProblem span
+
+abbrev pub tail_faults : Place → Option Tail → List CheckFault
+tail_faults place None = []
+tail_faults place (Some t) = variable_faults place t.span
+
+unfoldable mutual
+  pub pattern_faults : Place → Pattern → List CheckFault
+  pattern_faults place (Variable s v) = variable_faults place s
+  pattern_faults place (Symbol s name) = []
+  pattern_faults place (Number s n) = []
+  pattern_faults place (Listing s parts tail) = patterns_faults place parts ++ tail_faults place tail
+  pattern_faults place (Call s name args) =
+      arity_faults (arity_of name) (count args) place s ++ head_faults place s ++ patterns_faults place args
+
+  pub patterns_faults : Place → Patterns → List CheckFault
+  patterns_faults place NoPattern = []
+  patterns_faults place (Before p ps) = pattern_faults place p ++ patterns_faults place ps
+
+abbrev pub atom_faults : Place → Atom → List CheckFault
+atom_faults place a = patterns_faults place a.args ++ tail_faults place a.tail
+
+abbrev pub atoms_faults : Place → List Atom → List CheckFault
+atoms_faults place atoms = flat_map (atom_faults place) atoms
+
+-- an expression one level too deep
+abbrev pub level_faults : ℕ → Span → List CheckFault
+level_faults level s = found_if (level == DEEPEST_EXPRESSION + 1) ExprNested InBody s
+
+-- the faults of an expression at a level; its parts are one level deeper
+unfoldable mutual
+  pub expression_faults : ℕ → Expression → List CheckFault
+  expression_faults level (Holds s a) = level_faults level s ++ atom_faults InBody a
+  expression_faults level (And s parts) = level_faults level s ++ expressions_faults (level + 1) parts
+  expression_faults level (Or s parts) = level_faults level s ++ expressions_faults (level + 1) parts
+  expression_faults level (Not s part) = level_faults level s ++ expression_faults (level + 1) part
+  expression_faults level (Forall s vars range body) =
+      level_faults level s ++ expression_faults (level + 1) range ++ expression_faults (level + 1) body
+  expression_faults level (Assign s v value) = level_faults level s ++ pattern_faults InBody value
+  expression_faults level (Test s call) = level_faults level s ++ pattern_faults InBody call
+
+  pub expressions_faults : ℕ → Expressions → List CheckFault
+  expressions_faults level NoExpression = []
+  expressions_faults level (Also e es) = expression_faults level e ++ expressions_faults level es
+
+abbrev pub order_faults : Order → List CheckFault
+order_faults Up = []
+order_faults Down = []
+order_faults (Unknown name s) = found UnknownOrder InBody s
+
+abbrev pub precondition_faults : Precondition → List CheckFault
+precondition_faults (Plain e) = expression_faults 1 e
+precondition_faults (First e) = expression_faults 1 e
+precondition_faults (Sorted key e) = order_faults key.order ++ expression_faults 1 e
+
+unfoldable mutual
+  pub tasks_faults : Place → Tasks → List CheckFault
+  tasks_faults place (Task a immediate) = atom_faults place a
+  tasks_faults place (Ordered parts) = task_list_faults place parts
+  tasks_faults place (Unordered parts) = task_list_faults place parts
+
+  pub task_list_faults : Place → TaskList → List CheckFault
+  task_list_faults place NoTasks = []
+  task_list_faults place (Then t ts) = tasks_faults place t ++ task_list_faults place ts
+
+abbrev pub effect_faults : Effect → List CheckFault
+effect_faults (Change a) = atom_faults InBody a
+effect_faults (Protection a) = atom_faults InBody a
+effect_faults (Each vars e atoms) = expression_faults 1 e ++ atoms_faults InBody atoms
+
+-- a rule has too many variables
+abbrev pub vars_faults : List (List ℕ) → Span → List CheckFault
+vars_faults vars s = found_if (nat_lt MOST_VARIABLES (length vars)) TooManyVariables InBody s
+
+abbrev pub operator_faults : Operator → List CheckFault
+operator_faults o =
+    vars_faults o.vars o.span ++ atom_faults InHead o.head ++ precondition_faults o.pre
+    ++ flat_map effect_faults o.dels ++ flat_map effect_faults o.adds ++ pattern_faults InBody o.cost
+
+abbrev pub branch_faults : Branch → List CheckFault
+branch_faults b = precondition_faults b.pre ++ tasks_faults InBody b.tasks
+
+abbrev pub method_faults : Method → List CheckFault
+method_faults m = vars_faults m.vars m.span ++ atom_faults InHead m.head ++ flat_map branch_faults m.branches
+
+abbrev pub clause_faults : Clause → List CheckFault
+clause_faults c = expression_faults 1 c.body
+
+abbrev pub axiom_faults : Axiom → List CheckFault
+axiom_faults a = vars_faults a.vars a.span ++ atom_faults InHead a.head ++ flat_map clause_faults a.clauses
+
+abbrev pub rule_faults : Rule → List CheckFault
+rule_faults (Does o) = operator_faults o
+rule_faults (Refines m) = method_faults m
+rule_faults (Concludes a) = axiom_faults a
+
+abbrev pub pair_faults : Pair → List CheckFault
+pair_faults p = atoms_faults InProblem p.state ++ tasks_faults InProblem p.tasks
+
+-- all faults of a domain
+unfoldable pub domain_faults : Domain → List CheckFault
+domain_faults d = flat_map rule_faults d.rules
+
+-- and those of a problem of it
+unfoldable pub problem_faults : Domain → Problem → List CheckFault
+problem_faults d p =
+    cond (bytes_eq p.domain d.name) [] (found OtherDomain InProblem p.domain_span) ++ flat_map pair_faults p.pairs
+
+-- ---- which one is told
+
+abbrev pub number_of : CheckKind → ℕ
+number_of OtherDomain = 1
+number_of UnknownCall = 2
+number_of CallArity = 3
+number_of VariableInProblem = 4
+number_of CallInHead = 5
+number_of TooManyVariables = 6
+number_of ExprNested = 7
+number_of UnknownOrder = 8
+
+-- within one text: by where the span begins, then by number
+abbrev pub stands_before : CheckFault → CheckFault → Bool
+stands_before f g =
+    nat_lt f.span.from g.span.from
+    || (f.span.from == g.span.from && nat_lt (number_of f.kind) (number_of g.kind))
+
+-- the domain's come before the problem's
+abbrev pub comes_before : CheckFault → CheckFault → Bool
+comes_before f g = cond f.in_problem (g.in_problem && stands_before f g) (g.in_problem || stands_before f g)
+
+-- of two faults the one that comes first
+abbrev pub earlier : Option CheckFault → Option CheckFault → Option CheckFault
+earlier None g = g
+earlier (Some f) None = Some f
+earlier (Some f) (Some g) = cond (comes_before g f) (Some g) (Some f)
+
+-- the first of all
+abbrev pub first_of : List CheckFault → Option CheckFault
+first_of [] = None
+first_of (f ∷ fs) = earlier (Some f) (first_of fs)

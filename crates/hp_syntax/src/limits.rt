@@ -1,0 +1,22 @@
+//! The limits of the language and of a run, each in one place.
+
+/// The most bytes that a text may have.
+pub const LARGEST_TEXT: usize = 4_194_304;
+
+/// The most bytes that a token may have.
+pub const LONGEST_TOKEN: usize = 256;
+
+/// How many brackets may be open at once.
+pub const DEEPEST_NESTING: usize = 64;
+
+/// The most variables that a rule may have.
+pub const MOST_VARIABLES: usize = 256;
+
+/// How deep logical expressions may nest: the whole expression of a rule's part is at level 1.
+pub const DEEPEST_EXPRESSION: usize = 24;
+
+/// The most plans that may be asked for.
+pub const MOST_PLANS: u64 = 1_000_000_000;
+
+/// The greatest depth that may be asked for.
+pub const GREATEST_DEPTH: u32 = 1_000;

@@ -1,0 +1,72 @@
+-- The numbers that tokens spell, as the standard library reads them.
+use Rattle.std.proofs.Common.{◌≡◌, ℕ, ◌+◌, ◌<◌, ◌^◌, Bool, true, false, cond, List, [], ◌∷◌, length, drop, ℤ, pos, neg_ℤ, refl, arith, w64}
+use Rattle.std.specs.Prelude.{◌==◌, nat_lt, Option, Result, Ok, Err, IfNone}
+use Rattle.std.specs.Result.{result_ok}
+use Rattle.std.specs.List.{list_all}
+use Rattle.std.specs.Char.{digit_value}
+use Rattle.std.specs.Str.{IsAscii, IsUtf8}
+use Rattle.std.specs.Int.RustNames.{FitsSigned}
+use Rattle.std.specs.Str.Parse.{AllDigits, IsNumeral, ParsesSigned, digits_value, starts_with_minus, without_leading_sign, signed_digits_value}
+use Rattle.std.proofs.lemmas.Bool.{and_parts, false_from_ne_true}
+use borrow.Author.Tests.{ltb-true}
+use Rattle.std.proofs.lemmas.Bool.Decides.{nat_tests}
+use Rattle.std.proofs.lemmas.Fmt.{IsAscii-from_digits}
+use Rattle.std.proofs.lemmas.Int.{ints}
+use Rattle.std.proofs.lemmas.Str.{IsUtf8-from_ascii}
+use Rattle.std.proofs.lemmas.Str.Ascii.{IsAscii-cons, IsAscii-nil}
+use Rattle.hp_syntax.specs.Text.{is_digit, is_whole, is_in_range}
+
+-- a digit has a value below ten
+digit_below_ten : (b : ℕ) → is_digit b ≡ true → digit_value b < 10
+digit_below_ten b h = grind (arith, nat_tests)
+
+-- digits are digits in the radix ten
+digits_told : (ds : List ℕ) → list_all is_digit ds ≡ true → AllDigits 10 ds
+digits_told [] h = tt
+digits_told (d ∷ ds) h =
+    let p = and_parts (is_digit d) (list_all is_digit ds) h in (digit_below_ten d p.0, digits_told ds p.1)
+
+-- what is spelled as a number has digits behind its sign
+pub whole_numeral : (token : List ℕ) → is_whole token ≡ true → IsNumeral 10 (without_leading_sign token)
+whole_numeral token h =
+    let ds = without_leading_sign token in
+    let p = and_parts (nat_lt 0 (length ds)) (list_all is_digit ds) h in
+    (ltb-true 0 (length ds) p.0, digits_told ds p.1)
+
+-- bytes are ASCII where they are so behind a byte that is left out only if it is ASCII
+ascii_behind : (s t : Bool) (b : ℕ) (bs : List ℕ) → (s ≡ true → b < 128) → (t ≡ true → b < 128)
+    → IsAscii (cond s (drop 1 (b ∷ bs)) (drop (cond t 1 0) (b ∷ bs))) → IsAscii (b ∷ bs)
+ascii_behind true t b bs p q h = IsAscii-cons b bs (p refl) h
+ascii_behind false true b bs p q h = IsAscii-cons b bs (q refl) h
+ascii_behind false false b bs p q h = h
+
+-- bytes are ASCII where they are so behind a sign
+ascii_behind_sign : (token : List ℕ) → IsAscii (without_leading_sign token) → IsAscii token
+ascii_behind_sign [] h = IsAscii-nil
+ascii_behind_sign (b ∷ bs) h =
+    let minus : b == 45 ≡ true → b < 128 = λ e. grind (arith, nat_tests) in
+    let plus : b == 43 ≡ true → b < 128 = λ e. grind (arith, nat_tests) in
+    ascii_behind (b == 45) (b == 43) b bs minus plus h
+
+-- what is spelled as a number is text
+pub whole_text : (token : List ℕ) → is_whole token ≡ true → IsUtf8 token
+whole_text token h = IsUtf8-from_ascii token (ascii_behind_sign token (IsAscii-from_digits _ (whole_numeral token h).1))
+
+-- a number fits 64 bits where its digits are in range
+fits_in : (minus : Bool) (n : ℕ) → nat_lt n (cond minus (2 ^ 63 + 1) (2 ^ 63)) ≡ true
+    → FitsSigned w64 (cond minus (neg_ℤ (pos n)) (pos n))
+fits_in true n h = let l : n < 2 ^ 63 + 1 = grind (arith, nat_tests) in omega (arith, ints)
+fits_in false n h = let l : n < 2 ^ 63 = grind (arith, nat_tests) in omega (arith, ints)
+
+-- a spelled number in range fits 64 bits
+pub fits_from_range : (token : List ℕ) → is_in_range token ≡ true → FitsSigned w64 (signed_digits_value 10 token)
+fits_from_range token h = fits_in (starts_with_minus token) (digits_value 10 (without_leading_sign token)) h
+
+-- what the standard library doesn't read is out of range
+pub out_of_range : {E : Type 0} (token digits : List ℕ) (r : Result ℤ E) (o : Option ℤ) → digits ≡ token
+    → is_whole token ≡ true → ParsesSigned w64 10 digits r → o ≡ result_ok r → IfNone o (is_in_range token ≡ false)
+out_of_range token digits (Ok n) o same h p e = rw e tt
+out_of_range token digits (Err f) o same h p e =
+    let not_both : IsNumeral 10 (without_leading_sign token) × FitsSigned w64 (signed_digits_value 10 token)
+    → ⊥ = rw same at p in
+    rw e (false_from_ne_true (is_in_range token) (λ k. not_both (whole_numeral token h, fits_from_range token k)))

@@ -1,0 +1,92 @@
+//! What a token spells.
+
+ghost use Rattle.std.specs.List.{list_all};
+ghost use Rattle.std.specs.Prelude.{◌≡◌, true, false, IfSome, IfNone};
+ghost use Rattle.std.specs.Str.Parse.{without_leading_sign, signed_digits_value};
+ghost use Rattle.hp_syntax.specs.Text as text;
+ghost use Rattle.hp_text.specs.Spellings.{plain_spelling};
+
+use std::str;
+
+/// What a token spells: a name, a number, or no number though it begins like one.
+#[derive(Clone, Copy, Debug, PartialEq, Eq)]
+pub enum Spelling {
+    Name,
+    Number(i64),
+    NoNumber,
+    OutOfRange,
+}
+
+// A digit, or a point and a digit, begins these bytes.
+fn begins_unsigned(bytes: &[u8]) -> bool
+    ensures { result ≡ text.begins_unsigned bytes.now }
+{
+    match bytes {
+        [] => false,
+        [first] => first.is_ascii_digit(),
+        [first, second, ..] => first.is_ascii_digit()
+            || (*first == b'.' && second.is_ascii_digit()),
+    }
+}
+
+fn is_numeral(token: &[u8]) -> bool
+    ensures { result ≡ text.is_numeral token.now }
+{
+    match token {
+        [] => false,
+        [first, rest @ ..] => begins_unsigned(token)
+            || (matches!(first, b'+' | b'-') && begins_unsigned(rest)),
+    }
+}
+
+fn are_digits(bytes: &[u8]) -> bool
+    ensures { result ≡ list_all text.is_digit bytes.now }
+{
+    bytes.iter().all(|byte| byte.is_ascii_digit())
+}
+
+fn without_sign(token: &[u8]) -> &[u8]
+    ensures { result.now ≡ without_leading_sign token.now }
+{
+    if matches!(token.first(), Some(b'+' | b'-')) {
+        &token[1..]
+    } else {
+        token
+    }
+}
+
+fn is_whole(token: &[u8]) -> bool
+    ensures { result ≡ text.is_whole token.now }
+{
+    let digits = without_sign(token);
+    !digits.is_empty() && are_digits(digits)
+}
+
+// The number of a sign and digits, unless it is out of range.
+fn number(token: &[u8]) -> Option<i64>
+    requires { text.is_whole token.now ≡ true }
+    ensures some { IfSome result (λ n. (text.is_in_range token.now ≡ true) × (n ≡ signed_digits_value 10 token.now)) }
+    ensures none { IfNone result (text.is_in_range token.now ≡ false) }
+{
+    match str::from_utf8(token) {
+        Ok(digits) => digits.parse().ok(),
+        Err(_) => unreachable!(),
+    }
+}
+
+/// What a token spells.
+#[tactic(auto, unfolding(hp_syntax::specs::Text::spelling_of))]
+pub fn spelling_of(token: &[u8]) -> Spelling
+    ensures { plain_spelling result ≡ text.spelling_of token.now }
+{
+    if !is_numeral(token) {
+        return Spelling::Name;
+    }
+    if !is_whole(token) {
+        return Spelling::NoNumber;
+    }
+    match number(token) {
+        Some(n) => Spelling::Number(n),
+        None => Spelling::OutOfRange,
+    }
+}
