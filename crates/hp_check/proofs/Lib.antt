@@ -1,0 +1,4 @@
+pub mod FaultLemmas
+pub mod LevelLemmas
+pub mod PartLemmas
+pub mod FirstLemmas

@@ -1,0 +1,168 @@
+//! The checks of a domain and a problem that have their forms, before any plan is looked for.
+#![tactic(auto, using(crate::proofs::FaultLemmas::joined))]
+
+ghost use Rattle.std.specs.Prelude.{◌≡◌, ◌++◌, [], None, Some, IfOk, IfErr};
+ghost use Rattle.hp_syntax.specs.Checks.{domain_faults, problem_faults, first_of};
+ghost use Rattle.hp_syntax.specs.Views.{domain_of, problem_of};
+ghost use Rattle.hp_check.specs.Refusals.{Stops};
+
+mod calls;
+mod expressions;
+pub mod laws;
+mod patterns;
+mod rules;
+mod tasks;
+mod watch;
+
+use crate::rules::{domain_part, problem_part};
+use crate::watch::Watch;
+use hp_syntax::{Domain, Name, Problem, Span};
+pub use hp_syntax::{CheckFault, CheckKind};
+use std::alloc::Global;
+
+/// A task of which no rule of the domain has the name.
+#[derive(Drop)]
+pub struct Note {
+    pub name: Name,
+    pub span: Span,
+    pub in_problem: bool,
+}
+
+/// What a user may want to know of an accepted domain and problem.
+#[derive(Drop)]
+pub struct Notes {
+    pub list: Vec<Note>,
+}
+
+/// Why a domain and a problem aren't accepted.
+#[derive(Clone, Copy, Debug, PartialEq, Eq)]
+pub enum CheckRefusal {
+    /// The first fault in the order of the texts, the domain's before the problem's.
+    Fault(CheckFault),
+    /// Memory ran out.
+    NoMemory,
+}
+
+/// The first fault that a check finds in a domain. It takes no memory.
+pub fn check_domain(domain: &Domain) -> Option<CheckFault>
+    ensures { result ≡ first_of (domain_faults (domain_of domain.now)) }
+{
+    let mut watch = Watch::new();
+    domain_part(&mut watch, domain);
+    watch.first
+}
+
+/// Checks a domain and a problem of it. There are no notes yet.
+pub fn check(alloc: Global, domain: &Domain, problem: &Problem) -> Result<Notes, CheckRefusal>
+    ensures accepted { IfOk result (λ notes. (first_of (domain_faults (domain_of domain.now)
+        ++ problem_faults (domain_of domain.now) (problem_of problem.now)) ≡ None) × (notes.list.items ≡ [])) }
+    ensures refused { IfErr result (Stops (first_of (domain_faults (domain_of domain.now)
+        ++ problem_faults (domain_of domain.now) (problem_of problem.now)))) }
+{
+    let mut watch = Watch::new();
+    domain_part(&mut watch, domain);
+    problem_part(&mut watch, domain, problem);
+    match watch.first {
+        Some(fault) => Err(CheckRefusal::Fault(fault)),
+        None => Ok(Notes {
+            list: Vec::new(alloc),
+        }),
+    }
+}
+
+#[cfg(test)]
+mod tests {
+    use super::*;
+    use hp_syntax::{AtomPat, Expr, ExprKind, Operator, Pat, PatKind, Pre, Rule};
+    use std::alloc::AllocError;
+    use std::test::Fail;
+
+    const RULE: Span = Span { from: 14, to: 52 };
+
+    const COST: Span = Span { from: 40, to: 46 };
+
+    const NAMED: Span = Span { from: 20, to: 25 };
+
+    fn call(alloc: Global, name: &[u8]) -> Result<PatKind, AllocError> {
+        Ok(PatKind::Call(Name::new(alloc, name)?, Vec::new(alloc)))
+    }
+
+    /// One operator without effects, of this cost.
+    fn domain(alloc: Global, cost: PatKind) -> Result<Domain, AllocError> {
+        let operator = Operator {
+            span: RULE,
+            vars: Vec::new(alloc),
+            head: AtomPat {
+                span: RULE,
+                name: Name::new(alloc, b"!go")?,
+                args: Vec::new(alloc),
+                tail: None,
+            },
+            pre: Pre::Plain(Expr {
+                span: RULE,
+                kind: ExprKind::And(Vec::new(alloc)),
+            }),
+            dels: Vec::new(alloc),
+            adds: Vec::new(alloc),
+            cost: Pat {
+                span: COST,
+                kind: cost,
+            },
+        };
+        Ok(Domain {
+            name: Name::new(alloc, b"basic")?,
+            rules: vec![in alloc; Rule::Operator(operator)]?,
+        })
+    }
+
+    fn problem(alloc: Global, named: &[u8]) -> Result<Problem, AllocError> {
+        Ok(Problem {
+            name: Name::new(alloc, b"problem")?,
+            domain: Name::new(alloc, named)?,
+            domain_span: NAMED,
+            vars: Vec::new(alloc),
+            pairs: Vec::new(alloc),
+        })
+    }
+
+    fn fault(kind: CheckKind, in_problem: bool, span: Span) -> CheckFault {
+        CheckFault {
+            kind,
+            in_problem,
+            span,
+        }
+    }
+
+    #[test]
+    fn a_domain_is_checked(rt: HostRuntime) -> Result<(), Fail> {
+        let alloc = rt.alloc();
+        assert_eq!(rt; check_domain(&domain(alloc, PatKind::Num(1))?), None);
+        let unknown = fault(CheckKind::UnknownCall, false, COST);
+        assert_eq!(rt;
+            check_domain(&domain(alloc, call(alloc, b"sqrt")?)?),
+            Some(unknown)
+        );
+        let other_count = fault(CheckKind::CallArity, false, COST);
+        assert_eq!(rt;
+            check_domain(&domain(alloc, call(alloc, b"abs")?)?),
+            Some(other_count)
+        );
+        Ok(())
+    }
+
+    #[test]
+    fn a_problem_is_checked(rt: HostRuntime) -> Result<(), Fail> {
+        let alloc = rt.alloc();
+        let fine = domain(alloc, PatKind::Num(1))?;
+        let own = problem(alloc, b"basic")?;
+        let other = problem(alloc, b"basics")?;
+        assert!(rt; matches!(&check(alloc, &fine, &own), Ok(notes) if notes.list.is_empty()));
+        let refusal = check(alloc, &fine, &other).err();
+        let wanted = CheckRefusal::Fault(fault(CheckKind::OtherDomain, true, NAMED));
+        assert_eq!(rt; refusal, Some(wanted));
+        let refusal = check(alloc, &domain(alloc, call(alloc, b"sqrt")?)?, &other).err();
+        let wanted = CheckRefusal::Fault(fault(CheckKind::UnknownCall, false, COST));
+        assert_eq!(rt; refusal, Some(wanted));
+        Ok(())
+    }
+}

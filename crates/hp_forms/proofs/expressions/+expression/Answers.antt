@@ -1,0 +1,42 @@
+use Rattle.std.proofs.Common.{◌≡◌, ◌∙◌, sym, rules, arith, map}
+use Rattle.std.proofs.lemmas.Result.{err_from_is_err_and}
+use Rattle.std.proofs.lemmas.Grind.{common_steps}
+use Rattle.hp_syntax.specs.Steps as steps
+use Rattle.hp_syntax.specs.Grammar as grammar
+use Rattle.hp_syntax.specs.Views.{expression_of}
+use Rattle.hp_text.specs.Nodes.{nodes_of}
+use Rattle.hp_forms.proofs.Turns.{one_viewed}
+use Rattle.hp_forms.proofs.Parts.{expressions_read, expressions_refused, reads_same, conjunction-list, conjunction-nil}
+use Rattle.hp_forms.proofs.Sizes.{item-smaller}
+use Rattle.hp_forms.proofs.expressions.+expression.Goals as goal
+
+pub expressions-expression-requires : goal.expressions-expression-requires
+expressions-expression-requires t c =
+    let smaller = item-smaller c.args.nodes.now c.loop-node.node-index c.node-item.result c.loop-node-test.true c.node-item.is in
+    search rules
+
+pub expressions-returns-in_err-expression : goal.expressions-returns-in_err-expression
+expressions-returns-in_err-expression t c =
+    let p = err_from_is_err_and c.from_residual.result c.from_residual.ensures.1 in
+    rw (p.1, p.2) (expressions_refused c.args.nodes.now c.loop-node.node-index c.node-item.result
+    c.loop-node.expressions.items c.in_err-expression.field-0.0 _ _ c.loop-node-test.true c.loop-node.invariant
+    c.node-item.is c.in_err-expression.ensures)
+
+pub expressions-loop-node-preserved : goal.expressions-loop-node-preserved
+expressions-loop-node-preserved t c =
+    let more = one_viewed expression_of grammar.expression c.args.nodes.now c.loop-node.node-index c.node-item.result
+    c.loop-node.expressions.items _ _ _ _ c.loop-node-test.true c.loop-node.invariant
+    (rw (← c.node-item.is) c.in_ok-expression.ensures) in
+    rw c.in_ok-push.ensures.items more
+
+pub expressions-returns : goal.expressions-returns
+expressions-returns t c =
+    expressions_read c.args.nodes.now c.loop-node.node-index c.loop-node.expressions.items _ _
+    c.loop-node-test.false c.loop-node.invariant
+
+pub list_kind-returns-in-List : goal.list_kind-returns-in-List
+list_kind-returns-in-List t c =
+    reads_same _ c.conjunction.result _ _ _ _
+    (conjunction-list c.args.span c.args.nodes.now c.in-Some.rest.now c.in-Some.first.now _ _
+    c.in-Some.ensures.cases.0 c.in-List.is)
+    c.conjunction.ensures

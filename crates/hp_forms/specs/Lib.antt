@@ -1,0 +1,4 @@
+pub mod FormReads
+pub mod Heads
+pub mod Branches
+pub mod Operators

@@ -1,0 +1,53 @@
+//! The forms of files: from a forest to a domain or a problem, or to what was wanted where.
+//!
+//! Each function reads one line of the grammar (`hp_syntax`, `Grammar`), and its contract says that
+//! it gives what that line gives. Recursion goes by the nesting of brackets alone, and along the
+//! parts of a list there are loops.
+#![tactic(auto)]
+
+ghost use Rattle.std.specs.Prelude.{◌≡◌, IfOk};
+ghost use Rattle.hp_syntax.specs.Grammar as grammar;
+ghost use Rattle.hp_syntax.specs.Numbered.{IsNumberedDomain, IsNumberedProblem};
+ghost use Rattle.hp_syntax.specs.Views.{domain_of, problem_of};
+ghost use Rattle.hp_text.specs.Nodes.{forest_of};
+ghost use Rattle.hp_forms.specs.FormReads.{Gives};
+
+mod effects;
+mod expressions;
+mod files;
+mod names;
+mod nodes;
+mod preconditions;
+mod refusal;
+mod rules;
+mod scope;
+mod tasks;
+mod terms;
+#[cfg(test)]
+mod tests;
+
+pub use hp_syntax::What;
+use hp_syntax::laws::forms_are_numbered;
+use hp_syntax::{Domain, Problem};
+use hp_text::Forest;
+pub use refusal::FormRefusal;
+use std::alloc::Global;
+
+/// The domain that a forest is the form of.
+pub fn domain(alloc: Global, forest: &Forest) -> Result<Domain, FormRefusal>
+    ensures form { Gives domain_of result (grammar.domain_form forest.now.len (forest_of forest.now)) }
+    ensures numbered { IfOk result (λ d. IsNumberedDomain (domain_of d)) }
+{
+    // Nothing runs here: the law makes known that each variable number is the place of a name.
+    forms_are_numbered();
+    files::domain(alloc, forest)
+}
+
+/// The problem that a forest is the form of.
+pub fn problem(alloc: Global, forest: &Forest) -> Result<Problem, FormRefusal>
+    ensures form { Gives problem_of result (grammar.problem_form forest.now.len (forest_of forest.now)) }
+    ensures numbered { IfOk result (λ p. IsNumberedProblem (problem_of p)) }
+{
+    forms_are_numbered();
+    files::problem(alloc, forest)
+}

@@ -1,0 +1,281 @@
+//! Operators, methods and axioms.
+
+ghost use Rattle.std.specs.Prelude.{◌<◌, map, option_map, length, true, IfOk};
+ghost use Rattle.hp_syntax.specs.Steps as steps;
+ghost use Rattle.hp_syntax.specs.Grammar as grammar;
+ghost use Rattle.hp_syntax.specs.Views.{pattern_of, atom_of, precondition_of, effect_of, rule_of, branch_of, clause_of};
+ghost use Rattle.hp_text.specs.Nodes.{node_of, nodes_of};
+ghost use Rattle.hp_syntax.specs.Steps.{Names};
+ghost use Rattle.hp_forms.specs.FormReads.{Reads, Gives};
+ghost use Rattle.hp_forms.specs.Branches as branches;
+ghost use Rattle.hp_forms.specs.Operators as operators;
+
+use crate::effects::effects;
+use crate::expressions::expression;
+use crate::names::{HeadKind, is, is_branch_name};
+use crate::nodes::{closing, ended, expected, next};
+use crate::preconditions::precondition;
+use crate::refusal::FormRefusal;
+use crate::scope::Scope;
+use crate::tasks::tasks;
+use crate::terms::{Setting, begun, headed, term};
+use hp_syntax::{
+    AtomPat, Axiom, Branch, Clause, Effect, Method, Name, Operator, Pat, PatKind, Pre, Rule, Span,
+    What,
+};
+use hp_text::{Node, NodeKind};
+use std::alloc::Global;
+
+/// A cost that isn't written is 1, with the operator's span.
+#[tactic(auto, unfolding(hp_syntax::specs::Grammar::cost, hp_syntax::specs::Views::pattern_of))]
+fn cost(scope: &mut Scope, span: Span, rest: &[Node]) -> Result<Pat, FormRefusal>
+    ensures { Reads pattern_of result (grammar.cost span (nodes_of rest.now))
+        scope.old.names.keys scope.new.names.keys }
+{
+    let [first, rest @ ..] = rest else {
+        return Ok(Pat {
+            span,
+            kind: PatKind::Num(1),
+        });
+    };
+    let written = term(scope, Setting::Rule, first)?;
+    ended(rest)?;
+    Ok(written)
+}
+
+/// The head and the precondition of an operator, and what follows them.
+#[tactic(auto, unfolding(crate::specs::Operators::opening))]
+fn opening<'a>(
+    scope: &mut Scope,
+    span: Span,
+    rest: &'a [Node],
+) -> Result<(AtomPat, Pre, &'a [Node]), FormRefusal>
+    ensures { Reads (λ x. (atom_of x.0, (precondition_of x.1, nodes_of x.2.now))) result
+        (operators.opening span (nodes_of rest.now)) scope.old.names.keys scope.new.names.keys }
+{
+    let (node, rest) = next(What::Head, closing(span), rest)?;
+    let head = headed(scope, What::Head, HeadKind::Primitive, Setting::Rule, node)?;
+    let (node, rest) = next(What::Pre, closing(span), rest)?;
+    let pre = precondition(scope, node)?;
+    Ok((head, pre, rest))
+}
+
+/// What an operator deletes and adds, and what follows.
+#[tactic(auto, unfolding(crate::specs::Operators::changes))]
+fn changes<'a>(
+    scope: &mut Scope,
+    span: Span,
+    rest: &'a [Node],
+) -> Result<(Vec<Effect>, Vec<Effect>, &'a [Node]), FormRefusal>
+    ensures { Reads (λ x. (map effect_of x.0.items, (map effect_of x.1.items, nodes_of x.2.now))) result
+        (operators.changes span (nodes_of rest.now)) scope.old.names.keys scope.new.names.keys }
+{
+    let (node, rest) = next(What::Effects, closing(span), rest)?;
+    let dels = effects(scope, node)?;
+    let (node, rest) = next(What::Effects, closing(span), rest)?;
+    let adds = effects(scope, node)?;
+    Ok((dels, adds, rest))
+}
+
+/// `(:operator head precondition deletes adds cost)`
+#[tactic(auto, unfolding(crate::specs::Operators::operator))]
+fn operator(mut scope: Scope, span: Span, rest: &[Node]) -> Result<Rule, FormRefusal>
+    ensures { Gives rule_of result (steps.value_in (operators.operator span (nodes_of rest.now) scope.names.keys)) }
+{
+    let (head, pre, rest) = opening(&mut scope, span, rest)?;
+    let (dels, adds, rest) = changes(&mut scope, span, rest)?;
+    let cost = cost(&mut scope, span, rest)?;
+    Ok(Rule::Operator(Operator {
+        span,
+        vars: scope.into_names()?,
+        head,
+        pre,
+        dels,
+        adds,
+        cost,
+    }))
+}
+
+/// The name of a branch, where a name token stands there; `nil` is none.
+#[tactic(auto, unfolding(hp_syntax::specs::Grammar::branch_name))]
+fn branch_name(node: &Node) -> Result<Option<&Name>, FormRefusal>
+    ensures { (names : Names) → Reads (option_map (λ x. x.now)) result
+        (branches.name_if_any (node_of node.now)) names names }
+{
+    match &node.kind {
+        NodeKind::Name(name) if is(name, b"nil") => Ok(None),
+        NodeKind::Name(name) if is_branch_name(name) => Ok(Some(name)),
+        NodeKind::Name(_) => expected(What::Name, node.span),
+        NodeKind::Num(_) | NodeKind::List(_) => Ok(None),
+    }
+}
+
+/// The name of the next branch where it has one, and the node behind it.
+#[tactic(auto, unfolding(crate::specs::Branches::start))]
+fn branch_start<'a>(
+    scope: &Scope,
+    what: What,
+    end: Span,
+    nodes: &'a [Node],
+) -> Result<(Option<Name>, &'a Node, &'a [Node]), FormRefusal>
+    ensures reads { (names : Names) → Reads (λ x. (x.0, (node_of x.1.now, nodes_of x.2.now))) result
+        (branches.start what end (nodes_of nodes.now)) names names }
+    ensures shorter { IfOk result (λ x. length x.2.now < length nodes.now) }
+{
+    let (first, rest) = next(what, end, nodes)?;
+    match branch_name(first)? {
+        None => Ok((None, first, rest)),
+        Some(name) => {
+            let name = name.copy(scope.alloc)?;
+            let (second, rest) = next(what, end, rest)?;
+            Ok((Some(name), second, rest))
+        }
+    }
+}
+
+/// A branch of a method, and what follows it.
+#[tactic(auto, unfolding(crate::specs::Branches::branch))]
+fn branch<'a>(
+    scope: &mut Scope,
+    end: Span,
+    nodes: &'a [Node],
+) -> Result<(Branch, &'a [Node]), FormRefusal>
+    ensures reads { Reads (λ x. (branch_of x.0, nodes_of x.1.now)) result (branches.branch end (nodes_of nodes.now))
+        scope.old.names.keys scope.new.names.keys }
+    ensures shorter { IfOk result (λ x. length x.1.now < length nodes.now) }
+{
+    let (name, first, rest) = branch_start(scope, What::Pre, end, nodes)?;
+    let pre = precondition(scope, first)?;
+    let (second, rest) = next(What::Tasks, end, rest)?;
+    let tasks = tasks(scope, Setting::Rule, second)?;
+    Ok((Branch { name, pre, tasks }, rest))
+}
+
+/// The branches of a method, one or more.
+fn branches(scope: &mut Scope, end: Span, nodes: &[Node]) -> Result<Vec<Branch>, FormRefusal>
+    ensures { Reads (λ v. map branch_of v.items) result (grammar.branches end true (nodes_of nodes.now))
+        scope.old.names.keys scope.new.names.keys }
+{
+    let mut branches = Vec::new(scope.alloc);
+    let mut rest = nodes;
+    loop {
+        let (next, others) = branch(scope, end, rest)?;
+        branches.push(next)?;
+        if others.is_empty() {
+            return Ok(branches);
+        }
+        rest = others;
+    }
+}
+
+/// `(:method head branch ..)`
+#[tactic(auto, unfolding(hp_syntax::specs::Grammar::method))]
+fn method(mut scope: Scope, span: Span, rest: &[Node]) -> Result<Rule, FormRefusal>
+    ensures { Gives rule_of result (steps.value_in (grammar.method span (nodes_of rest.now) scope.names.keys)) }
+{
+    let (node, rest) = next(What::Head, closing(span), rest)?;
+    let head = headed(
+        &mut scope,
+        What::Head,
+        HeadKind::Compound,
+        Setting::Rule,
+        node,
+    )?;
+    let branches = branches(&mut scope, closing(span), rest)?;
+    Ok(Rule::Method(Method {
+        span,
+        vars: scope.into_names()?,
+        head,
+        branches,
+    }))
+}
+
+/// A branch of an axiom, and what follows it.
+#[tactic(auto, unfolding(crate::specs::Branches::clause))]
+fn clause<'a>(
+    scope: &mut Scope,
+    end: Span,
+    nodes: &'a [Node],
+) -> Result<(Clause, &'a [Node]), FormRefusal>
+    ensures reads { Reads (λ x. (clause_of x.0, nodes_of x.1.now)) result (branches.clause end (nodes_of nodes.now))
+        scope.old.names.keys scope.new.names.keys }
+    ensures shorter { IfOk result (λ x. length x.1.now < length nodes.now) }
+{
+    let (name, first, rest) = branch_start(scope, What::Expr, end, nodes)?;
+    let body = expression(scope, first)?;
+    Ok((Clause { name, body }, rest))
+}
+
+/// The branches of an axiom, one or more.
+fn clauses(scope: &mut Scope, end: Span, nodes: &[Node]) -> Result<Vec<Clause>, FormRefusal>
+    ensures { Reads (λ v. map clause_of v.items) result (grammar.clauses end true (nodes_of nodes.now))
+        scope.old.names.keys scope.new.names.keys }
+{
+    let mut clauses = Vec::new(scope.alloc);
+    let mut rest = nodes;
+    loop {
+        let (next, others) = clause(scope, end, rest)?;
+        clauses.push(next)?;
+        if others.is_empty() {
+            return Ok(clauses);
+        }
+        rest = others;
+    }
+}
+
+/// `(:- head branch ..)`
+#[tactic(auto, unfolding(hp_syntax::specs::Grammar::axiom_rule))]
+fn axiom(mut scope: Scope, span: Span, rest: &[Node]) -> Result<Rule, FormRefusal>
+    ensures { Gives rule_of result
+        (steps.value_in (grammar.axiom_rule span (nodes_of rest.now) scope.names.keys)) }
+{
+    let (node, rest) = next(What::Head, closing(span), rest)?;
+    let head = headed(&mut scope, What::Head, HeadKind::Plain, Setting::Rule, node)?;
+    let clauses = clauses(&mut scope, closing(span), rest)?;
+    Ok(Rule::Axiom(Axiom {
+        span,
+        vars: scope.into_names()?,
+        head,
+        clauses,
+    }))
+}
+
+/// A rule by its word.
+#[tactic(auto, unfolding(hp_syntax::specs::Grammar::keyed_rule))]
+fn keyed(alloc: Global, span: Span, key: &Name, rest: &[Node]) -> Result<Rule, FormRefusal>
+    ensures { Gives rule_of result (steps.from_no_names (grammar.keyed_rule span key.now (nodes_of rest.now))) }
+{
+    let scope = Scope::new(alloc);
+    if is(key, b":operator") {
+        operator(scope, span, rest)
+    } else if is(key, b":method") {
+        method(scope, span, rest)
+    } else if is(key, b":-") {
+        axiom(scope, span, rest)
+    } else {
+        expected(What::Rule, span)
+    }
+}
+
+/// The rule that a node is, with variables of its own.
+#[tactic(auto, unfolding(hp_syntax::specs::Grammar::rule), using(crate::proofs::RuleParts::reads_by_itself))]
+fn rule(alloc: Global, node: &Node) -> Result<Rule, FormRefusal>
+    ensures { (names : Names) → Reads rule_of result (grammar.rule (node_of node.now)) names names }
+{
+    match begun(node) {
+        Some((key, rest)) => keyed(alloc, node.span, key, rest),
+        None => expected(What::Rule, node.span),
+    }
+}
+
+/// The rules that nodes are.
+pub fn rules(alloc: Global, nodes: &[Node]) -> Result<Vec<Rule>, FormRefusal>
+    ensures { (names : Names) → Reads (λ v. map rule_of v.items) result
+        (steps.each grammar.rule (nodes_of nodes.now)) names names }
+{
+    let mut rules = Vec::new(alloc);
+    for node in nodes {
+        rules.push(rule(alloc, node)?)?;
+    }
+    Ok(rules)
+}

@@ -1,0 +1,104 @@
+//! The variables of a rule, or of a problem, while it is read.
+
+ghost use Rattle.std.specs.Prelude.{◌≡◌, [], IfOk};
+ghost use Rattle.hp_syntax.specs.Steps as steps;
+ghost use Rattle.hp_syntax.specs.Grammar as grammar;
+ghost use Rattle.hp_text.specs.Nodes.{node_of, nodes_of};
+ghost use Rattle.hp_forms.specs.FormReads.{Reads};
+
+use crate::names::{is, is_variable};
+use crate::nodes::expected;
+use crate::refusal::FormRefusal;
+use hp_syntax::{Name, What};
+use hp_text::{Node, NodeKind};
+use indexmap::IndexSet;
+use std::alloc::{AllocError, Global};
+
+/// The names so far, each once, in the order of first appearance: a variable's number is the place
+/// of its name.
+#[derive(Drop)]
+pub struct Scope {
+    pub alloc: Global,
+    pub names: IndexSet<Name>,
+}
+
+impl Scope {
+    pub fn new(alloc: Global) -> Scope
+        ensures { result.names.keys ≡ [] }
+    {
+        Scope {
+            alloc,
+            names: IndexSet::new(alloc),
+        }
+    }
+
+    /// The number of a variable.
+    pub fn number(&mut self, name: &Name) -> Result<u32, FormRefusal>
+        ensures { Reads (λ v. v) result (steps.numbered name.now) self.old.names.keys self.new.names.keys }
+    {
+        let index = match self.names.get_index_of(name) {
+            Some(index) => index,
+            None => self.names.insert_full(name.copy(self.alloc)?)?.0,
+        };
+        // No forest has so many names that this fails.
+        u32::try_from(index).map_err(|_| FormRefusal::NoMemory)
+    }
+
+    /// The variable that a node is.
+    #[tactic(auto, unfolding(hp_syntax::specs::Grammar::variable))]
+    pub fn variable(&mut self, node: &Node) -> Result<u32, FormRefusal>
+        ensures { Reads (λ v. v) result (grammar.variable (node_of node.now))
+            self.old.names.keys self.new.names.keys }
+    {
+        match &node.kind {
+            NodeKind::Name(name) if is_variable(name) => self.number(name),
+            _ => expected(What::Variable, node.span),
+        }
+    }
+
+    fn each_variable(&mut self, nodes: &[Node]) -> Result<Vec<u32>, FormRefusal>
+        ensures { Reads (λ vs. vs.items) result (steps.each grammar.variable (nodes_of nodes.now))
+            self.old.names.keys self.new.names.keys }
+    {
+        let mut variables = Vec::new(self.alloc);
+        for node in nodes {
+            variables.push(self.variable(node)?)?;
+        }
+        Ok(variables)
+    }
+
+    fn only_variable(&mut self, name: &Name) -> Result<Vec<u32>, FormRefusal>
+        ensures { Reads (λ vs. vs.items) result (grammar.one_variable name.now)
+            self.old.names.keys self.new.names.keys }
+    {
+        let mut variables = Vec::new(self.alloc);
+        variables.push(self.number(name)?)?;
+        Ok(variables)
+    }
+
+    /// The variables that a node is: one, or a list of them.
+    #[tactic(auto, unfolding(hp_syntax::specs::Grammar::variables))]
+    pub fn variables(&mut self, node: &Node) -> Result<Vec<u32>, FormRefusal>
+        ensures { Reads (λ vs. vs.items) result (grammar.variables (node_of node.now))
+            self.old.names.keys self.new.names.keys }
+    {
+        match &node.kind {
+            NodeKind::List(nodes) => self.each_variable(nodes.as_slice()),
+            NodeKind::Name(name) if is(name, b"nil") => Ok(Vec::new(self.alloc)),
+            NodeKind::Name(name) if is_variable(name) => self.only_variable(name),
+            _ => expected(What::Variable, node.span),
+        }
+    }
+
+    /// All names, by number.
+    pub fn into_names(self) -> Result<Vec<Name>, AllocError>
+        ensures { IfOk result (λ names. names.items ≡ self.names.keys) }
+    {
+        let Scope { alloc, names } = self;
+        let mut copies = Vec::new(alloc);
+        for name in names.as_slice() {
+            copies.push(name.copy(alloc)?)?;
+        }
+        Ok(copies)
+    }
+}
