@@ -4,7 +4,7 @@ use Rattle.std.specs.List.{flat_map}
 use Rattle.hp_syntax.specs.Walk.{Node, Child, DidChild, CutChild, FaultChild, children, Sight, Did, Plan, CutHere, FaultHere, Visit, visit, visits_of, visits_within, visits, is_empty, root}
 use Rattle.hp_top.specs.declared.program.Domain.{Domain}
 use Rattle.hp_top.specs.declared.program.Problem.{Problem}
-use Rattle.hp_top.specs.Program.{domain_of, problem_of, terms_of}
+use Rattle.hp_top.specs.Program.{plain_domain, plain_problem, plain_terms}
 use Rattle.hp_top.specs.Flat.{FlatNode, FlatChild, FlatDid, FlatFault, Shown, DidShown, PlanShown, CutShown, FaultShown, flat_children, is_done, shown_child, shown_within, shown_at}
 use Rattle.hp_top.specs.Rest.{flat_root}
 use Rattle.hp_top.proofs.NetworksInOrder.{Stage, Over, Goes, stage, normal_tasks, normal_in_order}
@@ -25,7 +25,7 @@ SameShown [] [] = Unit {0}
 SameShown (v ∷ vs) (w ∷ ws) = SameSight v.node v.sight w × SameShown vs ws
 SameShown _ _ = ⊥
 
--- some visits and then others
+-- visits that are shown, before others that are, are shown together
 shown_append : (us vs : List Visit) (ws xs : List Shown) → SameShown us ws → SameShown vs xs → SameShown (us ++ vs) (ws ++ xs)
 shown_append [] vs [] xs s t = t
 shown_append (u ∷ us) vs (w ∷ ws) xs s t = (s.0, shown_append us vs ws xs s.1 t)
@@ -49,7 +49,7 @@ module _ (below : Node → List ℕ → List Visit) (shown : FlatNode → List S
   below_shown n p i _ _ s = absurd s
 
 -- the visits at and below a node are shown, in their order
-pub within_shown : (d : Domain) (k : ℕ) (n : Node) (m : FlatNode) (p : List ℕ) → SameNode n m → SameShown (visits_within (domain_of d) k n p) (shown_within d.rules.items k m)
+pub within_shown : (d : Domain) (k : ℕ) (n : Node) (m : FlatNode) (p : List ℕ) → SameNode n m → SameShown (visits_within (plain_domain d) k n p) (shown_within d.rules.items k m)
 unfolding visits_within shown_within
 within_shown d zero n m p s = at_end (stage n.network n.focus s.in_order)
   where
@@ -58,27 +58,27 @@ within_shown d zero n m p s = at_end (stage n.network n.focus s.in_order)
     at_end (Goes next) = rw (next.filled, ap is_done (sym s.tasks ∙ next.tasks)) (tt, tt)
 within_shown d (suc k) n m p s = go (λ a b q. within_shown d k a b q) (stage n.network n.focus s.in_order)
   where
-    go : ((a : Node) (b : FlatNode) (q : List ℕ) → SameNode a b → SameShown (visits_within (domain_of d) k a q) (shown_within d.rules.items k b)) → Stage n.network n.focus →
-        SameShown (cond (is_empty n.network) (visit p n Plan ∷ []) (visits_of (visits_within (domain_of d) k) n p 0 (children (domain_of d) n)))
+    go : ((a : Node) (b : FlatNode) (q : List ℕ) → SameNode a b → SameShown (visits_within (plain_domain d) k a q) (shown_within d.rules.items k b)) → Stage n.network n.focus →
+        SameShown (cond (is_empty n.network) (visit p n Plan ∷ []) (visits_of (visits_within (plain_domain d) k) n p 0 (children (plain_domain d) n)))
         (cond (is_done m.tasks) (PlanShown m ∷ []) (flat_map (shown_child (shown_within d.rules.items k)) (flat_children d.rules.items m)))
     go each (Over e h) = rw (e, ap is_done (sym s.tasks ∙ h)) (plan_shown n m p s)
     go each (Goes next) =
         rw (next.filled, ap is_done (sym s.tasks ∙ next.tasks))
-        (below_shown (visits_within (domain_of d) k) (shown_within d.rules.items k) each n p 0 _ _ (children_same n m s next d))
+        (below_shown (visits_within (plain_domain d) k) (shown_within d.rules.items k) each n p 0 _ _ (children_same n m s next d))
 
--- the roots are the same
-root_same : (q : Problem) (k : ℕ) → SameNode (root (problem_of q) k) (flat_root q k)
+-- the root of the tree and the node that the engine begins at are the same
+root_same : (q : Problem) (k : ℕ) → SameNode (root (plain_problem q) k) (flat_root q k)
 root_same q k = record {
   state = refl;
   free = refl;
-  tasks = normal_tasks (problem_of q).tasks ∙ each_network_tasks (terms_of q.tasks.items);
-  in_order = normal_in_order (problem_of q).tasks;
+  tasks = normal_tasks (plain_problem q).tasks ∙ each_network_tasks (plain_terms q.tasks.items);
+  in_order = normal_in_order (plain_problem q).tasks;
   steps = refl;
   cost = refl;
   depth = refl;
 }
 
 -- all visits of a problem are shown
-pub problem_shown : (d : Domain) (q : Problem) (k : ℕ) → SameShown (visits (domain_of d) (root (problem_of q) k) []) (shown_at d.rules.items (flat_root q k))
+pub problem_shown : (d : Domain) (q : Problem) (k : ℕ) → SameShown (visits (plain_domain d) (root (plain_problem q) k) []) (shown_at d.rules.items (flat_root q k))
 unfolding visits shown_at
-problem_shown d q k = within_shown d k (root (problem_of q) k) (flat_root q k) [] (root_same q k)
+problem_shown d q k = within_shown d k (root (plain_problem q) k) (flat_root q k) [] (root_same q k)

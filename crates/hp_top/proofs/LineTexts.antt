@@ -7,13 +7,13 @@ use Rattle.hp_top.specs.Told.{flat_plan_text}
 least : (n : ℕ) → n < 2 ^ 64 → min n (2 ^ 64 - 1) ≡ n
 least n h = omega arith
 
--- the last line of a count below the end
+-- the last line shows a count below the end as it is
 pub ending_text_is : (x : Ending) (p n : ℕ) → n < 2 ^ 64 →
     ending_text x p n ≡ ending_word x ++ codes " plans " ++ decimal p ++ codes " expansions " ++ decimal n ++ codes "\n"
 unfolding ending_text
 ending_text_is x p n h = ap (λ m. ending_word x ++ codes " plans " ++ decimal p ++ codes " expansions " ++ decimal m ++ codes "\n") (least n h)
 
--- a plan, in the order in which it is written
+-- the text of a plan is its parts in the order in which they are written
 pub flat_plan_text_is : (i : ℕ) (steps : List Term) →
     flat_plan_text i steps ≡ codes "plan " ++ decimal i ++ codes " cost " ++ decimal (length steps) ++ codes " steps " ++ decimal (length steps) ++ codes "\n" ++ steps_text steps
 unfolding flat_plan_text

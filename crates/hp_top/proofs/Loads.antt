@@ -1,81 +1,101 @@
--- From what was read of a file to the whole file.
-use Rattle.std.proofs.Common.{◌≡◌, ◌⊎◌, inl, inr, ℕ, ◌<◌, ◌≤◌, List, length, take, Some, None, Result, Ok, Err, IfOk, IfErr, IsErrOf, arith, ap, sym, ◌∙◌, subst, length-take}
+-- From what was read of a file to the whole file, and why a run stops there.
+use Rattle.std.proofs.Common.{◌≡◌, ◌⊎◌, inl, inr, ℕ, ◌+◌, ◌≤◌, List, length, take, Some, None, Result, Ok, Err, IfOk, IfErr, arith, refl, sym, ◌∙◌, subst}
 use Rattle.std.proofs.lemmas.List.{take_all}
-use Rattle.std.proofs.lemmas.Bool.{cases_lt}
+use Rattle.hp_io.specs.declared.folder.Input.{Input}
 use Rattle.hp_io.specs.declared.folder.Input.TheVariants as inputs
 use Rattle.hp_io.specs.Rules.{Rose}
-use Rattle.hp_syntax.specs.Forest.{TooLarge}
-use Rattle.hp_syntax.specs.Rules as plain
-use Rattle.hp_top.specs.declared.forms.refusal.FormRefusal.{FormRefusal}
-use Rattle.hp_top.specs.declared.forms.refusal.FormRefusal.TheVariants.{Expected}
-use Rattle.hp_top.specs.declared.loading.Stop.{Stop}
-use Rattle.hp_top.specs.declared.loading.Stop.TheVariants.{NoMemory, Unread, Refused as RefusedInput}
+use Rattle.hp_forms.specs.declared.refusal.FormRefusal.{FormRefusal}
+use Rattle.hp_forms.specs.declared.refusal.FormRefusal.TheVariants as forms
+use Rattle.hp_forms.specs.FormReads.{Refuses}
+use Rattle.hp_text.specs.declared.forest.TextRefusal.{TextRefusal}
+use Rattle.hp_text.specs.declared.forest.TextRefusal.TheVariants as texts
+use Rattle.hp_text.specs.Refusals.{RefusesText}
+use Rattle.hp_syntax.specs.declared.limits.TheConstants.{LARGEST_TEXT, LONGEST_TOKEN, DEEPEST_NESTING}
+use Rattle.hp_syntax.specs.Forest.{Forest, IsForest, nesting, longest_token}
+use Rattle.hp_syntax.specs.Refusal.{Refusal, IsRefused}
+use Rattle.hp_syntax.specs.Steps as steps
+use Rattle.hp_top.specs.declared.refusing.Unplanned.{Unplanned}
 use Rattle.hp_top.specs.Outcome as outcome
-use Rattle.hp_top.specs.Outcome.{IsDomain, IsNoDomain, IsProblem, IsNoProblem}
-use Rattle.hp_top.specs.Loading.{ToldFile, ReadsFile, Holds, ProblemStops, Stops}
+use Rattle.hp_top.specs.Outcome.{Form, IsRead, Why, InText, InForm, IsUnreadable}
+use Rattle.hp_top.specs.Loading as loading
+use Rattle.hp_top.specs.Loading.{ToldFile, ReadsFile, Holds, Reads, IsUnread, IsRefusedFor, StopsAt, of_text, of_form}
 
--- a front that is no longer than a text may be is the whole
-whole : (bytes text : List ℕ) → bytes ≡ take 4194305 text → length bytes ≤ 4194304 → bytes ≡ text
-whole bytes text e h =
-    let short : length text ≤ 4194304 = omega (arith, ap length e, length-take 4194305 text) in
-    e ∙ take_all 4194305 text (omega arith)
+module _ {A : Type 0} (which : Input) (form : Form A) where
+  -- bytes whose text is refused are read as nothing for that reason
+  pub text_refused : (bytes : List ℕ) (e : TextRefusal) → RefusesText bytes e → IsRefusedFor which form bytes (of_text which e)
+  text_refused bytes (texts.Bad kind offset) r =
+      loading.IsRefusedFor.Unreadable (InText (record { kind = kind; offset = offset })) refl (outcome.ByText _ r refl)
+  text_refused bytes texts.NoMemory r = loading.IsRefusedFor.WithoutMemory refl
 
--- a fact of a short front is one of the told file
-module _ (P : List ℕ → Type 0) where
-  pub held : (bytes : List ℕ) (file : ToldFile) → ReadsFile bytes file → length bytes ≤ 4194304 → P bytes → Holds P file
-  held bytes None r h p = tt
-  held bytes (Some None) r h p = r
-  held bytes (Some (Some text)) r h p = subst P (whole bytes text r h) p
+  -- bytes whose forest has no form are read as nothing for that reason
+  pub form_refused : (bytes : List ℕ) (f : Forest) (e : FormRefusal) → IsForest bytes f → Refuses e (form (length bytes) f) → IsRefusedFor which form bytes (of_form which e)
+  form_refused bytes f (forms.Expected what span) s r =
+      loading.IsRefusedFor.Unreadable (InForm (steps.Expected what span)) refl (outcome.ByForm f _ s r refl)
+  form_refused bytes f (forms.SeveralPairs span) s r =
+      loading.IsRefusedFor.Unreadable (InForm (steps.SeveralPairs span)) refl (outcome.ByForm f _ s r refl)
+  form_refused bytes f forms.NoMemory s r = loading.IsRefusedFor.WithoutMemory refl
 
-  -- and so is one of a long front, which tells that the file is too large
-  pub held_or_large : ((text : List ℕ) → 4194304 < length text → P text) → (bytes : List ℕ) (file : ToldFile) → ReadsFile bytes file → P bytes → Holds P file
-  held_or_large large bytes None r p = tt
-  held_or_large large bytes (Some None) r p = r
-  held_or_large large bytes (Some (Some text)) r p =
-      elim (cases_lt 4194304 (length text)) as (λ _. P text) [
-        | inl h ↦ large text h
-        | inr h ↦ subst P (r ∙ take_all 4194305 text (omega (arith, h))) p
-      ]
+module _ (refused_whole : (text : List ℕ) (r : Refusal) → IsRefused (take (LARGEST_TEXT + 1) text) r → IsRefused text r)
+    (spelled_whole : (text : List ℕ) (f : Forest) → IsForest (take (LARGEST_TEXT + 1) text) f → IsForest text f)
+    (kept : (text : List ℕ) (f : Forest) → IsForest text f → (length text ≤ LARGEST_TEXT) × (longest_token f ≤ LONGEST_TOKEN) × (nesting f ≤ DEEPEST_NESTING)) where
+  -- a front that spells a forest is the whole text
+  front_is_whole : (text : List ℕ) (f : Forest) → IsForest (take (LARGEST_TEXT + 1) text) f → take (LARGEST_TEXT + 1) text ≡ text
+  front_is_whole text f s =
+      let h : length text ≤ LARGEST_TEXT = (kept text f (spelled_whole text f s)).0 in
+      take_all (LARGEST_TEXT + 1) text (omega arith)
 
-pub held_domain : (bytes : List ℕ) (file : ToldFile) (d : plain.Domain) → ReadsFile bytes file → IsDomain bytes d → Holds (λ t. IsDomain t d) file
-held_domain bytes file d r h = held (λ t. IsDomain t d) bytes file r h.spelled.short h
+  module _ {A : Type 0} (form : Form A) where
+    -- what the front is read as the whole text is
+    read_whole : (text : List ℕ) (x : A) → IsRead form (take (LARGEST_TEXT + 1) text) x → IsRead form text x
+    read_whole text x h = subst (λ t. IsRead form t x) (front_is_whole text h.forest h.spelled) h
 
-pub held_no_domain : (bytes : List ℕ) (file : ToldFile) → ReadsFile bytes file → IsNoDomain bytes → Holds IsNoDomain file
-held_no_domain bytes file r h = held_or_large IsNoDomain (λ t l. outcome.IsNoDomain.NoForest (TooLarge l)) bytes file r h
+    -- a front that is read as nothing is that of a text which is read as nothing
+    unreadable_whole : (text : List ℕ) (why : Why) → IsUnreadable form (take (LARGEST_TEXT + 1) text) why → IsUnreadable form text why
+    unreadable_whole text why (outcome.ByText r h e) = outcome.ByText r (refused_whole text r h) e
+    unreadable_whole text why (outcome.ByForm f m s k e) =
+        subst (λ t. IsUnreadable form t why) (front_is_whole text f s) (outcome.ByForm f m s k e)
 
-pub held_problem : (bytes : List ℕ) (file : ToldFile) (d : plain.Domain) (p : plain.Problem) → ReadsFile bytes file → IsProblem bytes d p → Holds (λ t. IsProblem t d p) file
-held_problem bytes file d p r h = held (λ t. IsProblem t d p) bytes file r h.spelled.short h
+    -- what the front of a file is read as the told file is
+    pub reads_file : (bytes : List ℕ) (file : ToldFile) (x : A) → ReadsFile bytes file → IsRead form bytes x → Reads form file x
+    reads_file bytes None x r h = tt
+    reads_file bytes (Some None) x r h = r
+    reads_file bytes (Some (Some text)) x r h = read_whole text x (subst (λ b. IsRead form b x) r h)
 
-pub held_no_problem : (bytes : List ℕ) (file : ToldFile) (d : plain.Domain) → ReadsFile bytes file → IsNoProblem bytes d → Holds (λ t. IsNoProblem t d) file
-held_no_problem bytes file d r h = held_or_large (λ t. IsNoProblem t d) (λ t l. outcome.IsNoProblem.NoForest (TooLarge l)) bytes file r h
+    unreadable_file : (bytes : List ℕ) (file : ToldFile) (why : Why) → ReadsFile bytes file → IsUnreadable form bytes why → Holds (λ text. IsUnreadable form text why) file
+    unreadable_file bytes None why r h = tt
+    unreadable_file bytes (Some None) why r h = r
+    unreadable_file bytes (Some (Some text)) why r h = unreadable_whole text why (subst (λ b. IsUnreadable form b why) r h)
 
--- what was formed has what forming gives
-pub formed_ok : {T : Type 0} (P : T → Type 0) (s : Result T Stop) (r : Result T FormRefusal) → IfOk r P → IfOk s (λ x. r ≡ Ok x) → IfOk s P
-formed_ok P (Ok x) r p h = subst (λ r. IfOk r P) h p
-formed_ok P (Err e) r p h = tt
+    -- a file whose front is read as nothing stops the run
+    pub stops_file : (which : Input) (bytes : List ℕ) (file : ToldFile) (cause : Unplanned) (before now : Input → ℕ) → ReadsFile bytes file → IsRefusedFor which form bytes cause → StopsAt which form cause file before now
+    stops_file which bytes file cause before now r (loading.IsRefusedFor.WithoutMemory e) = loading.StopsAt.WithoutMemory e
+    stops_file which bytes file cause before now r (loading.IsRefusedFor.Unreadable why e h) =
+        loading.StopsAt.Unreadable why e (unreadable_file bytes file why r h)
 
--- and where nothing was formed the run stops for it
-pub formed_err : {T : Type 0} (S : Stop → Type 0) (refused : Stop) (s : Result T Stop) (r : Result T FormRefusal) →
-    (IsErrOf r Expected → S refused) → S NoMemory → IfErr s (λ e. ((e ≡ refused) × (r ≡ Err Expected)) ⊎ (e ≡ NoMemory)) → IfErr s S
-formed_err S refused (Ok x) r k n h = tt
-formed_err S refused (Err e) r k n (inl h) = subst S (sym h.0) (k h.1)
-formed_err S refused (Err e) r k n (inr h) = subst S (sym h) n
+-- a fact of what was read, for another fact that follows
+pub read_weaker : {T : Type 0} (P Q : T → Type 0) (r : Result T Unplanned) → IfOk r P → ((x : T) → P x → Q x) → IfOk r Q
+read_weaker P Q (Ok x) p f = f x p
+read_weaker P Q (Err e) p f = tt
 
--- a fact of what was formed, for another fact that follows
-pub formed_weaker : {T : Type 0} (P Q : T → Type 0) (r : Result T FormRefusal) → IfOk r P → ((x : T) → P x → Q x) → IfOk r Q
-formed_weaker P Q (Ok x) p f = f x p
-formed_weaker P Q (Err e) p f = tt
+-- a fact of a cause, for another fact that follows
+pub cause_weaker : {T : Type 0} (P Q : Unplanned → Type 0) (r : Result T Unplanned) → IfErr r P → ((e : Unplanned) → P e → Q e) → IfErr r Q
+cause_weaker P Q (Ok x) p f = tt
+cause_weaker P Q (Err e) p f = f e p
 
 -- a count that rose since a later moment rose since an earlier one
 rose_since : (before mid now : ℕ) → before ≤ mid → Rose mid now → Rose before now
 rose_since before mid now h r = omega arith
 
--- why the problem's file stops a run, once the domain is known
-pub stops_at_problem : (e : Stop) (d : plain.Domain) (domain told problem : ToldFile) (d0 d1 p0 p p1 : ℕ) → p0 ≤ p → told ≡ problem →
-    Holds (λ t. IsDomain t d) domain → ProblemStops e d told p p1 → Stops e domain problem d0 d1 p0 p1
-stops_at_problem NoMemory d domain told problem d0 d1 p0 p p1 k q h s = tt
-stops_at_problem (Unread inputs.Domain) d domain told problem d0 d1 p0 p p1 k q h s = absurd s
-stops_at_problem (Unread inputs.Problem) d domain told problem d0 d1 p0 p p1 k q h (inl r) = (d, h, inl (rose_since p0 p p1 k r))
-stops_at_problem (Unread inputs.Problem) d domain told problem d0 d1 p0 p p1 k q h (inr r) = (d, h, inr (sym q ∙ r))
-stops_at_problem (RefusedInput inputs.Domain) d domain told problem d0 d1 p0 p p1 k q h s = absurd s
-stops_at_problem (RefusedInput inputs.Problem) d domain told problem d0 d1 p0 p p1 k q h s = (d, h, subst (Holds (λ t. IsNoProblem t d)) q s)
+-- an input that is unread since a later moment is unread since an earlier one
+unread_since : (which : Input) (told file : ToldFile) (before mid now : Input → ℕ) → before which ≤ mid which → told ≡ file → IsUnread which told mid now → IsUnread which file before now
+unread_since which told file before mid now h q (inl r) = inl (rose_since (before which) (mid which) (now which) h r)
+unread_since which told file before mid now h q (inr r) = inr (sym q ∙ r)
+
+-- what stops a run at a file since a later moment does since an earlier one
+pub stops_since : {A : Type 0} (which : Input) (form : Form A) (cause : Unplanned) (told file : ToldFile) (before mid now : Input → ℕ) → ((w : Input) → before w ≤ mid w) → told ≡ file →
+    StopsAt which form cause told mid now → StopsAt which form cause file before now
+stops_since which form cause told file before mid now h q (loading.StopsAt.WithoutMemory e) = loading.StopsAt.WithoutMemory e
+stops_since which form cause told file before mid now h q (loading.StopsAt.Unread e u) =
+    loading.StopsAt.Unread e (unread_since which told file before mid now (h which) q u)
+stops_since which form cause told file before mid now h q (loading.StopsAt.Unreadable why e u) =
+    loading.StopsAt.Unreadable why e (subst (Holds (λ text. IsUnreadable form text why)) q u)

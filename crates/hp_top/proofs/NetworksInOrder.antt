@@ -39,7 +39,7 @@ unless_empty_tasks Empty ns = refl
 unless_empty_tasks (Task t i) ns = refl
 unless_empty_tasks (Ordered ms) ns = refl
 
--- and a list of one part has the tasks of that part
+-- a list that is made of one part has the tasks of that part
 as_list_tasks : (ns : Networks) → tasks_in (as_list Ordered ns) ≡ tasks_in_all ns
 as_list_tasks NoNetwork = refl
 as_list_tasks (And n NoNetwork) = sym (append-nil (tasks_in n))
@@ -52,7 +52,7 @@ mutual
   normal_tasks (Task t i) = refl
   normal_tasks (Ordered ns) = as_list_tasks (normal_parts ns) ∙ normal_parts_tasks ns
 
-  -- and so have its parts
+  -- the normal parts have the same tasks as the parts
   normal_parts_tasks : (ns : Networks) → tasks_in_all (normal_parts ns) ≡ tasks_in_all ns
   normal_parts_tasks NoNetwork = refl
   normal_parts_tasks (And n ns) = unless_empty_tasks (normal n) (normal_parts ns) ∙ (rw (normal_tasks n, normal_parts_tasks ns) refl)
@@ -82,7 +82,7 @@ mutual
   normal_whole (Task t i) = tt
   normal_whole (Ordered ns) = as_list_whole (normal_parts ns) (normal_parts_solid ns)
 
-  -- and none of its parts is empty
+  -- no normal part of a list is empty
   normal_parts_solid : (ns : Networks) → AreSolid (normal_parts ns)
   normal_parts_solid NoNetwork = tt
   normal_parts_solid (And n ns) = unless_empty_solid (normal n) (normal_parts ns) (normal_whole n) (normal_parts_solid ns)
@@ -124,7 +124,7 @@ leads_solid (Task u i) [] t b x l s' s = s
 leads_solid (Ordered (And n ns)) (zero ∷ p) t b x l s' s = (leads_solid n p t l.0 x l.1 s'.0 s, s'.1)
 leads_solid _ _ t b x l s' s = absurd l
 
--- and the place is then that of a first part
+-- with another part in the place of the first task, that place is one of a first part
 leads_front : (n : Network) (p : Place) (t : Term) (b : List Term) (x : Network) → Leads n p t b → IsFront (with_part n p x) p
 leads_front (Task s i) [] t b x l = tt
 leads_front (Ordered (And n ns)) (zero ∷ p) t b x l = leads_front n p t l.0 x l.1
@@ -265,7 +265,7 @@ whole_in_order Empty w = tt
 whole_in_order (Task t i) w = tt
 whole_in_order (Ordered ns) w = w
 
--- and with the focus on a first part
+-- with the focus on a first part a network without empty parts is in order
 front_in_order : (n : Network) (p : Place) → IsSolid n → IsFront n p → InOrder n (Some p)
 front_in_order Empty p s f = absurd s
 front_in_order (Task t i) p s f = f
@@ -275,7 +275,7 @@ front_in_order (Ordered ns) p s f = (s, f)
 pub normal_in_order : (n : Network) → InOrder (normal n) None
 normal_in_order n = whole_in_order (normal n) (normal_whole n)
 
--- a task that is done goes
+-- the tasks after the first task was done are those behind it
 pub finish_tasks : (n : Network) (p : Place) (t : Term) (b : List Term) → Leads n p t b → tasks_in (finish n p).0 ≡ b
 finish_tasks n p t b l = normal_tasks (with_part n p Empty) ∙ leads_with n p t b Empty l
 

@@ -2,7 +2,8 @@
 use Rattle.std.proofs.Common.{◌≡◌, ℕ, ◌+◌, ◌-◌, ◌*◌, ◌<◌, ◌≤◌, nat_le, drop, add-one, drop-cons, ◌∙◌, Bool, true, false, List, [], ◌∷◌, length, map, Option, Some, None, String, Global, string_bytes, bytes_eq, codes, get_or, arith, refl, sym, MatchOption}
 use Rattle.std.specs.Prelude.{slice_index_or}
 use Rattle.std.proofs.lemmas.Bool.{lt-leb}
-use Rattle.hp_syntax.specs.Form.{only_if, joined}
+use Rattle.hp_syntax.specs.Lowering.{only_if, joined}
+use Rattle.hp_syntax.specs.declared.limits.TheConstants.{MOST_PLANS, GREATEST_DEPTH}
 use Rattle.hp_top.specs.declared.words.Asked.{Asked}
 use Rattle.hp_top.specs.Command.{number_from, number_within, accepts, make_command}
 use Rattle.hp_top.specs.Words.{AsksFor, Spelled}
@@ -24,7 +25,7 @@ over_most bs i n m most e h k over =
 -- five words are the command of their first word and their last two
 pub accepts_five : (ws : List (String Global)) (w p n : String Global) → 5 ≤ length ws → length ws < 6 → w ≡ get_or ws 0 w → p ≡ get_or ws 3 p → n ≡ get_or ws 4 n →
     accepts (map string_bytes ws) ≡ only_if (bytes_eq (string_bytes w) (codes "plan"))
-    (joined (make_command (slice_index_or (map string_bytes ws) 1 []) (slice_index_or (map string_bytes ws) 2 [])) (number_within 1 1000000000 (string_bytes p)) (number_within 0 1000 (string_bytes n)))
+    (joined (make_command (slice_index_or (map string_bytes ws) 1 []) (slice_index_or (map string_bytes ws) 2 [])) (number_within 1 MOST_PLANS (string_bytes p)) (number_within 0 GREATEST_DEPTH (string_bytes n)))
 accepts_five [] w p n a b i j k = absurd (omega arith)
 accepts_five (v ∷ []) w p n a b i j k = absurd (omega arith)
 accepts_five (v ∷ d ∷ []) w p n a b i j k = absurd (omega arith)
@@ -34,16 +35,16 @@ accepts_five (v ∷ d ∷ q ∷ x ∷ y ∷ []) w p n a b i j k = rw (i, j, k) r
 accepts_five (v ∷ d ∷ q ∷ x ∷ y ∷ z ∷ zs) w p n a b i j k = absurd (omega arith)
 
 module _ (ws : List (String Global)) (w p n : String Global) (five : 5 ≤ length ws) (only : length ws < 6) (i : w ≡ get_or ws 0 w) (j : p ≡ get_or ws 3 p) (k : n ≡ get_or ws 4 n) (t : List ℕ) (b : Bool) (e : b ≡ bytes_eq t (codes "plan")) (h : t ≡ string_bytes w) where
-  -- another first word is no command
+  -- words with another first word are no command
   pub accepts_other : b ≡ false → accepts (map string_bytes ws) ≡ None
   accepts_other f = accepts_five ws w p n five only i j k ∙ (rw (← h, ← e, f) refl)
 
-  -- with the right first word the last two decide
+  -- words with the right first word are a command where the last two are numbers
   pub accepts_plan : b ≡ true → (x y : List ℕ) → x ≡ string_bytes p → y ≡ string_bytes n →
-      accepts (map string_bytes ws) ≡ joined (make_command (slice_index_or (map string_bytes ws) 1 []) (slice_index_or (map string_bytes ws) 2 [])) (number_within 1 1000000000 x) (number_within 0 1000 y)
+      accepts (map string_bytes ws) ≡ joined (make_command (slice_index_or (map string_bytes ws) 1 []) (slice_index_or (map string_bytes ws) 2 [])) (number_within 1 MOST_PLANS x) (number_within 0 GREATEST_DEPTH y)
   accepts_plan f x y q r = accepts_five ws w p n five only i j k ∙ (rw (← h, ← e, f, ← q, ← r) refl)
 
--- what both numbers say of the command
+-- words are a command of the two numbers that were spelled, and none where one was not
 pub asks_from_spelled : (o : Option Asked) (words : List (List ℕ)) (k n : Option ℕ) →
     accepts words ≡ joined (make_command (slice_index_or words 1 []) (slice_index_or words 2 [])) k n →
     Spelled o k n → MatchOption o (accepts words ≡ None) (AsksFor words)

@@ -1,12 +1,16 @@
 -- Words and files come to one answer.
-use Rattle.std.proofs.Common.{◌≡◌, ◌⊎◌, inl, inr, ℕ, Bool, true, false, List, Option, Some, None, refl, ap, sym, ◌∙◌, subst, codes, bytes_eq}
-use Rattle.hp_syntax.specs.Forest.{Forest, IsForest, Refused}
-use Rattle.hp_syntax.specs.Form.{domain_of, problem_of}
-use Rattle.hp_syntax.specs.Rules.{Domain, Problem}
+use Rattle.std.proofs.Common.{◌≡◌, ◌⊎◌, inl, inr, ℕ, List, length, Option, Some, None, Result, Ok, Err, refl, ap, ap₂, sym, ◌∙◌, subst}
+use Rattle.hp_io.specs.declared.folder.Input.TheVariants as inputs
+use Rattle.hp_syntax.specs.Forest.{Forest, IsForest}
+use Rattle.hp_syntax.specs.Grammar.{domain_form, problem_form}
+use Rattle.hp_syntax.specs.Refusal.{Refusal, IsRefused}
+use Rattle.hp_syntax.specs.Steps.{Misform}
+use Rattle.hp_syntax.specs.Syntax.{Domain, Problem}
 use Rattle.hp_top.specs.declared.status.Status.TheVariants as status
 use Rattle.hp_top.specs.Command.{Command, accepts}
+use Rattle.hp_top.specs.Lines.{refused_usage}
 use Rattle.hp_top.specs.Outcome as outcome
-use Rattle.hp_top.specs.Outcome.{Files, Answer, Outcome, Comes, answer_of, IsDomain, IsNoDomain, IsProblem, IsNoProblem}
+use Rattle.hp_top.specs.Outcome.{Files, Answer, Outcome, Comes, Form, IsRead, Why, InText, InForm, IsUnreadable, unread, unreadable, answer_of_read}
 
 one_value : {A : Type 0} (o : Option A) (x y : A) → o ≡ Some x → o ≡ Some y → x ≡ y
 one_value o x y h k = let e : Some x ≡ Some y = sym h ∙ k in cc
@@ -14,78 +18,86 @@ one_value o x y h k = let e : Some x ≡ Some y = sym h ∙ k in cc
 no_value : {A : Type 0} (o : Option A) (x : A) → o ≡ Some x → o ≡ None → ⊥
 no_value o x h k = let e : Some x ≡ None = sym h ∙ k in cc
 
-not_both : (b : Bool) → b ≡ true → b ≡ false → ⊥
-not_both b h k = let e : true ≡ false = sym h ∙ k in cc
+one_ok : {A E : Type 0} (r : Result A E) (x y : A) → r ≡ Ok x → r ≡ Ok y → x ≡ y
+one_ok r x y h k = cc
 
-module _ (one : (t : List ℕ) (f g : Forest) → IsForest t f → IsForest t g → f ≡ g) (apart : (t : List ℕ) (f : Forest) → IsForest t f → Refused t → ⊥) where
-  domain_one : (t : List ℕ) (d e : Domain) → IsDomain t d → IsDomain t e → d ≡ e
-  domain_one t d e h k = one_value (domain_of h.forest) d e h.form (ap domain_of (one t h.forest k.forest h.spelled k.spelled) ∙ k.form)
+one_err : {A E : Type 0} (r : Result A E) (x y : E) → r ≡ Err x → r ≡ Err y → x ≡ y
+one_err r x y h k = cc
 
-  domain_no : (t : List ℕ) (d : Domain) → IsDomain t d → IsNoDomain t → ⊥
-  domain_no t d h (outcome.IsNoDomain.NoForest r) = apart t h.forest h.spelled r
-  domain_no t d h (outcome.IsNoDomain.NoForm f s n) = no_value (domain_of h.forest) d h.form (ap domain_of (one t h.forest f h.spelled s) ∙ n)
+ok_or_err : {A E : Type 0} (r : Result A E) (x : A) (y : E) → r ≡ Ok x → r ≡ Err y → ⊥
+ok_or_err r x y h k = cc
 
-  problem_one : (t : List ℕ) (d : Domain) (p q : Problem) → IsProblem t d p → IsProblem t d q → p ≡ q
-  problem_one t d p q h k = one_value (problem_of h.forest) p q h.form (ap problem_of (one t h.forest k.forest h.spelled k.spelled) ∙ k.form)
+module _ (one : (t : List ℕ) (f g : Forest) → IsForest t f → IsForest t g → f ≡ g) (one_reason : (t : List ℕ) (r s : Refusal) → IsRefused t r → IsRefused t s → r ≡ s)
+    (apart : (t : List ℕ) (f : Forest) (r : Refusal) → IsForest t f → IsRefused t r → ⊥) where
+  module _ {A : Type 0} (form : Form A) (t : List ℕ) where
+    -- the form of a text's forest is that of each forest that it spells
+    form_of : (f g : Forest) (r : Result A Misform) → IsForest t f → IsForest t g → form (length t) g ≡ r → form (length t) f ≡ r
+    form_of f g r h k e = ap (form (length t)) (one t f g h k) ∙ e
 
-  problem_no : (t : List ℕ) (d : Domain) (p : Problem) → IsProblem t d p → IsNoProblem t d → ⊥
-  problem_no t d p h (outcome.IsNoProblem.NoForest r) = apart t h.forest h.spelled r
-  problem_no t d p h (outcome.IsNoProblem.NoForm f s n) = no_value (problem_of h.forest) p h.form (ap problem_of (one t h.forest f h.spelled s) ∙ n)
-  problem_no t d p h (outcome.IsNoProblem.OfAnother f q s m n) =
-      let same : p ≡ q = one_value (problem_of h.forest) p q h.form (ap problem_of (one t h.forest f h.spelled s) ∙ m) in
-      not_both (bytes_eq q.domain d.name) (subst (λ r. bytes_eq r.domain d.name ≡ true) same h.named) n
+    -- a text is read as one value
+    read_one : (x y : A) → IsRead form t x → IsRead form t y → x ≡ y
+    read_one x y h k = one_ok (form (length t) h.forest) x y h.form_is (form_of h.forest k.forest (Ok y) h.spelled k.spelled k.form_is)
+
+    -- no text that is read as a value is read as nothing
+    read_no : (x : A) (why : Why) → IsRead form t x → IsUnreadable form t why → ⊥
+    read_no x why h (outcome.ByText r i e) = apart t h.forest r h.spelled i
+    read_no x why h (outcome.ByForm f m s k e) = ok_or_err (form (length t) h.forest) x m h.form_is (form_of h.forest f (Err m) h.spelled s k)
+
+    -- a text is read as nothing for one reason
+    why_one : (v w : Why) → IsUnreadable form t v → IsUnreadable form t w → v ≡ w
+    why_one v w (outcome.ByText r h e) (outcome.ByText s k i) = e ∙ (ap InText (one_reason t r s h k) ∙ sym i)
+    why_one v w (outcome.ByText r h e) (outcome.ByForm g n k j i) = absurd (apart t g r k h)
+    why_one v w (outcome.ByForm f m h j e) (outcome.ByText s k i) = absurd (apart t f s h k)
+    why_one v w (outcome.ByForm f m h j e) (outcome.ByForm g n k l i) =
+        e ∙ (ap InForm (one_err (form (length t) f) m n j (form_of f g (Err n) h k l)) ∙ sym i)
+
+  module _ {A : Type 0} (form : Form A) (o : Option (List ℕ)) where
+    -- what a file that is there is read as
+    file_here : (t : List ℕ) → o ≡ Some t → o ≡ None → ⊥
+    file_here t h k = no_value o t h k
+
+    file_bad : (t u : List ℕ) (x : A) (why : Why) → o ≡ Some t → IsRead form t x → o ≡ Some u → IsUnreadable form u why → ⊥
+    file_bad t u x why h i k n = read_no form u x why (subst (λ t. IsRead form t x) (one_value o t u h k) i) n
+
+    file_same : (t u : List ℕ) (x y : A) → o ≡ Some t → IsRead form t x → o ≡ Some u → IsRead form u y → x ≡ y
+    file_same t u x y h i k j = read_one form u x y (subst (λ t. IsRead form t x) (one_value o t u h k) i) j
+
+    file_why : (t u : List ℕ) (v w : Why) → o ≡ Some t → IsUnreadable form t v → o ≡ Some u → IsUnreadable form u w → v ≡ w
+    file_why t u v w h i k j = why_one form u v w (subst (λ t. IsUnreadable form t v) (one_value o t u h k) i) j
 
   module _ (files : Files) (c : Command) where
-    -- what the domain's file says
-    domain_here : (t : List ℕ) → files c.domain ≡ Some t → files c.domain ≡ None → ⊥
-    domain_here t h k = no_value (files c.domain) t h k
-
-    domain_bad : (t u : List ℕ) (d : Domain) → files c.domain ≡ Some t → IsDomain t d → files c.domain ≡ Some u → IsNoDomain u → ⊥
-    domain_bad t u d h x k n = domain_no u d (subst (λ t. IsDomain t d) (one_value (files c.domain) t u h k) x) n
-
-    domain_same : (t u : List ℕ) (d e : Domain) → files c.domain ≡ Some t → IsDomain t d → files c.domain ≡ Some u → IsDomain u e → d ≡ e
-    domain_same t u d e h x k y = domain_one u d e (subst (λ t. IsDomain t d) (one_value (files c.domain) t u h k) x) y
-
-    -- what the problem's file says
-    problem_here : (t : List ℕ) → files c.problem ≡ Some t → files c.problem ≡ None → ⊥
-    problem_here t h k = no_value (files c.problem) t h k
-
-    problem_bad : (t u : List ℕ) (d e : Domain) (p : Problem) → d ≡ e → files c.problem ≡ Some t → IsProblem t d p → files c.problem ≡ Some u → IsNoProblem u e → ⊥
-    problem_bad t u d e p s h x k n = problem_no u e p (subst (λ d. IsProblem u d p) s (subst (λ t. IsProblem t d p) (one_value (files c.problem) t u h k) x)) n
-
-    problem_same : (t u : List ℕ) (d e : Domain) (p q : Problem) → d ≡ e → files c.problem ≡ Some t → IsProblem t d p → files c.problem ≡ Some u → IsProblem u e q → p ≡ q
-    problem_same t u d e p q s h x k y = problem_one u e p q (subst (λ d. IsProblem u d p) s (subst (λ t. IsProblem t d p) (one_value (files c.problem) t u h k) x)) y
-
     -- two ways in which a command comes to an answer are one
     comes_one : (a b : Answer) → Comes files c a → Comes files c b → a ≡ b
     comes_one a b (outcome.NoDomainFile h x) (outcome.NoDomainFile k y) = x ∙ sym y
-    comes_one a b (outcome.NoDomainFile h x) (outcome.BadDomain u k n y) = absurd (domain_here u k h)
-    comes_one a b (outcome.NoDomainFile h x) (outcome.NoProblemFile u e k i m y) = absurd (domain_here u k h)
-    comes_one a b (outcome.NoDomainFile h x) (outcome.BadProblem u v e k i m n y) = absurd (domain_here u k h)
-    comes_one a b (outcome.NoDomainFile h x) (outcome.Planned u v e q k i m j y) = absurd (domain_here u k h)
-    comes_one a b (outcome.BadDomain t h n x) (outcome.NoDomainFile k y) = absurd (domain_here t h k)
-    comes_one a b (outcome.BadDomain t h n x) (outcome.BadDomain u k m y) = x ∙ sym y
-    comes_one a b (outcome.BadDomain t h n x) (outcome.NoProblemFile u e k i m y) = absurd (domain_bad u t e k i h n)
-    comes_one a b (outcome.BadDomain t h n x) (outcome.BadProblem u v e k i m o y) = absurd (domain_bad u t e k i h n)
-    comes_one a b (outcome.BadDomain t h n x) (outcome.Planned u v e q k i m j y) = absurd (domain_bad u t e k i h n)
-    comes_one a b (outcome.NoProblemFile t d h i m x) (outcome.NoDomainFile k y) = absurd (domain_here t h k)
-    comes_one a b (outcome.NoProblemFile t d h i m x) (outcome.BadDomain u k n y) = absurd (domain_bad t u d h i k n)
+    comes_one a b (outcome.NoDomainFile h x) (outcome.BadDomain u w k n y) = absurd (no_value (files c.domain) u k h)
+    comes_one a b (outcome.NoDomainFile h x) (outcome.NoProblemFile u e k i m y) = absurd (no_value (files c.domain) u k h)
+    comes_one a b (outcome.NoDomainFile h x) (outcome.BadProblem u v e w k i m n y) = absurd (no_value (files c.domain) u k h)
+    comes_one a b (outcome.NoDomainFile h x) (outcome.Judged u v e q k i m j y) = absurd (no_value (files c.domain) u k h)
+    comes_one a b (outcome.BadDomain t v h n x) (outcome.NoDomainFile k y) = absurd (no_value (files c.domain) t h k)
+    comes_one a b (outcome.BadDomain t v h n x) (outcome.BadDomain u w k m y) =
+        x ∙ (ap (unreadable inputs.Domain) (file_why domain_form (files c.domain) t u v w h n k m) ∙ sym y)
+    comes_one a b (outcome.BadDomain t v h n x) (outcome.NoProblemFile u e k i m y) = absurd (file_bad domain_form (files c.domain) u t e v k i h n)
+    comes_one a b (outcome.BadDomain t v h n x) (outcome.BadProblem u z e w k i m o y) = absurd (file_bad domain_form (files c.domain) u t e v k i h n)
+    comes_one a b (outcome.BadDomain t v h n x) (outcome.Judged u z e q k i m j y) = absurd (file_bad domain_form (files c.domain) u t e v k i h n)
+    comes_one a b (outcome.NoProblemFile t d h i m x) (outcome.NoDomainFile k y) = absurd (no_value (files c.domain) t h k)
+    comes_one a b (outcome.NoProblemFile t d h i m x) (outcome.BadDomain u w k n y) = absurd (file_bad domain_form (files c.domain) t u d w h i k n)
     comes_one a b (outcome.NoProblemFile t d h i m x) (outcome.NoProblemFile u e k j n y) = x ∙ sym y
-    comes_one a b (outcome.NoProblemFile t d h i m x) (outcome.BadProblem u v e k j n o y) = absurd (problem_here v n m)
-    comes_one a b (outcome.NoProblemFile t d h i m x) (outcome.Planned u v e q k j n o y) = absurd (problem_here v n m)
-    comes_one a b (outcome.BadProblem t v d h i m n x) (outcome.NoDomainFile k y) = absurd (domain_here t h k)
-    comes_one a b (outcome.BadProblem t v d h i m n x) (outcome.BadDomain u k o y) = absurd (domain_bad t u d h i k o)
-    comes_one a b (outcome.BadProblem t v d h i m n x) (outcome.NoProblemFile u e k j o y) = absurd (problem_here v m o)
-    comes_one a b (outcome.BadProblem t v d h i m n x) (outcome.BadProblem u w e k j o r y) = x ∙ sym y
-    comes_one a b (outcome.BadProblem t v d h i m n x) (outcome.Planned u w e q k j o r y) = absurd (problem_bad w v e d q (domain_same u t e d k j h i) o r m n)
-    comes_one a b (outcome.Planned t v d p h i m n x) (outcome.NoDomainFile k y) = absurd (domain_here t h k)
-    comes_one a b (outcome.Planned t v d p h i m n x) (outcome.BadDomain u k o y) = absurd (domain_bad t u d h i k o)
-    comes_one a b (outcome.Planned t v d p h i m n x) (outcome.NoProblemFile u e k j o y) = absurd (problem_here v m o)
-    comes_one a b (outcome.Planned t v d p h i m n x) (outcome.BadProblem u w e k j o r y) = absurd (problem_bad v w d e p (domain_same t u d e h i k j) m n o r)
-    comes_one a b (outcome.Planned t v d p h i m n x) (outcome.Planned u w e q k j o r y) =
-        let same = domain_same t u d e h i k j in
-        let also = problem_same v w d e p q same m n o r in
-        x ∙ (ap (λ d. answer_of c d p) same ∙ (ap (λ p. answer_of c e p) also ∙ sym y))
+    comes_one a b (outcome.NoProblemFile t d h i m x) (outcome.BadProblem u z e w k j n o y) = absurd (no_value (files c.problem) z n m)
+    comes_one a b (outcome.NoProblemFile t d h i m x) (outcome.Judged u z e q k j n o y) = absurd (no_value (files c.problem) z n m)
+    comes_one a b (outcome.BadProblem t s d v h i m n x) (outcome.NoDomainFile k y) = absurd (no_value (files c.domain) t h k)
+    comes_one a b (outcome.BadProblem t s d v h i m n x) (outcome.BadDomain u w k o y) = absurd (file_bad domain_form (files c.domain) t u d w h i k o)
+    comes_one a b (outcome.BadProblem t s d v h i m n x) (outcome.NoProblemFile u e k j o y) = absurd (no_value (files c.problem) s m o)
+    comes_one a b (outcome.BadProblem t s d v h i m n x) (outcome.BadProblem u z e w k j o r y) =
+        x ∙ (ap (unreadable inputs.Problem) (file_why problem_form (files c.problem) s z v w m n o r) ∙ sym y)
+    comes_one a b (outcome.BadProblem t s d v h i m n x) (outcome.Judged u z e q k j o r y) = absurd (file_bad problem_form (files c.problem) z s q v o r m n)
+    comes_one a b (outcome.Judged t s d p h i m n x) (outcome.NoDomainFile k y) = absurd (no_value (files c.domain) t h k)
+    comes_one a b (outcome.Judged t s d p h i m n x) (outcome.BadDomain u w k o y) = absurd (file_bad domain_form (files c.domain) t u d w h i k o)
+    comes_one a b (outcome.Judged t s d p h i m n x) (outcome.NoProblemFile u e k j o y) = absurd (no_value (files c.problem) s m o)
+    comes_one a b (outcome.Judged t s d p h i m n x) (outcome.BadProblem u z e w k j o r y) = absurd (file_bad problem_form (files c.problem) s z p w m n o r)
+    comes_one a b (outcome.Judged t s d p h i m n x) (outcome.Judged u z e q k j o r y) =
+        let same = file_same domain_form (files c.domain) t u d e h i k j in
+        let also = file_same problem_form (files c.problem) s z p q m n o r in
+        x ∙ (ap₂ (answer_of_read c) same also ∙ sym y)
 
   pub outcome_one : (words : List (List ℕ)) (files : Files) (a b : Answer) → Outcome words files a → Outcome words files b → a ≡ b
   outcome_one words files a b (outcome.NoCommand e x) (outcome.NoCommand f y) = x ∙ sym y
@@ -93,53 +105,43 @@ module _ (one : (t : List ℕ) (f g : Forest) → IsForest t f → IsForest t g 
   outcome_one words files a b (outcome.ByCommand c e x) (outcome.NoCommand f y) = absurd (no_value (accepts words) c e f)
   outcome_one words files a b (outcome.ByCommand c e x) (outcome.ByCommand d f y) = comes_one files d a b (subst (λ c. Comes files c a) (one_value (accepts words) c d e f) x) y
 
-module _ (all : (t : List ℕ) → ((f : Forest) × IsForest t f) ⊎ Refused t) where
-  abbrev SomeDomain : List ℕ → Type 0
-  SomeDomain t = ((d : Domain) × IsDomain t d) ⊎ IsNoDomain t
+module _ (all : (t : List ℕ) → ((f : Forest) × IsForest t f) ⊎ ((r : Refusal) × IsRefused t r)) where
+  module _ {A : Type 0} (form : Form A) (t : List ℕ) where
+    abbrev ReadOrNot : Type 0
+    ReadOrNot = ((x : A) × IsRead form t x) ⊎ ((why : Why) × IsUnreadable form t why)
 
-  domain_by_form : (t : List ℕ) (f : Forest) → IsForest t f → (o : Option Domain) → domain_of f ≡ o → SomeDomain t
-  domain_by_form t f s None e = inr (outcome.IsNoDomain.NoForm f s e)
-  domain_by_form t f s (Some d) e = inl (d, record { forest = f; spelled = s; form = e })
+    by_form : (f : Forest) → IsForest t f → (r : Result A Misform) → form (length t) f ≡ r → ReadOrNot
+    by_form f s (Ok x) e = inl (x, record { forest = f; spelled = s; form_is = e })
+    by_form f s (Err m) e = inr (InForm m, outcome.ByForm f m s e refl)
 
-  domain_or_not : (t : List ℕ) → SomeDomain t
-  domain_or_not t = elim (all t) as (λ _. SomeDomain t) [ inl x ↦ domain_by_form t x.0 x.1 (domain_of x.0) refl | inr r ↦ inr (outcome.IsNoDomain.NoForest r) ]
-
-  abbrev SomeProblem : List ℕ → Domain → Type 0
-  SomeProblem t d = ((p : Problem) × IsProblem t d p) ⊎ IsNoProblem t d
-
-  problem_by_name : (t : List ℕ) (d : Domain) (f : Forest) (p : Problem) → IsForest t f → problem_of f ≡ Some p → (b : Bool) → bytes_eq p.domain d.name ≡ b → SomeProblem t d
-  problem_by_name t d f p s e true n = inl (p, record { forest = f; spelled = s; form = e; named = n })
-  problem_by_name t d f p s e false n = inr (outcome.IsNoProblem.OfAnother f p s e n)
-
-  problem_by_form : (t : List ℕ) (d : Domain) (f : Forest) → IsForest t f → (o : Option Problem) → problem_of f ≡ o → SomeProblem t d
-  problem_by_form t d f s None e = inr (outcome.IsNoProblem.NoForm f s e)
-  problem_by_form t d f s (Some p) e = problem_by_name t d f p s e (bytes_eq p.domain d.name) refl
-
-  problem_or_not : (t : List ℕ) (d : Domain) → SomeProblem t d
-  problem_or_not t d = elim (all t) as (λ _. SomeProblem t d) [ inl x ↦ problem_by_form t d x.0 x.1 (problem_of x.0) refl | inr r ↦ inr (outcome.IsNoProblem.NoForest r) ]
+    read_or_not : ReadOrNot
+    read_or_not = elim (all t) as (λ _. ReadOrNot) [
+      | inl x ↦ by_form x.0 x.1 (form (length t) x.0) refl
+      | inr r ↦ inr (InText r.0, outcome.ByText r.0 r.1 refl)
+    ]
 
   module _ (files : Files) (c : Command) where
     abbrev SomeAnswer : Type 0
     SomeAnswer = (a : Answer) × Comes files c a
 
-    by_problem : (t : List ℕ) (d : Domain) → files c.domain ≡ Some t → IsDomain t d → (o : Option (List ℕ)) → files c.problem ≡ o → SomeAnswer
-    by_problem t d h i None e = ((codes "refused read problem\n", status.ReadFault), outcome.NoProblemFile t d h i e refl)
+    by_problem : (t : List ℕ) (d : Domain) → files c.domain ≡ Some t → IsRead domain_form t d → (o : Option (List ℕ)) → files c.problem ≡ o → SomeAnswer
+    by_problem t d h i None e = (unread inputs.Problem, outcome.NoProblemFile t d h i e refl)
     by_problem t d h i (Some u) e =
-        elim (problem_or_not u d) as (λ _. SomeAnswer) [
-          | inl x ↦ (answer_of c d x.0, outcome.Planned t u d x.0 h i e x.1 refl)
-          | inr n ↦ ((codes "refused problem Expected\n", status.ProblemRefused), outcome.BadProblem t u d h i e n refl)
+        elim (read_or_not problem_form u) as (λ _. SomeAnswer) [
+          | inl x ↦ (answer_of_read c d x.0, outcome.Judged t u d x.0 h i e x.1 refl)
+          | inr n ↦ (unreadable inputs.Problem n.0, outcome.BadProblem t u d n.0 h i e n.1 refl)
         ]
 
     by_domain : (o : Option (List ℕ)) → files c.domain ≡ o → SomeAnswer
-    by_domain None e = ((codes "refused read domain\n", status.ReadFault), outcome.NoDomainFile e refl)
+    by_domain None e = (unread inputs.Domain, outcome.NoDomainFile e refl)
     by_domain (Some t) e =
-        elim (domain_or_not t) as (λ _. SomeAnswer) [
+        elim (read_or_not domain_form t) as (λ _. SomeAnswer) [
           | inl x ↦ by_problem t x.0 e x.1 (files c.problem) refl
-          | inr n ↦ ((codes "refused domain Expected\n", status.DomainRefused), outcome.BadDomain t e n refl)
+          | inr n ↦ (unreadable inputs.Domain n.0, outcome.BadDomain t n.0 e n.1 refl)
         ]
 
   by_words : (words : List (List ℕ)) (files : Files) (o : Option Command) → accepts words ≡ o → (a : Answer) × Outcome words files a
-  by_words words files None e = ((codes "refused usage\n", status.Usage), outcome.NoCommand e refl)
+  by_words words files None e = ((refused_usage, status.Usage), outcome.NoCommand e refl)
   by_words words files (Some c) e = let x = by_domain files c (files c.domain) refl in (x.0, outcome.ByCommand c e x.1)
 
   pub outcome_some : (words : List (List ℕ)) (files : Files) → (a : Answer) × Outcome words files a

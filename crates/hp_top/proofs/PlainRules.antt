@@ -9,11 +9,11 @@ use Rattle.hp_syntax.specs.Terms.{Term, Bindings, on_ok}
 use Rattle.hp_syntax.specs.Expressions.{Atom, Event, Sat, State, through, events_of_both, state_events, sat_if, match_atom, atom_value, heard}
 use Rattle.hp_syntax.specs.Networks.{Network, Task, Ordered, And}
 use Rattle.hp_syntax.specs.Rules.{Changes, Now, Going, Went, and_go, go_on, effect_atoms, effects, task_list_value, tasks_value, precondition_events, first_guarded, applied, apply}
-use Rattle.hp_syntax.specs.Form.{all_hold, conjunction, each_task, task_list, changes, make_operator, each_network}
+use Rattle.hp_syntax.specs.Lowering.{all_hold, conjunction, each_task, task_list, changes, make_operator, each_network}
 use Rattle.hp_top.specs.Flat.{matches, satisfiers, atom_values}
 use Rattle.hp_top.proofs.NetworksInOrder.{tasks_in_all}
 
--- one atom of the state more
+-- the satisfiers of an atom are those by the first atom of the state, and those by the others
 matches_step : (o : Option Bindings) (es : List Bindings) (xs : List Event) → xs ≡ map Sat es → sat_if o ++ xs ≡ map Sat (cons_option o es)
 matches_step None es xs h = h
 matches_step (Some e) es xs h = ap (λ r. Sat e ∷ r) h
@@ -28,7 +28,7 @@ through_sats : (f : Bindings → List Event) (g : Bindings → List Bindings) �
 through_sats f g h [] = refl
 through_sats f g h (e ∷ es) = rw (h e, through_sats f g h es) (sym (map-append Sat (g e) (flat_map g es)))
 
--- several atoms are satisfied one after the other
+-- the satisfiers of several atoms are found one atom after the other
 conjunction_events : (s : State) (atoms : List Atom) (e : Bindings) → events_of_both (state_events s) (all_hold atoms) e ≡ map Sat (satisfiers s atoms e)
 conjunction_events s [] e = refl
 conjunction_events s (a ∷ rest) e =
@@ -44,7 +44,7 @@ heard_sats (e ∷ es) = ap (λ r. Sat e ∷ r) (heard_sats es)
 pub precondition_sats : (s : State) (atoms : List Atom) (e : Bindings) → precondition_events s (conjunction atoms) e ≡ map Sat (satisfiers s atoms e)
 precondition_sats s atoms e = ap heard (conjunction_events s atoms e) ∙ heard_sats (satisfiers s atoms e)
 
--- going on is the same as having a value
+-- a list goes on with its parts as it has a value with theirs
 went_on : (r : Result Term RunFault) (q : Result (List Term) RunFault) → and_go (go_on r) (λ t. and_go (go_on q) (λ ts. Went (t ∷ ts))) ≡ go_on (on_ok r (λ t. on_ok q (λ ts. Ok (t ∷ ts))))
 went_on (Err f) q = refl
 went_on (Ok t) (Err f) = refl
@@ -65,7 +65,7 @@ plain_changes dels adds = record { unguard = []; delete = dels; add = adds; guar
 abbrev pub plain_effects : Result (List Term) RunFault → Result (List Term) RunFault → Going (Changes × ℤ)
 plain_effects dels adds = and_go (go_on dels) (λ d. and_go (go_on adds) (λ a. Went (plain_changes d a, pos 1)))
 
--- and so are the effects of an operator
+-- the effects of an operator of the small language are its changes and a cost of 1
 pub operator_effects : (s : Span) (vars : List (List ℕ)) (h : Atom) (p d a : List Atom) (e : Bindings) →
     effects (make_operator s vars h p d a) e ≡ plain_effects (atom_values d e) (atom_values a e)
 operator_effects s vars h p d a e = rw (changes_atoms d e, changes_atoms a e) refl
@@ -107,7 +107,7 @@ networked (Ok ts) = refl
 pub task_list_network : (atoms : List Atom) (e : Bindings) → tasks_value (task_list atoms) e ≡ plain_network (atom_values atoms e)
 task_list_network atoms e = ap (λ g. on_ok g (λ ns. Ok (Ordered ns))) (each_value atoms e) ∙ networked (atom_values atoms e)
 
--- its tasks are the list
+-- the tasks of the network of a list are the list
 pub each_network_tasks : (ts : List Term) → tasks_in_all (each_network ts) ≡ ts
 each_network_tasks [] = refl
 each_network_tasks (t ∷ ts) = ap (λ r. t ∷ r) (each_network_tasks ts)

@@ -9,7 +9,7 @@ use Rattle.hp_syntax.specs.Walk.{Node, Sight, Did, Plan, CutHere, FaultHere, Vis
 use Rattle.hp_top.specs.declared.program.Domain.{Domain}
 use Rattle.hp_top.specs.declared.program.Problem.{Problem}
 use Rattle.hp_top.specs.declared.status.Status.{Status}
-use Rattle.hp_top.specs.Program.{domain_of, problem_of}
+use Rattle.hp_top.specs.Program.{plain_domain, plain_problem}
 use Rattle.hp_top.specs.Flat.{FlatNode, Shown, DidShown, PlanShown, CutShown, FaultShown, shown_at, heard_shown}
 use Rattle.hp_top.specs.Rest.{flat_root}
 use Rattle.hp_top.specs.Told.{flat_plan_text, quiet_ending, told, told_status}
@@ -199,19 +199,19 @@ left_status k _ _ s j p cut h e = absurd s
 
 -- what the engine tells is the report of the walk
 pub told-report : (d : Domain) (p : Problem) (depth k : ℕ) → 1 ≤ k →
-    told k 0 0 false (heard_shown (shown_at d.rules.items (flat_root p depth))) ≡ report k (walk (domain_of d) (problem_of p) depth)
+    told k 0 0 false (heard_shown (shown_at d.rules.items (flat_root p depth))) ≡ report k (walk (plain_domain d) (plain_problem p) depth)
 unfolding report walk
 told-report d p depth k h =
-    let vs : List Visit = seen k (heard_visits (visits (domain_of d) (root (problem_of p) depth) [])) in
+    let vs : List Visit = seen k (heard_visits (visits (plain_domain d) (root (plain_problem p) depth) [])) in
     let a : 0 + plans vs ≡ plans vs = omega arith in
     let b : 0 + dids vs ≡ dids vs = omega arith in
     left_told k _ _ (problem_shown d p depth) k 0 0 false h (omega arith) ∙ rw (a, b) refl
 
--- and the status that it ends with is the walk's
+-- the status that the engine ends with is the walk's
 pub told-status : (d : Domain) (p : Problem) (depth k : ℕ) → 1 ≤ k →
-    told_status k 0 false (heard_shown (shown_at d.rules.items (flat_root p depth))) ≡ walk_status k (walk (domain_of d) (problem_of p) depth)
+    told_status k 0 false (heard_shown (shown_at d.rules.items (flat_root p depth))) ≡ walk_status k (walk (plain_domain d) (plain_problem p) depth)
 unfolding walk walk_status
 told-status d p depth k h =
-    let vs : List Visit = seen k (heard_visits (visits (domain_of d) (root (problem_of p) depth) [])) in
+    let vs : List Visit = seen k (heard_visits (visits (plain_domain d) (root (plain_problem p) depth) [])) in
     let a : 0 + plans vs ≡ plans vs = omega arith in
     left_status k _ _ (problem_shown d p depth) k 0 false h (omega arith) ∙ rw a refl

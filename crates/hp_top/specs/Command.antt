@@ -1,8 +1,11 @@
 -- The words of a command.
 use Rattle.std.specs.Prelude.{ℕ, ◌+◌, ◌-◌, ◌*◌, Bool, ◌&&◌, ◌||◌, not, nat_le, nat_lt, ◌==◌, length, slice_index, List, [], ◌∷◌, Option, Some, None, bytes_eq, codes}
 use Rattle.std.specs.List.{list_all}
+use Rattle.hp_io.specs.declared.folder.Input.{Input}
+use Rattle.hp_io.specs.declared.folder.Input.TheVariants as inputs
+use Rattle.hp_syntax.specs.declared.limits.TheConstants.{MOST_PLANS, GREATEST_DEPTH}
 use Rattle.hp_syntax.specs.Text.{is_digit}
-use Rattle.hp_syntax.specs.Form.{only_if, joined}
+use Rattle.hp_syntax.specs.Lowering.{only_if, joined}
 
 -- a number is `0`, or digits without a leading zero
 abbrev pub is_number : List ℕ → Bool
@@ -29,9 +32,14 @@ pub record Command : Type 0 where
 abbrev pub make_command : List ℕ → List ℕ → ℕ → ℕ → Command
 make_command d p k n = record { domain = d; problem = p; plans = k; depth = n }
 
+-- the file that a command names for an input
+abbrev pub named : Command → Input → Option (List ℕ)
+named c inputs.Domain = Some c.domain
+named c inputs.Problem = Some c.problem
+
 -- `plan DOMAIN PROBLEM K DEPTH`
 abbrev pub accepts : List (List ℕ) → Option Command
 accepts (word ∷ d ∷ p ∷ k ∷ n ∷ []) =
     only_if (bytes_eq word (codes "plan"))
-    (joined (make_command d p) (number_within 1 1000000000 k) (number_within 0 1000 n))
+    (joined (make_command d p) (number_within 1 MOST_PLANS k) (number_within 0 GREATEST_DEPTH n))
 accepts _ = None

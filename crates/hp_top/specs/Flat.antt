@@ -15,7 +15,7 @@ use Rattle.hp_top.specs.declared.program.Branch.{Branch}
 use Rattle.hp_top.specs.declared.program.Method.{Method}
 use Rattle.hp_top.specs.declared.program.Rule.{Rule}
 use Rattle.hp_top.specs.declared.program.Rule.TheVariants as kinds
-use Rattle.hp_top.specs.Program.{shared_term, terms_of, atom_of, atoms_of}
+use Rattle.hp_top.specs.Program.{shared_term, plain_terms, plain_atom, plain_atoms}
 
 -- a node, its tasks in order; its cost is the number of its steps
 pub record FlatNode : Type 0 where
@@ -32,9 +32,9 @@ pub data FlatChild : Type 0 where
 abbrev pub flat_node : Node → FlatNode
 flat_node n =
     record {
-      state = terms_of n.state.items;
-      tasks = terms_of n.tasks.items;
-      steps = terms_of n.steps.items;
+      state = plain_terms n.state.items;
+      tasks = plain_terms n.tasks.items;
+      steps = plain_terms n.steps.items;
       depth = n.depth;
     }
 
@@ -84,8 +84,8 @@ after_deletes n t behind (Ok dels) adds = after_adds n t behind dels adds
 -- the child of an operator for one satisfier
 abbrev pub by_operator : FlatNode → Term → List Term → Operator → Bindings → FlatChild
 by_operator n t behind o e =
-    after_deletes n t behind (atom_values (atoms_of o.deletes.items) e)
-    (atom_values (atoms_of o.adds.items) e)
+    after_deletes n t behind (atom_values (plain_atoms o.deletes.items) e)
+    (atom_values (plain_atoms o.adds.items) e)
 
 abbrev pub after_subtasks : FlatNode → List Term → Result (List Term) RunFault → FlatChild
 after_subtasks n behind (Err f) = FlatFault f
@@ -93,7 +93,7 @@ after_subtasks n behind (Ok sub) = did_method n behind sub
 
 -- the child of a method's branch for one satisfier
 abbrev pub by_branch : FlatNode → List Term → Branch → Bindings → FlatChild
-by_branch n behind b e = after_subtasks n behind (atom_values (atoms_of b.tasks.items) e)
+by_branch n behind b e = after_subtasks n behind (atom_values (plain_atoms b.tasks.items) e)
 
 -- the child that a choice stands for, whose other tasks are those behind the node's first
 abbrev pub flat_choice : Choice → FlatChild
@@ -106,7 +106,7 @@ flat_choice (chosen.Branch n b e) =
 abbrev pub by_operators : FlatNode → Term → List Term → Operator → Option Bindings → List FlatChild
 by_operators n t behind o None = []
 by_operators n t behind o (Some e) =
-    map (by_operator n t behind o) (satisfiers n.state (atoms_of o.pre.items) e)
+    map (by_operator n t behind o) (satisfiers n.state (plain_atoms o.pre.items) e)
 
 -- the first branch with a satisfier is used, and no other
 abbrev pub first_used : List Bindings → (Bindings → FlatChild) → List FlatChild → List FlatChild
@@ -116,7 +116,7 @@ first_used (e ∷ es) child others = map child (e ∷ es)
 abbrev pub by_branches : FlatNode → List Term → List Branch → Bindings → List FlatChild
 by_branches n behind [] e = []
 by_branches n behind (b ∷ bs) e =
-    first_used (satisfiers n.state (atoms_of b.pre.items) e) (by_branch n behind b)
+    first_used (satisfiers n.state (plain_atoms b.pre.items) e) (by_branch n behind b)
     (by_branches n behind bs e)
 
 abbrev pub by_method : FlatNode → List Term → Method → Option Bindings → List FlatChild
@@ -126,9 +126,9 @@ by_method n behind m (Some e) = by_branches n behind m.branches.items e
 -- the children by one rule
 abbrev pub by_rule : FlatNode → Term → List Term → Rule → List FlatChild
 by_rule n t behind (kinds.Operator o) =
-    by_operators n t behind o (match_atom (atom_of o.head) t (unbound (length o.vars.items)))
+    by_operators n t behind o (match_atom (plain_atom o.head) t (unbound (length o.vars.items)))
 by_rule n t behind (kinds.Method m) =
-    by_method n behind m (match_atom (atom_of m.head) t (unbound (length m.vars.items)))
+    by_method n behind m (match_atom (plain_atom m.head) t (unbound (length m.vars.items)))
 
 abbrev pub by_rules : FlatNode → Term → List Term → List Rule → List FlatChild
 by_rules n t behind rules = flat_map (by_rule n t behind) rules

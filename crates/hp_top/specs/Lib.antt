@@ -1,8 +1,10 @@
 pub mod Codes
 pub mod Command
 pub mod Flat
-pub mod FormReads
+pub mod Lines
 pub mod Loading
+pub mod Lowers
+pub mod Marks
 pub mod Outcome
 pub mod Program
 pub mod Reading
@@ -12,6 +14,7 @@ pub mod Serving
 pub mod Stops
 pub mod Telling
 pub mod Told
+pub mod Touching
 pub mod Words
 pub mod Writing
 pub mod Samples

@@ -1,13 +1,20 @@
 -- What is known once two files were read, and why a run goes no further.
-use Rattle.std.specs.Prelude.{◌≡◌, ◌⊎◌, ℕ, List, Option, Some, None, take}
+use Rattle.std.specs.Prelude.{◌≡◌, ◌⊎◌, ℕ, ◌+◌, List, Option, Some, None, take}
+use Rattle.hp_io.specs.declared.folder.Input.{Input}
 use Rattle.hp_io.specs.declared.folder.Input.TheVariants as inputs
 use Rattle.hp_io.specs.Rules.{Rose}
-use Rattle.hp_syntax.specs.Forest.{Forest}
-use Rattle.hp_syntax.specs.Form as form
+use Rattle.hp_forms.specs.declared.refusal.FormRefusal.{FormRefusal}
+use Rattle.hp_forms.specs.declared.refusal.FormRefusal.TheVariants as forms
+use Rattle.hp_text.specs.declared.forest.TextRefusal.{TextRefusal}
+use Rattle.hp_text.specs.declared.forest.TextRefusal.TheVariants as texts
+use Rattle.hp_syntax.specs.declared.limits.TheConstants.{LARGEST_TEXT}
+use Rattle.hp_syntax.specs.Grammar.{domain_form, problem_form}
 use Rattle.hp_syntax.specs.Rules as plain
-use Rattle.hp_top.specs.declared.loading.Stop.{Stop}
-use Rattle.hp_top.specs.declared.loading.Stop.TheVariants.{NoMemory, Unread, Refused}
-use Rattle.hp_top.specs.Outcome.{IsDomain, IsNoDomain, IsNoProblem}
+use Rattle.hp_syntax.specs.Steps.{Expected, SeveralPairs}
+use Rattle.hp_syntax.specs.Syntax as whole
+use Rattle.hp_top.specs.declared.refusing.Unplanned.{Unplanned}
+use Rattle.hp_top.specs.declared.refusing.Unplanned.TheVariants as causes
+use Rattle.hp_top.specs.Outcome.{Form, IsRead, Why, InText, InForm, IsUnreadable, Verdict, Faulty, LaterDomain, LaterProblem, Runs, verdict}
 
 -- what a folder tells of a file: nothing, that there is none, or its bytes
 abbrev pub ToldFile : Type 0
@@ -17,7 +24,7 @@ ToldFile = Option (Option (List ℕ))
 abbrev pub ReadsFile : List ℕ → ToldFile → Type 0
 ReadsFile bytes None = Unit {0}
 ReadsFile bytes (Some None) = ⊥
-ReadsFile bytes (Some (Some text)) = bytes ≡ take 4194305 text
+ReadsFile bytes (Some (Some text)) = bytes ≡ take (LARGEST_TEXT + 1) text
 
 -- a fact of a told file's text; a file that is told to be missing has none
 abbrev pub Holds : (List ℕ → Type 0) → ToldFile → Type 0
@@ -25,34 +32,78 @@ Holds P None = Unit {0}
 Holds P (Some None) = ⊥
 Holds P (Some (Some text)) = P text
 
--- a domain of the language: it is the form of some forest
-abbrev pub IsFormed : plain.Domain → Type 0
-IsFormed d = (f : Forest) × (form.domain_of f ≡ Some d)
+-- ---- one file
+
+-- a told file is read as this by a grammar
+abbrev pub Reads : {A : Type 0} → Form A → ToldFile → A → Type 0
+Reads form file x = Holds (λ text. IsRead form text x) file
 
 -- an input is unread only where its count of faults rose, or where its file is told to be missing
-abbrev pub IsUnread : ToldFile → ℕ → ℕ → Type 0
-IsUnread file before now = Rose before now ⊎ (file ≡ Some None)
+abbrev pub IsUnread : Input → ToldFile → (Input → ℕ) → (Input → ℕ) → Type 0
+IsUnread which file before now = Rose (before which) (now which) ⊎ (file ≡ Some None)
 
-abbrev pub DomainStops : Stop → ToldFile → ℕ → ℕ → Type 0
-DomainStops NoMemory file before now = Unit {0}
-DomainStops (Unread inputs.Domain) file before now = IsUnread file before now
-DomainStops (Unread inputs.Problem) file before now = ⊥
-DomainStops (Refused inputs.Domain) file before now = Holds IsNoDomain file
-DomainStops (Refused inputs.Problem) file before now = ⊥
+-- the cause that tells why a text is read as nothing
+abbrev pub cause_of : Input → Why → Unplanned
+cause_of which (InText r) = causes.Text which r.kind r.offset
+cause_of which (InForm (Expected what s)) = causes.Form which what s
+cause_of which (InForm (SeveralPairs s)) = causes.Several s
 
-abbrev pub ProblemStops : Stop → plain.Domain → ToldFile → ℕ → ℕ → Type 0
-ProblemStops NoMemory d file before now = Unit {0}
-ProblemStops (Unread inputs.Domain) d file before now = ⊥
-ProblemStops (Unread inputs.Problem) d file before now = IsUnread file before now
-ProblemStops (Refused inputs.Domain) d file before now = ⊥
-ProblemStops (Refused inputs.Problem) d file before now = Holds (λ text. IsNoProblem text d) file
+-- the cause of a refused text, and of a forest without a form
+abbrev pub of_text : Input → TextRefusal → Unplanned
+of_text which (texts.Bad kind offset) = causes.Text which kind offset
+of_text which texts.NoMemory = causes.NoMemory
 
--- why a run stops before it plans: the problem's file matters only where the domain's is a domain
-abbrev pub Stops : Stop → ToldFile → ToldFile → ℕ → ℕ → ℕ → ℕ → Type 0
-Stops NoMemory domain problem d0 d1 p0 p1 = Unit {0}
-Stops (Unread inputs.Domain) domain problem d0 d1 p0 p1 = IsUnread domain d0 d1
-Stops (Refused inputs.Domain) domain problem d0 d1 p0 p1 = Holds IsNoDomain domain
-Stops (Unread inputs.Problem) domain problem d0 d1 p0 p1 =
-    (d : plain.Domain) × Holds (λ text. IsDomain text d) domain × IsUnread problem p0 p1
-Stops (Refused inputs.Problem) domain problem d0 d1 p0 p1 =
-    (d : plain.Domain) × Holds (λ text. IsDomain text d) domain × Holds (λ text. IsNoProblem text d) problem
+abbrev pub of_form : Input → FormRefusal → Unplanned
+of_form which (forms.Expected what span) = causes.Form which what span
+of_form which (forms.SeveralPairs span) = causes.Several span
+of_form which forms.NoMemory = causes.NoMemory
+
+-- bytes are read as nothing for this cause, or there is too little memory to know
+pub data IsRefusedFor {A : Type 0} (which : Input) (form : Form A) (bytes : List ℕ) (cause : Unplanned) : Type 0 where
+  WithoutMemory : cause ≡ causes.NoMemory → IsRefusedFor which form bytes cause
+  Unreadable : (why : Why) → cause ≡ cause_of which why → IsUnreadable form bytes why
+      → IsRefusedFor which form bytes cause
+
+-- a file is read as nothing for this cause
+pub data StopsAt {A : Type 0} (which : Input) (form : Form A) (cause : Unplanned) (file : ToldFile)
+    (before now : Input → ℕ) : Type 0 where
+  WithoutMemory : cause ≡ causes.NoMemory → StopsAt which form cause file before now
+  Unread : cause ≡ causes.Read which → IsUnread which file before now → StopsAt which form cause file before now
+  Unreadable : (why : Why) → cause ≡ cause_of which why → Holds (λ text. IsUnreadable form text why) file
+      → StopsAt which form cause file before now
+
+-- ---- both files
+
+-- the problem couldn't be read; the domain's file is there and read
+pub record IsProblemUnread (domain problem : ToldFile) (before now : Input → ℕ) : Type 0 where
+  pub of_domain : whole.Domain
+  pub is_read : Reads domain_form domain of_domain
+  pub unread : IsUnread inputs.Problem problem before now
+
+-- what is read of both, and what of it is run
+pub record IsPrepared (domain problem : ToldFile) (d : plain.Domain) (p : plain.Problem) : Type 0 where
+  pub whole_domain : whole.Domain
+  pub whole_problem : whole.Problem
+  pub reads_domain : Reads domain_form domain whole_domain
+  pub reads_problem : Reads problem_form problem whole_problem
+  pub runs : verdict whole_domain whole_problem ≡ Runs d p
+
+-- a verdict by which nothing is run has this cause, or there is too little memory to know
+abbrev pub Rejects : Verdict → Unplanned → Type 0
+Rejects v causes.NoMemory = Unit {0}
+Rejects v (causes.Read which) = ⊥
+Rejects v (causes.Text which kind offset) = ⊥
+Rejects v (causes.Form which what span) = ⊥
+Rejects v (causes.Several span) = ⊥
+Rejects v (causes.Check fault) = v ≡ Faulty fault
+Rejects v (causes.DomainLater span) = v ≡ LaterDomain span
+Rejects v causes.ProblemLater = v ≡ LaterProblem
+
+-- why a run stops before it plans: the problem's file matters only where the domain's is read, and the verdict only
+-- where both are
+pub data Stops (cause : Unplanned) (domain problem : ToldFile) (before now : Input → ℕ) : Type 0 where
+  AtDomain : StopsAt inputs.Domain domain_form cause domain before now → Stops cause domain problem before now
+  AtProblem : (d : whole.Domain) → Reads domain_form domain d
+      → StopsAt inputs.Problem problem_form cause problem before now → Stops cause domain problem before now
+  AtVerdict : (d : whole.Domain) (p : whole.Problem) → Reads domain_form domain d → Reads problem_form problem p
+      → Rejects (verdict d p) cause → Stops cause domain problem before now

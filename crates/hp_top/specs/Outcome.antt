@@ -1,11 +1,21 @@
 -- What the words and the files of a run come to: the text that is written, and the status.
-use Rattle.std.specs.Prelude.{◌≡◌, ℕ, true, false, cond, nat_lt, List, Option, Some, None, codes, bytes_eq}
-use Rattle.hp_syntax.specs.Forest.{Forest, IsForest, Refused}
-use Rattle.hp_syntax.specs.Form.{domain_of, problem_of}
+use Rattle.std.specs.Prelude.{◌≡◌, ℕ, cond, nat_lt, List, ◌++◌, length, Option, Some, None, Result, Ok, Err, codes}
+use Rattle.hp_io.specs.declared.folder.Input.{Input}
+use Rattle.hp_io.specs.declared.folder.Input.TheVariants as inputs
+use Rattle.hp_syntax.specs.declared.check.CheckFault.{CheckFault}
+use Rattle.hp_syntax.specs.declared.pattern.Span.{Span}
+use Rattle.hp_syntax.specs.Checks.{first_of, domain_faults, problem_faults}
+use Rattle.hp_syntax.specs.Forest.{Forest, IsForest}
+use Rattle.hp_syntax.specs.Grammar.{domain_form, problem_form}
+use Rattle.hp_syntax.specs.Lowering.{lower_domain, lower_problem}
+use Rattle.hp_syntax.specs.Refusal.{Refusal, IsRefused}
 use Rattle.hp_syntax.specs.Rules.{Domain, Problem}
+use Rattle.hp_syntax.specs.Steps.{Misform, Expected, SeveralPairs}
+use Rattle.hp_syntax.specs.Syntax as whole
 use Rattle.hp_syntax.specs.Walk.{Visit, walk}
 use Rattle.hp_syntax.specs.Report.{Ending, Stopped, AtFault, AtCut, AtEnd, seen, plans, ending, report}
 use Rattle.hp_top.specs.Command.{Command, accepts}
+use Rattle.hp_top.specs.Lines.{check_word, kind_word, at_offset, at_span, expected_text, refused, refused_read, refused_usage}
 use Rattle.hp_top.specs.declared.status.Status.{Status}
 use Rattle.hp_top.specs.declared.status.Status.TheVariants.{Done, Usage, ReadFault, DomainRefused, ProblemRefused, RunFault, NoPlan, CutShort}
 
@@ -13,30 +23,68 @@ use Rattle.hp_top.specs.declared.status.Status.TheVariants.{Done, Usage, ReadFau
 abbrev pub Files : Type 0
 Files = List ℕ → Option (List ℕ)
 
--- a text that is a domain: it spells a forest, whose form the domain is
-pub record IsDomain (text : List ℕ) (d : Domain) : Type 0 where
+abbrev pub Answer : Type 0
+Answer = List ℕ × Status
+
+-- ---- what a text is read as
+
+-- a grammar says what the forest of a text of this length is the form of
+abbrev pub Form : Type 0 → Type 0
+Form A = ℕ → Forest → Result A Misform
+
+-- what a text is read as by a grammar: it spells a forest, whose form this is
+pub record IsRead {A : Type 0} (form : Form A) (text : List ℕ) (x : A) : Type 0 where
   pub forest : Forest
   pub spelled : IsForest text forest
-  pub form : domain_of forest ≡ Some d
+  pub form_is : form (length text) forest ≡ Ok x
 
--- a text that is no domain: it spells no forest, or one that has no form
-pub data IsNoDomain (text : List ℕ) : Type 0 where
-  NoForest : Refused text → IsNoDomain text
-  NoForm : (f : Forest) → IsForest text f → domain_of f ≡ None → IsNoDomain text
+-- why a text is read as nothing: its text is refused, or its form
+pub data Why : Type 0 where
+  InText : (refusal : Refusal) → Why
+  InForm : (misform : Misform) → Why
 
--- a text that is a problem of a domain: it spells a forest, whose form it is, and names the domain
-pub record IsProblem (text : List ℕ) (d : Domain) (p : Problem) : Type 0 where
-  pub forest : Forest
-  pub spelled : IsForest text forest
-  pub form : problem_of forest ≡ Some p
-  pub named : bytes_eq p.domain d.name ≡ true
+-- a text that is read as nothing by a grammar, for this reason
+pub data IsUnreadable {A : Type 0} (form : Form A) (text : List ℕ) (why : Why) : Type 0 where
+  ByText : (r : Refusal) → IsRefused text r → why ≡ InText r → IsUnreadable form text why
+  ByForm : (f : Forest) (m : Misform) → IsForest text f → form (length text) f ≡ Err m → why ≡ InForm m
+      → IsUnreadable form text why
 
--- a text that is no problem of a domain
-pub data IsNoProblem (text : List ℕ) (d : Domain) : Type 0 where
-  NoForest : Refused text → IsNoProblem text d
-  NoForm : (f : Forest) → IsForest text f → problem_of f ≡ None → IsNoProblem text d
-  OfAnother : (f : Forest) (p : Problem) → IsForest text f → problem_of f ≡ Some p
-      → bytes_eq p.domain d.name ≡ false → IsNoProblem text d
+-- ---- refusals
+
+abbrev pub refused_status : Input → Status
+refused_status inputs.Domain = DomainRefused
+refused_status inputs.Problem = ProblemRefused
+
+-- a file can't be read
+abbrev pub unread : Input → Answer
+unread which = (refused_read which, ReadFault)
+
+-- a text is refused, and why
+abbrev pub refusal : Input → List ℕ → Answer
+refusal which why = (refused which why, refused_status which)
+
+-- a text is read as nothing; only a problem has pairs
+abbrev pub unreadable : Input → Why → Answer
+unreadable which (InText r) = refusal which (at_offset (kind_word r.kind) r.offset)
+unreadable which (InForm (Expected what s)) = refusal which (expected_text what s)
+unreadable which (InForm (SeveralPairs s)) = refusal inputs.Problem (at_span (codes "SeveralPairs") s)
+
+abbrev pub input_of : CheckFault → Input
+input_of f = cond f.in_problem inputs.Problem inputs.Domain
+
+-- the checks find a fault
+abbrev pub faulty : CheckFault → Answer
+faulty f = refusal (input_of f) (at_span (check_word f.kind) f.span)
+
+-- a rule of the domain holds a form that is run later
+abbrev pub later_domain : Span → Answer
+later_domain s = refusal inputs.Domain (at_span (codes "Later") s)
+
+-- the problem does
+abbrev pub later_problem : Answer
+later_problem = refusal inputs.Problem (codes "Later")
+
+-- ---- plans
 
 -- the status of a run that ends so, after so many plans
 abbrev pub planned_status : Ending → ℕ → Status
@@ -49,27 +97,56 @@ planned_status AtEnd p = cond (nat_lt 0 p) Done NoPlan
 unfoldable pub walk_status : ℕ → List Visit → Status
 walk_status k vs = planned_status (ending k (seen k vs)) (plans (seen k vs))
 
-abbrev pub Answer : Type 0
-Answer = List ℕ × Status
-
--- what a command comes to, once its domain and its problem are read
+-- what a command comes to, once it is known what is run
 abbrev pub answer_of : Command → Domain → Problem → Answer
 answer_of c d p = (report c.plans (walk d p c.depth), walk_status c.plans (walk d p c.depth))
 
+-- ---- a domain and a problem that are read
+
+-- what is found of them: the first fault of the checks, a form that is run later, or what is run
+pub data Verdict : Type 0 where
+  Faulty : (fault : CheckFault) → Verdict
+  LaterDomain : (span : Span) → Verdict
+  LaterProblem : Verdict
+  Runs : (domain : Domain) → (problem : Problem) → Verdict
+
+-- by the first fault, and by what the domain and the problem are lowered to
+abbrev pub verdict_by : Option CheckFault → Result Domain Span → Option Problem → Verdict
+verdict_by (Some f) d p = Faulty f
+verdict_by None (Err s) p = LaterDomain s
+verdict_by None (Ok d) None = LaterProblem
+verdict_by None (Ok d) (Some p) = Runs d p
+
+abbrev pub verdict : whole.Domain → whole.Problem → Verdict
+verdict d p = verdict_by (first_of (domain_faults d ++ problem_faults d p)) (lower_domain d) (lower_problem p)
+
+abbrev pub answer_by : Command → Verdict → Answer
+answer_by c (Faulty f) = faulty f
+answer_by c (LaterDomain s) = later_domain s
+answer_by c LaterProblem = later_problem
+answer_by c (Runs d p) = answer_of c d p
+
+-- what a command comes to, once its domain and its problem are read
+abbrev pub answer_of_read : Command → whole.Domain → whole.Problem → Answer
+answer_of_read c d p = answer_by c (verdict d p)
+
+-- ---- outcomes
+
 -- what a command comes to with these files, in the order in which they are read
 pub data Comes (files : Files) (c : Command) (a : Answer) : Type 0 where
-  NoDomainFile : files c.domain ≡ None → a ≡ (codes "refused read domain\n", ReadFault) → Comes files c a
-  BadDomain : (t : List ℕ) → files c.domain ≡ Some t → IsNoDomain t
-      → a ≡ (codes "refused domain Expected\n", DomainRefused) → Comes files c a
-  NoProblemFile : (t : List ℕ) (d : Domain) → files c.domain ≡ Some t → IsDomain t d
-      → files c.problem ≡ None → a ≡ (codes "refused read problem\n", ReadFault) → Comes files c a
-  BadProblem : (t u : List ℕ) (d : Domain) → files c.domain ≡ Some t → IsDomain t d
-      → files c.problem ≡ Some u → IsNoProblem u d
-      → a ≡ (codes "refused problem Expected\n", ProblemRefused) → Comes files c a
-  Planned : (t u : List ℕ) (d : Domain) (p : Problem) → files c.domain ≡ Some t → IsDomain t d
-      → files c.problem ≡ Some u → IsProblem u d p → a ≡ answer_of c d p → Comes files c a
+  NoDomainFile : files c.domain ≡ None → a ≡ unread inputs.Domain → Comes files c a
+  BadDomain : (t : List ℕ) (why : Why) → files c.domain ≡ Some t → IsUnreadable domain_form t why
+      → a ≡ unreadable inputs.Domain why → Comes files c a
+  NoProblemFile : (t : List ℕ) (d : whole.Domain) → files c.domain ≡ Some t → IsRead domain_form t d
+      → files c.problem ≡ None → a ≡ unread inputs.Problem → Comes files c a
+  BadProblem : (t u : List ℕ) (d : whole.Domain) (why : Why) → files c.domain ≡ Some t → IsRead domain_form t d
+      → files c.problem ≡ Some u → IsUnreadable problem_form u why
+      → a ≡ unreadable inputs.Problem why → Comes files c a
+  Judged : (t u : List ℕ) (d : whole.Domain) (p : whole.Problem) → files c.domain ≡ Some t
+      → IsRead domain_form t d → files c.problem ≡ Some u → IsRead problem_form u p
+      → a ≡ answer_of_read c d p → Comes files c a
 
 -- what words come to with these files
 pub data Outcome (words : List (List ℕ)) (files : Files) (a : Answer) : Type 0 where
-  NoCommand : accepts words ≡ None → a ≡ (codes "refused usage\n", Usage) → Outcome words files a
+  NoCommand : accepts words ≡ None → a ≡ (refused_usage, Usage) → Outcome words files a
   ByCommand : (c : Command) → accepts words ≡ Some c → Comes files c a → Outcome words files a

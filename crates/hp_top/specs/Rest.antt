@@ -7,15 +7,15 @@ use Rattle.hp_top.specs.declared.walk.Walk.{Walk}
 use Rattle.hp_top.specs.declared.walk.Step.{Step}
 use Rattle.hp_top.specs.declared.walk.Step.TheVariants as steps
 use Rattle.hp_syntax.specs.Rules.{added}
-use Rattle.hp_top.specs.Program.{terms_of}
+use Rattle.hp_top.specs.Program.{plain_terms}
 use Rattle.hp_top.specs.Flat.{FlatNode, FlatChild, flat_node, flat_choice, Shown, DidShown, PlanShown, CutShown, FaultShown, shown_at, shown_child, heard_shown}
 
 -- the node from which a problem is walked
 abbrev pub flat_root : Problem → ℕ → FlatNode
 flat_root p depth =
     record {
-      state = added [] (terms_of p.state.items);
-      tasks = terms_of p.tasks.items;
+      state = added [] (plain_terms p.state.items);
+      tasks = plain_terms p.tasks.items;
       steps = [];
       depth = depth;
     }

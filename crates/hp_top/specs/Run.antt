@@ -1,13 +1,14 @@
 -- What the top call promises.
 use Rattle.std.specs.Prelude.{◌≡◌, ◌⊎◌, ℕ, List, ◌++◌, Option, Some}
-use Rattle.hp_syntax.specs.Rules as plain
+use Rattle.hp_io.specs.declared.folder.Input.{Input}
+use Rattle.hp_io.specs.declared.folder.Input.TheVariants as inputs
 use Rattle.hp_top.specs.declared.status.Status.{Status}
 use Rattle.hp_top.specs.declared.status.Status.TheVariants as status
 use Rattle.hp_top.specs.Command.{Command, accepts}
-use Rattle.hp_top.specs.Outcome.{Files, Outcome, IsDomain}
-use Rattle.hp_top.specs.Loading.{ToldFile, Holds, IsUnread}
-use Rattle.hp_top.specs.Serving.{refused_usage, refused_read_domain, refused_read_problem}
-use Rattle.hp_top.specs.Writing.{Wrote}
+use Rattle.hp_top.specs.Outcome.{Files, Outcome}
+use Rattle.hp_top.specs.Loading.{ToldFile, IsUnread, IsProblemUnread}
+use Rattle.hp_top.specs.Lines.{refused_usage, refused_read}
+use Rattle.hp_top.specs.Writing.{SinkRun, Wrote, WroteFront, WroteProperFront}
 
 -- the folder tells these files
 abbrev pub TellsFiles : (List ℕ → ToldFile) → Files → Type 0
@@ -21,26 +22,41 @@ pub record IsOutcome (words : List (List ℕ)) (files : Files) (s : Status) (bef
   pub written : now ≡ Some (before ++ text)
 
 -- words that are no command: the line of usage was written, unless the sink failed
-abbrev pub RefusesWords : Status → Option (List ℕ) → Option (List ℕ) → Type 0
-RefusesWords s old new = ((s ≡ status.Usage) × Wrote refused_usage old new) ⊎ (s ≡ status.WriteFault)
+abbrev pub RefusesWords : Status → SinkRun → Type 0
+RefusesWords s r = ((s ≡ status.Usage) × Wrote refused_usage r.before r.after) ⊎ (s ≡ status.WriteFault)
 
--- the domain couldn't be read, and the one line says so
-pub record DomainUnread (c : Command) (file : List ℕ → ToldFile)
-    (before now : ℕ) (old new : Option (List ℕ)) : Type 0 where
-  pub cause : IsUnread (file c.domain) before now
-  pub written : Wrote refused_read_domain old new
+-- the line of an input that the words name and that couldn't be read
+pub data IsReadLine (words : List (List ℕ)) (file : List ℕ → ToldFile) (before now : Input → ℕ)
+    (line : List ℕ) : Type 0 where
+  OfDomain : (c : Command) → accepts words ≡ Some c → IsUnread inputs.Domain (file c.domain) before now
+      → line ≡ refused_read inputs.Domain → IsReadLine words file before now line
+  OfProblem : (c : Command) → accepts words ≡ Some c
+      → IsProblemUnread (file c.domain) (file c.problem) before now
+      → line ≡ refused_read inputs.Problem → IsReadLine words file before now line
 
--- the problem couldn't be read, and the one line says so; the domain's file is there and accepted
-pub record ProblemUnread (c : Command) (file : List ℕ → ToldFile)
-    (before now : ℕ) (old new : Option (List ℕ)) : Type 0 where
-  pub domain : plain.Domain
-  pub accepted : Holds (λ text. IsDomain text domain) (file c.domain)
-  pub cause : IsUnread (file c.problem) before now
-  pub written : Wrote refused_read_problem old new
+-- an input that the words name couldn't be read, and the one line says so
+pub record ReadFails (words : List (List ℕ)) (file : List ℕ → ToldFile) (before now : Input → ℕ)
+    (r : SinkRun) : Type 0 where
+  pub line : List ℕ
+  pub cause : IsReadLine words file before now line
+  pub written : Wrote line r.before r.after
 
--- an input that the words name couldn't be read
-abbrev pub ReadFails : List (List ℕ) → (List ℕ → ToldFile) → ℕ → ℕ → ℕ → ℕ
-    → Option (List ℕ) → Option (List ℕ) → Type 0
-ReadFails words file d0 d1 p0 p1 old new =
-    (c : Command) × (accepts words ≡ Some c)
-    × (DomainUnread c file d0 d1 old new ⊎ ProblemUnread c file p0 p1 old new)
+-- a text that a run could write: the outcome's, or the line of an input that couldn't be read
+pub data CouldWrite (words : List (List ℕ)) (files : Files) (file : List ℕ → ToldFile)
+    (before now : Input → ℕ) (text : List ℕ) : Type 0 where
+  OfOutcome : (s : Status) → Outcome words files (text, s) → CouldWrite words files file before now text
+  OfReading : IsReadLine words file before now text → CouldWrite words files file before now text
+
+-- a front of a text that the run could write was written, maybe all of it
+pub record WritesFront (words : List (List ℕ)) (files : Files) (file : List ℕ → ToldFile)
+    (before now : Input → ℕ) (r : SinkRun) : Type 0 where
+  pub text : List ℕ
+  pub could : CouldWrite words files file before now text
+  pub written : WroteFront text r.before r.after
+
+-- a proper front of a text that the run could write was written
+pub record WritesProperFront (words : List (List ℕ)) (files : Files) (file : List ℕ → ToldFile)
+    (before now : Input → ℕ) (r : SinkRun) : Type 0 where
+  pub text : List ℕ
+  pub could : CouldWrite words files file before now text
+  pub written : WroteProperFront text r.before r.after

@@ -14,10 +14,10 @@ Gives f (Err (Fault e)) plain = plain ≡ Err e
 Gives f (Err NoMemory) plain = Unit {0}
 
 -- the flat child is the node that was reached, or the fault that was met
-abbrev pub Stands : Result Node Stop → FlatChild → Type 0
-Stands (Ok n) child = child ≡ FlatDid (flat_node n)
-Stands (Err (Fault e)) child = child ≡ FlatFault e
-Stands (Err NoMemory) child = Unit {0}
+abbrev pub GivesChild : Result Node Stop → FlatChild → Type 0
+GivesChild (Ok n) child = child ≡ FlatDid (flat_node n)
+GivesChild (Err (Fault e)) child = child ≡ FlatFault e
+GivesChild (Err NoMemory) child = Unit {0}
 
 -- the bindings where a match came out
 abbrev pub extended : Bool → Bindings → Option Bindings

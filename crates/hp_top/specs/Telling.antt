@@ -12,7 +12,7 @@ use Rattle.hp_top.specs.declared.status.Status.TheVariants as status
 use Rattle.hp_top.specs.Flat.{Shown}
 use Rattle.hp_top.specs.Outcome.{Answer, planned_status}
 use Rattle.hp_top.specs.Told.{told, told_status, ending_of}
-use Rattle.hp_top.specs.Writing.{Wrote}
+use Rattle.hp_top.specs.Writing.{SinkRun, Wrote, WroteFront, WroteProperFront}
 
 -- the text that is left, and the status to end with, of k plans asked
 abbrev pub left : ℕ → Progress → List Shown → List ℕ
@@ -44,10 +44,11 @@ Visited None k p q before after old new =
     Goes k p q before after old new × (q.plans < k) × (length after < length before)
 Visited (Some x) k p q before after old new = Closes k p q before x old new
 
--- the telling stops for want of memory, or because the sink's count rose
-abbrev pub Halts : Halt → ℕ → ℕ → Type 0
-Halts NoMemory before now = Unit {0}
-Halts Failed before now = Rose before now
+-- the telling of a text stops: for want of memory, with a front of it written, or because the sink's
+-- count rose, with a proper front
+abbrev pub Halts : Halt → List ℕ → SinkRun → Type 0
+Halts NoMemory text r = WroteFront text r.before r.after
+Halts Failed text r = Rose r.faults_before r.faults_after × WroteProperFront text r.before r.after
 
 -- one more plan is counted
 abbrev pub counted : Progress → Progress
@@ -57,8 +58,10 @@ counted p = record { plans = p.plans + 1; expansions = p.expansions; is_cut = p.
 abbrev pub stop_at : ℕ → ℕ → Option Ending
 stop_at k n = cond (n == k) (Some Stopped) None
 
--- how a run ends that is to write a text and to end with a status
-pub data Tells (a : Answer) (s : Status) (before now : ℕ) (old new : Option (List ℕ)) : Type 0 where
-  WithoutMemory : s ≡ status.NoMemory → Tells a s before now old new
-  Unwritten : s ≡ status.WriteFault → Rose before now → Tells a s before now old new
-  Written : s ≡ a.1 → Wrote a.0 old new → Tells a s before now old new
+-- how a run ends that is to write a text and to end with a status: as it is to, or for want of memory
+-- after a front of the text, or by a fault of the sink after a proper front
+pub data Tells (a : Answer) (s : Status) (r : SinkRun) : Type 0 where
+  WithoutMemory : s ≡ status.NoMemory → WroteFront a.0 r.before r.after → Tells a s r
+  Unwritten : s ≡ status.WriteFault → Rose r.faults_before r.faults_after
+      → WroteProperFront a.0 r.before r.after → Tells a s r
+  Written : s ≡ a.1 → Wrote a.0 r.before r.after → Tells a s r

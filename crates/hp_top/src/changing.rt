@@ -3,7 +3,7 @@
 ghost use Rattle.std.specs.Prelude.{◌≡◌, ◌++◌, ◌∷◌, [], not, filter, IfOk, OnOk};
 ghost use Rattle.hp_syntax.specs.Terms.{same_term};
 ghost use Rattle.hp_syntax.specs.Rules.{member, added};
-ghost use Rattle.hp_top.specs.Program.{term_of, shared_term, terms_of};
+ghost use Rattle.hp_top.specs.Program.{plain_term, shared_term, plain_terms};
 ghost use Rattle.hp_top.specs.Flat.{changed};
 
 use crate::program::{GroundAtom, GroundAtoms};
@@ -19,7 +19,7 @@ pub(crate) fn share(atom: &Rc<GroundAtom>) -> Result<Rc<GroundAtom>, AllocError>
 
 /// Appends the same atoms.
 pub(crate) fn share_all(atoms: &[Rc<GroundAtom>], all: &mut GroundAtoms) -> Result<(), AllocError>
-    ensures { OnOk result (terms_of all.new.items ≡ terms_of all.old.items ++ terms_of atoms.now) }
+    ensures { OnOk result (plain_terms all.new.items ≡ plain_terms all.old.items ++ plain_terms atoms.now) }
 {
     for atom in atoms {
         all.push(share(atom)?)?;
@@ -29,7 +29,7 @@ pub(crate) fn share_all(atoms: &[Rc<GroundAtom>], all: &mut GroundAtoms) -> Resu
 
 /// The same atoms in a list of its own.
 pub(crate) fn copy_atoms(alloc: Global, atoms: &[Rc<GroundAtom>]) -> Result<GroundAtoms, AllocError>
-    ensures { IfOk result (λ v. terms_of v.items ≡ terms_of atoms.now) }
+    ensures { IfOk result (λ v. plain_terms v.items ≡ plain_terms atoms.now) }
 {
     let mut all = Vec::with_capacity(alloc, atoms.len())?;
     share_all(atoms, &mut all)?;
@@ -37,13 +37,13 @@ pub(crate) fn copy_atoms(alloc: Global, atoms: &[Rc<GroundAtom>]) -> Result<Grou
 }
 
 fn are_same(a: &GroundAtom, b: &GroundAtom) -> bool
-    ensures { result ≡ same_term (term_of a.now) (term_of b.now) }
+    ensures { result ≡ same_term (plain_term a.now) (plain_term b.now) }
 {
     a == b
 }
 
 fn is_member(atom: &GroundAtom, atoms: &[Rc<GroundAtom>]) -> bool
-    ensures { result ≡ member (term_of atom.now) (terms_of atoms.now) }
+    ensures { result ≡ member (plain_term atom.now) (plain_terms atoms.now) }
 {
     for other in atoms {
         if are_same(atom, other) {
@@ -59,9 +59,9 @@ fn keep(
     atom: &Rc<GroundAtom>,
     deletes: &[Rc<GroundAtom>],
 ) -> Result<(), AllocError>
-    ensures { OnOk result (terms_of left.new.items
-        ≡ terms_of left.old.items
-        ++ filter (λ a. not (member a (terms_of deletes.now))) (shared_term atom.now ∷ [])) }
+    ensures { OnOk result (plain_terms left.new.items
+        ≡ plain_terms left.old.items
+        ++ filter (λ a. not (member a (plain_terms deletes.now))) (shared_term atom.now ∷ [])) }
 {
     if !is_member(atom, deletes) {
         left.push(share(atom)?)?;
@@ -74,8 +74,8 @@ fn without(
     state: &[Rc<GroundAtom>],
     deletes: &[Rc<GroundAtom>],
 ) -> Result<GroundAtoms, AllocError>
-    ensures { IfOk result (λ v. terms_of v.items
-        ≡ filter (λ a. not (member a (terms_of deletes.now))) (terms_of state.now)) }
+    ensures { IfOk result (λ v. plain_terms v.items
+        ≡ filter (λ a. not (member a (plain_terms deletes.now))) (plain_terms state.now)) }
 {
     let mut left = Vec::new(alloc);
     for atom in state {
@@ -85,8 +85,8 @@ fn without(
 }
 
 fn add(state: &mut GroundAtoms, atom: &Rc<GroundAtom>) -> Result<(), AllocError>
-    ensures { OnOk result (terms_of state.new.items
-        ≡ added (terms_of state.old.items) (shared_term atom.now ∷ [])) }
+    ensures { OnOk result (plain_terms state.new.items
+        ≡ added (plain_terms state.old.items) (shared_term atom.now ∷ [])) }
 {
     if !is_member(atom, state) {
         state.push(share(atom)?)?;
@@ -102,8 +102,8 @@ pub(crate) fn changed(
     deletes: &[Rc<GroundAtom>],
     adds: &[Rc<GroundAtom>],
 ) -> Result<GroundAtoms, AllocError>
-    ensures { IfOk result (λ v. terms_of v.items
-        ≡ changed (terms_of state.now) (terms_of deletes.now) (terms_of adds.now)) }
+    ensures { IfOk result (λ v. plain_terms v.items
+        ≡ changed (plain_terms state.now) (plain_terms deletes.now) (plain_terms adds.now)) }
 {
     let mut next = without(alloc, state, deletes)?;
     for atom in adds {

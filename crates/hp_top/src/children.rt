@@ -2,9 +2,9 @@
 
 ghost use Rattle.std.specs.Prelude.{◌≡◌, ◌++◌, ◌∷◌, ◌-◌, [], map, drop, IfOk, OnOk};
 ghost use Rattle.hp_top.specs.declared.program.Rule.TheVariants as kinds;
-ghost use Rattle.hp_top.specs.Program.{shared_term, term_of, terms_of};
+ghost use Rattle.hp_top.specs.Program.{shared_term, plain_term, plain_terms};
 ghost use Rattle.hp_top.specs.Flat.{flat_node, flat_choice, bindings_of, by_operator, by_branch, by_branches, by_rule, by_rules, flat_children};
-ghost use Rattle.hp_top.specs.Stops.{Stands};
+ghost use Rattle.hp_top.specs.Stops.{GivesChild};
 
 use crate::changing::{changed, copy_atoms, share, share_all};
 use crate::matching::match_head;
@@ -32,9 +32,9 @@ fn after_step(
 ) -> Result<Node, AllocError>
     ensures { IfOk result (λ n. flat_node n
         ≡ record {
-          state = terms_of state.items;
-          tasks = terms_of behind.now;
-          steps = terms_of node.now.steps.items ++ shared_term task.now ∷ [];
+          state = plain_terms state.items;
+          tasks = plain_terms behind.now;
+          steps = plain_terms node.now.steps.items ++ shared_term task.now ∷ [];
           depth = node.now.depth - 1;
         }) }
 {
@@ -56,7 +56,7 @@ fn node_by_operator(
     operator: &Operator,
     bindings: &Bindings,
 ) -> Result<Node, Stop>
-    ensures { Stands result (by_operator (flat_node node.now) (shared_term task.now) (terms_of behind.now)
+    ensures { GivesChild result (by_operator (flat_node node.now) (shared_term task.now) (plain_terms behind.now)
         operator.now (bindings_of bindings.now)) }
 {
     let deletes = values(alloc, &operator.deletes, bindings)?;
@@ -72,7 +72,7 @@ fn node_by_branch(
     branch: &Branch,
     bindings: &Bindings,
 ) -> Result<Node, Stop>
-    ensures { Stands result (by_branch (flat_node node.now) (terms_of behind.now) branch.now
+    ensures { GivesChild result (by_branch (flat_node node.now) (plain_terms behind.now) branch.now
         (bindings_of bindings.now)) }
 {
     let mut tasks = values(alloc, &branch.tasks, bindings)?;
@@ -87,7 +87,7 @@ fn node_by_branch(
 
 /// The tasks behind the first.
 fn behind_first(node: &Node) -> &[Rc<GroundAtom>]
-    ensures { terms_of result.now ≡ drop 1 (flat_node node.now).tasks }
+    ensures { plain_terms result.now ≡ drop 1 (flat_node node.now).tasks }
 {
     match node.tasks.split_first() {
         Some((_, behind)) => behind,
@@ -97,7 +97,7 @@ fn behind_first(node: &Node) -> &[Rc<GroundAtom>]
 
 /// Makes the node that a choice leads to.
 pub(crate) fn taken(alloc: Global, choice: &Choice) -> Result<Node, Stop>
-    ensures { Stands result (flat_choice choice.now) }
+    ensures { GivesChild result (flat_choice choice.now) }
 {
     match choice {
         Choice::Operator(node, task, operator, bindings) => {
@@ -207,7 +207,7 @@ fn add_by_method<'a>(
 ) -> Result<(), AllocError>
     ensures { OnOk result (map flat_choice found.new.items
         ≡ map flat_choice found.old.items
-        ++ by_rule (flat_node node.now.value) (term_of task.now)
+        ++ by_rule (flat_node node.now.value) (plain_term task.now)
         (drop 1 (flat_node node.now.value).tasks) (kinds.Method method.now)) }
 {
     match match_head(alloc, &method.head, task, method.vars.len())? {

@@ -2,26 +2,31 @@
 
 ghost use Rattle.std.specs.Prelude.{◌≡◌, ◌≢◌, ◌⊎◌, ◌≤◌, ◌<◌, ℕ, List, Some, None, map, string_bytes};
 ghost use Rattle.hp_io.specs.Rules.{Rose};
-ghost use Rattle.hp_io.specs.declared.folder.Input.TheVariants.{Domain, Problem};
+ghost use Rattle.hp_io.specs.Inputs.{by_input};
+ghost use Rattle.hp_io.specs.declared.folder.Input.{Input};
 ghost use Rattle.hp_top.specs.Command.{accepts, make_command};
 ghost use Rattle.hp_top.specs.Outcome.{Files};
-ghost use Rattle.hp_top.specs.Run.{TellsFiles, IsOutcome, RefusesWords, ReadFails};
+ghost use Rattle.hp_top.specs.Run.{TellsFiles, IsOutcome, RefusesWords, ReadFails, WritesFront, WritesProperFront};
 ghost use Rattle.hp_top.specs.Serving.{Serves, Ends, refusal_of};
 ghost use Rattle.hp_top.specs.Telling.{Tells};
+ghost use Rattle.hp_top.specs.Touching.{Touches, TouchesNamed, input_run};
+ghost use Rattle.hp_top.specs.Writing.{sink_run};
 
-use crate::loading::{Stop, load};
+use crate::laws::every_run_has_an_outcome;
+use crate::loading::load;
 use crate::planning::plan;
+use crate::refusing::{Unplanned, refusal_line, refusal_status};
 use crate::status::Status;
 use crate::words::{Asked, numbers_asked};
 use crate::writing::write_all;
 use hp_io::{Folder, Input, Sink};
-use hp_syntax::laws::walks_meet_no_fault;
+use hp_syntax::laws::{lowered_domains_are_well_formed, walks_meet_no_fault};
 use std::alloc::Global;
 
 /// Writes a text, and answers this status.
 fn end_with<K: Sink>(out: &mut K, text: &[u8], status: Status) -> Status
     ensures tells { Tells (text.now, status) result
-        (K.faults out.old) (K.faults out.new) (K.bytes out.old) (K.bytes out.new) }
+        (sink_run (K.faults out.old) (K.faults out.new) (K.bytes out.old) (K.bytes out.new)) }
     ensures either { (result ≡ status) ⊎ (result ≡ Status.WriteFault) }
     ensures later { K.faults out.old ≤ K.faults out.new }
 {
@@ -32,22 +37,15 @@ fn end_with<K: Sink>(out: &mut K, text: &[u8], status: Status) -> Status
 }
 
 /// Writes why nothing is planned.
-fn refuse<K: Sink>(out: &mut K, stop: Stop) -> Status
-    ensures tells { Tells (refusal_of stop) result
-        (K.faults out.old) (K.faults out.new) (K.bytes out.old) (K.bytes out.new) }
+fn refuse<K: Sink>(alloc: Global, out: &mut K, cause: Unplanned) -> Status
+    ensures tells { Tells (refusal_of cause) result
+        (sink_run (K.faults out.old) (K.faults out.new) (K.bytes out.old) (K.bytes out.new)) }
     ensures faultless { result ≢ Status.RunFault }
     ensures later { K.faults out.old ≤ K.faults out.new }
 {
-    match stop {
-        Stop::NoMemory => Status::NoMemory,
-        Stop::Unread(Input::Domain) => end_with(out, b"refused read domain\n", Status::ReadFault),
-        Stop::Unread(Input::Problem) => end_with(out, b"refused read problem\n", Status::ReadFault),
-        Stop::Refused(Input::Domain) => {
-            end_with(out, b"refused domain Expected\n", Status::DomainRefused)
-        }
-        Stop::Refused(Input::Problem) => {
-            end_with(out, b"refused problem Expected\n", Status::ProblemRefused)
-        }
+    match refusal_line(alloc, cause) {
+        Ok(line) => end_with(out, line.as_slice(), refusal_status(cause)),
+        Err(_) => Status::NoMemory,
     }
 }
 
@@ -62,31 +60,41 @@ fn serve_command<F: Folder, K: Sink>(
 ) -> Status
     requires { 0 < asked.plans }
     ensures serves { Serves (make_command domain.now problem.now asked.plans asked.depth) (F.file folder.old)
-        result
-        (F.faults folder.old Domain) (F.faults folder.new Domain)
-        (F.faults folder.old Problem) (F.faults folder.new Problem)
-        (K.faults out.old) (K.faults out.new) (K.bytes out.old) (K.bytes out.new) }
+        result (F.faults folder.old) (F.faults folder.new)
+        (sink_run (K.faults out.old) (K.faults out.new) (K.bytes out.old) (K.bytes out.new)) }
     ensures faultless { result ≢ Status.RunFault }
+    ensures files { (n : List ℕ) → F.file folder.new n ≡ F.file folder.old n }
+    ensures later { (w : Input) → F.faults folder.old w ≤ F.faults folder.new w }
+    ensures out_later { K.faults out.old ≤ K.faults out.new }
+    ensures touched { (w : Input) → Touches (F.file folder.old (by_input w domain.now problem.now))
+        (input_run (F.begun folder.old w) (F.begun folder.new w) (F.rest folder.old w) (F.rest folder.new w)) }
 {
     match load(alloc, folder, domain, problem) {
-        Ok(loaded) => {
-            // Nothing runs here: the law makes known that the walk meets no fault.
+        Ok(prepared) => {
+            // Nothing runs here: the laws make known that the walk meets no fault.
+            lowered_domains_are_well_formed();
             walks_meet_no_fault();
-            plan(alloc, &loaded, asked, out)
+            plan(alloc, &prepared, asked, out)
         }
-        Err(stop) => refuse(out, stop),
+        Err(cause) => refuse(alloc, out, cause),
     }
 }
 
 /// Serves the command that the words are.
 fn serve<F: Folder, K: Sink>(alloc: Global, words: &[String], folder: &mut F, out: &mut K) -> Status
     ensures ends { Ends (map string_bytes words.now) (F.file folder.old) result
-        (F.faults folder.old Domain) (F.faults folder.new Domain)
-        (F.faults folder.old Problem) (F.faults folder.new Problem)
-        (K.faults out.old) (K.faults out.new) (K.bytes out.old) (K.bytes out.new) }
+        (F.faults folder.old) (F.faults folder.new)
+        (sink_run (K.faults out.old) (K.faults out.new) (K.bytes out.old) (K.bytes out.new)) }
     ensures faultless { result ≢ Status.RunFault }
+    ensures files { (n : List ℕ) → F.file folder.new n ≡ F.file folder.old n }
+    ensures later { (w : Input) → F.faults folder.old w ≤ F.faults folder.new w }
+    ensures out_later { K.faults out.old ≤ K.faults out.new }
+    ensures touched { (w : Input) → TouchesNamed (map string_bytes words.now) (F.file folder.old) w
+        (input_run (F.begun folder.old w) (F.begun folder.new w) (F.rest folder.old w) (F.rest folder.new w)) }
     ensures untouched { accepts (map string_bytes words.now) ≡ None
-        → (folder.new ≡ folder.old) × RefusesWords result (K.bytes out.old) (K.bytes out.new) }
+        → (folder.new ≡ folder.old)
+        × RefusesWords result
+        (sink_run (K.faults out.old) (K.faults out.new) (K.bytes out.old) (K.bytes out.new)) }
 {
     match numbers_asked(words) {
         None => end_with(out, b"refused usage\n", Status::Usage),
@@ -113,34 +121,61 @@ pub fn run<F: Folder, K: Sink>(
     folder: &mut F,
     out: &mut K,
 ) -> Status
-    // A status other than want of memory and the faults of reading and writing is that of the
-    // outcome, and its whole text was written.
+    // Where folder and sink tell their bytes, a status other than want of memory and the faults of
+    // reading and writing is that of the outcome, and its whole text was written.
     ensures exact { (files : Files) (before : List ℕ) → TellsFiles (F.file folder.old) files →
         K.bytes out.old ≡ Some before →
         result ≢ Status.NoMemory → result ≢ Status.ReadFault → result ≢ Status.WriteFault →
         IsOutcome (map string_bytes words.now) files result before (K.bytes out.new) }
 
-    // Where no count of faults rises, every status but want of memory is the outcome's.
+    // Where folder and sink tell their bytes and no count of faults rises, every status but want of
+    // memory is the outcome's.
     ensures complete { (files : Files) (before : List ℕ) → TellsFiles (F.file folder.old) files →
         K.bytes out.old ≡ Some before →
-        ¬ Rose (F.faults folder.old Domain) (F.faults folder.new Domain) →
-        ¬ Rose (F.faults folder.old Problem) (F.faults folder.new Problem) →
+        ((w : Input) → ¬ Rose (F.faults folder.old w) (F.faults folder.new w)) →
         ¬ Rose (K.faults out.old) (K.faults out.new) → result ≢ Status.NoMemory →
         IsOutcome (map string_bytes words.now) files result before (K.bytes out.new) }
 
     // Words that are no command touch nothing but the sink, and no other words are refused.
     ensures refused { accepts (map string_bytes words.now) ≡ None
-        → (folder.new ≡ folder.old) × RefusesWords result (K.bytes out.old) (K.bytes out.new) }
+        → (folder.new ≡ folder.old)
+        × RefusesWords result
+        (sink_run (K.faults out.old) (K.faults out.new) (K.bytes out.old) (K.bytes out.new)) }
     ensures usage { result ≡ Status.Usage → accepts (map string_bytes words.now) ≡ None }
 
-    // A fault of reading has its cause in an input that the words name, and of writing in the sink.
+    // After want of memory a front of a text was written that the run could write, maybe all of it,
+    // and after a fault of writing a proper front.
+    ensures front { (files : Files) → TellsFiles (F.file folder.old) files → result ≡ Status.NoMemory →
+        WritesFront (map string_bytes words.now) files (F.file folder.old)
+        (F.faults folder.old) (F.faults folder.new)
+        (sink_run (K.faults out.old) (K.faults out.new) (K.bytes out.old) (K.bytes out.new)) }
+    ensures proper_front { (files : Files) → TellsFiles (F.file folder.old) files →
+        result ≡ Status.WriteFault →
+        WritesProperFront (map string_bytes words.now) files (F.file folder.old)
+        (F.faults folder.old) (F.faults folder.new)
+        (sink_run (K.faults out.old) (K.faults out.new) (K.bytes out.old) (K.bytes out.new)) }
+
+    // A fault of reading has its cause in an input that the words name, and of writing in the sink. Its
+    // line is known to be written where the sink tells its bytes.
     ensures read { result ≡ Status.ReadFault → ReadFails (map string_bytes words.now) (F.file folder.old)
-        (F.faults folder.old Domain) (F.faults folder.new Domain)
-        (F.faults folder.old Problem) (F.faults folder.new Problem) (K.bytes out.old) (K.bytes out.new) }
+        (F.faults folder.old) (F.faults folder.new)
+        (sink_run (K.faults out.old) (K.faults out.new) (K.bytes out.old) (K.bytes out.new)) }
     ensures write { result ≡ Status.WriteFault → Rose (K.faults out.old) (K.faults out.new) }
 
     // No walk of the language meets a fault.
     ensures faultless { result ≢ Status.RunFault }
+
+    // The folder goes on telling the same files, and no count of faults falls.
+    ensures tells { (n : List ℕ) → F.file folder.new n ≡ F.file folder.old n }
+    ensures counts { (w : Input) → F.faults folder.old w ≤ F.faults folder.new w }
+    ensures sink_count { K.faults out.old ≤ K.faults out.new }
+
+    // No input is begun but by the name that the words have for it, and at most one byte more than the
+    // longest text is read of it, as far as the folder tells them.
+    ensures touched { (w : Input) → TouchesNamed (map string_bytes words.now) (F.file folder.old) w
+        (input_run (F.begun folder.old w) (F.begun folder.new w) (F.rest folder.old w) (F.rest folder.new w)) }
 {
+    // Nothing runs here: the law makes known that there is a text of which nothing may be written.
+    every_run_has_an_outcome();
     serve(alloc, words, folder, out)
 }

@@ -2,7 +2,7 @@
 
 ghost use Rattle.std.specs.Prelude.{◌≡◌, ◌∷◌, [], IfOk, OnOk};
 ghost use Rattle.hp_syntax.specs.Rules.{added};
-ghost use Rattle.hp_top.specs.Program.{shared_term, terms_of};
+ghost use Rattle.hp_top.specs.Program.{shared_term, plain_terms};
 
 use crate::changing::{copy_atoms, share};
 use crate::program::{GroundAtom, GroundAtoms};
@@ -11,8 +11,8 @@ use std::alloc::{AllocError, Global};
 use std::rc::Rc;
 
 fn add(distinct: &mut IndexSet<Rc<GroundAtom>>, atom: &Rc<GroundAtom>) -> Result<(), AllocError>
-    ensures { OnOk result (terms_of distinct.new.keys
-        ≡ added (terms_of distinct.old.keys) (shared_term atom.now ∷ [])) }
+    ensures { OnOk result (plain_terms distinct.new.keys
+        ≡ added (plain_terms distinct.old.keys) (shared_term atom.now ∷ [])) }
 {
     distinct.insert(share(atom)?)?;
     Ok(())
@@ -23,7 +23,7 @@ pub(crate) fn initial_state(
     alloc: Global,
     atoms: &[Rc<GroundAtom>],
 ) -> Result<GroundAtoms, AllocError>
-    ensures { IfOk result (λ v. terms_of v.items ≡ added [] (terms_of atoms.now)) }
+    ensures { IfOk result (λ v. plain_terms v.items ≡ added [] (plain_terms atoms.now)) }
 {
     // A set finds an atom by its hash. A list would be gone through for each atom.
     let mut distinct = IndexSet::new(alloc);

@@ -5,7 +5,9 @@
 ghost use Rattle.std.specs.Prelude.{◌≡◌, List, ℕ};
 ghost use Rattle.hp_top.specs.Outcome.{Answer, Files, Outcome};
 
-use hp_syntax::laws::{every_text_is_one_or_the_other, no_text_is_both, texts_spell_one_forest};
+use hp_syntax::laws::{
+    every_text_is_one_or_the_other, no_text_is_both, texts_have_one_refusal, texts_spell_one_forest,
+};
 
 /// Words and files come to one answer at most: one text and one status.
 pub fn outcomes_are_one()
@@ -13,6 +15,7 @@ pub fn outcomes_are_one()
         → Outcome words files b → a ≡ b }
 {
     texts_spell_one_forest();
+    texts_have_one_refusal();
     no_text_is_both();
 }
 

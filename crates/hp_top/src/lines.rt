@@ -2,7 +2,7 @@
 
 ghost use Rattle.std.specs.Prelude.{◌≡◌, ◌++◌, ◌-◌, ◌^◌, ◌<◌, ◌≤◌, IfOk, OnOk, decimal};
 ghost use Rattle.hp_syntax.specs.Report.{term_text, terms_text, steps_text, ending_text, ending_word, kind_text};
-ghost use Rattle.hp_top.specs.Program.{symbols_of, shared_term, terms_of};
+ghost use Rattle.hp_top.specs.Program.{plain_symbols, shared_term, plain_terms};
 ghost use Rattle.hp_top.specs.Told.{flat_plan_text, ending_of};
 
 use crate::program::GroundAtom;
@@ -20,7 +20,8 @@ pub enum Ending {
     End,
 }
 
-fn push_number(text: &mut Vec<u8>, number: u64) -> Result<(), AllocError>
+/// The decimal digits of a number.
+pub fn push_number(text: &mut Vec<u8>, number: u64) -> Result<(), AllocError>
     ensures { OnOk result (text.new.items ≡ text.old.items ++ decimal number) }
 {
     let mut buffer = Buffer::new();
@@ -29,7 +30,7 @@ fn push_number(text: &mut Vec<u8>, number: u64) -> Result<(), AllocError>
 
 /// The arguments of an atom, and its closing bracket.
 fn push_args(text: &mut Vec<u8>, args: &[Name]) -> Result<(), AllocError>
-    ensures { OnOk result (text.new.items ≡ text.old.items ++ terms_text (symbols_of args.now)) }
+    ensures { OnOk result (text.new.items ≡ text.old.items ++ terms_text (plain_symbols args.now)) }
 {
     for arg in args {
         text.push(b' ')?;
@@ -49,7 +50,7 @@ fn push_atom(text: &mut Vec<u8>, atom: &Rc<GroundAtom>) -> Result<(), AllocError
 
 /// A line for each step.
 fn push_steps(text: &mut Vec<u8>, steps: &[Rc<GroundAtom>]) -> Result<(), AllocError>
-    ensures { OnOk result (text.new.items ≡ text.old.items ++ steps_text (terms_of steps.now)) }
+    ensures { OnOk result (text.new.items ≡ text.old.items ++ steps_text (plain_terms steps.now)) }
 {
     for step in steps {
         push_atom(text, step)?;
@@ -64,7 +65,7 @@ pub fn plan_lines(
     number: u64,
     steps: &[Rc<GroundAtom>],
 ) -> Result<Vec<u8>, AllocError>
-    ensures { IfOk result (λ text. text.items ≡ flat_plan_text number (terms_of steps.now)) }
+    ensures { IfOk result (λ text. text.items ≡ flat_plan_text number (plain_terms steps.now)) }
 {
     let count = steps.len() as u64;
     let cost = count;

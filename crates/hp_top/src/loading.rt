@@ -1,75 +1,72 @@
-//! From two files to a domain and a problem of it.
+//! From two files to what is run of them.
 
-ghost use Rattle.std.specs.Prelude.{◌≡◌, ◌≤◌, ◌⊎◌, ℕ, true, false, List, Some, None, Ok, Err, IfOk, IfErr, IsErrOf, bytes_eq};
-ghost use Rattle.hp_io.specs.Rules.{Rose};
+ghost use Rattle.std.specs.Prelude.{◌≡◌, ◌≢◌, ◌≤◌, ℕ, true, List, Some, None, Ok, Err, IfOk, IfErr, IsErrOf};
+ghost use Rattle.hp_io.specs.Inputs.{by_input};
 ghost use Rattle.hp_io.specs.declared.folder.Input.{Input};
 ghost use Rattle.hp_io.specs.declared.folder.Input.TheVariants as inputs;
-ghost use Rattle.hp_top.specs.Program.{domain_of, problem_of};
-ghost use Rattle.hp_top.specs.Outcome.{IsDomain, IsNoDomain, IsProblem, IsNoProblem};
-ghost use Rattle.hp_top.specs.Loading.{ReadsFile, Holds, IsFormed, DomainStops, ProblemStops, Stops};
+ghost use Rattle.hp_syntax.specs.Grammar.{domain_form, problem_form};
+ghost use Rattle.hp_syntax.specs.Views.{domain_of, problem_of};
+ghost use Rattle.hp_top.specs.Program.{plain_domain, plain_problem};
+ghost use Rattle.hp_top.specs.Outcome.{IsRead};
+ghost use Rattle.hp_top.specs.Loading.{ReadsFile, Reads, IsUnread, IsPrepared, IsRefusedFor, StopsAt, Stops, of_text, of_form};
+ghost use Rattle.hp_top.specs.Touching.{Touches, IsUntouched, input_run};
 
-use crate::forms;
-use crate::forms::FormRefusal;
-use crate::program::{Domain, Problem};
+use crate::judging::{Prepared, judged};
 use crate::reading::{ReadError, read_rest};
+use crate::refusing::Unplanned;
+use hp_forms::FormRefusal;
 use hp_io::{BeginError, Folder, Input};
-use hp_syntax::Name;
+use hp_syntax::laws::{limits_are_kept, refusals_are_decided_by_the_front};
+use hp_syntax::{Domain, Problem};
 use hp_text::{TextRefusal, read};
 use std::alloc::Global;
 
-/// Why nothing is planned.
-#[derive(Clone, Copy, Debug, PartialEq, Eq)]
-pub enum Stop {
-    NoMemory,
-    /// The file isn't there or couldn't be read.
-    Unread(Input),
-    /// The text is outside the language.
-    Refused(Input),
+/// Why nothing is planned, where a text has no forest.
+fn of_text(which: Input, refusal: TextRefusal) -> Unplanned
+    ensures { result ≡ of_text which refusal }
+{
+    match refusal {
+        TextRefusal::Bad(kind, offset) => Unplanned::Text(which, kind, offset),
+        TextRefusal::NoMemory => Unplanned::NoMemory,
+    }
 }
 
-/// A domain and a problem of it.
-#[derive(Drop)]
-pub struct Loaded {
-    pub domain: Domain,
-    pub problem: Problem,
+/// Why nothing is planned, where a forest has no form.
+fn of_form(which: Input, refusal: FormRefusal) -> Unplanned
+    ensures { result ≡ of_form which refusal }
+{
+    match refusal {
+        FormRefusal::Expected { what, span } => Unplanned::Form(which, what, span),
+        FormRefusal::SeveralPairs { span } => Unplanned::Several(span),
+        FormRefusal::NoMemory => Unplanned::NoMemory,
+    }
 }
 
 /// The domain that a text is.
-fn domain_in(alloc: Global, bytes: &[u8]) -> Result<Domain, FormRefusal>
-    ensures domain { IfOk result (λ d. IsDomain bytes.now (domain_of d)) }
-    ensures refused { IsErrOf result FormRefusal.Expected → IsNoDomain bytes.now }
+fn domain_in(alloc: Global, bytes: &[u8]) -> Result<Domain, Unplanned>
+    ensures domain { IfOk result (λ d. IsRead domain_form bytes.now (domain_of d)) }
+    ensures refused { IfErr result (IsRefusedFor inputs.Domain domain_form bytes.now) }
 {
     match read(alloc, bytes) {
-        Ok(forest) => forms::domain(alloc, &forest),
-        Err(TextRefusal::Other) => Err(FormRefusal::Expected),
-        Err(TextRefusal::NoMemory) => Err(FormRefusal::NoMemory),
-    }
-}
-
-/// The problem that a text is, of the domain of that name.
-fn problem_in(alloc: Global, bytes: &[u8], domain: &Domain) -> Result<Problem, FormRefusal>
-    ensures problem { IfOk result (λ p. IsProblem bytes.now (domain_of domain.now) (problem_of p)) }
-    ensures refused { IsErrOf result FormRefusal.Expected → IsNoProblem bytes.now (domain_of domain.now) }
-{
-    match read(alloc, bytes) {
-        Ok(forest) => match forms::problem(alloc, &forest) {
-            Ok(problem) => of_domain(problem, &domain.name),
-            Err(refusal) => Err(refusal),
+        Ok(forest) => match hp_forms::domain(alloc, &forest) {
+            Ok(domain) => Ok(domain),
+            Err(refusal) => Err(of_form(Input::Domain, refusal)),
         },
-        Err(TextRefusal::Other) => Err(FormRefusal::Expected),
-        Err(TextRefusal::NoMemory) => Err(FormRefusal::NoMemory),
+        Err(refusal) => Err(of_text(Input::Domain, refusal)),
     }
 }
 
-/// The problem, where it names this domain.
-fn of_domain(problem: Problem, domain: &Name) -> Result<Problem, FormRefusal>
-    ensures same { IfOk result (λ p. (p ≡ problem) × (bytes_eq problem.domain domain.now ≡ true)) }
-    ensures other { IsErrOf result FormRefusal.Expected → bytes_eq problem.domain domain.now ≡ false }
+/// The problem that a text is.
+fn problem_in(alloc: Global, bytes: &[u8]) -> Result<Problem, Unplanned>
+    ensures problem { IfOk result (λ p. IsRead problem_form bytes.now (problem_of p)) }
+    ensures refused { IfErr result (IsRefusedFor inputs.Problem problem_form bytes.now) }
 {
-    if problem.domain == *domain {
-        Ok(problem)
-    } else {
-        Err(FormRefusal::Expected)
+    match read(alloc, bytes) {
+        Ok(forest) => match hp_forms::problem(alloc, &forest) {
+            Ok(problem) => Ok(problem),
+            Err(refusal) => Err(of_form(Input::Problem, refusal)),
+        },
+        Err(refusal) => Err(of_text(Input::Problem, refusal)),
     }
 }
 
@@ -84,8 +81,12 @@ fn file_front<F: Folder>(
     ensures files { (n : List ℕ) → F.file folder.new n ≡ F.file folder.old n }
     ensures later { (w : Input) → F.faults folder.old w ≤ F.faults folder.new w }
     ensures cause { IsErrOf result ReadError.Failed
-        → Rose (F.faults folder.old which) (F.faults folder.new which)
-        ⊎ (F.file folder.old name.now ≡ Some None) }
+        → IsUnread which (F.file folder.old name.now) (F.faults folder.old) (F.faults folder.new) }
+    ensures touched { Touches (F.file folder.old name.now) (input_run
+        (F.begun folder.old which) (F.begun folder.new which)
+        (F.rest folder.old which) (F.rest folder.new which)) }
+    ensures others { (w : Input) → w ≢ which → IsUntouched
+        (input_run (F.begun folder.old w) (F.begun folder.new w) (F.rest folder.old w) (F.rest folder.new w)) }
 {
     match folder.begin(which, name) {
         Ok(()) => read_rest(alloc, folder, which),
@@ -95,76 +96,78 @@ fn file_front<F: Folder>(
 }
 
 /// The domain in a file.
-fn load_domain<F: Folder>(alloc: Global, folder: &mut F, name: &str) -> Result<Domain, Stop>
-    ensures domain { IfOk result (λ d. Holds (λ t. IsDomain t (domain_of d)) (F.file folder.old name.now)) }
-    ensures formed { IfOk result (λ d. IsFormed (domain_of d)) }
-    ensures stops { IfErr result (λ e. DomainStops e (F.file folder.old name.now)
-        (F.faults folder.old inputs.Domain) (F.faults folder.new inputs.Domain)) }
+fn load_domain<F: Folder>(alloc: Global, folder: &mut F, name: &str) -> Result<Domain, Unplanned>
+    ensures domain { IfOk result (λ d. Reads domain_form (F.file folder.old name.now) (domain_of d)) }
+    ensures stops { IfErr result (λ e. StopsAt inputs.Domain domain_form e (F.file folder.old name.now)
+        (F.faults folder.old) (F.faults folder.new)) }
+    ensures touched { Touches (F.file folder.old name.now) (input_run
+        (F.begun folder.old inputs.Domain) (F.begun folder.new inputs.Domain)
+        (F.rest folder.old inputs.Domain) (F.rest folder.new inputs.Domain)) }
+    ensures others { (w : Input) → w ≢ inputs.Domain → IsUntouched
+        (input_run (F.begun folder.old w) (F.begun folder.new w) (F.rest folder.old w) (F.rest folder.new w)) }
     ensures files { (n : List ℕ) → F.file folder.new n ≡ F.file folder.old n }
     ensures later { (w : Input) → F.faults folder.old w ≤ F.faults folder.new w }
 {
     match file_front(alloc, folder, Input::Domain, name) {
-        Ok(bytes) => stopped(domain_in(alloc, bytes.as_slice()), Input::Domain),
-        Err(ReadError::Failed) => Err(Stop::Unread(Input::Domain)),
-        Err(ReadError::NoMemory) => Err(Stop::NoMemory),
+        Ok(bytes) => {
+            // Nothing runs here: the laws make known that the front is read as the whole text is.
+            refusals_are_decided_by_the_front();
+            limits_are_kept();
+            domain_in(alloc, bytes.as_slice())
+        }
+        Err(ReadError::Failed) => Err(Unplanned::Read(Input::Domain)),
+        Err(ReadError::NoMemory) => Err(Unplanned::NoMemory),
     }
 }
 
-/// The problem of that domain in a file.
-fn load_problem<F: Folder>(
-    alloc: Global,
-    folder: &mut F,
-    name: &str,
-    domain: &Domain,
-) -> Result<Problem, Stop>
-    ensures problem { IfOk result (λ p. Holds (λ t. IsProblem t (domain_of domain.now) (problem_of p))
-        (F.file folder.old name.now)) }
-    ensures stops { IfErr result (λ e. ProblemStops e (domain_of domain.now) (F.file folder.old name.now)
-        (F.faults folder.old inputs.Problem) (F.faults folder.new inputs.Problem)) }
+/// The problem in a file.
+fn load_problem<F: Folder>(alloc: Global, folder: &mut F, name: &str) -> Result<Problem, Unplanned>
+    ensures problem { IfOk result (λ p. Reads problem_form (F.file folder.old name.now) (problem_of p)) }
+    ensures stops { IfErr result (λ e. StopsAt inputs.Problem problem_form e (F.file folder.old name.now)
+        (F.faults folder.old) (F.faults folder.new)) }
+    ensures touched { Touches (F.file folder.old name.now) (input_run
+        (F.begun folder.old inputs.Problem) (F.begun folder.new inputs.Problem)
+        (F.rest folder.old inputs.Problem) (F.rest folder.new inputs.Problem)) }
+    ensures others { (w : Input) → w ≢ inputs.Problem → IsUntouched
+        (input_run (F.begun folder.old w) (F.begun folder.new w) (F.rest folder.old w) (F.rest folder.new w)) }
+    ensures files { (n : List ℕ) → F.file folder.new n ≡ F.file folder.old n }
     ensures later { (w : Input) → F.faults folder.old w ≤ F.faults folder.new w }
 {
     match file_front(alloc, folder, Input::Problem, name) {
-        Ok(bytes) => stopped(problem_in(alloc, bytes.as_slice(), domain), Input::Problem),
-        Err(ReadError::Failed) => Err(Stop::Unread(Input::Problem)),
-        Err(ReadError::NoMemory) => Err(Stop::NoMemory),
+        Ok(bytes) => {
+            // Nothing runs here: the laws make known that the front is read as the whole text is.
+            refusals_are_decided_by_the_front();
+            limits_are_kept();
+            problem_in(alloc, bytes.as_slice())
+        }
+        Err(ReadError::Failed) => Err(Unplanned::Read(Input::Problem)),
+        Err(ReadError::NoMemory) => Err(Unplanned::NoMemory),
     }
 }
 
-/// What was formed, or why the whole run stops.
-fn stopped<T>(formed: Result<T, FormRefusal>, which: Input) -> Result<T, Stop>
-    ensures ok { IfOk result (λ x. formed ≡ Ok x) }
-    ensures err { IfErr result (λ e. ((e ≡ Stop.Refused which) × (formed ≡ Err FormRefusal.Expected))
-        ⊎ (e ≡ Stop.NoMemory)) }
-{
-    match formed {
-        Ok(value) => Ok(value),
-        Err(FormRefusal::Expected) => Err(Stop::Refused(which)),
-        Err(FormRefusal::NoMemory) => Err(Stop::NoMemory),
-    }
-}
-
-/// A domain, and then a problem of it.
+/// What is run of a domain and of a problem of it. What else was read is gone when this returns.
 pub fn load<F: Folder>(
     alloc: Global,
     folder: &mut F,
     domain: &str,
     problem: &str,
-) -> Result<Loaded, Stop>
-    ensures domain { IfOk result (λ l. Holds (λ t. IsDomain t (domain_of l.domain))
-        (F.file folder.old domain.now)) }
-    ensures formed { IfOk result (λ l. IsFormed (domain_of l.domain)) }
-    ensures problem { IfOk result (λ l. Holds (λ t. IsProblem t (domain_of l.domain) (problem_of l.problem))
-        (F.file folder.old problem.now)) }
+) -> Result<Prepared, Unplanned>
+    ensures prepared { IfOk result (λ p. IsPrepared (F.file folder.old domain.now) (F.file folder.old problem.now)
+        (plain_domain p.domain) (plain_problem p.problem)) }
     ensures stops { IfErr result (λ e. Stops e (F.file folder.old domain.now) (F.file folder.old problem.now)
-        (F.faults folder.old inputs.Domain) (F.faults folder.new inputs.Domain)
-        (F.faults folder.old inputs.Problem) (F.faults folder.new inputs.Problem)) }
+        (F.faults folder.old) (F.faults folder.new)) }
+    ensures files { (n : List ℕ) → F.file folder.new n ≡ F.file folder.old n }
+    ensures later { (w : Input) → F.faults folder.old w ≤ F.faults folder.new w }
+    ensures touched { (w : Input) → Touches (F.file folder.old (by_input w domain.now problem.now))
+        (input_run (F.begun folder.old w) (F.begun folder.new w) (F.rest folder.old w) (F.rest folder.new w)) }
 {
     let domain = match load_domain(alloc, folder, domain) {
         Ok(domain) => domain,
-        Err(stop) => return Err(stop),
+        Err(cause) => return Err(cause),
     };
-    match load_problem(alloc, folder, problem, &domain) {
-        Ok(problem) => Ok(Loaded { domain, problem }),
-        Err(stop) => Err(stop),
-    }
+    let problem = match load_problem(alloc, folder, problem) {
+        Ok(problem) => problem,
+        Err(cause) => return Err(cause),
+    };
+    judged(alloc, &domain, &problem)
 }

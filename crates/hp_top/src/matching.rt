@@ -3,7 +3,7 @@
 ghost use Rattle.std.specs.Prelude.{◌≡◌, IfOk, option_map, option_copied, slice_set};
 ghost use Rattle.hp_syntax.specs.Terms.{Symbol, bound, meet, match_term, match_parts, unbound};
 ghost use Rattle.hp_syntax.specs.Expressions.{match_atom};
-ghost use Rattle.hp_top.specs.Program.{atom_of, term_of, pattern_of, patterns_of, symbols_of};
+ghost use Rattle.hp_top.specs.Program.{plain_atom, plain_term, plain_pattern, plain_patterns, plain_symbols};
 ghost use Rattle.hp_top.specs.Flat.{bindings_of};
 ghost use Rattle.hp_top.specs.Stops.{extended};
 
@@ -89,7 +89,7 @@ fn match_argument(
     name: &Name,
     bindings: &mut Bindings,
 ) -> Result<bool, AllocError>
-    ensures { IfOk result (λ does. match_term (pattern_of argument.now) (Symbol name.now)
+    ensures { IfOk result (λ does. match_term (plain_pattern argument.now) (Symbol name.now)
         (bindings_of bindings.old) ≡ extended does (bindings_of bindings.new)) }
 {
     match argument {
@@ -105,7 +105,7 @@ fn match_arguments(
     names: &[Name],
     bindings: &mut Bindings,
 ) -> Result<bool, AllocError>
-    ensures { IfOk result (λ does. match_parts (patterns_of arguments.now) (symbols_of names.now)
+    ensures { IfOk result (λ does. match_parts (plain_patterns arguments.now) (plain_symbols names.now)
         (bindings_of bindings.old) ≡ extended does (bindings_of bindings.new)) }
 {
     if arguments.len() != names.len() {
@@ -127,7 +127,7 @@ fn extension(
     mut bindings: Bindings,
 ) -> Result<Option<Bindings>, AllocError>
     ensures { IfOk result (λ m. option_map bindings_of m
-        ≡ match_parts (patterns_of arguments.now) (symbols_of names.now) (bindings_of bindings)) }
+        ≡ match_parts (plain_patterns arguments.now) (plain_symbols names.now) (bindings_of bindings)) }
 {
     if match_arguments(alloc, arguments, names, &mut bindings)? {
         Ok(Some(bindings))
@@ -144,7 +144,7 @@ pub(crate) fn match_atom(
     bindings: &Bindings,
 ) -> Result<Option<Bindings>, AllocError>
     ensures { IfOk result (λ m. option_map bindings_of m
-        ≡ match_atom (atom_of atom.now) (term_of ground.now) (bindings_of bindings.now)) }
+        ≡ match_atom (plain_atom atom.now) (plain_term ground.now) (bindings_of bindings.now)) }
 {
     if atom.name != ground.name {
         return Ok(None);
@@ -162,7 +162,7 @@ pub(crate) fn match_head(
     vars: usize,
 ) -> Result<Option<Bindings>, AllocError>
     ensures { IfOk result (λ m. option_map bindings_of m
-        ≡ match_atom (atom_of head.now) (term_of task.now) (unbound vars)) }
+        ≡ match_atom (plain_atom head.now) (plain_term task.now) (unbound vars)) }
 {
     if head.name != task.name {
         return Ok(None);

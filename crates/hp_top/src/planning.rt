@@ -5,14 +5,14 @@ ghost use Rattle.hp_syntax.specs.Report.{report, ending_text};
 ghost use Rattle.hp_syntax.specs.Walk.{walk};
 ghost use Rattle.hp_top.specs.Flat.{heard_shown, shown_at};
 ghost use Rattle.hp_top.specs.Outcome.{planned_status, walk_status};
-ghost use Rattle.hp_top.specs.Program.{terms_of, domain_of, problem_of};
+ghost use Rattle.hp_top.specs.Program.{plain_terms, plain_domain, plain_problem};
 ghost use Rattle.hp_top.specs.Rest.{rest};
 ghost use Rattle.hp_top.specs.Told.{told, told_status, ending_of, flat_plan_text, quiet_ending};
-ghost use Rattle.hp_top.specs.Telling.{Visited, Halts, Tells, counted, stop_at};
-ghost use Rattle.hp_top.specs.Writing.{Wrote};
+ghost use Rattle.hp_top.specs.Telling.{Visited, Halts, Tells, counted, left, stop_at};
+ghost use Rattle.hp_top.specs.Writing.{Wrote, sink_run};
 
+use crate::judging::Prepared;
 use crate::lines::{Ending, ending_line, plan_lines};
-use crate::loading::Loaded;
 use crate::program::GroundAtom;
 use crate::status::Status;
 use crate::walk::{Step, Walk};
@@ -43,7 +43,8 @@ enum Halt {
 /// Writes a text.
 fn write<K: Sink>(out: &mut K, text: &[u8]) -> Result<(), Halt>
     ensures ok { OnOk result (Wrote text.now (K.bytes out.old) (K.bytes out.new)) }
-    ensures err { IfErr result (λ h. Halts h (K.faults out.old) (K.faults out.new)) }
+    ensures err { IfErr result (λ h. Halts h text.now
+        (sink_run (K.faults out.old) (K.faults out.new) (K.bytes out.old) (K.bytes out.new))) }
     ensures later { K.faults out.old ≤ K.faults out.new }
 {
     match write_all(out, text) {
@@ -81,11 +82,12 @@ fn plan_found<K: Sink>(
     out: &mut K,
 ) -> Result<Option<Ending>, Halt>
     requires { progress.old.plans < most }
-    ensures written { OnOk result (Wrote (flat_plan_text (progress.old.plans + 1) (terms_of steps.now))
+    ensures written { OnOk result (Wrote (flat_plan_text (progress.old.plans + 1) (plain_terms steps.now))
         (K.bytes out.old) (K.bytes out.new)) }
     ensures counted { OnOk result (progress.new ≡ counted progress.old) }
     ensures stops { IfOk result (λ o. o ≡ stop_at most (progress.old.plans + 1)) }
-    ensures err { IfErr result (λ h. Halts h (K.faults out.old) (K.faults out.new)) }
+    ensures err { IfErr result (λ h. Halts h (flat_plan_text (progress.old.plans + 1) (plain_terms steps.now))
+        (sink_run (K.faults out.old) (K.faults out.new) (K.bytes out.old) (K.bytes out.new))) }
     ensures later { K.faults out.old ≤ K.faults out.new }
 {
     progress.plans += 1;
@@ -110,7 +112,8 @@ fn visit<K: Sink>(
     requires { progress.old.plans < most }
     ensures visited { IfOk result (λ o. Visited o most progress.old progress.new
         (rest walk.old) (rest walk.new) (K.bytes out.old) (K.bytes out.new)) }
-    ensures err { IfErr result (λ h. Halts h (K.faults out.old) (K.faults out.new)) }
+    ensures err { IfErr result (λ h. Halts h (left most progress.old (rest walk.old))
+        (sink_run (K.faults out.old) (K.faults out.new) (K.bytes out.old) (K.bytes out.new))) }
     ensures later { K.faults out.old ≤ K.faults out.new }
 {
     match walk.next() {
@@ -139,7 +142,8 @@ fn close<K: Sink>(
     ensures written { OnOk result (Wrote (ending_text (ending_of ending) progress.plans progress.expansions)
         (K.bytes out.old) (K.bytes out.new)) }
     ensures status { IfOk result (λ s. s ≡ planned_status (ending_of ending) progress.plans) }
-    ensures err { IfErr result (λ h. Halts h (K.faults out.old) (K.faults out.new)) }
+    ensures err { IfErr result (λ h. Halts h (ending_text (ending_of ending) progress.plans progress.expansions)
+        (sink_run (K.faults out.old) (K.faults out.new) (K.bytes out.old) (K.bytes out.new))) }
     ensures later { K.faults out.old ≤ K.faults out.new }
 {
     let Ok(text) = ending_line(alloc, ending, progress.plans, progress.expansions) else {
@@ -157,7 +161,8 @@ fn tell<K: Sink>(alloc: Global, walk: &mut Walk, most: u64, out: &mut K) -> Resu
     ensures written { OnOk result (Wrote (told most 0 0 false (rest walk.old)) (K.bytes out.old)
         (K.bytes out.new)) }
     ensures status { IfOk result (λ s. s ≡ told_status most 0 false (rest walk.old)) }
-    ensures err { IfErr result (λ h. Halts h (K.faults out.old) (K.faults out.new)) }
+    ensures err { IfErr result (λ h. Halts h (told most 0 0 false (rest walk.old))
+        (sink_run (K.faults out.old) (K.faults out.new) (K.bytes out.old) (K.bytes out.new))) }
     ensures later { K.faults out.old ≤ K.faults out.new }
 {
     let mut progress = Progress {
@@ -175,15 +180,15 @@ fn tell<K: Sink>(alloc: Global, walk: &mut Walk, most: u64, out: &mut K) -> Resu
 }
 
 /// Plans, and answers how that ended.
-pub fn plan<K: Sink>(alloc: Global, loaded: &Loaded, asked: Asked, out: &mut K) -> Status
+pub fn plan<K: Sink>(alloc: Global, prepared: &Prepared, asked: Asked, out: &mut K) -> Status
     requires { 0 < asked.plans }
-    ensures tells { let visits = walk (domain_of loaded.now.domain) (problem_of loaded.now.problem) asked.depth in
+    ensures tells { let visits = walk (plain_domain prepared.now.domain) (plain_problem prepared.now.problem) asked.depth in
         Tells (report asked.plans visits, walk_status asked.plans visits) result
-        (K.faults out.old) (K.faults out.new) (K.bytes out.old) (K.bytes out.new) }
+        (sink_run (K.faults out.old) (K.faults out.new) (K.bytes out.old) (K.bytes out.new)) }
     ensures later { K.faults out.old ≤ K.faults out.new }
 {
-    let rules = loaded.domain.rules.as_slice();
-    let Ok(mut walk) = Walk::new(alloc, rules, &loaded.problem, asked.depth) else {
+    let rules = prepared.domain.rules.as_slice();
+    let Ok(mut walk) = Walk::new(alloc, rules, &prepared.problem, asked.depth) else {
         return Status::NoMemory;
     };
     match tell(alloc, &mut walk, asked.plans, out) {

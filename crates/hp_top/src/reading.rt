@@ -1,13 +1,11 @@
-ghost use Rattle.std.specs.Prelude.{◌≡◌, ◌≤◌, ◌<◌, ◌+◌, ◌^◌, ℕ, true, List, Option, Some, None, length, IfOk, IfErr, IsErrOf, ◌++◌, take, drop, ◌⊎◌};
+ghost use Rattle.std.specs.Prelude.{◌≡◌, ◌≢◌, ◌≤◌, ◌<◌, ◌+◌, ◌^◌, ℕ, true, List, Option, Some, None, length, IfOk, IfErr, IsErrOf, ◌++◌, take, drop, ◌⊎◌};
 ghost use Rattle.hp_io.specs.Rules.{Rose};
 ghost use Rattle.hp_io.specs.declared.folder.Input.{Input};
-ghost use Rattle.hp_top.specs.Reading.{ReadsTo, Left, Grows};
+ghost use Rattle.hp_top.specs.Reading.{ReadsTo, Left, TakesUpTo, Grows};
 
 use hp_io::{BeginError, Failed, Folder, Input};
+use hp_syntax::limits::LARGEST_TEXT;
 use std::alloc::{AllocError, Global};
-
-/// No text has more bytes.
-pub const MOST: usize = 4_194_304;
 
 /// How many bytes are read at a time.
 const PIECE: usize = 8_192;
@@ -30,6 +28,9 @@ fn read_more<F: Folder>(
     ensures grown { IfOk result (λ n. Grows n bytes.old.items bytes.new.items (F.rest folder.old which)
         (F.rest folder.new which)) }
     ensures length { IfOk result (λ n. (length bytes.new.items ≡ length bytes.old.items + n) × (n ≤ room)) }
+    ensures takes { TakesUpTo room (F.rest folder.old which) (F.rest folder.new which) }
+    ensures others { (w : Input) → w ≢ which
+        → (F.begun folder.new w ≡ F.begun folder.old w) × (F.rest folder.new w ≡ F.rest folder.old w) }
     ensures files { (n : List ℕ) → F.file folder.new n ≡ F.file folder.old n }
     ensures later { (w : Input) → F.faults folder.old w ≤ F.faults folder.new w }
     ensures cause { IsErrOf result ReadError.Failed
@@ -53,15 +54,19 @@ pub fn read_rest<F: Folder>(
     which: Input,
 ) -> Result<Vec<u8>, ReadError>
     requires { F.begun folder.old which ≡ true }
-    ensures bytes { IfOk result (λ bytes. ReadsTo MOST bytes.items (F.rest folder.old which)) }
+    ensures bytes { IfOk result (λ bytes. ReadsTo LARGEST_TEXT bytes.items (F.rest folder.old which)) }
+    ensures takes { TakesUpTo (LARGEST_TEXT + 1) (F.rest folder.old which) (F.rest folder.new which) }
+    ensures begun { F.begun folder.new which ≡ true }
+    ensures others { (w : Input) → w ≢ which
+        → (F.begun folder.new w ≡ F.begun folder.old w) × (F.rest folder.new w ≡ F.rest folder.old w) }
     ensures files { (n : List ℕ) → F.file folder.new n ≡ F.file folder.old n }
     ensures later { (w : Input) → F.faults folder.old w ≤ F.faults folder.new w }
     ensures cause { IsErrOf result ReadError.Failed
         → Rose (F.faults folder.old which) (F.faults folder.new which) }
 {
     let mut bytes = Vec::new(alloc);
-    while bytes.len() <= MOST {
-        let room = MOST + 1 - bytes.len();
+    while bytes.len() <= LARGEST_TEXT {
+        let room = LARGEST_TEXT + 1 - bytes.len();
         let count = read_more(folder, which, &mut bytes, room)?;
         if count == 0 {
             break;

@@ -2,7 +2,7 @@
 
 ghost use Rattle.std.specs.Prelude.{◌≡◌, ◌++◌, IfOk, OnOk, map, option_map, option_to_list};
 ghost use Rattle.std.specs.List.{flat_map};
-ghost use Rattle.hp_top.specs.Program.{atom_of, atoms_of, terms_of};
+ghost use Rattle.hp_top.specs.Program.{plain_atom, plain_atoms, plain_terms};
 ghost use Rattle.hp_top.specs.Flat.{bindings_of, matches, satisfiers};
 
 use crate::matching::{copy_bindings, match_atom};
@@ -30,7 +30,7 @@ fn add_matches(
     found: &mut Vec<Bindings>,
 ) -> Result<(), AllocError>
     ensures { OnOk result (map bindings_of found.new.items
-        ≡ map bindings_of found.old.items ++ matches (terms_of state.now) (atom_of atom.now)
+        ≡ map bindings_of found.old.items ++ matches (plain_terms state.now) (plain_atom atom.now)
         (bindings_of bindings.now)) }
 {
     for ground in state {
@@ -47,7 +47,7 @@ fn matches_under(
     current: &[Bindings],
 ) -> Result<Vec<Bindings>, AllocError>
     ensures { IfOk result (λ v. map bindings_of v.items
-        ≡ flat_map (matches (terms_of state.now) (atom_of atom.now)) (map bindings_of current.now)) }
+        ≡ flat_map (matches (plain_terms state.now) (plain_atom atom.now)) (map bindings_of current.now)) }
 {
     let mut found = Vec::new(alloc);
     for bindings in current {
@@ -64,7 +64,7 @@ pub(crate) fn satisfiers(
     bindings: &Bindings,
 ) -> Result<Vec<Bindings>, AllocError>
     ensures { IfOk result (λ v. map bindings_of v.items
-        ≡ satisfiers (terms_of state.now) (atoms_of atoms.now) (bindings_of bindings.now)) }
+        ≡ satisfiers (plain_terms state.now) (plain_atoms atoms.now) (bindings_of bindings.now)) }
 {
     let mut current = Vec::new(alloc);
     current.push(copy_bindings(alloc, bindings)?)?;

@@ -4,6 +4,7 @@ use crate::laws::{every_run_has_an_outcome, outcomes_are_one};
 use crate::samples::basic_comes_to_its_plan;
 use crate::{Status, run};
 use hp_io::{MemFolder, MemSink};
+use hp_syntax::limits::{LARGEST_TEXT, LONGEST_TOKEN};
 use std::alloc::Global;
 use std::test::Fail;
 
@@ -32,203 +33,434 @@ const TWELVE: &str = "(defproblem p choices
   ((choose) (choose) (choose) (choose) (choose) (choose)
    (choose) (choose) (choose) (choose) (choose) (choose)))";
 
-/// Runs words over two files, `d` and `p`, into a sink with so much room.
+/// The swap, and then a task that no rule does.
+const JUGGLE: &str = "(defproblem p1 basic ((have kiwi)) ((swap banjo kiwi) (juggle)))";
+
+const WHOLE: &str = "plan 1 cost 2 steps 2
+(!drop kiwi)
+(!pickup banjo)
+end plans 1 expansions 3
+";
+
+const STOPPED: &str = "plan 1 cost 2 steps 2
+(!drop kiwi)
+(!pickup banjo)
+stopped plans 1 expansions 3
+";
+
+/// The first two plans of the twelve choices.
+const FIRST_TWO: &str = "plan 1 cost 12 steps 12
+(!take a)\n(!take a)\n(!take a)\n(!take a)\n(!take a)\n(!take a)
+(!take a)\n(!take a)\n(!take a)\n(!take a)\n(!take a)\n(!take a)
+plan 2 cost 12 steps 12
+(!take a)\n(!take a)\n(!take a)\n(!take a)\n(!take a)\n(!take a)
+(!take a)\n(!take a)\n(!take a)\n(!take a)\n(!take a)\n(!take b)
+stopped plans 2 expansions 26
+";
+
+/// The words of a line, with one space between each two. An empty line has none.
+fn words_of(alloc: Global, line: &str) -> Result<Vec<String>, Fail> {
+    let mut words = Vec::new(alloc);
+    if line.is_empty() {
+        return Ok(words);
+    }
+    for word in line.split(' ') {
+        words.push(String::from_str(alloc, word)?)?;
+    }
+    Ok(words)
+}
+
+/// A folder with two files, `d` and `p`.
+fn folder_of(alloc: Global, domain: &[u8], problem: &[u8]) -> Result<MemFolder, Fail> {
+    let mut folder = MemFolder::new(alloc);
+    folder.put("d", domain)?;
+    folder.put("p", problem)?;
+    Ok(folder)
+}
+
+/// Runs the words of a line over two files, `d` and `p`, into a sink with so much room.
 fn run_on(
     alloc: Global,
     files: (&str, &str),
-    words: &[&str],
+    line: &str,
     room: usize,
 ) -> Result<(Status, MemSink), Fail> {
-    let mut folder = MemFolder::new(alloc);
-    folder.put("d", files.0.as_bytes())?;
-    folder.put("p", files.1.as_bytes())?;
+    let mut folder = folder_of(alloc, files.0.as_bytes(), files.1.as_bytes())?;
     let mut sink = MemSink::new(alloc, room)?;
-    let mut owned = Vec::new(alloc);
-    for word in words {
-        owned.push(String::from_str(alloc, word)?)?;
-    }
-    let status = run(alloc, owned.as_slice(), &mut folder, &mut sink);
+    let words = words_of(alloc, line)?;
+    let status = run(alloc, words.as_slice(), &mut folder, &mut sink);
     Ok((status, sink))
 }
 
 #[test]
 fn plans_are_written(rt: HostRuntime) -> Result<(), Fail> {
-    let kiwi = "plan 1 cost 2 steps 2\n(!drop kiwi)\n(!pickup banjo)\n";
-    for (files, k, depth, status, plans, ending) in [
+    let nothing = "(defproblem p basic () ())";
+    let commented = "(defdomain d ; no rules (\n ()) ; and no more";
+    let nothing_of_it = "(defproblem p d () ())";
+    let empty = "plan 1 cost 0 steps 0\nend plans 1 expansions 0\n";
+    let cut = "cut plans 0 expansions 2\n";
+    let none = "end plans 0 expansions 3\n";
+    for (domain, problem, line, status, text) in [
+        (BASIC, SWAP, "plan d p 5 10", Status::Done, WHOLE),
+        (BASIC, SWAP, "plan d p 1 10", Status::Done, STOPPED),
+        (BASIC, SWAP, "plan d p 5 3", Status::Done, WHOLE),
+        (BASIC, SWAP, "plan d p 5 2", Status::CutShort, cut),
+        (BASIC, nothing, "plan d p 5 0", Status::Done, empty),
         (
-            (BASIC, SWAP),
-            "5",
-            "10",
+            commented,
+            nothing_of_it,
+            "plan d p 5 0",
             Status::Done,
-            kiwi,
-            "end plans 1 expansions 3\n",
+            empty,
         ),
-        (
-            (BASIC, SWAP),
-            "1",
-            "10",
-            Status::Done,
-            kiwi,
-            "stopped plans 1 expansions 3\n",
-        ),
-        (
-            (BASIC, SWAP),
-            "5",
-            "3",
-            Status::Done,
-            kiwi,
-            "end plans 1 expansions 3\n",
-        ),
-        (
-            (BASIC, SWAP),
-            "5",
-            "2",
-            Status::CutShort,
-            "",
-            "cut plans 0 expansions 2\n",
-        ),
-        (
-            (BASIC, "(defproblem p basic () ())"),
-            "5",
-            "0",
-            Status::Done,
-            "plan 1 cost 0 steps 0\n",
-            "end plans 1 expansions 0\n",
-        ),
-        (
-            (
-                BASIC,
-                "(defproblem p1 basic ((have kiwi)) ((swap banjo kiwi) (juggle)))",
-            ),
-            "5",
-            "10",
-            Status::NoPlan,
-            "",
-            "end plans 0 expansions 3\n",
-        ),
+        (BASIC, JUGGLE, "plan d p 5 10", Status::NoPlan, none),
+        // The first two of a million million plans come at once.
+        (CHOICES, TWELVE, "plan d p 2 24", Status::Done, FIRST_TWO),
     ] {
-        let (got, sink) = run_on(rt.alloc(), files, &["plan", "d", "p", k, depth], ROOM)?;
-        assert_eq!(rt; got, status, "for {ending}");
-        assert!(rt; sink.bytes().starts_with(plans.as_bytes()), "for {ending}");
-        assert!(rt; sink.bytes().ends_with(ending.as_bytes()), "for {ending}");
-        assert_eq!(rt;
-            sink.bytes().len(),
-            plans.len().wrapping_add(ending.len()),
-            "for {ending}"
-        );
+        let (got, sink) = run_on(rt.alloc(), (domain, problem), line, ROOM)?;
+        assert_eq!(rt; got, status, "for {line}");
+        assert_eq!(rt; sink.bytes(), text.as_bytes(), "for {line}");
     }
     Ok(())
 }
 
 #[test]
-fn refusals_are_written(rt: HostRuntime) -> Result<(), Fail> {
-    let usage = (Status::Usage, "refused usage\n");
-    let domain = (Status::DomainRefused, "refused domain Expected\n");
-    let problem = (Status::ProblemRefused, "refused problem Expected\n");
-    for (files, words, (status, text)) in [
+fn words_are_refused(rt: HostRuntime) -> Result<(), Fail> {
+    for line in [
+        "",
+        "plan d p 0 5",
+        "plan d p 1000000001 5",
+        "plan d p 5 05",
+        "plan d p 5 1001",
+        "plan d p +5 5",
+        "plan d p 5 ",
+        "plan d p 5 5 --nest",
+        "show d p 5 5",
+    ] {
+        let (got, sink) = run_on(rt.alloc(), (BASIC, SWAP), line, ROOM)?;
+        assert_eq!(rt; got, Status::Usage, "for {line}");
+        assert_eq!(rt; sink.bytes(), "refused usage\n".as_bytes(), "for {line}");
+    }
+    Ok(())
+}
+
+#[test]
+fn missing_files_are_told(rt: HostRuntime) -> Result<(), Fail> {
+    for (files, line, status, text) in [
         (
             (BASIC, SWAP),
-            ["plan", "d", "p", "0", "5"].as_slice(),
-            usage,
-        ),
-        (
-            (BASIC, SWAP),
-            ["plan", "d", "p", "1000000001", "5"].as_slice(),
-            usage,
-        ),
-        (
-            (BASIC, SWAP),
-            ["plan", "d", "p", "5", "05"].as_slice(),
-            usage,
-        ),
-        (
-            (BASIC, SWAP),
-            ["plan", "d", "p", "5", "1001"].as_slice(),
-            usage,
-        ),
-        (
-            (BASIC, SWAP),
-            ["plan", "d", "p", "+5", "5"].as_slice(),
-            usage,
-        ),
-        ((BASIC, SWAP), ["plan", "d", "p", "5", ""].as_slice(), usage),
-        (
-            (BASIC, SWAP),
-            ["plan", "d", "p", "5", "5", "--nest"].as_slice(),
-            usage,
+            "plan e p 5 5",
+            Status::ReadFault,
+            "refused read domain\n",
         ),
         (
             (BASIC, SWAP),
-            ["show", "d", "p", "5", "5"].as_slice(),
-            usage,
+            "plan d e 5 5",
+            Status::ReadFault,
+            "refused read problem\n",
         ),
-        ((BASIC, SWAP), [].as_slice(), usage),
+        // The domain is refused before the problem is looked for.
         (
-            (BASIC, SWAP),
-            ["plan", "e", "p", "5", "5"].as_slice(),
-            (Status::ReadFault, "refused read domain\n"),
-        ),
-        (
-            (BASIC, SWAP),
-            ["plan", "d", "e", "5", "5"].as_slice(),
-            (Status::ReadFault, "refused read problem\n"),
-        ),
-        (
-            ("(defdomain d ()) ; x", SWAP),
-            ["plan", "d", "p", "5", "5"].as_slice(),
-            domain,
-        ),
-        (
-            ("(defdomain d (", SWAP),
-            ["plan", "d", "e", "5", "5"].as_slice(),
-            domain,
-        ),
-        (
-            (BASIC, "(defproblem p other () ())"),
-            ["plan", "d", "p", "5", "5"].as_slice(),
-            problem,
-        ),
-        (
-            (BASIC, "(defproblem p basic ((q ?x)) ())"),
-            ["plan", "d", "p", "5", "5"].as_slice(),
-            problem,
-        ),
-        (
-            (BASIC, "(defproblem p basic () () ())"),
-            ["plan", "d", "p", "5", "5"].as_slice(),
-            problem,
+            ("(", SWAP),
+            "plan d e 5 5",
+            Status::DomainRefused,
+            "refused domain Unclosed at 0\n",
         ),
     ] {
-        let (got, sink) = run_on(rt.alloc(), files, words, ROOM)?;
+        let (got, sink) = run_on(rt.alloc(), files, line, ROOM)?;
         assert_eq!(rt; got, status, "for {text}");
         assert_eq!(rt; sink.bytes(), text.as_bytes(), "for {text}");
     }
     Ok(())
 }
 
-/// The first two of a million million plans come at once.
+/// Domains whose text or whose form is refused, whatever the problem is.
 #[test]
-fn plans_come_one_after_another(rt: HostRuntime) -> Result<(), Fail> {
-    let words = ["plan", "d", "p", "2", "24"];
-    let (status, sink) = run_on(rt.alloc(), (CHOICES, TWELVE), &words, ROOM)?;
-    assert_eq!(rt; status, Status::Done);
-    assert!(rt;
-        sink.bytes()
-            .starts_with(b"plan 1 cost 12 steps 12\n(!take a)\n")
+fn domains_are_refused(rt: HostRuntime) -> Result<(), Fail> {
+    for (domain, text) in [
+        ("(defdomain d (\x01", "refused domain BadByte at 14\n"),
+        (
+            "(defdomain d ((:operator (!do) () () () 0.5)))",
+            "refused domain BadNumber at 40\n",
+        ),
+        (
+            "(defdomain d (9223372036854775808))",
+            "refused domain NumberRange at 14\n",
+        ),
+        ("(defdomain d (", "refused domain Unclosed at 13\n"),
+        (")", "refused domain ExtraClose at 0\n"),
+        ("", "refused domain Expected Domain at 0-0\n"),
+        (
+            "(defdomain 5 ())",
+            "refused domain Expected Name at 11-12\n",
+        ),
+        (
+            "(defdomain d r)",
+            "refused domain Expected Rules at 13-14\n",
+        ),
+        (
+            "(defdomain d (r))",
+            "refused domain Expected Rule at 14-15\n",
+        ),
+        (
+            "(defdomain d () ())",
+            "refused domain Expected End at 16-18\n",
+        ),
+    ] {
+        let (got, sink) = run_on(rt.alloc(), (domain, "("), "plan d p 5 5", ROOM)?;
+        assert_eq!(rt; got, Status::DomainRefused, "for {text}");
+        assert_eq!(rt; sink.bytes(), text.as_bytes(), "for {text}");
+    }
+    Ok(())
+}
+
+/// A domain of one rule.
+fn domain_of(alloc: Global, rule: &str) -> Result<String, Fail> {
+    Ok(format!(in alloc; "(defdomain d ({rule}))")?)
+}
+
+/// Rules whose form is refused.
+#[test]
+fn rules_are_refused(rt: HostRuntime) -> Result<(), Fail> {
+    for (rule, text) in [
+        (
+            "(:operator (go) () () ())",
+            "refused domain Expected Head at 25-29\n",
+        ),
+        (
+            "(:operator (!go) 5 () ())",
+            "refused domain Expected Pre at 31-32\n",
+        ),
+        (
+            "(:operator (!go) (5) () ())",
+            "refused domain Expected Expr at 31-34\n",
+        ),
+        (
+            "(:method (go) (assign x 1) ())",
+            "refused domain Expected Variable at 36-37\n",
+        ),
+        (
+            "(:method (go (. ?x)) () ())",
+            "refused domain Expected Term at 28-29\n",
+        ),
+        (
+            "(:method (go . 5) () ())",
+            "refused domain Expected Tail at 29-30\n",
+        ),
+        (
+            "(:operator (!go) () (a) ())",
+            "refused domain Expected Atom at 35-36\n",
+        ),
+        (
+            "(:operator (!go) () () ((forall (?x) () a)))",
+            "refused domain Expected Atoms at 54-55\n",
+        ),
+        (
+            "(:operator (!go) () a ())",
+            "refused domain Expected Effects at 34-35\n",
+        ),
+        (
+            "(:method (go) () 5)",
+            "refused domain Expected Tasks at 31-32\n",
+        ),
+    ] {
+        let domain = domain_of(rt.alloc(), rule)?;
+        let (got, sink) = run_on(rt.alloc(), (domain.as_str(), ""), "plan d p 5 5", ROOM)?;
+        assert_eq!(rt; got, Status::DomainRefused, "for {text}");
+        assert_eq!(rt; sink.bytes(), text.as_bytes(), "for {text}");
+    }
+    Ok(())
+}
+
+/// Problems of an accepted domain that are refused, by their text, by their form or by a check.
+#[test]
+fn problems_are_refused(rt: HostRuntime) -> Result<(), Fail> {
+    for (problem, text) in [
+        (" )", "refused problem ExtraClose at 1\n"),
+        (
+            "(defdomain d ())",
+            "refused problem Expected Problem at 0-16\n",
+        ),
+        (
+            "(defproblem p d a ())",
+            "refused problem Expected Atoms at 16-17\n",
+        ),
+        (
+            "(defproblem p d ((a (call + 1 2))) ())",
+            "refused problem Expected Ground at 20-32\n",
+        ),
+        (
+            "(defproblem p d () () () ())",
+            "refused problem SeveralPairs at 22-24\n",
+        ),
+        (
+            "(defproblem p e () ())",
+            "refused problem OtherDomain at 14-15\n",
+        ),
+        (
+            "(defproblem p d ((w ?x 1)) ((m)))",
+            "refused problem VariableInProblem at 20-22\n",
+        ),
+        ("(defproblem p d ((w a 3)) ())", "refused problem Later\n"),
+    ] {
+        let (got, sink) = run_on(
+            rt.alloc(),
+            ("(defdomain d ())", problem),
+            "plan d p 5 5",
+            ROOM,
+        )?;
+        assert_eq!(rt; got, Status::ProblemRefused, "for {text}");
+        assert_eq!(rt; sink.bytes(), text.as_bytes(), "for {text}");
+    }
+    Ok(())
+}
+
+/// A domain of one operator and this rule.
+fn domain_with(alloc: Global, rule: &str) -> Result<String, Fail> {
+    Ok(format!(in alloc; "(defdomain d ((:operator (!do ?x) () () ()) {rule}))")?)
+}
+
+/// Rules with a fault or with a form that is run later, whatever form the problem has.
+#[test]
+fn rules_are_judged(rt: HostRuntime) -> Result<(), Fail> {
+    for (rule, text) in [
+        (
+            "(:method (m) ((call frob 1)) ((!do a)))",
+            "refused domain UnknownCall at 58-71\n",
+        ),
+        (
+            "(:method (m) ((call + 1)) ((!do a)))",
+            "refused domain CallArity at 58-68\n",
+        ),
+        (
+            "(:method (m (call + 1 2)) () ())",
+            "refused domain CallInHead at 56-68\n",
+        ),
+        (
+            "(:method (m) (:sort-by ?x near (w ?x 1)) ((!do ?x)))",
+            "refused domain UnknownOrder at 70-74\n",
+        ),
+        (
+            "(:method (m) ((or (w ?x 1) (w ?x 1))) ((!do ?x)))",
+            "refused domain Later at 44-93\n",
+        ),
+        // The first of two rules that are run later.
+        (
+            "(:method (m) ((not (w a))) ((!do a))) (:- (q) ())",
+            "refused domain Later at 44-81\n",
+        ),
+    ] {
+        let domain = domain_with(rt.alloc(), rule)?;
+        let problem = "(defproblem p d ((w a 3) (w b 1) (w c 3)) ((m)))";
+        let (got, sink) = run_on(rt.alloc(), (domain.as_str(), problem), "plan d p 5 5", ROOM)?;
+        assert_eq!(rt; got, Status::DomainRefused, "for {text}");
+        assert_eq!(rt; sink.bytes(), text.as_bytes(), "for {text}");
+    }
+    Ok(())
+}
+
+/// Of a fault in the domain, one in the problem and a rule that is run later, the first is told.
+#[test]
+fn verdicts_have_an_order(rt: HostRuntime) -> Result<(), Fail> {
+    let call = "(:method (m) ((call frob 1)) ())";
+    let domain = (
+        Status::DomainRefused,
+        "refused domain UnknownCall at 58-71\n",
     );
-    assert!(rt;
-        sink.bytes()
-            .ends_with(b"(!take a)\n(!take b)\nstopped plans 2 expansions 26\n")
+    let problem = (
+        Status::ProblemRefused,
+        "refused problem OtherDomain at 14-15\n",
     );
+    for (rule, (status, text)) in [(call, domain), ("(:- (q) ())", problem)] {
+        let alloc = rt.alloc();
+        let files = domain_with(alloc, rule)?;
+        let files = (files.as_str(), "(defproblem p e () ())");
+        let (got, sink) = run_on(alloc, files, "plan d p 5 5", ROOM)?;
+        assert_eq!(rt; got, status, "for {text}");
+        assert_eq!(rt; sink.bytes(), text.as_bytes(), "for {text}");
+    }
+    Ok(())
+}
+
+/// Texts of one byte again and again, up to the limits and past them.
+#[test]
+fn limits_of_texts_are_told(rt: HostRuntime) -> Result<(), Fail> {
+    let words = words_of(rt.alloc(), "plan d p 5 5")?;
+    for (byte, count, text) in [
+        (b'(', 64, "refused domain Unclosed at 63\n"),
+        (b'(', 65, "refused domain TooNested at 64\n"),
+        (
+            b'a',
+            LONGEST_TOKEN,
+            "refused domain Expected Domain at 0-256\n",
+        ),
+        (b'a', LONGEST_TOKEN + 1, "refused domain TokenLong at 0\n"),
+        (
+            b' ',
+            LARGEST_TEXT,
+            "refused domain Expected Domain at 4194304-4194304\n",
+        ),
+        (
+            b' ',
+            LARGEST_TEXT + 1,
+            "refused domain TooLarge at 4194304\n",
+        ),
+    ] {
+        let domain = vec![in rt.alloc(); byte; count]?;
+        let mut folder = folder_of(rt.alloc(), domain.as_slice(), b"")?;
+        let mut sink = MemSink::new(rt.alloc(), ROOM)?;
+        let status = run(rt.alloc(), words.as_slice(), &mut folder, &mut sink);
+        assert_eq!(rt; status, Status::DomainRefused, "for {text}");
+        assert_eq!(rt; sink.bytes(), text.as_bytes(), "for {text}");
+    }
+    Ok(())
+}
+
+/// A text again and again.
+fn repeated(alloc: Global, text: &str, count: u32) -> Result<String, Fail> {
+    let mut all = String::new(alloc);
+    for _i in 0..count {
+        all.push_str(text)?;
+    }
+    Ok(all)
+}
+
+/// The names of so many variables.
+fn variables(alloc: Global, count: u32) -> Result<String, Fail> {
+    let mut all = String::new(alloc);
+    for i in 0..count {
+        all.push_str(format!(in alloc; " ?v{i}")?.as_str())?;
+    }
+    Ok(all)
+}
+
+/// A rule with one variable too many, and one with one level too many.
+#[test]
+fn limits_of_rules_are_told(rt: HostRuntime) -> Result<(), Fail> {
+    let alloc = rt.alloc();
+    let not = repeated(alloc, "(not ", 24)?;
+    let closed = repeated(alloc, ")", 24)?;
+    let deep = format!(in alloc; "(:method (m) ({not}(a){closed}) ())")?;
+    let names = variables(alloc, 257)?;
+    let wide = format!(in alloc; "(:method (m{names}) () ())")?;
+    for (rule, text) in [
+        (&deep, "refused domain ExprNested at 143-152\n"),
+        (&wide, "refused domain TooManyVariables at 14-1465\n"),
+    ] {
+        let domain = domain_of(alloc, rule.as_str())?;
+        let files = (domain.as_str(), "(defproblem p d () ())");
+        let (got, sink) = run_on(alloc, files, "plan d p 5 5", ROOM)?;
+        assert_eq!(rt; got, Status::DomainRefused, "for {text}");
+        assert_eq!(rt; sink.bytes(), text.as_bytes(), "for {text}");
+    }
     Ok(())
 }
 
 /// A sink without room for the whole text has the front of it.
 #[test]
 fn full_sinks_are_told(rt: HostRuntime) -> Result<(), Fail> {
-    for (room, text) in [(0, "".as_bytes()), (6, b"plan 1".as_slice())] {
-        let words = ["plan", "d", "p", "5", "10"];
-        let (status, sink) = run_on(rt.alloc(), (BASIC, SWAP), &words, room)?;
+    for (room, text) in [(0, b"".as_slice()), (6, b"plan 1".as_slice())] {
+        let (status, sink) = run_on(rt.alloc(), (BASIC, SWAP), "plan d p 5 10", room)?;
         assert_eq!(rt; status, Status::WriteFault);
         assert_eq!(rt; sink.bytes(), text);
     }

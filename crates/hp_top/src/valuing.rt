@@ -3,7 +3,7 @@
 ghost use Rattle.std.specs.Prelude.{◌≡◌};
 ghost use Rattle.hp_syntax.specs.Terms.{Symbol, bound, value, value_of_variable, values as part_values};
 ghost use Rattle.hp_syntax.specs.Expressions.{atom_value};
-ghost use Rattle.hp_top.specs.Program.{atom_of, atoms_of, pattern_of, patterns_of, symbols_of, shared_term, terms_of};
+ghost use Rattle.hp_top.specs.Program.{plain_atom, plain_atoms, plain_pattern, plain_patterns, plain_symbols, shared_term, plain_terms};
 ghost use Rattle.hp_top.specs.Flat.{bindings_of, atom_values};
 ghost use Rattle.hp_top.specs.Stops.{Gives};
 
@@ -59,7 +59,7 @@ fn value_of_variable(
 }
 
 fn value_of_argument(alloc: Global, argument: &Argument, bindings: &Bindings) -> Result<Name, Stop>
-    ensures { Gives Symbol result (value (pattern_of argument.now) (bindings_of bindings.now)) }
+    ensures { Gives Symbol result (value (plain_pattern argument.now) (bindings_of bindings.now)) }
 {
     match argument {
         Argument::Variable(span, number) => value_of_variable(alloc, *span, *number, bindings),
@@ -72,8 +72,8 @@ fn values_of_arguments(
     arguments: &[Argument],
     bindings: &Bindings,
 ) -> Result<Vec<Name>, Stop>
-    ensures { Gives (λ v. symbols_of v.items) result
-        (part_values (patterns_of arguments.now) (bindings_of bindings.now)) }
+    ensures { Gives (λ v. plain_symbols v.items) result
+        (part_values (plain_patterns arguments.now) (bindings_of bindings.now)) }
 {
     let mut names = Vec::new(alloc);
     for argument in arguments {
@@ -87,7 +87,7 @@ fn value_of_atom(
     atom: &RuleAtom,
     bindings: &Bindings,
 ) -> Result<Rc<GroundAtom>, Stop>
-    ensures { Gives shared_term result (atom_value (atom_of atom.now) (bindings_of bindings.now)) }
+    ensures { Gives shared_term result (atom_value (plain_atom atom.now) (bindings_of bindings.now)) }
 {
     let args = values_of_arguments(alloc, &atom.args, bindings)?;
     let name = atom.name.copy(alloc)?;
@@ -100,8 +100,8 @@ pub(crate) fn values(
     atoms: &[RuleAtom],
     bindings: &Bindings,
 ) -> Result<GroundAtoms, Stop>
-    ensures { Gives (λ v. terms_of v.items) result
-        (atom_values (atoms_of atoms.now) (bindings_of bindings.now)) }
+    ensures { Gives (λ v. plain_terms v.items) result
+        (atom_values (plain_atoms atoms.now) (bindings_of bindings.now)) }
 {
     let mut found = Vec::new(alloc);
     for atom in atoms {

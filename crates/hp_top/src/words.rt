@@ -5,7 +5,9 @@ ghost use Rattle.std.specs.Prelude.{true, nat_le, IfSome, ◌≡◌, ◌≤◌, 
 ghost use Rattle.hp_top.specs.Words.{AsksFor, Spelled};
 ghost use Rattle.hp_top.specs.Command.{accepts, make_command, number_within, number_from, is_number};
 ghost use Rattle.hp_syntax.specs.Text.{is_digit};
-ghost use Rattle.hp_syntax.specs.Form.{only_if};
+ghost use Rattle.hp_syntax.specs.Lowering.{only_if};
+
+use hp_syntax::limits::{GREATEST_DEPTH, MOST_PLANS};
 
 /// The numbers of a command: how many plans are asked, and down to which depth.
 #[derive(Clone, Copy)]
@@ -13,12 +15,6 @@ pub struct Asked {
     pub plans: u64,
     pub depth: u32,
 }
-
-/// No command asks for more plans.
-const MOST_PLANS: u64 = 1_000_000_000;
-
-/// No command asks for a greater depth.
-const MOST_DEPTH: u64 = 1_000;
 
 /// Whether all bytes are digits.
 fn are_digits(bytes: &[u8]) -> bool
@@ -48,7 +44,7 @@ fn is_number(word: &[u8]) -> bool
 /// The number that digits spell, where it is at most `most`.
 fn number_up_to(digits: &[u8], most: u64) -> Option<u64>
     requires digits { list_all is_digit digits.now ≡ true }
-    requires most { most ≤ 1000000000 }
+    requires most { most ≤ MOST_PLANS }
     ensures { result ≡ only_if (nat_le (number_from 0 digits.now) most) (Some (number_from 0 digits.now)) }
 {
     let mut number = 0u64;
@@ -63,7 +59,7 @@ fn number_up_to(digits: &[u8], most: u64) -> Option<u64>
 
 /// The number that a word spells, where it is within these bounds.
 fn number_within(word: &[u8], least: u64, most: u64) -> Option<u64>
-    requires { most ≤ 1000000000 }
+    requires { most ≤ MOST_PLANS }
     ensures { result ≡ number_within least most word.now }
 {
     if !is_number(word) {
@@ -75,12 +71,12 @@ fn number_within(word: &[u8], least: u64, most: u64) -> Option<u64>
 
 /// How many plans and which depth two words ask for.
 fn both_numbers(plans: &[u8], depth: &[u8]) -> Option<Asked>
-    ensures spelled { Spelled result (number_within 1 1000000000 plans.now)
-        (number_within 0 1000 depth.now) }
+    ensures spelled { Spelled result (number_within 1 MOST_PLANS plans.now)
+        (number_within 0 GREATEST_DEPTH depth.now) }
     ensures some { IfSome result (λ a. 0 < a.plans) }
 {
     let plans = number_within(plans, 1, MOST_PLANS)?;
-    let depth = number_within(depth, 0, MOST_DEPTH)?;
+    let depth = number_within(depth, 0, u64::from(GREATEST_DEPTH))?;
     Some(Asked {
         plans,
         depth: depth as u32,

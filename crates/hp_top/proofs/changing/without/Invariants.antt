@@ -1,10 +1,10 @@
 use Rattle.std.proofs.Common.{◌≡◌, ◌++◌, drop, not}
 use Rattle.std.specs.List.{filter}
 use Rattle.hp_syntax.specs.Rules.{member}
-use Rattle.hp_top.specs.Program.{terms_of}
+use Rattle.hp_top.specs.Program.{plain_terms}
 use Rattle.hp_top.proofs.changing.without.Given as goal
 
 abbrev pub invariant-loop-atom : goal.invariant-loop-atom
 invariant-loop-atom l =
-    terms_of l.left.items ++ filter (λ a. not (member a (terms_of l.deletes))) (terms_of (drop l.atom-index l.state))
-    ≡ filter (λ a. not (member a (terms_of l.deletes))) (terms_of l.state)
+    plain_terms l.left.items ++ filter (λ a. not (member a (plain_terms l.deletes))) (plain_terms (drop l.atom-index l.state))
+    ≡ filter (λ a. not (member a (plain_terms l.deletes))) (plain_terms l.state)

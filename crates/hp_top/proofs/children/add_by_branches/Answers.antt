@@ -1,7 +1,7 @@
 use Rattle.std.proofs.Common.{◌≡◌, ◌<◌, ◌≤◌, ◌++◌, ◌∙◌, sym, ap, length, map, drop, vec_len, arith}
 use Rattle.std.proofs.lemmas.List.{length-map, drop_all, append-nil}
 use Rattle.std.proofs.lemmas.Result.{on_ok_weaker}
-use Rattle.hp_top.specs.Program.{atoms_of}
+use Rattle.hp_top.specs.Program.{plain_atoms}
 use Rattle.hp_top.specs.Flat.{flat_node, flat_choice, bindings_of, satisfiers, by_branch, by_branches}
 use Rattle.hp_top.proofs.Gather.{above_zero, is_zero}
 use Rattle.hp_top.proofs.Branches.{branch_used, branch_unused}
@@ -13,7 +13,7 @@ returns-then-not-is_empty c =
     let behind = drop 1 n.tasks in
     let e = bindings_of c.args.bindings.now in
     let es = map bindings_of c.in_ok-all.all.items in
-    let all : es ≡ satisfiers n.state (atoms_of c.branch-item.result.pre.items) e =
+    let all : es ≡ satisfiers n.state (plain_atoms c.branch-item.result.pre.items) e =
     rw (c.deref-in-loop-branch.ensures.value, c.deref.ensures, c.deref-in-loop-branch-2.ensures.value) at c.in_ok-all.ensures in
     let some : 0 < length es =
     omega (arith, length-map c.in_ok-all.all.items bindings_of, above_zero (vec_len c.in_ok-all.all) c.is_empty.result c.is_empty.ensures c.if-not-is_empty.true) in
@@ -29,7 +29,7 @@ loop-branch-preserved c =
     let n = flat_node c.args.node.now.value in
     let e = bindings_of c.args.bindings.now in
     let es = map bindings_of c.in_ok-all.all.items in
-    let all : es ≡ satisfiers n.state (atoms_of c.branch-item.result.pre.items) e =
+    let all : es ≡ satisfiers n.state (plain_atoms c.branch-item.result.pre.items) e =
     rw (c.deref-in-loop-branch.ensures.value, c.deref.ensures, c.deref-in-loop-branch-2.ensures.value) at c.in_ok-all.ensures in
     let none : length es ≤ 0 =
     omega (arith, length-map c.in_ok-all.all.items bindings_of, is_zero (vec_len c.in_ok-all.all) c.is_empty.result c.is_empty.ensures c.if-not-is_empty.false) in

@@ -4,7 +4,7 @@ use Rattle.hp_top.proofs.RunEnds.{refused_words, named_command}
 use Rattle.hp_top.proofs.command.serve.Goals as goal
 
 pub returns-in-None-clause-untouched : goal.returns-in-None-clause-untouched
-returns-in-None-clause-untouched g c = λ e. (refl, refused_words _ _ _ _ _ c.end_with.ensures.either c.end_with.ensures.tells)
+returns-in-None-clause-untouched g c = λ e. (refl, refused_words _ _ c.end_with.ensures.either c.end_with.ensures.tells)
 
 pub returns-in-Some-clause-ends : goal.returns-in-Some-clause-ends
 returns-in-Some-clause-ends g c =

@@ -1,8 +1,8 @@
 use Rattle.std.proofs.Common.{◌≡◌, ◌++◌, drop}
 use Rattle.hp_syntax.specs.Report.{steps_text}
-use Rattle.hp_top.specs.Program.{terms_of}
+use Rattle.hp_top.specs.Program.{plain_terms}
 use Rattle.hp_top.proofs.lines.push_steps.Given as goal
 
 abbrev pub invariant-loop-step : goal.invariant-loop-step
 invariant-loop-step l =
-    l.text.items ++ steps_text (terms_of (drop l.step-index l.steps)) ≡ l.fn.text.items ++ steps_text (terms_of l.steps)
+    l.text.items ++ steps_text (plain_terms (drop l.step-index l.steps)) ≡ l.fn.text.items ++ steps_text (plain_terms l.steps)

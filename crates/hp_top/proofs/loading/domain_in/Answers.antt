@@ -1,9 +1,15 @@
-use Rattle.std.proofs.Common.{◌∙◌, ap, Err}
-use Rattle.hp_top.specs.Outcome as outcome
+use Rattle.hp_io.specs.declared.folder.Input.TheVariants as inputs
+use Rattle.hp_syntax.specs.Grammar.{domain_form}
+use Rattle.hp_text.specs.Nodes.{forest_of}
+use Rattle.hp_top.proofs.Loads.{text_refused, form_refused}
 use Rattle.hp_top.proofs.loading.domain_in.Goals as goal
 
 pub returns-in-Ok-clause-refused : goal.returns-in-Ok-clause-refused
-returns-in-Ok-clause-refused c = λ e. outcome.IsNoDomain.NoForm _ c.in-Ok.ensures.forest (c.domain.ensures.expected e)
+returns-in-Ok-clause-refused c =
+    rw c.of_form.ensures
+    (form_refused inputs.Domain domain_form _ (forest_of c.in-Ok.forest) c.in-Err-domain.refusal c.in-Ok.ensures.forest
+    (rw (← c.in-Ok.ensures.length) c.in-Err-domain.ensures.form))
 
-pub returns-in-Err-Other-clause-refused : goal.returns-in-Err-Other-clause-refused
-returns-in-Err-Other-clause-refused c = λ e. outcome.IsNoDomain.NoForest (c.read.ensures.other (c.in-Err-Other.is ∙ ap Err c.in-Err-Other.field-0-is))
+pub returns-clause-refused : goal.returns-clause-refused
+returns-clause-refused c =
+    rw c.of_text.ensures (text_refused inputs.Domain domain_form _ c.in-Err.refusal c.in-Err.ensures.refused)

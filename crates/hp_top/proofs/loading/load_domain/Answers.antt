@@ -1,16 +1,19 @@
 use Rattle.hp_io.specs.declared.folder.Input.TheVariants as inputs
-use Rattle.hp_top.specs.declared.loading.Stop.TheVariants.{Refused}
-use Rattle.hp_top.specs.Program.{domain_of}
-use Rattle.hp_top.proofs.Loads.{held_domain, held_no_domain, formed_ok, formed_err, formed_weaker}
+use Rattle.hp_syntax.specs.Grammar.{domain_form}
+use Rattle.hp_syntax.specs.Views.{domain_of}
+use Rattle.hp_top.proofs.Loads.{reads_file, stops_file, read_weaker, cause_weaker}
 use Rattle.hp_top.proofs.loading.load_domain.Goals as goal
 
 pub returns-in-Ok-clause-domain : goal.returns-in-Ok-clause-domain
 returns-in-Ok-clause-domain g c =
-    formed_ok _ c.stopped.result c.domain_in.result
-    (formed_weaker _ _ c.domain_in.result c.domain_in.ensures.domain (λ d h. held_domain _ _ (domain_of d) (rw c.as_slice.ensures.value c.in-Ok.ensures.bytes) h))
-    c.stopped.ensures.ok
+    let front = c.refusals_are_decided_by_the_front.ensures in
+    read_weaker _ _ c.domain_in.result c.domain_in.ensures.domain
+    (λ x h. reads_file front.refused front.spelled c.limits_are_kept.ensures.needed domain_form _ _ (domain_of x)
+    (rw c.as_slice.ensures.value c.in-Ok.ensures.bytes) h)
 
 pub returns-in-Ok-clause-stops : goal.returns-in-Ok-clause-stops
 returns-in-Ok-clause-stops g c =
-    formed_err _ (Refused inputs.Domain) c.stopped.result c.domain_in.result
-    (λ e. held_no_domain _ _ (rw c.as_slice.ensures.value c.in-Ok.ensures.bytes) (c.domain_in.ensures.refused e)) tt c.stopped.ensures.err
+    let front = c.refusals_are_decided_by_the_front.ensures in
+    cause_weaker _ _ c.domain_in.result c.domain_in.ensures.refused
+    (λ e h. stops_file front.refused front.spelled c.limits_are_kept.ensures.needed domain_form inputs.Domain _ _ e _ _
+    (rw c.as_slice.ensures.value c.in-Ok.ensures.bytes) h)

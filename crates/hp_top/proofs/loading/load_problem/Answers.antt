@@ -1,16 +1,19 @@
 use Rattle.hp_io.specs.declared.folder.Input.TheVariants as inputs
-use Rattle.hp_top.specs.declared.loading.Stop.TheVariants.{Refused}
-use Rattle.hp_top.specs.Program.{problem_of}
-use Rattle.hp_top.proofs.Loads.{held_problem, held_no_problem, formed_ok, formed_err, formed_weaker}
+use Rattle.hp_syntax.specs.Grammar.{problem_form}
+use Rattle.hp_syntax.specs.Views.{problem_of}
+use Rattle.hp_top.proofs.Loads.{reads_file, stops_file, read_weaker, cause_weaker}
 use Rattle.hp_top.proofs.loading.load_problem.Goals as goal
 
 pub returns-in-Ok-clause-problem : goal.returns-in-Ok-clause-problem
 returns-in-Ok-clause-problem g c =
-    formed_ok _ c.stopped.result c.problem_in.result
-    (formed_weaker _ _ c.problem_in.result c.problem_in.ensures.problem (λ p h. held_problem _ _ _ (problem_of p) (rw c.as_slice.ensures.value c.in-Ok.ensures.bytes) h))
-    c.stopped.ensures.ok
+    let front = c.refusals_are_decided_by_the_front.ensures in
+    read_weaker _ _ c.problem_in.result c.problem_in.ensures.problem
+    (λ x h. reads_file front.refused front.spelled c.limits_are_kept.ensures.needed problem_form _ _ (problem_of x)
+    (rw c.as_slice.ensures.value c.in-Ok.ensures.bytes) h)
 
 pub returns-in-Ok-clause-stops : goal.returns-in-Ok-clause-stops
 returns-in-Ok-clause-stops g c =
-    formed_err _ (Refused inputs.Problem) c.stopped.result c.problem_in.result
-    (λ e. held_no_problem _ _ _ (rw c.as_slice.ensures.value c.in-Ok.ensures.bytes) (c.problem_in.ensures.refused e)) tt c.stopped.ensures.err
+    let front = c.refusals_are_decided_by_the_front.ensures in
+    cause_weaker _ _ c.problem_in.result c.problem_in.ensures.refused
+    (λ e h. stops_file front.refused front.spelled c.limits_are_kept.ensures.needed problem_form inputs.Problem _ _ e _ _
+    (rw c.as_slice.ensures.value c.in-Ok.ensures.bytes) h)

@@ -1,7 +1,7 @@
 use Rattle.std.proofs.Common.{arith, subst}
 use Rattle.hp_top.specs.Rest.{rest}
 use Rattle.hp_top.specs.Telling.{Visited}
-use Rattle.hp_top.proofs.Tellings.{goes_through}
+use Rattle.hp_top.proofs.Tellings.{goes_through, goes_to_close, halted_midway, halted_at_end}
 use Rattle.hp_top.proofs.planning.tell.Goals as goal
 
 pub loop-ending-preserved : goal.loop-ending-preserved
@@ -12,3 +12,13 @@ loop-ending-preserved g c =
       fewer = v.1;
       later = omega (arith, c.loop-ending.invariant.later, c.visit.ensures.later);
     }
+
+pub returns-in-Ok-Some-clause-err : goal.returns-in-Ok-Some-clause-err
+returns-in-Ok-Some-clause-err g c =
+    let v = subst (λ o. Visited o c.args.most c.loop-ending.progress c.visit.new.progress (rest c.loop-ending.walk) (rest c.visit.new.walk) (g.K.Sink.bytes c.loop-ending.out) (g.K.Sink.bytes c.visit.new.out)) c.in-Ok-Some.field-0-is c.in-Ok-Some.ensures.visited in
+    halted_at_end c.args.most _ _ _ c.in-Ok-Some.ending c.close.result _ _ _ _ _ _ (omega (arith, c.loop-ending.invariant.later, c.visit.ensures.later))
+    (goes_to_close _ _ _ _ _ _ _ _ _ _ c.loop-ending.invariant.gone v) c.close.ensures.err
+
+pub returns-in-Err-clause-err : goal.returns-in-Err-clause-err
+returns-in-Err-clause-err g c =
+    halted_midway c.args.most _ _ _ _ c.in-Err.halt _ _ _ _ _ _ c.loop-ending.invariant.later c.loop-ending.invariant.gone c.in-Err.ensures.err

@@ -1,5 +1,6 @@
-use Rattle.std.proofs.Common.{◌≡◌, ◌≤◌, ◌-◌, ℕ, true, List, length}
+use Rattle.std.proofs.Common.{◌≡◌, ◌≢◌, ◌≤◌, ◌+◌, ◌-◌, ℕ, true, List, length}
 use Rattle.hp_io.specs.declared.folder.Input.{Input}
+use Rattle.hp_syntax.specs.declared.limits.TheConstants.{LARGEST_TEXT}
 use Rattle.hp_top.specs.Reading.{Left}
 use Rattle.hp_top.proofs.reading.read_rest.Given as goal
 
@@ -7,12 +8,13 @@ abbrev pub invariant-loop-which : goal.invariant-loop-which
 invariant-loop-which g l =
     let folder = g.F.Folder in
     record {
-      room : length l.bytes.items ≤ 4194305;
+      room : length l.bytes.items ≤ LARGEST_TEXT + 1;
       left : Left l.bytes.items (folder.rest l.fn.folder l.fn.which) (folder.rest l.folder l.which);
       begun : folder.begun l.folder l.which ≡ true;
+      others : (w : Input) → w ≢ l.fn.which → (folder.begun l.folder w ≡ folder.begun l.fn.folder w) × (folder.rest l.folder w ≡ folder.rest l.fn.folder w);
       files : (n : List ℕ) → folder.file l.folder n ≡ folder.file l.fn.folder n;
       later : (w : Input) → folder.faults l.fn.folder w ≤ folder.faults l.folder w;
     }
 
 abbrev pub decreases-loop-which : goal.decreases-loop-which
-decreases-loop-which g l = 4194305 - length l.bytes.items
+decreases-loop-which g l = (LARGEST_TEXT + 1) - length l.bytes.items

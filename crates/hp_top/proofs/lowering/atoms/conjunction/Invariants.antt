@@ -1,0 +1,13 @@
+use Rattle.std.proofs.Common.{◌≡◌, ◌∷◌, drop, map}
+use Rattle.hp_syntax.specs.Terms.{and_then}
+use Rattle.hp_syntax.specs.Lowering.{conjuncts, lower_atoms}
+use Rattle.hp_syntax.specs.Views.{expressions_of}
+use Rattle.hp_top.specs.Program.{plain_atom}
+use Rattle.hp_top.proofs.LowerLoops.{behind}
+use Rattle.hp_top.proofs.lowering.atoms.conjunction.Given as goal
+
+abbrev pub invariant-loop-part : goal.invariant-loop-part
+invariant-loop-part l =
+    and_then (conjuncts (expressions_of l.parts)) (lower_atoms l.count)
+    ≡ behind ◌∷◌ (map plain_atom l.atoms.items)
+    (and_then (conjuncts (expressions_of (drop l.part-index l.parts))) (lower_atoms l.count))

@@ -1,0 +1,13 @@
+use Rattle.std.proofs.Common.{◌≡◌, ◌∷◌, drop, map}
+use Rattle.hp_syntax.specs.Terms.{and_then}
+use Rattle.hp_syntax.specs.Lowering.{atoms_of_task_list, lower_atoms}
+use Rattle.hp_syntax.specs.Views.{task_list_of}
+use Rattle.hp_top.specs.Program.{plain_atom}
+use Rattle.hp_top.proofs.LowerLoops.{behind}
+use Rattle.hp_top.proofs.lowering.atoms.task_list.Given as goal
+
+abbrev pub invariant-loop-part : goal.invariant-loop-part
+invariant-loop-part l =
+    and_then (atoms_of_task_list (task_list_of l.parts)) (lower_atoms l.count)
+    ≡ behind ◌∷◌ (map plain_atom l.atoms.items)
+    (and_then (atoms_of_task_list (task_list_of (drop l.part-index l.parts))) (lower_atoms l.count))

@@ -1,0 +1,49 @@
+-- What a run does to the inputs of a folder.
+use Rattle.std.specs.Prelude.{◌≡◌, ◌⊎◌, ℕ, ◌+◌, ◌≤◌, Bool, true, List, drop, Option, Some, None}
+use Rattle.hp_io.specs.declared.folder.Input.{Input}
+use Rattle.hp_syntax.specs.declared.limits.TheConstants.{LARGEST_TEXT}
+use Rattle.hp_top.specs.Command.{Command, accepts, named}
+use Rattle.hp_top.specs.Loading.{ToldFile}
+
+-- what a call did to an input: whether it was begun, and what is left to read of it, before and after
+pub record InputRun : Type 0 where
+  pub begun_before : Bool
+  pub begun_after : Bool
+  pub before : Option (List ℕ)
+  pub after : Option (List ℕ)
+
+abbrev pub input_run : Bool → Bool → Option (List ℕ) → Option (List ℕ) → InputRun
+input_run b c old new = record { begun_before = b; begun_after = c; before = old; after = new }
+
+-- the input is as it was
+pub record IsUntouched (r : InputRun) : Type 0 where
+  pub begun : r.begun_after ≡ r.begun_before
+  pub rest : r.after ≡ r.before
+
+-- what is left of a told file of which at most one byte more than the longest text was read;
+-- one that is told to be missing can't be read
+abbrev pub IsLeft : ToldFile → Option (List ℕ) → Type 0
+IsLeft None rest = Unit {0}
+IsLeft (Some None) rest = ⊥
+IsLeft (Some (Some text)) rest = (n : ℕ) × (n ≤ LARGEST_TEXT + 1) × (rest ≡ Some (drop n text))
+
+-- the input was begun by this file, and read no further than it may be
+pub record IsRead (file : ToldFile) (r : InputRun) : Type 0 where
+  pub begun : r.begun_after ≡ true
+  pub rest : IsLeft file r.after
+
+abbrev pub Touches : ToldFile → InputRun → Type 0
+Touches file r = IsUntouched r ⊎ IsRead file r
+
+-- the words are a command that names a file for the input, which was read
+pub record IsNamed (words : List (List ℕ)) (file : List ℕ → ToldFile) (which : Input)
+    (r : InputRun) : Type 0 where
+  pub command : Command
+  pub accepted : accepts words ≡ Some command
+  pub name : List ℕ
+  pub has_name : named command which ≡ Some name
+  pub read : IsRead (file name) r
+
+-- the input is as it was, or it was read by the name that the words have for it
+abbrev pub TouchesNamed : List (List ℕ) → (List ℕ → ToldFile) → Input → InputRun → Type 0
+TouchesNamed words file which r = IsUntouched r ⊎ IsNamed words file which r
