@@ -55,7 +55,8 @@ token_begins : (text : List ℕ) (a b : ℕ) → IsToken text a b → kind_at te
 token_begins text a b t = t.run a (omega arith) t.some
 
 -- a node begins where a node may begin
-pub node_begins : (text : List ℕ) (n : Node) → SpellsNode text n → begins_node (kind_at text (span_of n).from) ≡ Some true
+pub node_begins : (text : List ℕ) (n : Node) → SpellsNode text n
+    → begins_node (kind_at text (span_of n).from) ≡ Some true
 node_begins text (Word s name) h = ap begins_node (token_begins text s.from s.to h.0.token)
 node_begins text (Numeral s n) h = ap begins_node (token_begins text s.from s.to h.token)
 node_begins text (Group s parts) h = ap begins_node h.0

@@ -93,8 +93,8 @@ module _ (at : ℕ) (text other : List ℕ) (kinds : (i : ℕ) → i ≤ at → 
   first_node : (n : Node) (a c : ℕ) (g : Forest) → IsGap other a (span_of n).from
       → begins_node (kind_at other (span_of n).from) ≡ Some true
       → Spells other a c g → begins_node (kind_at other c) ≡ Some false
-      → (m : Node) × (r : Forest) × (g ≡ Grow m r) ×
-      ((span_of n).from ≡ (span_of m).from) × SpellsNode other m × Spells other (span_of m).to c r
+      → (m : Node) × (r : Forest) × (g ≡ Grow m r)
+      × ((span_of n).from ≡ (span_of m).from) × SpellsNode other m × Spells other (span_of m).to c r
   first_node n a c Bare h x k y =
       let e = one_gap other a a (span_of n).from c true false refl h k x y in
       absurd cc

@@ -278,8 +278,8 @@ rules_good (r ∷ rs) xs e =
     subst (All IsGoodRule) b.4 (All-cons IsGoodRule b.0 b.1 (rule_good r b.0 b.2) (rules_good rs b.1 b.3))
 
 -- a domain with a name comes from its rules
-with_name_ok : (name : List ℕ) (r : Result (List Rule) Span) (x : Domain) → with_name name r ≡ Ok x → (rs : List Rule) ×
-    (r ≡ Ok rs) × (make_domain name rs ≡ x)
+with_name_ok : (name : List ℕ) (r : Result (List Rule) Span) (x : Domain) → with_name name r ≡ Ok x → (rs : List Rule)
+    × (r ≡ Ok rs) × (make_domain name rs ≡ x)
 with_name_ok name (Ok rs) x h = (rs, refl, (let e : make_domain name rs ≡ x = cc in e))
 with_name_ok name (Err s) x h = no_failure h
 

@@ -28,7 +28,8 @@ good_parts NoNetwork = true
 good_parts (And n ns) = starts n
 
 -- leaving out an empty part keeps this
-starts_unless : (n : Network) (ns : Networks) → starts_or_empty n ≡ true → good_parts ns ≡ true → good_parts (unless_empty n ns) ≡ true
+starts_unless : (n : Network) (ns : Networks) → starts_or_empty n ≡ true → good_parts ns ≡ true
+    → good_parts (unless_empty n ns) ≡ true
 starts_unless Empty ns h k = k
 starts_unless (Task t i) ns h k = refl
 starts_unless (Ordered NoNetwork) ns h k = h
@@ -84,17 +85,20 @@ first_tasks (Ordered (And n ns)) = All-map (IsTaskAt (Ordered (And n ns))) (λ p
 some_kept : {X : Type 0} (p : X → Bool) (xs : List X) → list_any p xs ≡ true → 0 < length (filter p xs)
 some_kept p [] h = absurd cc
 some_kept p (x ∷ xs) h =
-    ⊎_elim (λ t. rw t (omega arith)) (λ f. let r : list_any p xs ≡ true = rw f at h in rw f (some_kept p xs r)) (cases_Bool (p x))
+    ⊎_elim (λ t. rw t (omega arith))
+    (λ f. let r : list_any p xs ≡ true = rw f at h in rw f (some_kept p xs r)) (cases_Bool (p x))
 
 -- of some places some are left
 some_immediate : (net : Network) (ps : List Place) → 0 < length ps → 0 < length (immediate_first net ps)
 some_immediate net ps l =
-    cond_both (list_any (λ p. is_immediate (part_at net p)) ps) _ _ (λ qs. 0 < length qs) (λ h. some_kept (λ p. is_immediate (part_at net p)) ps h) (λ h. l)
+    cond_both (list_any (λ p. is_immediate (part_at net p)) ps) _ _ (λ qs. 0 < length qs)
+    (λ h. some_kept (λ p. is_immediate (part_at net p)) ps h) (λ h. l)
 
 -- what holds of places holds of those that are left
 pub all_immediate : (P : Place → Type 0) (net : Network) (ps : List Place) → All P ps → All P (immediate_first net ps)
 all_immediate P net ps a =
-    cond_both (list_any (λ p. is_immediate (part_at net p)) ps) _ _ (All P) (λ h. All-filter (λ p. is_immediate (part_at net p)) P ps a) (λ h. a)
+    cond_both (list_any (λ p. is_immediate (part_at net p)) ps) _ _ (All P)
+    (λ h. All-filter (λ p. is_immediate (part_at net p)) P ps a) (λ h. a)
 
 -- so the candidates of a whole network are tasks, and there is one
 pub next_of_whole : (net : Network) → normal net ≡ net → (net ≡ Empty → ⊥) → HasNext net None
@@ -105,31 +109,37 @@ next_of_whole net e h = record {
 
 -- the part at a place of a part
 mutual
-  pub part_below : (net : Network) (p q : Place) (n : Network) → part_at net p ≡ Some n → part_at net (p ++ q) ≡ part_at n q
+  pub part_below : (net : Network) (p q : Place) (n : Network) → part_at net p ≡ Some n
+      → part_at net (p ++ q) ≡ part_at n q
   part_below net [] q n e = let f : net ≡ n = cc in ap (λ m. part_at m q) f
   part_below Empty (i ∷ p) q n e = absurd cc
   part_below (Task t j) (i ∷ p) q n e = absurd cc
   part_below (Ordered ns) (i ∷ p) q n e = nth_part_below ns i p q n e
 
   -- the same below the n-th part
-  nth_part_below : (ns : Networks) (i : ℕ) (p q : Place) (n : Network) → nth_part_at ns i p ≡ Some n → nth_part_at ns i (p ++ q) ≡ part_at n q
+  nth_part_below : (ns : Networks) (i : ℕ) (p q : Place) (n : Network) → nth_part_at ns i p ≡ Some n
+      → nth_part_at ns i (p ++ q) ≡ part_at n q
   nth_part_below NoNetwork i p q n e = absurd cc
   nth_part_below (And m ms) zero p q n e = part_below m p q n e
   nth_part_below (And m ms) (suc i) p q n e = nth_part_below ms i p q n e
 
 -- a task of a part is a task of the whole
-task_below : (net : Network) (p : Place) (n : Network) → part_at net p ≡ Some n → (q : Place) → IsTaskAt n q → IsTaskAt net (p ++ q)
+task_below : (net : Network) (p : Place) (n : Network) → part_at net p ≡ Some n → (q : Place)
+    → IsTaskAt n q → IsTaskAt net (p ++ q)
 task_below net p n e q t = (t.0, t.1, part_below net p q n e ∙ t.2)
 
 -- so the candidates below a focus are tasks, and there is one
-pub next_of_part : (net : Network) (p : Place) (n : Network) → part_at net p ≡ Some n → normal n ≡ n → (n ≡ Empty → ⊥) → HasNext net (Some p)
+pub next_of_part : (net : Network) (p : Place) (n : Network) → part_at net p ≡ Some n → normal n ≡ n
+    → (n ≡ Empty → ⊥) → HasNext net (Some p)
 next_of_part net p n e f h =
     let b = firsts_below p (part_at net p) in
     let g : b ≡ map (λ q. p ++ q) (firsts n) = ap (firsts_below p) e in
     record {
-      some = some_immediate net b (subst (λ qs. 0 < length qs) (sym g) (simp length-map (some_first n (starting n f h))));
+      some =
+          some_immediate net b (subst (λ qs. 0 < length qs) (sym g) (simp length-map (some_first n (starting n f h))));
       tasks =
           all_immediate (IsTaskAt net) net b
           (subst (All (IsTaskAt net)) (sym g)
-          (All-map (IsTaskAt net) (λ q. p ++ q) (firsts n) (All-weaker (IsTaskAt n) (λ q. IsTaskAt net (p ++ q)) (task_below net p n e) (firsts n) (first_tasks n))));
+          (All-map (IsTaskAt net) (λ q. p ++ q) (firsts n)
+          (All-weaker (IsTaskAt n) (λ q. IsTaskAt net (p ++ q)) (task_below net p n e) (firsts n) (first_tasks n))));
     }
