@@ -1,5 +1,5 @@
 -- Reading terms one by one: what was read so far, and what a step gives for the rest.
-use Rattle.std.proofs.Common.{◌≡◌, ◌∙◌, sym, ap, refl, Bool, true, false, cond, List, [], ◌∷◌, ◌++◌, Option, Some, None, Result, Ok, Err, codes, append_assoc, append-nil, subst, ℕ, ◌<◌, ◌≤◌, length, get_or, arith}
+use Rattle.std.proofs.Common.{◌≡◌, ◌∙◌, sym, ap, refl, true, false, List, [], ◌∷◌, ◌++◌, Option, None, Result, Ok, Err, codes, append_assoc, append-nil, subst, ℕ, ◌<◌, ◌≤◌, length, get_or, arith}
 use Rattle.std.proofs.lemmas.List.{map-append}
 use Rattle.std.specs.Prelude.{map}
 use Rattle.hp_syntax.specs.declared.pattern.Span.{Span}
@@ -65,7 +65,8 @@ pub record SoFar (all next : Step (Patterns × Option Tail)) (old new : List Pat
   pub read : all start ≡ put_before (map pattern_of more) (next names)
 
 -- before anything is read
-pub at_start : (all : Step (Patterns × Option Tail)) (old : List Pat) (names : Names) → SoFar all all old old names names
+pub at_start : (all : Step (Patterns × Option Tail)) (old : List Pat) (names : Names)
+    → SoFar all all old old names names
 at_start all old names = record { more = []; parts = sym (append-nil old); read = put_before-nil (all names) }
 
 -- one part more, where the step is one term and then another step
@@ -79,7 +80,8 @@ one_more all next rest one old new start before after x is_next so_far r = recor
   parts = ap (λ ps. ps ++ x ∷ []) so_far.parts ∙ append_assoc old so_far.more (x ∷ []);
   read =
       so_far.read ∙ ap (put_before (map pattern_of so_far.more)) is_next
-      ∙ ap (λ o. put_before (map pattern_of so_far.more) (and_then o (λ p later. and_then (rest later) (behind_first p)))) r
+      ∙ ap (λ o. put_before (map pattern_of so_far.more) (and_then o
+      (λ p later. and_then (rest later) (behind_first p)))) r
       ∙ put_before_more (map pattern_of so_far.more) (pattern_of x) (rest after)
       ∙ ap (λ ps. put_before ps (rest after)) (sym (map-append pattern_of so_far.more (x ∷ [])));
 }
@@ -129,7 +131,8 @@ item_read setting end all old new newer start before after rest others first x s
     let next = items setting end (nodes_of rest) in
     let more = items setting end (nodes_of others) in
     let one = term setting (node_of first) in
-    let is_next = ap (λ ns. items setting end (nodes_of ns) before) split ∙ items-term setting end (node_of first) (nodes_of others) before dotless in
+    let is_next = ap (λ ns. items setting end (nodes_of ns) before) split
+    ∙ items-term setting end (node_of first) (nodes_of others) before dotless in
     subst (λ ps. SoFar all more old ps start after) (sym pushed)
     (one_more all next more one old new start before after x is_next so_far r)
 
@@ -140,18 +143,21 @@ pub item_refused : (setting : Setting) (end : Span) (all : Step (Patterns × Opt
     → SoFar all (items setting end (nodes_of rest)) old new start before
     → Refuses e (term setting (node_of first) before) → Refuses e (all start)
 item_refused setting end all old new start before rest others first e split dotless so_far r =
-    let is_next = ap (λ ns. items setting end (nodes_of ns) before) split ∙ items-term setting end (node_of first) (nodes_of others) before dotless in
+    let is_next = ap (λ ns. items setting end (nodes_of ns) before) split
+    ∙ items-term setting end (node_of first) (nodes_of others) before dotless in
     refused all (items setting end (nodes_of rest)) old new start before e so_far
     (refused_same e _ _ is_next (refused_next e (term setting (node_of first) before) _ r))
 
 -- what a dot and a tail add is added to what was added before
-pub tail_added : (setting : Setting) (end : Span) (all : Step (Patterns × Option Tail)) (r : Result (Option Tail) FormRefusal)
+pub tail_added : (setting : Setting) (end : Span) (all : Step (Patterns × Option Tail))
+    (r : Result (Option Tail) FormRefusal)
     (old mid new : List Pat) (start before after : Names) (rest others : List public.Node) (first : public.Node)
     → rest ≡ first ∷ others → is_word (codes ".") (node_of first) ≡ true
     → SoFar all (items setting end (nodes_of rest)) old mid start before
     → Adds r (dotted setting end (nodes_of others)) mid new before after → Adds r all old new start after
 tail_added setting end all r old mid new start before after rest others first split dot so_far h =
-    let is_next = ap (λ ns. items setting end (nodes_of ns) before) split ∙ items-dot setting end (node_of first) (nodes_of others) before dot in
+    let is_next = ap (λ ns. items setting end (nodes_of ns) before) split
+    ∙ items-dot setting end (node_of first) (nodes_of others) before dot in
     let at_dot : SoFar all (dotted setting end (nodes_of others)) old mid start before = record {
       more = so_far.more;
       parts = so_far.parts;
@@ -177,10 +183,15 @@ pub terms-each : (f : Forest) (names : Names)
     → terms f names ≡ and_then (each (term InRule) f names) (λ ps. pure (as_patterns ps))
 unfolding terms
 terms-each Bare names = refl
-terms-each (Grow n f) names = elim (term InRule n names) as (λ r. and_then r (λ first later. and_then (terms f later) (λ others. pure (Before first others))) ≡ and_then (and_then r (λ first later. and_then (each (term InRule) f later) (λ ps. pure (first ∷ ps)))) (λ ps. pure (as_patterns ps))) [
-  | Ok p ↦ rw (terms-each f p.1) (elim (each (term InRule) f p.1) as (λ r. and_then (and_then r (λ ps. pure (as_patterns ps))) (λ others. pure (Before p.0 others)) ≡ and_then (and_then r (λ ps. pure (p.0 ∷ ps))) (λ ps. pure (as_patterns ps))) [ Ok q ↦ refl | Err e ↦ refl ])
-  | Err e ↦ refl
-]
+terms-each (Grow n f) names = elim (term InRule n names) as (λ r. and_then r
+    (λ first later. and_then (terms f later) (λ others. pure (Before first others)))
+    ≡ and_then (and_then r (λ first later. and_then (each (term InRule) f later) (λ ps. pure (first ∷ ps))))
+    (λ ps. pure (as_patterns ps))) [
+      | Ok p ↦ rw (terms-each f p.1) (elim (each (term InRule) f p.1) as
+          (λ r. and_then (and_then r (λ ps. pure (as_patterns ps))) (λ others. pure (Before p.0 others))
+          ≡ and_then (and_then r (λ ps. pure (p.0 ∷ ps))) (λ ps. pure (as_patterns ps))) [ Ok q ↦ refl | Err e ↦ refl ])
+      | Err e ↦ refl
+    ]
 
 -- arguments that were read are the terms of a call
 pub terms_read : (nodes : List public.Node) (i : ℕ) (front : List Pat) (start names : Names) → length nodes ≤ i
@@ -199,5 +210,6 @@ pub terms_refused : (nodes : List public.Node) (i : ℕ) (d : public.Node) (fron
 terms_refused nodes i d front why start names h e at r =
     refused_same why _ _ (terms-each (nodes_of nodes) start)
     (refused_next why (each (term InRule) (nodes_of nodes) start) _
-    (one_refused (term InRule) nodes i d (map pattern_of front) why names (each (term InRule) (nodes_of nodes) start) h e
+    (one_refused (term InRule) nodes i d (map pattern_of front) why names (each (term InRule) (nodes_of nodes) start) h
+    e
     (subst (λ n. Refuses why (term InRule (node_of n) names)) at r)))

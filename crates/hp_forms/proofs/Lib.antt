@@ -1,7 +1,8 @@
 pub mod Turns
+pub mod PlaceLemmas
 pub mod Items
 pub mod Sizes
-pub mod Parts
-pub mod RuleParts
-pub mod FileParts
+pub mod PartLemmas
+pub mod RuleLemmas
+pub mod FileLemmas
 pub mod NumberedForms

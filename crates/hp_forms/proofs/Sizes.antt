@@ -1,5 +1,5 @@
 -- The size of a node counts it and all nodes in it. Recursion goes to smaller nodes.
-use Rattle.std.proofs.Common.{◌≡◌, ◌∙◌, sym, ap, subst, refl, ℕ, zero, suc, ◌+◌, ◌<◌, ◌≤◌, List, [], ◌∷◌, length, get_or, arith}
+use Rattle.std.proofs.Common.{◌≡◌, ap, ℕ, zero, suc, ◌+◌, ◌<◌, List, [], ◌∷◌, length, get_or, arith}
 use Rattle.hp_syntax.specs.Forest as plain
 use Rattle.hp_syntax.specs.Forest.{Word, Numeral, Group, Forest, Bare, Grow}
 use Rattle.hp_text.specs.declared.forest.Node.{Node}

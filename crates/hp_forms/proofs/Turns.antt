@@ -1,6 +1,11 @@
 -- Reading the items of a list one by one: what was read so far, and what a step gives for the rest.
 use Rattle.std.proofs.Common.{◌≡◌, ◌∙◌, sym, ap, refl, ℕ, ◌+◌, ◌<◌, ◌≤◌, List, [], ◌∷◌, ◌++◌, Result, Ok, Err, length, get_or, drop, map, append_assoc, append-nil}
-use Rattle.std.proofs.lemmas.List.{drop_more, drop_all, map-append}
+use Rattle.std.proofs.lemmas.List.{drop_more, drop_all, map-append, nil_from_length}
+use Rattle.std.proofs.lemmas.Option.{MatchOption-at_some, MatchOption-at_none}
+use Rattle.std.specs.Vec.Iter.{into_iter_items, into_iter_steps}
+use Rattle.std.specs.declared.option.Option.{Option}
+use Rattle.std.specs.declared.option.Option.TheVariants.{Some, None}
+use Rattle.std.specs.declared.vec.IntoIter.{IntoIter}
 use Rattle.hp_syntax.specs.Forest as plain
 use Rattle.hp_syntax.specs.Steps.{Misform, Names, Step, each, and_then, pure}
 use Rattle.hp_text.specs.declared.forest.Node.{Node}
@@ -74,7 +79,8 @@ module _ {A : Type 0} (item : plain.Node → Step A) (nodes : List Node) where
       → all ≡ prepend (front ++ x ∷ []) (from_here item nodes (i + 1) after)
   one_read i d front x before after all h e r =
       e ∙ ap (prepend front) (here_first i d before h)
-      ∙ ap (λ o. prepend front (and_then o (λ y later. and_then (from_here item nodes (i + 1) later) (λ xs. pure (y ∷ xs))))) r
+      ∙ ap (λ o. prepend front (and_then o (λ y later. and_then (from_here item nodes (i + 1) later)
+      (λ xs. pure (y ∷ xs))))) r
       ∙ prepend_more front x (from_here item nodes (i + 1) after)
 
   -- an item that is refused refuses all
@@ -95,3 +101,41 @@ pub one_viewed : {X A : Type 0} (view : X → A) (item : plain.Node → Step A) 
 one_viewed view item nodes i d front x before after all h e r =
     one_read item nodes i d (map view front) (view x) before after all h e r
     ∙ ap (λ xs. prepend xs (from_here item nodes (i + 1) after)) (sym (map-append view front (x ∷ [])))
+
+-- what an iterator over nodes takes is the first of those that are left
+pub first_taken : {Z : Type 0} (old new : IntoIter Node Z) (r : Option Node) (n : Node)
+    → r ≡ Some n → into_iter_steps old r new → into_iter_items old ≡ n ∷ into_iter_items new
+first_taken old new r n is h = (MatchOption-at_some _ _ n is h).0
+
+-- where an iterator over nodes takes none, none is left
+pub none_taken : {Z : Type 0} (old new : IntoIter Node Z) (r : Option Node)
+    → r ≡ None → into_iter_steps old r new → into_iter_items old ≡ []
+none_taken old new r is h =
+    nil_from_length (into_iter_items old) (sym old.rest.ok.0 ∙ (MatchOption-at_none _ _ is h).0)
+
+module _ {X A : Type 0} (view : X → A) (item : plain.Node → Step A) (front : List X) (left : List Node)
+    (names : Names) (all : Result (List A × Names) Misform)
+    (so_far : all ≡ prepend (map view front) (each item (nodes_of left) names)) where
+  -- the first of the items that are left is read
+  pub first_read : (n : Node) (others : List Node) (x : X) (after : Names) → left ≡ n ∷ others
+      → item (node_of n) names ≡ Ok (view x, after)
+      → all ≡ prepend (map view (front ++ x ∷ [])) (each item (nodes_of others) after)
+  first_read n others x after at r =
+      so_far ∙ ap (λ ns. prepend (map view front) (each item (nodes_of ns) names)) at
+      ∙ ap (λ o. prepend (map view front) (and_then o (λ y later. and_then (each item (nodes_of others) later)
+      (λ xs. pure (y ∷ xs))))) r
+      ∙ prepend_more (map view front) (view x) (each item (nodes_of others) after)
+      ∙ ap (λ xs. prepend xs (each item (nodes_of others) after)) (sym (map-append view front (x ∷ [])))
+
+  -- where the first of the items that are left is refused, all are
+  pub first_refused : (n : Node) (others : List Node) (why : FormRefusal) → left ≡ n ∷ others
+      → Refuses why (item (node_of n) names) → Refuses why all
+  first_refused n others why at r =
+      refused_same why all _ (so_far ∙ ap (λ ns. prepend (map view front) (each item (nodes_of ns) names)) at)
+      (refused_behind why (map view front) _ (refused_next why _ _ r))
+
+  -- where no item is left, what was read so far is all
+  pub none_is_left : left ≡ [] → all ≡ Ok (map view front, names)
+  none_is_left at =
+      so_far ∙ ap (λ ns. prepend (map view front) (each item (nodes_of ns) names)) at
+      ∙ ap (λ xs. Ok (xs, names)) (append-nil (map view front))

@@ -75,7 +75,7 @@ fn each_effect(scope: &mut Scope, nodes: &[Node]) -> Result<Vec<Effect>, FormRef
     ensures { Reads (λ v. map effect_of v.items) result (steps.each grammar.effect (nodes_of nodes.now))
         scope.old.names.keys scope.new.names.keys }
 {
-    let mut effects = Vec::new(scope.alloc);
+    let mut effects = Vec::with_capacity(scope.alloc, nodes.len())?;
     for node in nodes {
         effects.push(effect(scope, node)?)?;
     }

@@ -114,7 +114,7 @@ pub fn expressions(scope: &mut Scope, nodes: &[Node]) -> Result<Vec<Expr>, FormR
     ensures { Reads (λ es. expressions_of es.items) result (grammar.expressions (nodes_of nodes.now))
         scope.old.names.keys scope.new.names.keys }
 {
-    let mut expressions = Vec::new(scope.alloc);
+    let mut expressions = Vec::with_capacity(scope.alloc, nodes.len())?;
     for node in nodes {
         expressions.push(expression(scope, node)?)?;
     }

@@ -21,7 +21,7 @@ use hp_text::{Forest, Node};
 use std::alloc::Global;
 
 /// The empty span at the end of a file.
-fn end_of(forest: &Forest) -> Span
+pub fn end_of(forest: &Forest) -> Span
     ensures { result ≡ grammar.end_of_file forest.now.len }
 {
     Span {
@@ -77,13 +77,15 @@ fn problem_list(alloc: Global, span: Span, rest: &[Node]) -> Result<Problem, For
     let (second, rest) = next(What::Name, closing(span), rest)?;
     let domain = name(second)?.copy(alloc)?;
     let mut scope = Scope::new(alloc);
-    let mut pairs = Vec::new(alloc);
-    pairs.push(pair(&mut scope, closing(span), rest)?)?;
+    let pair = pair(&mut scope, closing(span), rest)?;
+    let vars = scope.all_names()?;
+    let mut pairs = Vec::with_capacity(alloc, 1)?;
+    pairs.push(pair)?;
     Ok(Problem {
         name: own,
         domain,
         domain_span: second.span,
-        vars: scope.into_names()?,
+        vars,
         pairs,
     })
 }

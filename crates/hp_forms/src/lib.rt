@@ -21,6 +21,7 @@ mod preconditions;
 mod refusal;
 mod rules;
 mod scope;
+mod taking;
 mod tasks;
 mod terms;
 #[cfg(test)]
@@ -41,6 +42,16 @@ pub fn domain(alloc: Global, forest: &Forest) -> Result<Domain, FormRefusal>
     // Nothing runs here: the law makes known that each variable number is the place of a name.
     forms_are_numbered();
     files::domain(alloc, forest)
+}
+
+/// The same of a forest that is needed no more: the nodes of a rule are let go once it is formed, so
+/// that the forest and the domain are never there whole at once.
+pub fn into_domain(alloc: Global, forest: Forest) -> Result<Domain, FormRefusal>
+    ensures form { Gives domain_of result (grammar.domain_form forest.len (forest_of forest)) }
+    ensures numbered { IfOk result (λ d. IsNumberedDomain (domain_of d)) }
+{
+    forms_are_numbered();
+    taking::domain(alloc, forest)
 }
 
 /// The problem that a forest is the form of.

@@ -7,11 +7,20 @@ ghost use Rattle.hp_syntax.specs.Names.{reserved};
 
 use hp_syntax::Name;
 
+// Of most names the length tells already that they are others.
+#[inline(always)]
+fn are_same(bytes: &[u8], word: &[u8]) -> bool
+    ensures { result ≡ bytes_eq bytes.now word.now }
+{
+    bytes.len() == word.len() && bytes == word
+}
+
 /// Whether the name is spelled so.
+#[inline(always)]
 pub fn is(name: &Name, word: &[u8]) -> bool
     ensures { result ≡ bytes_eq name.now word.now }
 {
-    name.bytes() == word
+    are_same(name.bytes(), word)
 }
 
 fn begins_with(name: &Name, byte: u8) -> bool
@@ -33,25 +42,25 @@ pub fn is_variable(name: &Name) -> bool
     }
 }
 
-fn is_reserved(name: &Name) -> bool
-    ensures { result ≡ list_any (bytes_eq name.now) reserved }
+fn is_reserved(bytes: &[u8]) -> bool
+    ensures { result ≡ list_any (bytes_eq bytes.now) reserved }
 {
-    is(name, b".")
-        || is(name, b"nil")
-        || is(name, b"and")
-        || is(name, b"or")
-        || is(name, b"not")
-        || is(name, b"imply")
-        || is(name, b"forall")
-        || is(name, b"assign")
-        || is(name, b"call")
+    are_same(bytes, b".")
+        || are_same(bytes, b"nil")
+        || are_same(bytes, b"and")
+        || are_same(bytes, b"or")
+        || are_same(bytes, b"not")
+        || are_same(bytes, b"imply")
+        || are_same(bytes, b"forall")
+        || are_same(bytes, b"assign")
+        || are_same(bytes, b"call")
 }
 
 /// Whether the name may name an atom.
 pub fn is_plain(name: &Name) -> bool
     ensures { result ≡ names.is_plain name.now }
 {
-    !(begins_with(name, b'?') || begins_with(name, b':') || is_reserved(name))
+    !(begins_with(name, b'?') || begins_with(name, b':') || is_reserved(name.bytes()))
 }
 
 /// Whether the name may name a branch.

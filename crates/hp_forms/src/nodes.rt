@@ -55,6 +55,7 @@ pub fn next(what: What, end: Span, nodes: &[Node]) -> Result<(&Node, &[Node]), F
 }
 
 /// Whether a node is this name.
+#[inline(always)]
 pub fn is_word(node: &Node, word: &[u8]) -> bool
     ensures { result ≡ steps.is_word word.now (node_of node.now) }
 {

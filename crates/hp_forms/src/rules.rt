@@ -79,15 +79,15 @@ fn changes<'a>(
 
 /// `(:operator head precondition deletes adds cost)`
 #[tactic(auto, unfolding(crate::specs::Operators::operator))]
-fn operator(mut scope: Scope, span: Span, rest: &[Node]) -> Result<Rule, FormRefusal>
-    ensures { Gives rule_of result (steps.value_in (operators.operator span (nodes_of rest.now) scope.names.keys)) }
+fn operator(scope: &mut Scope, span: Span, rest: &[Node]) -> Result<Rule, FormRefusal>
+    ensures { Gives rule_of result (steps.value_in (operators.operator span (nodes_of rest.now) scope.old.names.keys)) }
 {
-    let (head, pre, rest) = opening(&mut scope, span, rest)?;
-    let (dels, adds, rest) = changes(&mut scope, span, rest)?;
-    let cost = cost(&mut scope, span, rest)?;
+    let (head, pre, rest) = opening(scope, span, rest)?;
+    let (dels, adds, rest) = changes(scope, span, rest)?;
+    let cost = cost(scope, span, rest)?;
     Ok(Rule::Operator(Operator {
         span,
-        vars: scope.into_names()?,
+        vars: scope.all_names()?,
         head,
         pre,
         dels,
@@ -156,12 +156,13 @@ fn branches(scope: &mut Scope, end: Span, nodes: &[Node]) -> Result<Vec<Branch>,
     ensures { Reads (λ v. map branch_of v.items) result (grammar.branches end true (nodes_of nodes.now))
         scope.old.names.keys scope.new.names.keys }
 {
-    let mut branches = Vec::new(scope.alloc);
+    let mut branches = Vec::with_capacity(scope.alloc, nodes.len() / 3)?;
     let mut rest = nodes;
     loop {
         let (next, others) = branch(scope, end, rest)?;
         branches.push(next)?;
         if others.is_empty() {
+            branches.shrink_to_fit();
             return Ok(branches);
         }
         rest = others;
@@ -170,21 +171,15 @@ fn branches(scope: &mut Scope, end: Span, nodes: &[Node]) -> Result<Vec<Branch>,
 
 /// `(:method head branch ..)`
 #[tactic(auto, unfolding(hp_syntax::specs::Grammar::method))]
-fn method(mut scope: Scope, span: Span, rest: &[Node]) -> Result<Rule, FormRefusal>
-    ensures { Gives rule_of result (steps.value_in (grammar.method span (nodes_of rest.now) scope.names.keys)) }
+fn method(scope: &mut Scope, span: Span, rest: &[Node]) -> Result<Rule, FormRefusal>
+    ensures { Gives rule_of result (steps.value_in (grammar.method span (nodes_of rest.now) scope.old.names.keys)) }
 {
     let (node, rest) = next(What::Head, closing(span), rest)?;
-    let head = headed(
-        &mut scope,
-        What::Head,
-        HeadKind::Compound,
-        Setting::Rule,
-        node,
-    )?;
-    let branches = branches(&mut scope, closing(span), rest)?;
+    let head = headed(scope, What::Head, HeadKind::Compound, Setting::Rule, node)?;
+    let branches = branches(scope, closing(span), rest)?;
     Ok(Rule::Method(Method {
         span,
-        vars: scope.into_names()?,
+        vars: scope.all_names()?,
         head,
         branches,
     }))
@@ -211,12 +206,13 @@ fn clauses(scope: &mut Scope, end: Span, nodes: &[Node]) -> Result<Vec<Clause>, 
     ensures { Reads (λ v. map clause_of v.items) result (grammar.clauses end true (nodes_of nodes.now))
         scope.old.names.keys scope.new.names.keys }
 {
-    let mut clauses = Vec::new(scope.alloc);
+    let mut clauses = Vec::with_capacity(scope.alloc, nodes.len() / 2)?;
     let mut rest = nodes;
     loop {
         let (next, others) = clause(scope, end, rest)?;
         clauses.push(next)?;
         if others.is_empty() {
+            clauses.shrink_to_fit();
             return Ok(clauses);
         }
         rest = others;
@@ -225,16 +221,16 @@ fn clauses(scope: &mut Scope, end: Span, nodes: &[Node]) -> Result<Vec<Clause>, 
 
 /// `(:- head branch ..)`
 #[tactic(auto, unfolding(hp_syntax::specs::Grammar::axiom_rule))]
-fn axiom(mut scope: Scope, span: Span, rest: &[Node]) -> Result<Rule, FormRefusal>
+fn axiom(scope: &mut Scope, span: Span, rest: &[Node]) -> Result<Rule, FormRefusal>
     ensures { Gives rule_of result
-        (steps.value_in (grammar.axiom_rule span (nodes_of rest.now) scope.names.keys)) }
+        (steps.value_in (grammar.axiom_rule span (nodes_of rest.now) scope.old.names.keys)) }
 {
     let (node, rest) = next(What::Head, closing(span), rest)?;
-    let head = headed(&mut scope, What::Head, HeadKind::Plain, Setting::Rule, node)?;
-    let clauses = clauses(&mut scope, closing(span), rest)?;
+    let head = headed(scope, What::Head, HeadKind::Plain, Setting::Rule, node)?;
+    let clauses = clauses(scope, closing(span), rest)?;
     Ok(Rule::Axiom(Axiom {
         span,
-        vars: scope.into_names()?,
+        vars: scope.all_names()?,
         head,
         clauses,
     }))
@@ -242,10 +238,10 @@ fn axiom(mut scope: Scope, span: Span, rest: &[Node]) -> Result<Rule, FormRefusa
 
 /// A rule by its word.
 #[tactic(auto, unfolding(hp_syntax::specs::Grammar::keyed_rule))]
-fn keyed(alloc: Global, span: Span, key: &Name, rest: &[Node]) -> Result<Rule, FormRefusal>
+fn keyed(scope: &mut Scope, span: Span, key: &Name, rest: &[Node]) -> Result<Rule, FormRefusal>
     ensures { Gives rule_of result (steps.from_no_names (grammar.keyed_rule span key.now (nodes_of rest.now))) }
 {
-    let scope = Scope::new(alloc);
+    scope.clear();
     if is(key, b":operator") {
         operator(scope, span, rest)
     } else if is(key, b":method") {
@@ -258,12 +254,12 @@ fn keyed(alloc: Global, span: Span, key: &Name, rest: &[Node]) -> Result<Rule, F
 }
 
 /// The rule that a node is, with variables of its own.
-#[tactic(auto, unfolding(hp_syntax::specs::Grammar::rule), using(crate::proofs::RuleParts::reads_by_itself))]
-fn rule(alloc: Global, node: &Node) -> Result<Rule, FormRefusal>
+#[tactic(auto, unfolding(hp_syntax::specs::Grammar::rule), using(crate::proofs::RuleLemmas::reads_by_itself))]
+pub fn rule(scope: &mut Scope, node: &Node) -> Result<Rule, FormRefusal>
     ensures { (names : Names) → Reads rule_of result (grammar.rule (node_of node.now)) names names }
 {
     match begun(node) {
-        Some((key, rest)) => keyed(alloc, node.span, key, rest),
+        Some((key, rest)) => keyed(scope, node.span, key, rest),
         None => expected(What::Rule, node.span),
     }
 }
@@ -273,9 +269,10 @@ pub fn rules(alloc: Global, nodes: &[Node]) -> Result<Vec<Rule>, FormRefusal>
     ensures { (names : Names) → Reads (λ v. map rule_of v.items) result
         (steps.each grammar.rule (nodes_of nodes.now)) names names }
 {
-    let mut rules = Vec::new(alloc);
+    let mut rules = Vec::with_capacity(alloc, nodes.len())?;
+    let mut scope = Scope::new(alloc);
     for node in nodes {
-        rules.push(rule(alloc, node)?)?;
+        rules.push(rule(&mut scope, node)?)?;
     }
     Ok(rules)
 }

@@ -1,6 +1,7 @@
 //! The variables of a rule, or of a problem, while it is read.
 
-ghost use Rattle.std.specs.Prelude.{◌≡◌, [], IfOk};
+ghost use Rattle.std.specs.Prelude.{◌≡◌, [], IfOk, bytes_eq, is_some};
+ghost use Rattle.std.specs.List.{list_any, position};
 ghost use Rattle.hp_syntax.specs.Steps as steps;
 ghost use Rattle.hp_syntax.specs.Grammar as grammar;
 ghost use Rattle.hp_text.specs.Nodes.{node_of, nodes_of};
@@ -14,12 +15,22 @@ use hp_text::{Node, NodeKind};
 use indexmap::IndexSet;
 use std::alloc::{AllocError, Global};
 
+const MOST_ROOM_KEPT: usize = 64;
+
+const FEW_NAMES: usize = 8;
+
 /// The names so far, each once, in the order of first appearance: a variable's number is the place
 /// of its name.
 #[derive(Drop)]
 pub struct Scope {
     pub alloc: Global,
     pub names: IndexSet<Name>,
+}
+
+fn place_among(names: &[Name], name: &Name) -> Option<usize>
+    ensures { result ≡ position (bytes_eq name.now) names.now }
+{
+    names.iter().position(|other| name == other)
 }
 
 impl Scope {
@@ -32,11 +43,34 @@ impl Scope {
         }
     }
 
+    /// Forgets all names. A little room is kept for the next ones; clearing much of it each time would
+    /// cost more than it saves.
+    pub fn clear(&mut self)
+        ensures { self.new.names.keys ≡ [] }
+    {
+        if self.names.capacity() <= MOST_ROOM_KEPT {
+            self.names.clear();
+        } else {
+            self.names = IndexSet::new(self.alloc);
+        }
+    }
+
+    // The place of a name. Few names are compared one by one, which takes less time than a hash.
+    fn place_of(&self, name: &Name) -> Option<usize>
+        ensures index { result ≡ position (bytes_eq name.now) self.now.names.keys }
+        ensures found { is_some result ≡ list_any (bytes_eq name.now) self.now.names.keys }
+    {
+        if self.names.len() > FEW_NAMES {
+            return self.names.get_index_of(name);
+        }
+        place_among(self.names.as_slice(), name)
+    }
+
     /// The number of a variable.
     pub fn number(&mut self, name: &Name) -> Result<u32, FormRefusal>
         ensures { Reads (λ v. v) result (steps.numbered name.now) self.old.names.keys self.new.names.keys }
     {
-        let index = match self.names.get_index_of(name) {
+        let index = match self.place_of(name) {
             Some(index) => index,
             None => self.names.insert_full(name.copy(self.alloc)?)?.0,
         };
@@ -60,7 +94,7 @@ impl Scope {
         ensures { Reads (λ vs. vs.items) result (steps.each grammar.variable (nodes_of nodes.now))
             self.old.names.keys self.new.names.keys }
     {
-        let mut variables = Vec::new(self.alloc);
+        let mut variables = Vec::with_capacity(self.alloc, nodes.len())?;
         for node in nodes {
             variables.push(self.variable(node)?)?;
         }
@@ -71,7 +105,7 @@ impl Scope {
         ensures { Reads (λ vs. vs.items) result (grammar.one_variable name.now)
             self.old.names.keys self.new.names.keys }
     {
-        let mut variables = Vec::new(self.alloc);
+        let mut variables = Vec::with_capacity(self.alloc, 1)?;
         variables.push(self.number(name)?)?;
         Ok(variables)
     }
@@ -91,13 +125,12 @@ impl Scope {
     }
 
     /// All names, by number.
-    pub fn into_names(self) -> Result<Vec<Name>, AllocError>
-        ensures { IfOk result (λ names. names.items ≡ self.names.keys) }
+    pub fn all_names(&self) -> Result<Vec<Name>, AllocError>
+        ensures { IfOk result (λ names. names.items ≡ self.now.names.keys) }
     {
-        let Scope { alloc, names } = self;
-        let mut copies = Vec::new(alloc);
-        for name in names.as_slice() {
-            copies.push(name.copy(alloc)?)?;
+        let mut copies = Vec::with_capacity(self.alloc, self.names.len())?;
+        for name in self.names.as_slice() {
+            copies.push(name.copy(self.alloc)?)?;
         }
         Ok(copies)
     }

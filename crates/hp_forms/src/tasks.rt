@@ -142,7 +142,7 @@ fn task_list(
     ensures { Reads (λ ts. task_list_of ts.items) result
         (grammar.task_list (setting_of setting) (nodes_of nodes.now)) scope.old.names.keys scope.new.names.keys }
 {
-    let mut parts = Vec::new(scope.alloc);
+    let mut parts = Vec::with_capacity(scope.alloc, nodes.len())?;
     for node in nodes {
         parts.push(tasks(scope, setting, node)?)?;
     }

@@ -67,10 +67,14 @@ fn list_term(
     ensures { Reads pattern_of result (grammar.list_term (setting_of setting) span (nodes_of nodes.now))
         scope.old.names.keys scope.new.names.keys }
 {
-    let mut parts = Vec::new(scope.alloc);
+    if let [first, rest @ ..] = nodes
+        && is_word(first, b"call")
+    {
+        return called(scope, setting, span, rest);
+    }
+    let mut parts = Vec::with_capacity(scope.alloc, parts_room(nodes))?;
     let tail = match nodes {
         [] => None,
-        [first, rest @ ..] if is_word(first, b"call") => return called(scope, setting, span, rest),
         [first, rest @ ..] => {
             parts.push(term(scope, setting, first)?)?;
             items(scope, setting, closing(span), rest, &mut parts)?
@@ -80,6 +84,14 @@ fn list_term(
         span,
         kind: PatKind::List(parts, tail),
     })
+}
+
+/// Room for the terms of a list: behind a dot there is a tail, which mostly adds none.
+fn parts_room(nodes: &[Node]) -> usize {
+    match nodes {
+        [parts @ .., dot, _] if is_word(dot, b".") => parts.len(),
+        _ => nodes.len(),
+    }
 }
 
 /// Terms, and then a dot and a tail, where they are. The terms are added to the parts.
@@ -226,7 +238,7 @@ fn terms(scope: &mut Scope, nodes: &[Node]) -> Result<Vec<Pat>, FormRefusal>
     ensures { Reads (λ ps. patterns_of ps.items) result (grammar.terms (nodes_of nodes.now))
         scope.old.names.keys scope.new.names.keys }
 {
-    let mut terms = Vec::new(scope.alloc);
+    let mut terms = Vec::with_capacity(scope.alloc, nodes.len())?;
     for node in nodes {
         terms.push(term(scope, Setting::Rule, node)?)?;
     }
@@ -245,7 +257,7 @@ pub fn named_atom(
     ensures { Reads atom_of result (grammar.named_atom (setting_of setting) span name.now (nodes_of nodes.now))
         scope.old.names.keys scope.new.names.keys }
 {
-    let mut args = Vec::new(scope.alloc);
+    let mut args = Vec::with_capacity(scope.alloc, parts_room(nodes))?;
     let tail = items(scope, setting, closing(span), nodes, &mut args)?;
     Ok(AtomPat {
         span,
@@ -306,7 +318,7 @@ fn each_atom(
         (steps.each (grammar.atom (setting_of setting)) (nodes_of nodes.now))
         scope.old.names.keys scope.new.names.keys }
 {
-    let mut atoms = Vec::new(scope.alloc);
+    let mut atoms = Vec::with_capacity(scope.alloc, nodes.len())?;
     for node in nodes {
         atoms.push(atom(scope, setting, node)?)?;
     }

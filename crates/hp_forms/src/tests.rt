@@ -1,4 +1,4 @@
-use crate::{FormRefusal, What, domain, problem};
+use crate::{FormRefusal, What, domain, into_domain, problem};
 use hp_syntax::{PatKind, Rule, Span};
 use hp_text::read;
 use std::alloc::{AllocError, Global};
@@ -73,6 +73,7 @@ fn domains_are_refused_where_the_grammar_stops(rt: HostRuntime) -> Result<(), Fa
     ] {
         let forest = read(rt.alloc(), text.as_bytes())?;
         assert_eq!(rt; domain(rt.alloc(), &forest).err(), want, "in {text}");
+        assert_eq!(rt; into_domain(rt.alloc(), forest).err(), want, "in {text}");
     }
     Ok(())
 }

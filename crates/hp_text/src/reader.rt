@@ -44,44 +44,58 @@ fn forest(alloc: Global, bytes: &[u8]) -> Result<Forest, AllocError>
     ensures forest { IfOk result (λ f. IsForest bytes.now (forest_of f)) }
     ensures length { IfOk result (λ f. f.len ≡ length bytes.now) }
 {
-    let run = nodes(alloc, bytes, 0)?;
+    let mut pending = Vec::new(alloc);
+    let run = nodes(alloc, bytes, 0, &mut pending)?;
     Ok(Forest {
         nodes: run.nodes,
         len: bytes.len() as u32,
     })
 }
 
-// The nodes from a place on, up to the bracket that closes what they stand in.
+// The nodes from a place on, up to the bracket that closes what they stand in. They are gathered behind
+// what others have pending, and then moved into memory of their own that is as large as they are.
 #[cycle(read)]
-fn nodes(alloc: Global, bytes: &[u8], from: usize) -> Result<Run, AllocError>
+fn nodes(
+    alloc: Global,
+    bytes: &[u8],
+    from: usize,
+    pending: &mut Vec<Node>,
+) -> Result<Run, AllocError>
     requires clear { IsClear bytes.now (length bytes.now + 1) }
     requires place { IsBetween bytes.now from }
     ensures read { IfOk result (λ r. IsRead bytes.now from r.end (map node_of r.nodes.items)) }
     ensures stop { IfOk result (λ r. IsStop bytes.now r.end) }
     ensures closing { IfOk result (λ r. r.end < length bytes.now → kind_at bytes.now r.end ≡ Closing) }
+    ensures pending { IfOk result (λ _. pending.new.items ≡ pending.old.items) }
 {
-    let mut nodes = Vec::new(alloc);
+    let others = pending.len();
     let mut end = skip_gap(bytes, from);
     while end < bytes.len() && bytes[end] != b')' {
-        let next = node(alloc, bytes, end)?;
+        let next = node(alloc, bytes, end, pending)?;
         end = skip_gap(bytes, next.span.to as usize);
-        nodes.push(next)?;
+        pending.push(next)?;
     }
-    nodes.shrink_to_fit();
+    let nodes = pending.split_off(others)?;
     Ok(Run { nodes, end })
 }
 
 // The node that begins at a place.
 #[cycle(read)]
-fn node(alloc: Global, bytes: &[u8], from: usize) -> Result<Node, AllocError>
+fn node(
+    alloc: Global,
+    bytes: &[u8],
+    from: usize,
+    pending: &mut Vec<Node>,
+) -> Result<Node, AllocError>
     requires clear { IsClear bytes.now (length bytes.now + 1) }
     requires within { from < length bytes.now }
     requires stop { IsStop bytes.now from }
     requires no_close { kind_at bytes.now from ≡ Closing → ⊥ }
-    ensures { IfOk result (λ n. IsNodeAt bytes.now from n) }
+    ensures node { IfOk result (λ n. IsNodeAt bytes.now from n) }
+    ensures pending { IfOk result (λ _. pending.new.items ≡ pending.old.items) }
 {
     if bytes[from] == b'(' {
-        list(alloc, bytes, from)
+        list(alloc, bytes, from, pending)
     } else {
         word(alloc, bytes, from)
     }
@@ -89,12 +103,18 @@ fn node(alloc: Global, bytes: &[u8], from: usize) -> Result<Node, AllocError>
 
 // The list whose opening bracket stands at a place.
 #[cycle(read)]
-fn list(alloc: Global, bytes: &[u8], from: usize) -> Result<Node, AllocError>
+fn list(
+    alloc: Global,
+    bytes: &[u8],
+    from: usize,
+    pending: &mut Vec<Node>,
+) -> Result<Node, AllocError>
     requires clear { IsClear bytes.now (length bytes.now + 1) }
     requires opening { kind_at bytes.now from ≡ Opening }
-    ensures { IfOk result (λ n. IsNodeAt bytes.now from n) }
+    ensures node { IfOk result (λ n. IsNodeAt bytes.now from n) }
+    ensures pending { IfOk result (λ _. pending.new.items ≡ pending.old.items) }
 {
-    let run = nodes(alloc, bytes, from + 1)?;
+    let run = nodes(alloc, bytes, from + 1, pending)?;
     Ok(Node {
         span: Span {
             from: from as u32,

@@ -7,5 +7,6 @@ use Rattle.hp_forms.proofs.problem.Goals as goal
 
 pub returns-clause-numbered : goal.returns-clause-numbered
 returns-clause-numbered c =
-    given problem_of IsNumberedProblem c.problem.result (problem_form c.args.forest.now.len (forest_of c.args.forest.now))
+    given problem_of IsNumberedProblem c.problem.result (problem_form c.args.forest.now.len
+    (forest_of c.args.forest.now))
     (c.forms_are_numbered.ensures.problem c.args.forest.now.len (forest_of c.args.forest.now)) c.problem.ensures

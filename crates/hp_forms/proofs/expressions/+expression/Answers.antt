@@ -1,23 +1,21 @@
-use Rattle.std.proofs.Common.{◌≡◌, ◌∙◌, sym, rules, arith, map}
+use Rattle.std.proofs.Common.{rules}
 use Rattle.std.proofs.lemmas.Result.{err_from_is_err_and}
-use Rattle.std.proofs.lemmas.Grind.{common_steps}
-use Rattle.hp_syntax.specs.Steps as steps
 use Rattle.hp_syntax.specs.Grammar as grammar
 use Rattle.hp_syntax.specs.Views.{expression_of}
-use Rattle.hp_text.specs.Nodes.{nodes_of}
 use Rattle.hp_forms.proofs.Turns.{one_viewed}
-use Rattle.hp_forms.proofs.Parts.{expressions_read, expressions_refused, reads_same, conjunction-list, conjunction-nil}
+use Rattle.hp_forms.proofs.PartLemmas.{expressions_read, expressions_refused, reads_same, conjunction-list}
 use Rattle.hp_forms.proofs.Sizes.{item-smaller}
 use Rattle.hp_forms.proofs.expressions.+expression.Goals as goal
 
 pub expressions-expression-requires : goal.expressions-expression-requires
 expressions-expression-requires t c =
-    let smaller = item-smaller c.args.nodes.now c.loop-node.node-index c.node-item.result c.loop-node-test.true c.node-item.is in
+    let smaller = item-smaller c.args.nodes.now c.loop-node.node-index c.node-item.result c.loop-node-test.true
+    c.node-item.is in
     search rules
 
 pub expressions-returns-in_err-expression : goal.expressions-returns-in_err-expression
 expressions-returns-in_err-expression t c =
-    let p = err_from_is_err_and c.from_residual.result c.from_residual.ensures.1 in
+    let p = err_from_is_err_and c.from_residual-in_err-expression.result c.from_residual-in_err-expression.ensures.1 in
     rw (p.1, p.2) (expressions_refused c.args.nodes.now c.loop-node.node-index c.node-item.result
     c.loop-node.expressions.items c.in_err-expression.field-0.0 _ _ c.loop-node-test.true c.loop-node.invariant
     c.node-item.is c.in_err-expression.ensures)

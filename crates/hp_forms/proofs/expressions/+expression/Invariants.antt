@@ -40,4 +40,5 @@ decreases-quantified l = 5 * forest_size (nodes_of l.rest.now) + 1
 abbrev pub invariant-expressions-loop-node : goal.invariant-expressions-loop-node
 invariant-expressions-loop-node l =
     steps.each grammar.expression (nodes_of l.nodes) l.initial.scope.names.keys
-    ≡ prepend (map expression_of l.expressions.items) (from_here grammar.expression l.nodes l.node-index l.scope.names.keys)
+    ≡ prepend (map expression_of l.expressions.items) (from_here grammar.expression l.nodes l.node-index
+    l.scope.names.keys)

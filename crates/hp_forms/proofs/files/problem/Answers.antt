@@ -1,13 +1,11 @@
-use Rattle.std.proofs.Common.{◌≡◌, ◌∙◌, sym, ap, [], codes, rules}
+use Rattle.std.proofs.Common.{◌≡◌, ◌∙◌, [], codes, rules}
 use Rattle.std.proofs.lemmas.Result.{err_from_is_err_and}
 use Rattle.hp_syntax.specs.declared.form.What.TheVariants as wants
 use Rattle.hp_syntax.specs.Forest.{Grow}
-use Rattle.hp_syntax.specs.Steps.{from_no_names}
 use Rattle.hp_syntax.specs.Grammar as grammar
-use Rattle.hp_syntax.specs.Views.{problem_of}
 use Rattle.hp_text.specs.Nodes.{node_of, nodes_of, forest_of}
 use Rattle.hp_forms.proofs.Turns.{refused_same}
-use Rattle.hp_forms.proofs.FileParts.{file-alone, alone_refused, alone_left, alone_value}
+use Rattle.hp_forms.proofs.FileLemmas.{file-alone, alone_refused, alone_left, alone_value}
 use Rattle.hp_forms.proofs.files.problem.Goals as goal
 
 pub returns-in_err-problem : goal.returns-in_err-problem

@@ -1,7 +1,6 @@
-use Rattle.std.proofs.Common.{◌≡◌, ◌∙◌, ◌≢◌, sym, rules, arith, length, refl}
-use Rattle.hp_syntax.specs.Views.{expression_of}
+use Rattle.std.proofs.Common.{◌∙◌, ◌≢◌, arith, length, refl}
 use Rattle.hp_syntax.specs.ViewLaws.{expression_of-and}
-use Rattle.hp_forms.proofs.Parts.{gathered-many}
+use Rattle.hp_forms.proofs.PartLemmas.{gathered-many}
 use Rattle.hp_forms.proofs.preconditions.gathered.Goals as goal
 
 pub returns-else-len-eq1 : goal.returns-else-len-eq1

@@ -1,16 +1,15 @@
-use Rattle.std.proofs.Common.{◌≡◌, ◌∙◌, ◌≢◌, List, sym, rules, arith, false, length, map}
+use Rattle.std.proofs.Common.{◌≡◌, ◌≢◌, rules, false, length}
 use Rattle.std.proofs.lemmas.Result.{err_from_is_err_and}
 use Rattle.hp_syntax.specs.Grammar as grammar
 use Rattle.hp_syntax.specs.Views.{clause_of}
 use Rattle.hp_text.specs.Nodes.{nodes_of}
 use Rattle.hp_forms.specs.Branches.{clause}
-use Rattle.hp_forms.proofs.RuleParts.{turn_read, turn_refused, clauses-turn, clauses_done, clauses_go_on}
-use Rattle.hp_forms.proofs.Turns.{prepend}
+use Rattle.hp_forms.proofs.RuleLemmas.{turn_read, turn_refused, clauses-turn, clauses_done, clauses_go_on}
 use Rattle.hp_forms.proofs.rules.clauses.Goals as goal
 
 pub returns-in_err-next : goal.returns-in_err-next
 returns-in_err-next c =
-    let p = err_from_is_err_and c.from_residual.result c.from_residual.ensures.1 in
+    let p = err_from_is_err_and c.from_residual-in_err-next.result c.from_residual-in_err-next.ensures.1 in
     rw (p.1, p.2) (turn_refused c.in_err-next.field-0.0 (clause c.args.end (nodes_of c.loop-clauses.rest.now))
     (grammar.clauses c.args.end false) _ _ _ _ c.loop-clauses.invariant
     (clauses-turn c.args.end (nodes_of c.loop-clauses.rest.now) c.loop-clauses.scope.names.keys)
@@ -24,7 +23,8 @@ returns-then-is_empty c =
     (clauses-turn c.args.end (nodes_of c.loop-clauses.rest.now) c.loop-clauses.scope.names.keys)
     c.in_ok-next.ensures.reads in
     let none : length c.in_ok-next.others.now ≡ 0 = search rules in
-    rw c.in_ok-push.ensures.items (clauses_done c.args.end c.in_ok-next.others.now _ _ _ none more)
+    rw (c.shrink_to_fit.ensures.items, c.in_ok-push.ensures.items)
+    (clauses_done c.args.end c.in_ok-next.others.now _ _ _ none more)
 
 pub loop-clauses-preserved : goal.loop-clauses-preserved
 loop-clauses-preserved c =
@@ -34,4 +34,8 @@ loop-clauses-preserved c =
     (clauses-turn c.args.end (nodes_of c.loop-clauses.rest.now) c.loop-clauses.scope.names.keys)
     c.in_ok-next.ensures.reads in
     let some : length c.in_ok-next.others.now ≢ 0 = search rules in
-    rw (c.in_ok-push.ensures.items, ← (clauses_go_on c.args.end c.in_ok-next.others.now c.clause.new.scope.names.keys some)) more
+    rw (
+      c.in_ok-push.ensures.items,
+      ← (clauses_go_on c.args.end c.in_ok-next.others.now c.clause.new.scope.names.keys
+          some),
+    ) more

@@ -1,4 +1,3 @@
-use Rattle.std.proofs.Common.{◌≡◌, map}
 use Rattle.hp_syntax.specs.Grammar as grammar
 use Rattle.hp_syntax.specs.Views.{rule_of}
 use Rattle.hp_forms.proofs.Turns.{one_viewed}

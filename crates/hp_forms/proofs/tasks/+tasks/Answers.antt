@@ -1,22 +1,22 @@
-use Rattle.std.proofs.Common.{◌≡◌, ◌∙◌, sym, ap, true, rules, arith, map}
+use Rattle.std.proofs.Common.{◌≡◌, ◌∙◌, sym, ap, true, rules}
 use Rattle.std.proofs.lemmas.Result.{err_from_is_err_and}
 use Rattle.hp_syntax.specs.Grammar as grammar
 use Rattle.hp_syntax.specs.Views.{tasks_of}
-use Rattle.hp_text.specs.Nodes.{nodes_of}
 use Rattle.hp_forms.specs.FormReads.{setting_of}
 use Rattle.hp_forms.proofs.Turns.{one_viewed}
-use Rattle.hp_forms.proofs.Parts.{task_list_read, task_list_refused, reads_same, ordered-list, ordered-none, word_first}
+use Rattle.hp_forms.proofs.PartLemmas.{task_list_read, task_list_refused, reads_same, ordered-list, ordered-none, word_first}
 use Rattle.hp_forms.proofs.Sizes.{item-smaller}
 use Rattle.hp_forms.proofs.tasks.+tasks.Goals as goal
 
 pub task_list-tasks-requires : goal.task_list-tasks-requires
 task_list-tasks-requires t c =
-    let smaller = item-smaller c.args.nodes.now c.loop-node.node-index c.node-item.result c.loop-node-test.true c.node-item.is in
+    let smaller = item-smaller c.args.nodes.now c.loop-node.node-index c.node-item.result c.loop-node-test.true
+    c.node-item.is in
     search rules
 
 pub task_list-returns-in_err-tasks : goal.task_list-returns-in_err-tasks
 task_list-returns-in_err-tasks t c =
-    let p = err_from_is_err_and c.from_residual.result c.from_residual.ensures.1 in
+    let p = err_from_is_err_and c.from_residual-in_err-tasks.result c.from_residual-in_err-tasks.ensures.1 in
     rw (p.1, p.2) (task_list_refused (setting_of c.args.setting) c.args.nodes.now c.loop-node.node-index
     c.node-item.result c.loop-node.parts.items c.in_err-tasks.field-0.0 _ _ c.loop-node-test.true c.loop-node.invariant
     c.node-item.is c.in_err-tasks.ensures)

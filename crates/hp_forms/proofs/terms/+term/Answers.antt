@@ -1,9 +1,8 @@
-use Rattle.std.proofs.Common.{◌≡◌, ◌∙◌, sym, length, rules, arith, codes, true, false}
+use Rattle.std.proofs.Common.{◌≡◌, ◌∙◌, sym, length, rules}
 use Rattle.std.proofs.lemmas.Result.{err_from_is_err_and}
-use Rattle.hp_syntax.specs.Steps as steps
 use Rattle.hp_syntax.specs.Grammar as grammar
-use Rattle.hp_text.specs.Nodes.{node_of, nodes_of}
-use Rattle.hp_forms.specs.FormReads.{setting_of, Refuses}
+use Rattle.hp_text.specs.Nodes.{nodes_of}
+use Rattle.hp_forms.specs.FormReads.{setting_of}
 use Rattle.hp_forms.proofs.Items.{item_read, tail_added, none_added, terms_read, terms_refused}
 use Rattle.hp_forms.proofs.Sizes.{item-smaller}
 use Rattle.hp_forms.proofs.terms.+term.Goals as goal
@@ -34,12 +33,13 @@ items-returns t c =
 
 pub terms-term-requires : goal.terms-term-requires
 terms-term-requires t c =
-    let smaller = item-smaller c.args.nodes.now c.loop-node.node-index c.node-item.result c.loop-node-test.true c.node-item.is in
+    let smaller = item-smaller c.args.nodes.now c.loop-node.node-index c.node-item.result c.loop-node-test.true
+    c.node-item.is in
     search rules
 
 pub terms-returns-in_err-term : goal.terms-returns-in_err-term
 terms-returns-in_err-term t c =
-    let p = err_from_is_err_and c.from_residual.result c.from_residual.ensures.1 in
+    let p = err_from_is_err_and c.from_residual-in_err-term.result c.from_residual-in_err-term.ensures.1 in
     rw (p.1, p.2) (terms_refused c.args.nodes.now c.loop-node.node-index c.node-item.result c.loop-node.terms.items
     c.in_err-term.field-0.0 _ _ c.loop-node-test.true c.loop-node.invariant c.node-item.is c.in_err-term.ensures)
 

@@ -1,8 +1,9 @@
-use Rattle.std.proofs.Common.{rules, ◌<◌, ◌≤◌, length, [], refl, ◌∙◌, ap, arith}
+use Rattle.std.proofs.Common.{rules, ◌≡◌, ◌+◌, ◌<◌, ◌≤◌, length, [], ◌∷◌, ◌++◌, refl, sym, ◌∙◌, ap, append-nil, arith}
+use Rattle.std.proofs.lemmas.List.{append_assoc, length-append}
+use Rattle.std.proofs.Math.Seq.{take-append_seam, drop-append_seam}
 use Rattle.hp_syntax.specs.declared.limits.TheConstants.{LARGEST_TEXT}
 use Rattle.hp_syntax.specs.Text.{byte_kind, kind_at}
 use Rattle.hp_syntax.proofs.TextLemmas.{open_in_list}
-use Rattle.hp_text.specs.Places.{IsRead}
 use Rattle.hp_text.proofs.reader.+read.Goals as goal
 use Rattle.hp_text.proofs.reader.+read.Goals.{nodes-then-loop-end-test+else-bytes-end-ne41, nodes-else-loop-end-test}
 use Rattle.hp_text.proofs.ByteLemmas.{unblank_byte, opening_byte, closing_byte, name_left, opening_within, within_no_end}
@@ -51,8 +52,8 @@ list-overflow_cast-result-2 t c =
     search rules
 
 -- the list ends at the closing bracket that stopped `nodes`
-pub list-returns : goal.list-returns
-list-returns t c =
+pub list-returns-clause-node : goal.list-returns-clause-node
+list-returns-clause-node t c =
     let text = c.args.bytes.now in
     let run = c.in_ok-run.run' in
     let closes : run.end < length text =
@@ -97,12 +98,17 @@ node-word-requires-clause-outside t c =
 pub nodes-loop-end-init : goal.nodes-loop-end-init
 nodes-loop-end-init t c =
     let skipped = c.skip_gap-end in
-    let none : IsRead c.args.bytes.now c.args.from skipped.result [] =
-    read_none c.args.bytes.now c.args.from skipped.result skipped.ensures.gap in
     record {
       begins = skipped.ensures.gap.order;
       stop = skipped.ensures.stop;
-      read = rw c.new-nodes.ensures.items none;
+      count = search rules;
+      gathered = (
+        [],
+        (
+          sym (append-nil c.args.pending.now.items),
+          read_none c.args.bytes.now c.args.from skipped.result skipped.ensures.gap,
+        ),
+      );
     }
 
 -- a node begins here, since nothing closes
@@ -124,17 +130,42 @@ pub nodes-loop-end-preserved : goal.nodes-loop-end-preserved
 nodes-loop-end-preserved t c =
     let text = c.args.bytes.now in
     let skipped = c.skip_gap-end-in-loop-end in
-    let node = c.in_ok-next.ensures in
+    let next = c.in_ok-next.next in
+    let node = c.in_ok-next.ensures.node in
+    let gathered = c.loop-end.invariant.gathered in
     let begun : c.args.from ≤ c.loop-end.end = c.loop-end.invariant.begins in
-    let grown : c.loop-end.end < c.in_ok-next.next.span.to = node.grows in
-    let behind : c.in_ok-next.next.span.to ≤ skipped.result = skipped.ensures.gap.order in
+    let grown : c.loop-end.end < next.span.to = node.grows in
+    let behind : next.span.to ≤ skipped.result = skipped.ensures.gap.order in
     record {
       begins = omega arith;
       stop = skipped.ensures.stop;
-      read =
-          read_pushed text c.args.from c.loop-end.end skipped.result c.loop-end.nodes.items c.push.new.self.items
-          c.in_ok-next.next c.in_ok-push.ensures.items c.loop-end.invariant.read node skipped.ensures.gap;
+      count = c.loop-end.invariant.count;
+      gathered = (
+        gathered.0 ++ next ∷ [],
+        (
+          c.in_ok-push.ensures.items
+              ∙ ap (λ xs. xs ++ next ∷ []) (c.in_ok-next.ensures.pending ∙ gathered.1.0)
+              ∙ append_assoc c.args.pending.now.items gathered.0 (next ∷ []),
+          read_pushed text c.args.from c.loop-end.end skipped.result gathered.0 _ next refl gathered.1.1 node
+              skipped.ensures.gap,
+        ),
+      );
     }
+
+-- what others have pending isn't moved
+pub nodes-split_off-requires : goal.nodes-split_off-requires
+nodes-split_off-requires t c =
+    let gathered = c.loop-end.invariant.gathered in
+    let all : length c.loop-end.pending.items ≡ length c.args.pending.now.items + length gathered.0 =
+    ap length gathered.1.0 ∙ length-append c.args.pending.now.items gathered.0 in
+    let count : c.len-others.result ≡ length c.args.pending.now.items = c.loop-end.invariant.count in
+    search rules
+
+-- what is moved was read
+pub nodes-returns-clause-read : goal.nodes-returns-clause-read
+nodes-returns-clause-read t c =
+    let gathered = c.loop-end.invariant.gathered in
+    rw (c.in_ok-nodes.ensures.tail, gathered.1.0, c.loop-end.invariant.count, drop-append_seam) gathered.1.1
 
 -- short of the end only a closing bracket stops the loop
 pub nodes-returns-clause-closing : goal.nodes-returns-clause-closing
@@ -144,3 +175,10 @@ nodes-returns-clause-closing t c within =
           c.loop-end.invariant.stop.stops ∙ ap byte_kind w.if-bytes-end-ne41.false
       | nodes-else-loop-end-test w ↦ absurd (omega arith)
     ]
+
+-- what others have pending stays
+pub nodes-returns-clause-pending : goal.nodes-returns-clause-pending
+nodes-returns-clause-pending t c =
+    let gathered = c.loop-end.invariant.gathered in
+    rw (c.in_ok-nodes.ensures.items, gathered.1.0, c.loop-end.invariant.count)
+    (take-append_seam c.args.pending.now.items gathered.0)

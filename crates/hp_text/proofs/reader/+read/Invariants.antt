@@ -1,4 +1,5 @@
-use Rattle.std.proofs.Common.{length, ◌-◌, ◌+◌, ◌*◌, ◌≤◌, map}
+use Rattle.std.proofs.Common.{◌≡◌, List, length, ◌-◌, ◌+◌, ◌*◌, ◌≤◌, ◌++◌, map}
+use Rattle.hp_text.specs.declared.forest.Node.{Node}
 use Rattle.hp_text.specs.Nodes.{node_of}
 use Rattle.hp_text.specs.Places.{IsStop, IsRead}
 use Rattle.hp_text.proofs.reader.+read.Given as goal
@@ -17,7 +18,10 @@ abbrev pub invariant-nodes-loop-end : goal.invariant-nodes-loop-end
 invariant-nodes-loop-end l = record {
   begins : l.from ≤ l.end;
   stop : IsStop l.bytes l.end;
-  read : IsRead l.bytes l.from l.end (map node_of l.nodes.items);
+  count : l.others ≡ length l.initial.pending.items;
+  gathered :
+      (own : List Node) × ((l.pending.items ≡ l.initial.pending.items ++ own)
+      × IsRead l.bytes l.from l.end (map node_of own));
 }
 
 abbrev pub decreases-nodes-loop-end : goal.decreases-nodes-loop-end

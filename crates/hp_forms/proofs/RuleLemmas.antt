@@ -3,11 +3,11 @@ use Rattle.std.proofs.Common.{◌≡◌, ◌∙◌, sym, ap, refl, ℕ, Bool, tr
 use Rattle.std.proofs.lemmas.List.{map-append}
 use Rattle.hp_syntax.specs.declared.pattern.Span.{Span}
 use Rattle.hp_syntax.specs.declared.form.What.TheVariants as wants
-use Rattle.hp_syntax.specs.Forest.{Node, Forest, Bare, Grow, Word, Numeral, Group}
+use Rattle.hp_syntax.specs.Forest.{Node, Forest, Bare, Grow}
 use Rattle.hp_syntax.specs.Steps.{Misform, Expected, SeveralPairs, Names, Step, and_then, pure, next, ◌>>=◌, value_in, by_itself}
-use Rattle.hp_syntax.specs.Syntax.{Precondition, Branch, Clause, Expression}
+use Rattle.hp_syntax.specs.Syntax.{Precondition, Branch, Clause}
 use Rattle.hp_syntax.specs.Grammar.{InRule, precondition, tasks, expression, branches, named_branch, branch_tasks, branch_name, begins_named, make_branch, clauses, named_clause, make_clause}
-use Rattle.hp_forms.specs.Branches.{start, branch, clause, behind_name, name_if_any}
+use Rattle.hp_forms.specs.Branches.{start, branch, clause, behind_name}
 use Rattle.hp_syntax.specs.Grammar as grammar
 use Rattle.hp_forms.specs.Operators.{operator, opening, changes}
 use Rattle.hp_forms.specs.FormReads.{Refuses, Gives, Reads}
@@ -46,7 +46,8 @@ abbrev pub then_branches : Span → Branch × Forest → Step (List Branch)
 then_branches end x = branches end false x.1 >>= (λ others. pure (x.0 ∷ others))
 
 abbrev tasks_of_branch : Span → Option (List ℕ) → Precondition → Forest → Step (Branch × Forest)
-tasks_of_branch end text p f = next wants.Tasks end f >>= (λ y. tasks InRule y.0 >>= (λ t. pure (make_branch text p t, y.1)))
+tasks_of_branch end text p f = next wants.Tasks end f >>= (λ y. tasks InRule y.0 >>=
+    (λ t. pure (make_branch text p t, y.1)))
 
 branch_tasks-turn : (end : Span) (text : Option (List ℕ)) (p : Precondition) (f : Forest) (names : Names)
     → branch_tasks end text p f names ≡ and_then (tasks_of_branch end text p f names) (then_branches end)
@@ -73,14 +74,17 @@ named_branch-turn end text Bare names = refl
 named_branch-turn end text (Grow n rest) names = from_precondition end (Some text) n rest names
 
 first_branch : (end : Span) (n : Node) (rest : Forest) (names : Names) (is_named : Bool)
-    → cond is_named (branch_name n >>= (λ text. named_branch end text rest)) (precondition n >>= (λ p. branch_tasks end None p rest)) names
+    → cond is_named (branch_name n >>= (λ text. named_branch end text rest))
+    (precondition n >>= (λ p. branch_tasks end None p rest)) names
     ≡ and_then (and_then (and_then (cond is_named (branch_name n >>= (λ text. pure (Some text))) (pure None) names)
     (λ text. behind_name wants.Pre end n rest text)) (rest_of_branch end)) (then_branches end)
 first_branch end n rest names true =
     elim (branch_name n names) as (λ r. and_then r (λ text. named_branch end text rest)
-    ≡ and_then (and_then (and_then (and_then r (λ text. pure (Some text))) (λ text. behind_name wants.Pre end n rest text)) (rest_of_branch end)) (then_branches end)) [
+    ≡ and_then (and_then (and_then (and_then r (λ text. pure (Some text)))
+    (λ text. behind_name wants.Pre end n rest text)) (rest_of_branch end)) (then_branches end)) [
       | Ok t ↦ named_branch-turn end t.0 rest t.1
-          ∙ ap (λ r. and_then r (then_branches end)) (sym (bind-assoc (next wants.Pre end rest t.1) (λ x. pure (Some t.0, x)) (rest_of_branch end)))
+          ∙ ap (λ r. and_then r (then_branches end)) (sym (bind-assoc (next wants.Pre end rest t.1)
+          (λ x. pure (Some t.0, x)) (rest_of_branch end)))
       | Err e ↦ refl
     ]
 first_branch end n rest names false = from_precondition end None n rest names
@@ -120,9 +124,11 @@ first_clause : (end : Span) (n : Node) (rest : Forest) (names : Names) (is_named
     (λ text. behind_name wants.Expr end n rest text)) rest_of_clause) (then_clauses end)
 first_clause end n rest names true =
     elim (branch_name n names) as (λ r. and_then r (λ text. named_clause end text rest)
-    ≡ and_then (and_then (and_then (and_then r (λ text. pure (Some text))) (λ text. behind_name wants.Expr end n rest text)) rest_of_clause) (then_clauses end)) [
+    ≡ and_then (and_then (and_then (and_then r (λ text. pure (Some text)))
+    (λ text. behind_name wants.Expr end n rest text)) rest_of_clause) (then_clauses end)) [
       | Ok t ↦ named_clause-turn end t.0 rest t.1
-          ∙ ap (λ r. and_then r (then_clauses end)) (sym (bind-assoc (next wants.Expr end rest t.1) (λ x. pure (Some t.0, x)) rest_of_clause))
+          ∙ ap (λ r. and_then r (then_clauses end)) (sym (bind-assoc (next wants.Expr end rest t.1)
+          (λ x. pure (Some t.0, x)) rest_of_clause))
       | Err e ↦ refl
     ]
 first_clause end n rest names false = from_expression end None n rest names
@@ -143,7 +149,8 @@ pub turn_read : {X A : Type 0} (view : X → A) (one : Step (A × Forest)) (late
     → whole ≡ and_then (one before) (λ y. later y.1 >>= (λ others. pure (y.0 ∷ others)))
     → one before ≡ Ok ((view x, g), after) → all ≡ prepend (map view (front ++ x ∷ [])) (later g after)
 turn_read view one later g front x before after all whole e turn r =
-    e ∙ ap (prepend (map view front)) (turn ∙ ap (λ o. and_then o (λ y. later y.1 >>= (λ others. pure (y.0 ∷ others)))) r)
+    e ∙ ap (prepend (map view front)) (turn
+    ∙ ap (λ o. and_then o (λ y. later y.1 >>= (λ others. pure (y.0 ∷ others)))) r)
     ∙ prepend_more (map view front) (view x) (later g after)
     ∙ ap (λ xs. prepend xs (later g after)) (sym (map-append view front (x ∷ [])))
 

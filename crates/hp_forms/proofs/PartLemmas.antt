@@ -1,9 +1,9 @@
 -- Lists whose parts are read one by one: the parts of an expression and of a task list.
-use Rattle.std.proofs.Common.{◌≡◌, ◌∙◌, sym, ap, refl, subst, ℕ, ◌<◌, ◌≤◌, List, [], ◌∷◌, Option, None, Result, Ok, Err, Bool, true, false, cond, codes, map, length, get_or, ◌≢◌, arith}
+use Rattle.std.proofs.Common.{◌≡◌, ◌∙◌, sym, ap, refl, subst, ℕ, ◌<◌, ◌≤◌, List, [], ◌∷◌, Result, Ok, Err, true, map, length, get_or, ◌≢◌, arith}
 use Rattle.hp_syntax.specs.declared.pattern.Span.{Span}
-use Rattle.hp_syntax.specs.Forest.{Forest, Bare, Grow, Node, Word, Numeral, Group}
-use Rattle.hp_syntax.specs.Syntax.{Expression, And, Expressions, NoExpression, Also, Tasks, TaskList, NoTasks, Then, Ordered}
-use Rattle.hp_syntax.specs.Steps.{Misform, Names, Step, each, and_then, pure, ◌<$>◌}
+use Rattle.hp_syntax.specs.Forest.{Forest, Bare, Grow, Word, Group}
+use Rattle.hp_syntax.specs.Syntax.{And, NoExpression, Also, NoTasks, Then, Ordered}
+use Rattle.hp_syntax.specs.Steps.{Names, Step, each, and_then, pure, ◌<$>◌}
 use Rattle.hp_syntax.specs.Views.{as_expressions, expression_of, expressions_of, as_task_list, tasks_of, task_list_of}
 use Rattle.hp_syntax.specs.declared.expression.Expr.{Expr}
 use Rattle.hp_syntax.specs.declared.tasks.NetPat.{NetPat}
@@ -24,20 +24,32 @@ pub expressions-each : (f : Forest) (names : Names)
     → expressions f names ≡ and_then (each expression f names) (λ es. pure (as_expressions es))
 unfolding expressions
 expressions-each Bare names = refl
-expressions-each (Grow n f) names = elim (expression n names) as (λ r. and_then r (λ first later. and_then (expressions f later) (λ others. pure (Also first others))) ≡ and_then (and_then r (λ first later. and_then (each expression f later) (λ es. pure (first ∷ es)))) (λ es. pure (as_expressions es))) [
-  | Ok p ↦ rw (expressions-each f p.1) (elim (each expression f p.1) as (λ r. and_then (and_then r (λ es. pure (as_expressions es))) (λ others. pure (Also p.0 others)) ≡ and_then (and_then r (λ es. pure (p.0 ∷ es))) (λ es. pure (as_expressions es))) [ Ok q ↦ refl | Err e ↦ refl ])
-  | Err e ↦ refl
-]
+expressions-each (Grow n f) names = elim (expression n names) as
+    (λ r. and_then r (λ first later. and_then (expressions f later) (λ others. pure (Also first others)))
+    ≡ and_then (and_then r (λ first later. and_then (each expression f later) (λ es. pure (first ∷ es))))
+    (λ es. pure (as_expressions es))) [
+      | Ok p ↦ rw (expressions-each f p.1) (elim (each expression f p.1) as
+          (λ r. and_then (and_then r (λ es. pure (as_expressions es))) (λ others. pure (Also p.0 others))
+          ≡ and_then (and_then r (λ es. pure (p.0 ∷ es))) (λ es. pure (as_expressions es)))
+          [ Ok q ↦ refl | Err e ↦ refl ])
+      | Err e ↦ refl
+    ]
 
 -- tasks are read each in turn
 pub task_list-each : (setting : Setting) (f : Forest) (names : Names)
     → task_list setting f names ≡ and_then (each (tasks setting) f names) (λ ts. pure (as_task_list ts))
 unfolding task_list
 task_list-each setting Bare names = refl
-task_list-each setting (Grow n f) names = elim (tasks setting n names) as (λ r. and_then r (λ first later. and_then (task_list setting f later) (λ others. pure (Then first others))) ≡ and_then (and_then r (λ first later. and_then (each (tasks setting) f later) (λ ts. pure (first ∷ ts)))) (λ ts. pure (as_task_list ts))) [
-  | Ok p ↦ rw (task_list-each setting f p.1) (elim (each (tasks setting) f p.1) as (λ r. and_then (and_then r (λ ts. pure (as_task_list ts))) (λ others. pure (Then p.0 others)) ≡ and_then (and_then r (λ ts. pure (p.0 ∷ ts))) (λ ts. pure (as_task_list ts))) [ Ok q ↦ refl | Err e ↦ refl ])
-  | Err e ↦ refl
-]
+task_list-each setting (Grow n f) names = elim (tasks setting n names) as
+    (λ r. and_then r (λ first later. and_then (task_list setting f later) (λ others. pure (Then first others)))
+    ≡ and_then (and_then r (λ first later. and_then (each (tasks setting) f later) (λ ts. pure (first ∷ ts))))
+    (λ ts. pure (as_task_list ts))) [
+      | Ok p ↦ rw (task_list-each setting f p.1) (elim (each (tasks setting) f p.1) as
+          (λ r. and_then (and_then r (λ ts. pure (as_task_list ts))) (λ others. pure (Then p.0 others))
+          ≡ and_then (and_then r (λ ts. pure (p.0 ∷ ts))) (λ ts. pure (as_task_list ts)))
+          [ Ok q ↦ refl | Err e ↦ refl ])
+      | Err e ↦ refl
+    ]
 
 -- expressions that were read one by one are read
 pub expressions_read : (nodes : List public.Node) (i : ℕ) (front : List Expr) (start names : Names) → length nodes ≤ i
@@ -63,7 +75,8 @@ expressions_refused nodes i d front why start names h e at r =
 -- tasks that were read one by one are a task list
 pub task_list_read : (setting : Setting) (nodes : List public.Node) (i : ℕ) (front : List NetPat) (start names : Names)
     → length nodes ≤ i
-    → each (tasks setting) (nodes_of nodes) start ≡ prepend (map tasks_of front) (from_here (tasks setting) nodes i names)
+    → each (tasks setting) (nodes_of nodes) start
+    ≡ prepend (map tasks_of front) (from_here (tasks setting) nodes i names)
     → task_list setting (nodes_of nodes) start ≡ Ok (task_list_of front, names)
 task_list_read setting nodes i front start names h e =
     task_list-each setting (nodes_of nodes) start
@@ -73,13 +86,15 @@ task_list_read setting nodes i front start names h e =
 -- tasks that are refused refuse the task list
 pub task_list_refused : (setting : Setting) (nodes : List public.Node) (i : ℕ) (d : public.Node) (front : List NetPat)
     (why : FormRefusal) (start names : Names) → i < length nodes
-    → each (tasks setting) (nodes_of nodes) start ≡ prepend (map tasks_of front) (from_here (tasks setting) nodes i names)
+    → each (tasks setting) (nodes_of nodes) start
+    ≡ prepend (map tasks_of front) (from_here (tasks setting) nodes i names)
     → d ≡ get_or nodes i d → Refuses why (tasks setting (node_of d) names)
     → Refuses why (task_list setting (nodes_of nodes) start)
 task_list_refused setting nodes i d front why start names h e at r =
     refused_same why _ _ (task_list-each setting (nodes_of nodes) start)
     (refused_next why (each (tasks setting) (nodes_of nodes) start) _
-    (one_refused (tasks setting) nodes i d (map tasks_of front) why names (each (tasks setting) (nodes_of nodes) start) h e
+    (one_refused (tasks setting) nodes i d (map tasks_of front) why names (each (tasks setting) (nodes_of nodes) start)
+    h e
     (subst (λ n. Refuses why (tasks setting (node_of n) names)) at r)))
 
 -- a list that begins with a list is the conjunction of its parts
@@ -87,34 +102,51 @@ pub listed-group : (s t : Span) (parts rest : Forest) (names : Names)
     → list_expression s (Grow (Group t parts) rest) names
     ≡ and_then (expressions (Grow (Group t parts) rest) names) (λ es. pure (And s es))
 unfolding list_expression expressions expression
-listed-group s t parts rest names = elim (list_expression t parts names) as (λ r. and_then r (λ first later. and_then (expressions rest later) (λ others. pure (And s (Also first others)))) ≡ and_then (and_then r (λ first later. and_then (expressions rest later) (λ others. pure (Also first others)))) (λ es. pure (And s es))) [
-  | Ok p ↦ elim (expressions rest p.1) as (λ r. and_then r (λ others. pure (And s (Also p.0 others))) ≡ and_then (and_then r (λ others. pure (Also p.0 others))) (λ es. pure (And s es))) [ Ok q ↦ refl | Err e ↦ refl ]
-  | Err e ↦ refl
-]
+listed-group s t parts rest names = elim (list_expression t parts names) as
+    (λ r. and_then r (λ first later. and_then (expressions rest later) (λ others. pure (And s (Also first others))))
+    ≡ and_then (and_then r (λ first later. and_then (expressions rest later) (λ others. pure (Also first others))))
+    (λ es. pure (And s es))) [
+      | Ok p ↦ elim (expressions rest p.1) as (λ r. and_then r (λ others. pure (And s (Also p.0 others)))
+          ≡ and_then (and_then r (λ others. pure (Also p.0 others))) (λ es. pure (And s es)))
+          [ Ok q ↦ refl | Err e ↦ refl ]
+      | Err e ↦ refl
+    ]
 
 -- so is one that begins with `nil`
 pub listed-nil : (s t : Span) (key : List ℕ) (rest : Forest) (names : Names) → is_nil key ≡ true
     → list_expression s (Grow (Word t key) rest) names
     ≡ and_then (expressions (Grow (Word t key) rest) names) (λ es. pure (And s es))
 unfolding list_expression expressions expression
-listed-nil s t key rest names h = rw h (elim (expressions rest names) as (λ r. and_then r (λ es. pure (And s (Also (And t NoExpression) es))) ≡ and_then (and_then r (λ others. pure (Also (And t NoExpression) others))) (λ es. pure (And s es))) [ Ok q ↦ refl | Err e ↦ refl ])
+listed-nil s t key rest names h = rw h (elim (expressions rest names) as
+    (λ r. and_then r (λ es. pure (And s (Also (And t NoExpression) es)))
+    ≡ and_then (and_then r (λ others. pure (Also (And t NoExpression) others))) (λ es. pure (And s es)))
+    [ Ok q ↦ refl | Err e ↦ refl ])
 
 -- a list that begins with a list is the ordered list of its parts
 pub ordered-group : (setting : Setting) (s t : Span) (parts rest : Forest) (names : Names)
     → list_tasks setting s (Grow (Group t parts) rest) names
     ≡ and_then (task_list setting (Grow (Group t parts) rest) names) (λ ts. pure (Ordered ts))
 unfolding list_tasks task_list tasks
-ordered-group setting s t parts rest names = elim (list_tasks setting t parts names) as (λ r. and_then r (λ first later. and_then (task_list setting rest later) (λ others. pure (Ordered (Then first others)))) ≡ and_then (and_then r (λ first later. and_then (task_list setting rest later) (λ others. pure (Then first others)))) (λ ts. pure (Ordered ts))) [
-  | Ok p ↦ elim (task_list setting rest p.1) as (λ r. and_then r (λ others. pure (Ordered (Then p.0 others))) ≡ and_then (and_then r (λ others. pure (Then p.0 others))) (λ ts. pure (Ordered ts))) [ Ok q ↦ refl | Err e ↦ refl ]
-  | Err e ↦ refl
-]
+ordered-group setting s t parts rest names = elim (list_tasks setting t parts names) as
+    (λ r. and_then r (λ first later. and_then (task_list setting rest later)
+    (λ others. pure (Ordered (Then first others))))
+    ≡ and_then (and_then r (λ first later. and_then (task_list setting rest later)
+    (λ others. pure (Then first others)))) (λ ts. pure (Ordered ts))) [
+      | Ok p ↦ elim (task_list setting rest p.1) as (λ r. and_then r (λ others. pure (Ordered (Then p.0 others)))
+          ≡ and_then (and_then r (λ others. pure (Then p.0 others))) (λ ts. pure (Ordered ts)))
+          [ Ok q ↦ refl | Err e ↦ refl ]
+      | Err e ↦ refl
+    ]
 
 -- so is one that begins with `nil`
 pub ordered-nil : (setting : Setting) (s t : Span) (key : List ℕ) (rest : Forest) (names : Names) → is_nil key ≡ true
     → list_tasks setting s (Grow (Word t key) rest) names
     ≡ and_then (task_list setting (Grow (Word t key) rest) names) (λ ts. pure (Ordered ts))
 unfolding list_tasks task_list tasks
-ordered-nil setting s t key rest names h = rw h (elim (task_list setting rest names) as (λ r. and_then r (λ ts. pure (Ordered (Then (Ordered NoTasks) ts))) ≡ and_then (and_then r (λ others. pure (Then (Ordered NoTasks) others))) (λ ts. pure (Ordered ts))) [ Ok q ↦ refl | Err e ↦ refl ])
+ordered-nil setting s t key rest names h = rw h (elim (task_list setting rest names) as
+    (λ r. and_then r (λ ts. pure (Ordered (Then (Ordered NoTasks) ts)))
+    ≡ and_then (and_then r (λ others. pure (Then (Ordered NoTasks) others))) (λ ts. pure (Ordered ts)))
+    [ Ok q ↦ refl | Err e ↦ refl ])
 
 -- nodes that begin with a list, seen plainly
 group_first : (nodes rest : List public.Node) (first : public.Node) (parts : Vec public.Node Global)
@@ -181,7 +213,8 @@ gathered-one s (f ∷ []) e one at = ap expression_of at
 gathered-one s (f ∷ g ∷ es) e one at = absurd (omega arith)
 
 -- another number of expressions are gathered to their conjunction
-pub gathered-many : (s : Span) (es : List Expr) → length es ≢ 1 → And s (expressions_of es) ≡ gathered s (expressions_of es)
+pub gathered-many : (s : Span) (es : List Expr) → length es ≢ 1 → And s (expressions_of es)
+    ≡ gathered s (expressions_of es)
 gathered-many s [] many = refl
 gathered-many s (f ∷ []) many = absurd (many refl)
 gathered-many s (f ∷ g ∷ es) many = refl
