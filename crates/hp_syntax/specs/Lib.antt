@@ -9,9 +9,14 @@ pub mod ViewLaws
 pub mod Steps
 pub mod Grammar
 pub mod Misforms
+pub mod TextForms
 pub mod Numbered
 pub mod Checks
+pub mod Notes
+pub mod Written
+pub mod Unplaced
 pub mod Terms
+pub mod GroundViews
 pub mod Expressions
 pub mod Networks
 pub mod Rules

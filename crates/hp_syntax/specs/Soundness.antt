@@ -63,8 +63,8 @@ pub record Decomposes (domain : Domain) (state : State) (task : Term) (subtasks 
   pub there : slice_get method.branches number ≡ Some branch
   pub met : IsMetIn state branch.pre bindings
   pub not_earlier :
-      (i : ℕ) (earlier : Branch) (e : Bindings) →
-      i < number → slice_get method.branches i ≡ Some earlier → length e ≡ length method.vars
+      (i : ℕ) (earlier : Branch) (e : Bindings)
+      → i < number → slice_get method.branches i ≡ Some earlier → length e ≡ length method.vars
       → atom_value method.head e ≡ Ok task → IsMetIn state earlier.pre e → ⊥
   pub gives : tasks_value branch.tasks bindings ≡ Ok subtasks
 

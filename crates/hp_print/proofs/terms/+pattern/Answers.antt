@@ -1,0 +1,37 @@
+use Rattle.std.proofs.Common.{arith, rules}
+use Rattle.std.proofs.lemmas.Grind.{common_steps}
+use Rattle.hp_syntax.specs.ViewLaws.{pattern_of-var, pattern_of-sym, pattern_of-num, pattern_of-list, pattern_of-call}
+use Rattle.hp_syntax.specs.Written.{pattern, node_text}
+use Rattle.hp_print.proofs.Sizes.{pattern-smaller}
+use Rattle.hp_print.proofs.terms.+pattern.Goals as goal
+
+pub push_items-push_pattern-requires : goal.push_items-push_pattern-requires
+push_items-push_pattern-requires t c =
+    let smaller = pattern-smaller c.args.parts.now c.loop-part.part-index c.part-item.result
+    c.loop-part-test.true c.part-item.is in
+    search rules
+
+pub push_pattern-returns-in-Var : goal.push_pattern-returns-in-Var
+unfolding pattern node_text
+push_pattern-returns-in-Var t c =
+    rw (pattern_of-var c.args.pat.now c.in-Var.v c.in-Var.is) (grind (arith, common_steps))
+
+pub push_pattern-returns-in-Sym : goal.push_pattern-returns-in-Sym
+unfolding pattern node_text
+push_pattern-returns-in-Sym t c =
+    rw (pattern_of-sym c.args.pat.now c.in-Sym.name c.in-Sym.is) (grind (arith, common_steps))
+
+pub push_pattern-returns-in-Num : goal.push_pattern-returns-in-Num
+unfolding pattern node_text
+push_pattern-returns-in-Num t c =
+    rw (pattern_of-num c.args.pat.now c.in-Num.n c.in-Num.is) (grind (arith, common_steps))
+
+pub push_pattern-returns-in-List : goal.push_pattern-returns-in-List
+unfolding pattern
+push_pattern-returns-in-List t c =
+    rw (pattern_of-list c.args.pat.now c.in-List.parts c.in-List.tail c.in-List.is) (grind (arith, common_steps))
+
+pub push_pattern-returns-in_ok-extend_from_slice-in-Call : goal.push_pattern-returns-in_ok-extend_from_slice-in-Call
+unfolding pattern node_text
+push_pattern-returns-in_ok-extend_from_slice-in-Call t c =
+    rw (pattern_of-call c.args.pat.now c.in-Call.name c.in-Call.args c.in-Call.is) (grind (arith, common_steps))

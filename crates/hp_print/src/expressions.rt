@@ -1,0 +1,133 @@
+//! Expressions and preconditions.
+
+ghost use Rattle.std.specs.Prelude.{◌≡◌, ◌++◌, OnOk, codes};
+ghost use Rattle.hp_syntax.specs.Views.{pattern_of, expression_of, expressions_of, order_of, precondition_of};
+ghost use Rattle.hp_syntax.specs.Written as written;
+ghost use Rattle.hp_syntax.specs.Written.{node_text, rest_text};
+
+use crate::terms::{push_atom, push_pattern, push_variables};
+use crate::words::{push_begun, push_variable};
+use hp_syntax::{Expr, ExprKind, Name, Pat, Pre, SortKey, SortOrder};
+use std::alloc::AllocError;
+
+/// `(assign VARIABLE term)`
+#[tactic(auto, unfolding(hp_syntax::specs::Written::node_text))]
+fn push_assigned(text: &mut Vec<u8>, vars: &[Name], v: u32, value: &Pat) -> Result<(), AllocError>
+    ensures { OnOk result (text.new.items ≡ text.old.items
+        ++ node_text (written.assigned vars.now v (pattern_of value.now))) }
+{
+    push_begun(text, b"assign ")?;
+    push_variable(text, vars, v)?;
+    text.push(b' ')?;
+    push_pattern(text, vars, value)?;
+    text.extend_from_slice(b")")
+}
+
+/// An expression.
+#[cycle(expression)]
+#[tactic(auto, unfolding(hp_syntax::specs::Views::expression_of, hp_syntax::specs::Written::expression))]
+pub fn push_expression(text: &mut Vec<u8>, vars: &[Name], expr: &Expr) -> Result<(), AllocError>
+    ensures { OnOk result (text.new.items ≡ text.old.items
+        ++ node_text (written.expression vars.now (expression_of expr.now))) }
+{
+    match &expr.kind {
+        ExprKind::Atom(atom) => push_atom(text, vars, atom),
+        ExprKind::And(parts) => push_conjunction(text, vars, parts.as_slice()),
+        ExprKind::Or(parts) => {
+            push_begun(text, b"or")?;
+            push_expressions(text, vars, parts.as_slice())
+        }
+        ExprKind::Not(part) => {
+            push_begun(text, b"not ")?;
+            push_expression(text, vars, part)?;
+            text.extend_from_slice(b")")
+        }
+        ExprKind::Forall(list, range, body) => {
+            push_begun(text, b"forall ")?;
+            push_variables(text, vars, list.as_slice())?;
+            text.push(b' ')?;
+            push_expression(text, vars, range)?;
+            text.push(b' ')?;
+            push_expression(text, vars, body)?;
+            text.extend_from_slice(b")")
+        }
+        ExprKind::Assign(v, value) => push_assigned(text, vars, *v, value),
+        ExprKind::Call(call) => push_pattern(text, vars, call),
+    }
+}
+
+/// A conjunction; that of nothing is the empty list.
+#[cycle(expression)]
+#[tactic(auto, unfolding(hp_syntax::specs::Written::expression, hp_syntax::specs::Written::node_text))]
+fn push_conjunction(text: &mut Vec<u8>, vars: &[Name], parts: &[Expr]) -> Result<(), AllocError>
+    ensures { OnOk result (text.new.items ≡ text.old.items
+        ++ node_text (written.conjunction vars.now (expressions_of parts.now))) }
+{
+    if parts.is_empty() {
+        return text.extend_from_slice(b"()");
+    }
+    push_begun(text, b"and")?;
+    push_expressions(text, vars, parts)
+}
+
+/// Expressions that follow in a list, and the closing bracket.
+#[cycle(expression)]
+#[tactic(auto, unfolding(hp_syntax::specs::Written::expression, hp_syntax::specs::Written::rest_text))]
+fn push_expressions(text: &mut Vec<u8>, vars: &[Name], parts: &[Expr]) -> Result<(), AllocError>
+    ensures { OnOk result (text.new.items ≡ text.old.items
+        ++ rest_text (written.expressions vars.now (expressions_of parts.now)) ++ codes ")") }
+{
+    for part in parts {
+        text.push(b' ')?;
+        push_expression(text, vars, part)?;
+    }
+    text.extend_from_slice(b")")
+}
+
+/// The name of an order.
+fn order_word(order: &SortOrder) -> &[u8]
+    ensures { result.now ≡ written.order_word (order_of order.now) }
+{
+    match order {
+        SortOrder::Up => b"<",
+        SortOrder::Down => b">",
+        SortOrder::Unknown(name, _) => name.bytes(),
+    }
+}
+
+/// `(:sort-by VARIABLE order expression)`
+#[tactic(auto, unfolding(hp_syntax::specs::Written::precondition, hp_syntax::specs::Written::node_text))]
+fn push_sorted(
+    text: &mut Vec<u8>,
+    vars: &[Name],
+    key: &SortKey,
+    expr: &Expr,
+) -> Result<(), AllocError>
+    ensures { OnOk result (text.new.items ≡ text.old.items
+        ++ node_text (written.precondition vars.now (precondition_of (Pre.Sorted key.now expr.now)))) }
+{
+    push_begun(text, b":sort-by ")?;
+    push_variable(text, vars, key.var)?;
+    text.push(b' ')?;
+    text.extend_from_slice(order_word(&key.order))?;
+    text.push(b' ')?;
+    push_expression(text, vars, expr)?;
+    text.extend_from_slice(b")")
+}
+
+/// A precondition.
+#[tactic(auto, unfolding(hp_syntax::specs::Written::precondition, hp_syntax::specs::Written::node_text))]
+pub fn push_precondition(text: &mut Vec<u8>, vars: &[Name], pre: &Pre) -> Result<(), AllocError>
+    ensures { OnOk result (text.new.items ≡ text.old.items
+        ++ node_text (written.precondition vars.now (precondition_of pre.now))) }
+{
+    match pre {
+        Pre::Plain(expr) => push_expression(text, vars, expr),
+        Pre::First(expr) => {
+            push_begun(text, b":first ")?;
+            push_expression(text, vars, expr)?;
+            text.extend_from_slice(b")")
+        }
+        Pre::Sorted(key, expr) => push_sorted(text, vars, key, expr),
+    }
+}
