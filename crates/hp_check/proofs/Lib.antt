@@ -2,3 +2,4 @@ pub mod FaultLemmas
 pub mod LevelLemmas
 pub mod PartLemmas
 pub mod FirstLemmas
+mod NameLemmas

@@ -1,9 +1,11 @@
 //! The checks of a domain and a problem that have their forms, before any plan is looked for.
 #![tactic(auto, using(crate::proofs::FaultLemmas::joined))]
 
-ghost use Rattle.std.specs.Prelude.{◌≡◌, ◌++◌, [], None, Some, IfOk, IfErr};
+ghost use Rattle.std.specs.Prelude.{◌≡◌, ◌++◌, None, Some, IfOk, IfErr, IsOk, map};
 ghost use Rattle.hp_syntax.specs.Checks.{domain_faults, problem_faults, first_of};
+ghost use Rattle.hp_syntax.specs.Notes as plain;
 ghost use Rattle.hp_syntax.specs.Views.{domain_of, problem_of};
+ghost use Rattle.hp_check.specs.NoteViews.{note_of};
 ghost use Rattle.hp_check.specs.Refusals.{Stops};
 
 mod calls;
@@ -11,10 +13,12 @@ mod expressions;
 pub mod laws;
 mod patterns;
 mod rules;
+mod survey;
 mod tasks;
 mod watch;
 
 use crate::rules::{domain_part, problem_part};
+use crate::survey::unserved;
 use crate::watch::Watch;
 use hp_syntax::{Domain, Name, Problem, Span};
 pub use hp_syntax::{CheckFault, CheckKind};
@@ -52,21 +56,24 @@ pub fn check_domain(domain: &Domain) -> Option<CheckFault>
     watch.first
 }
 
-/// Checks a domain and a problem of it. There are no notes yet.
+/// Checks a domain and a problem of it, and notes the tasks that no rule serves.
 pub fn check(alloc: Global, domain: &Domain, problem: &Problem) -> Result<Notes, CheckRefusal>
-    ensures accepted { IfOk result (λ notes. (first_of (domain_faults (domain_of domain.now)
-        ++ problem_faults (domain_of domain.now) (problem_of problem.now)) ≡ None) × (notes.list.items ≡ [])) }
+    ensures accepted { IsOk result → first_of (domain_faults (domain_of domain.now)
+        ++ problem_faults (domain_of domain.now) (problem_of problem.now)) ≡ None }
+    ensures notes { IfOk result (λ notes. map note_of notes.list.items
+        ≡ plain.notes (domain_of domain.now) (problem_of problem.now)) }
     ensures refused { IfErr result (Stops (first_of (domain_faults (domain_of domain.now)
         ++ problem_faults (domain_of domain.now) (problem_of problem.now)))) }
 {
     let mut watch = Watch::new();
     domain_part(&mut watch, domain);
     problem_part(&mut watch, domain, problem);
-    match watch.first {
-        Some(fault) => Err(CheckRefusal::Fault(fault)),
-        None => Ok(Notes {
-            list: Vec::new(alloc),
-        }),
+    if let Some(fault) = watch.first {
+        return Err(CheckRefusal::Fault(fault));
+    }
+    match unserved(alloc, domain, problem) {
+        Ok(list) => Ok(Notes { list }),
+        Err(_) => Err(CheckRefusal::NoMemory),
     }
 }
 
