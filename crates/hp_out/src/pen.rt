@@ -1,0 +1,171 @@
+//! The pen of a run.
+
+ghost use Rattle.std.specs.Prelude.{◌≡◌, ◌≤◌, ◌++◌, OnErr, codes};
+ghost use Rattle.std.specs.List.{flat_map};
+ghost use Rattle.hp_check.specs.NoteViews.{note_of};
+ghost use Rattle.hp_io.specs.Rules.{Rose};
+ghost use Rattle.hp_out.specs.Lines.{kind_word, at_offset, at_span, span_text, refused, refused_read, note_place, note_text};
+ghost use Rattle.hp_out.specs.RefusalTexts.{refusal_text};
+ghost use Rattle.hp_out.specs.Writing.{Writes};
+
+use crate::refusal::Refusal;
+use crate::words::{check_word, input_word, kind_word, text_of, what_word};
+use crate::writing::{write_all, write_pieces};
+use hp_check::Note;
+use hp_io::{Failed, Input, Sink};
+use hp_syntax::{Span, TextKind};
+use itoa::Buffer;
+
+/// Writes lines to a sink. It takes no memory. After Failed the sink holds a proper front of the text that was being
+/// written, behind what it held before.
+#[derive(Drop)]
+pub struct Pen<'a, K: Sink> {
+    sink: &'a mut K,
+}
+
+impl<'a, K: Sink> Pen<'a, K> {
+    /// A pen that writes to this sink.
+    pub fn new(sink: &'a mut K) -> Pen<'a, K>
+        ensures same_reference { result.sink.ghost_name ≡ sink.entry.ghost_name }
+        ensures same { result.sink.now ≡ sink.old }
+    {
+        Pen { sink }
+    }
+
+    /// Writes a text.
+    pub fn text(&mut self, bytes: &[u8]) -> Result<(), Failed>
+        ensures same_reference { self.new.sink.ghost_name ≡ self.old.sink.ghost_name }
+        ensures writes { Writes result bytes.now (K.bytes self.old.sink.now) (K.bytes self.new.sink.now) }
+        ensures later { K.faults self.old.sink.now ≤ K.faults self.new.sink.now }
+        ensures cause { OnErr result (Rose (K.faults self.old.sink.now) (K.faults self.new.sink.now)) }
+    {
+        write_all(self.sink, bytes)
+    }
+
+    fn pieces(&mut self, pieces: &[&[u8]]) -> Result<(), Failed>
+        ensures same_reference { self.new.sink.ghost_name ≡ self.old.sink.ghost_name }
+        ensures writes { Writes result (flat_map (λ p. p.now) pieces.now)
+            (K.bytes self.old.sink.now) (K.bytes self.new.sink.now) }
+        ensures later { K.faults self.old.sink.now ≤ K.faults self.new.sink.now }
+        ensures cause { OnErr result (Rose (K.faults self.old.sink.now) (K.faults self.new.sink.now)) }
+    {
+        write_pieces(self.sink, pieces)
+    }
+
+    /// The line of a text that is refused at an offset.
+    fn offset_line(&mut self, which: Input, kind: TextKind, offset: u32) -> Result<(), Failed>
+        ensures same_reference { self.new.sink.ghost_name ≡ self.old.sink.ghost_name }
+        ensures writes { Writes result (refused which (at_offset (kind_word kind) offset))
+            (K.bytes self.old.sink.now) (K.bytes self.new.sink.now) }
+        ensures later { K.faults self.old.sink.now ≤ K.faults self.new.sink.now }
+        ensures cause { OnErr result (Rose (K.faults self.old.sink.now) (K.faults self.new.sink.now)) }
+    {
+        let mut number = Buffer::new();
+        self.pieces(&[
+            b"refused ",
+            input_word(which),
+            b" ",
+            kind_word(kind),
+            b" at ",
+            number.format(offset).as_bytes(),
+            b"\n",
+        ])
+    }
+
+    /// A span, and the end of its line.
+    fn span_end(&mut self, span: Span) -> Result<(), Failed>
+        ensures same_reference { self.new.sink.ghost_name ≡ self.old.sink.ghost_name }
+        ensures writes { Writes result (span_text span ++ codes "\n")
+            (K.bytes self.old.sink.now) (K.bytes self.new.sink.now) }
+        ensures later { K.faults self.old.sink.now ≤ K.faults self.new.sink.now }
+        ensures cause { OnErr result (Rose (K.faults self.old.sink.now) (K.faults self.new.sink.now)) }
+    {
+        let mut number = Buffer::new();
+        self.pieces(&[number.format(span.from).as_bytes(), b"-"])?;
+        self.pieces(&[number.format(span.to).as_bytes(), b"\n"])
+    }
+
+    /// The line of a text that is refused at a span, by the words that say why.
+    fn span_line(
+        &mut self,
+        which: Input,
+        first: &'static [u8],
+        word: &'static [u8],
+        span: Span,
+    ) -> Result<(), Failed>
+        ensures same_reference { self.new.sink.ghost_name ≡ self.old.sink.ghost_name }
+        ensures writes { Writes result (refused which (first.now ++ at_span word.now span))
+            (K.bytes self.old.sink.now) (K.bytes self.new.sink.now) }
+        ensures later { K.faults self.old.sink.now ≤ K.faults self.new.sink.now }
+        ensures cause { OnErr result (Rose (K.faults self.old.sink.now) (K.faults self.new.sink.now)) }
+    {
+        self.pieces(&[b"refused ", input_word(which), b" ", first, word, b" at "])?;
+        self.span_end(span)
+    }
+
+    fn read_line(&mut self, which: Input) -> Result<(), Failed>
+        ensures same_reference { self.new.sink.ghost_name ≡ self.old.sink.ghost_name }
+        ensures writes { Writes result (refused_read which)
+            (K.bytes self.old.sink.now) (K.bytes self.new.sink.now) }
+        ensures later { K.faults self.old.sink.now ≤ K.faults self.new.sink.now }
+        ensures cause { OnErr result (Rose (K.faults self.old.sink.now) (K.faults self.new.sink.now)) }
+    {
+        match which {
+            Input::Domain => self.text(b"refused read domain\n"),
+            Input::Problem => self.text(b"refused read problem\n"),
+        }
+    }
+
+    /// Writes the one line of a refusal.
+    pub fn refusal_line(&mut self, refusal: &Refusal) -> Result<(), Failed>
+        ensures same_reference { self.new.sink.ghost_name ≡ self.old.sink.ghost_name }
+        ensures writes { Writes result (refusal_text refusal.now)
+            (K.bytes self.old.sink.now) (K.bytes self.new.sink.now) }
+        ensures later { K.faults self.old.sink.now ≤ K.faults self.new.sink.now }
+        ensures cause { OnErr result (Rose (K.faults self.old.sink.now) (K.faults self.new.sink.now)) }
+    {
+        match *refusal {
+            Refusal::Usage => self.text(b"refused usage\n"),
+            Refusal::Read(which) => self.read_line(which),
+            Refusal::Text(which, kind, offset) => self.offset_line(which, kind, offset),
+            Refusal::Form(which, what, span) => self.span_line(
+                which,
+                b"Expected ",
+                what_word(what),
+                span,
+            ),
+            Refusal::Several(span) => self.span_line(Input::Problem, b"", b"SeveralPairs", span),
+            Refusal::Check(fault) => self.span_line(
+                text_of(fault.in_problem),
+                b"",
+                check_word(fault.kind),
+                fault.span,
+            ),
+        }
+    }
+
+    /// Where the task of a note stands, and the end of its line.
+    fn note_place(&mut self, in_problem: bool, span: Span) -> Result<(), Failed>
+        ensures same_reference { self.new.sink.ghost_name ≡ self.old.sink.ghost_name }
+        ensures writes { Writes result (note_place in_problem span)
+            (K.bytes self.old.sink.now) (K.bytes self.new.sink.now) }
+        ensures later { K.faults self.old.sink.now ≤ K.faults self.new.sink.now }
+        ensures cause { OnErr result (Rose (K.faults self.old.sink.now) (K.faults self.new.sink.now)) }
+    {
+        self.pieces(&[b" in ", input_word(text_of(in_problem)), b" at "])?;
+        self.span_end(span)
+    }
+
+    /// Writes the one line of a note.
+    pub fn note_line(&mut self, note: &Note) -> Result<(), Failed>
+        ensures same_reference { self.new.sink.ghost_name ≡ self.old.sink.ghost_name }
+        ensures writes { Writes result (note_text (note_of note.now))
+            (K.bytes self.old.sink.now) (K.bytes self.new.sink.now) }
+        ensures later { K.faults self.old.sink.now ≤ K.faults self.new.sink.now }
+        ensures cause { OnErr result (Rose (K.faults self.old.sink.now) (K.faults self.new.sink.now)) }
+    {
+        self.text(b"note NoRule ")?;
+        self.text(note.name.bytes())?;
+        self.note_place(note.in_problem, note.span)
+    }
+}
