@@ -18,14 +18,20 @@ same_names (x ∷ xs) [] = refl
 same_names (x ∷ xs) (y ∷ ys) = ap (λ b. bytes_eq x y && b) (same_names xs ys)
 
 -- an atom that isn't the searched one leaves the search to the atoms behind it
-pub member_more : (t : Term) (xs : List (Rc GroundAtom Global)) (i : ℕ) (x : Rc GroundAtom Global) (b whole : Bool) → i < length xs → x ≡ get_or xs i x → same_term t (shared_term x) ≡ b → b ≡ false → member t (plain_terms (drop i xs)) ≡ whole → member t (plain_terms (drop (i + 1) xs)) ≡ whole
+pub member_more : (t : Term) (xs : List (Rc GroundAtom Global)) (i : ℕ) (x : Rc GroundAtom Global) (b whole : Bool)
+    → i < length xs → x ≡ get_or xs i x → same_term t (shared_term x) ≡ b → b ≡ false
+    → member t (plain_terms (drop i xs)) ≡ whole → member t (plain_terms (drop (i + 1) xs)) ≡ whole
 member_more t xs i x b whole lt is e f so_far =
-    ap (λ s. s || member t (plain_terms (drop (i + 1) xs))) (sym (e ∙ f)) ∙ (ap (λ ys. member t (plain_terms ys)) (sym (left_more xs i x lt is)) ∙ so_far)
+    ap (λ s. s || member t (plain_terms (drop (i + 1) xs))) (sym (e ∙ f))
+    ∙ (ap (λ ys. member t (plain_terms ys)) (sym (left_more xs i x lt is)) ∙ so_far)
 
 -- an atom that is the searched one is found
-pub member_found : (t : Term) (xs : List (Rc GroundAtom Global)) (i : ℕ) (x : Rc GroundAtom Global) (b whole : Bool) → i < length xs → x ≡ get_or xs i x → same_term t (shared_term x) ≡ b → b ≡ true → member t (plain_terms (drop i xs)) ≡ whole → true ≡ whole
+pub member_found : (t : Term) (xs : List (Rc GroundAtom Global)) (i : ℕ) (x : Rc GroundAtom Global) (b whole : Bool)
+    → i < length xs → x ≡ get_or xs i x → same_term t (shared_term x) ≡ b → b ≡ true
+    → member t (plain_terms (drop i xs)) ≡ whole → true ≡ whole
 member_found t xs i x b whole lt is e f so_far =
-    ap (λ s. s || member t (plain_terms (drop (i + 1) xs))) (sym (e ∙ f)) ∙ (ap (λ ys. member t (plain_terms ys)) (sym (left_more xs i x lt is)) ∙ so_far)
+    ap (λ s. s || member t (plain_terms (drop (i + 1) xs))) (sym (e ∙ f))
+    ∙ (ap (λ ys. member t (plain_terms ys)) (sym (left_more xs i x lt is)) ∙ so_far)
 
 -- the element alone where a filter keeps it, and else nothing
 abbrev pub kept : {X : Type 0} → Bool → X → List X

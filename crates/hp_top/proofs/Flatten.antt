@@ -26,7 +26,8 @@ SameShown (v ∷ vs) (w ∷ ws) = SameSight v.node v.sight w × SameShown vs ws
 SameShown _ _ = ⊥
 
 -- visits that are shown, before others that are, are shown together
-shown_append : (us vs : List Visit) (ws xs : List Shown) → SameShown us ws → SameShown vs xs → SameShown (us ++ vs) (ws ++ xs)
+shown_append : (us vs : List Visit) (ws xs : List Shown) → SameShown us ws → SameShown vs xs
+    → SameShown (us ++ vs) (ws ++ xs)
 shown_append [] vs [] xs s t = t
 shown_append (u ∷ us) vs (w ∷ ws) xs s t = (s.0, shown_append us vs ws xs s.1 t)
 shown_append _ vs _ xs s t = absurd s
@@ -36,9 +37,11 @@ plan_shown : (n : Node) (m : FlatNode) (p : List ℕ) → SameNode n m → SameS
 plan_shown n m p s = ((s.cost, s.steps), tt)
 
 -- visits below children, where those below each node are shown
-module _ (below : Node → List ℕ → List Visit) (shown : FlatNode → List Shown) (each : (n : Node) (m : FlatNode) (p : List ℕ) → SameNode n m → SameShown (below n p) (shown m)) where
+module _ (below : Node → List ℕ → List Visit) (shown : FlatNode → List Shown)
+    (each : (n : Node) (m : FlatNode) (p : List ℕ) → SameNode n m → SameShown (below n p) (shown m)) where
   -- the visits at and below the children are shown
-  below_shown : (n : Node) (p : List ℕ) (i : ℕ) (cs : List Child) (ds : List FlatChild) → SameChildren cs ds → SameShown (visits_of below n p i cs) (flat_map (shown_child shown) ds)
+  below_shown : (n : Node) (p : List ℕ) (i : ℕ) (cs : List Child) (ds : List FlatChild) → SameChildren cs ds
+      → SameShown (visits_of below n p i cs) (flat_map (shown_child shown) ds)
   below_shown n p i [] [] s = tt
   below_shown n p i (DidChild a ∷ cs) (FlatDid b ∷ ds) s =
       (tt, shown_append _ _ _ _ (each a b (p ++ i ∷ []) s.0) (below_shown n p (i + 1) cs ds s.1))
@@ -49,22 +52,29 @@ module _ (below : Node → List ℕ → List Visit) (shown : FlatNode → List S
   below_shown n p i _ _ s = absurd s
 
 -- the visits at and below a node are shown, in their order
-pub within_shown : (d : Domain) (k : ℕ) (n : Node) (m : FlatNode) (p : List ℕ) → SameNode n m → SameShown (visits_within (plain_domain d) k n p) (shown_within d.rules.items k m)
+pub within_shown : (d : Domain) (k : ℕ) (n : Node) (m : FlatNode) (p : List ℕ) → SameNode n m
+    → SameShown (visits_within (plain_domain d) k n p) (shown_within d.rules.items k m)
 unfolding visits_within shown_within
 within_shown d zero n m p s = at_end (stage n.network n.focus s.in_order)
   where
-    at_end : Stage n.network n.focus → SameShown (visit p n (cond (is_empty n.network) Plan CutHere) ∷ []) (cond (is_done m.tasks) (PlanShown m) CutShown ∷ [])
+    at_end : Stage n.network n.focus → SameShown (visit p n (cond (is_empty n.network) Plan CutHere) ∷ [])
+        (cond (is_done m.tasks) (PlanShown m) CutShown ∷ [])
     at_end (Over e h) = rw (e, ap is_done (sym s.tasks ∙ h)) (plan_shown n m p s)
     at_end (Goes next) = rw (next.filled, ap is_done (sym s.tasks ∙ next.tasks)) (tt, tt)
 within_shown d (suc k) n m p s = go (λ a b q. within_shown d k a b q) (stage n.network n.focus s.in_order)
   where
-    go : ((a : Node) (b : FlatNode) (q : List ℕ) → SameNode a b → SameShown (visits_within (plain_domain d) k a q) (shown_within d.rules.items k b)) → Stage n.network n.focus →
-        SameShown (cond (is_empty n.network) (visit p n Plan ∷ []) (visits_of (visits_within (plain_domain d) k) n p 0 (children (plain_domain d) n)))
-        (cond (is_done m.tasks) (PlanShown m ∷ []) (flat_map (shown_child (shown_within d.rules.items k)) (flat_children d.rules.items m)))
+    go : ((a : Node) (b : FlatNode) (q : List ℕ) → SameNode a b
+        → SameShown (visits_within (plain_domain d) k a q) (shown_within d.rules.items k b))
+        → Stage n.network n.focus
+        → SameShown (cond (is_empty n.network) (visit p n Plan ∷ [])
+        (visits_of (visits_within (plain_domain d) k) n p 0 (children (plain_domain d) n)))
+        (cond (is_done m.tasks) (PlanShown m ∷ [])
+        (flat_map (shown_child (shown_within d.rules.items k)) (flat_children d.rules.items m)))
     go each (Over e h) = rw (e, ap is_done (sym s.tasks ∙ h)) (plan_shown n m p s)
     go each (Goes next) =
         rw (next.filled, ap is_done (sym s.tasks ∙ next.tasks))
-        (below_shown (visits_within (plain_domain d) k) (shown_within d.rules.items k) each n p 0 _ _ (children_same n m s next d))
+        (below_shown (visits_within (plain_domain d) k) (shown_within d.rules.items k) each n p 0 _ _
+        (children_same n m s next d))
 
 -- the root of the tree and the node that the engine begins at are the same
 root_same : (q : Problem) (k : ℕ) → SameNode (root (plain_problem q) k) (flat_root q k)
@@ -79,6 +89,7 @@ root_same q k = record {
 }
 
 -- all visits of a problem are shown
-pub problem_shown : (d : Domain) (q : Problem) (k : ℕ) → SameShown (visits (plain_domain d) (root (plain_problem q) k) []) (shown_at d.rules.items (flat_root q k))
+pub problem_shown : (d : Domain) (q : Problem) (k : ℕ)
+    → SameShown (visits (plain_domain d) (root (plain_problem q) k) []) (shown_at d.rules.items (flat_root q k))
 unfolding visits shown_at
 problem_shown d q k = within_shown d k (root (plain_problem q) k) (flat_root q k) [] (root_same q k)

@@ -1,52 +1,20 @@
--- Fronts of texts that were written.
-use Rattle.std.proofs.Common.{◌≡◌, ℕ, ◌+◌, ◌≤◌, List, ◌++◌, Option, Some, None, length, take, arith, refl, ap, sym, ◌∙◌, subst, append_assoc, append-nil, length-append}
-use Rattle.std.proofs.Math.Seq.{take-append-add, take-length}
-use Rattle.std.proofs.lemmas.List.{take-append-le}
+-- What stops the telling of a text stops that of a longer one.
+use Rattle.std.proofs.Common.{◌≡◌, ℕ, ◌+◌, ◌<◌, ◌≤◌, List, [], ◌∷◌, ◌++◌, length, map, take, drop, slice_index_or, Option, Result, Ok, Err, OnOk, IfErr, arith, ap, sym, subst, refl}
 use Rattle.hp_io.specs.Rules.{Rose}
-use Rattle.hp_top.specs.declared.planning.Halt.{Halt}
-use Rattle.hp_top.specs.declared.planning.Halt.TheVariants.{NoMemory, Failed}
+use Rattle.hp_top.specs.declared.telling.Halt.{Halt}
+use Rattle.hp_top.specs.declared.telling.Halt.TheVariants.{NoMemory, Failed}
 use Rattle.hp_top.specs.Telling.{Halts}
-use Rattle.hp_top.specs.Writing.{SinkRun, sink_run, Wrote, WroteFront, WroteProperFront}
+use Rattle.hp_out.specs.Writing.{SinkRun, sink_run, Wrote}
+use Rattle.hp_out.proofs.FrontLemmas.{front_longer, proper_longer, front_after, proper_after}
+use Rattle.hp_out.proofs.WriteSteps.{wrote_both, seam}
 
--- where nothing was written, the empty front of every text was
-pub nothing_written : (text : List ℕ) (b : Option (List ℕ)) → WroteFront text b b
-nothing_written text None = refl
-nothing_written text (Some b) = (0, omega arith, ap Some (sym (append-nil b)))
+on_ok_weaker : {A E : Type 0} (r : Result A E) (P Q : Type 0) → OnOk r P → (P → Q) → OnOk r Q
+on_ok_weaker (Ok x) P Q h f = f h
+on_ok_weaker (Err e) P Q h f = tt
 
--- a whole text that was written is a front of it
-pub whole_front : (text : List ℕ) (a b : Option (List ℕ)) → Wrote text a b → WroteFront text a b
-whole_front text None b w = w
-whole_front text (Some a) b w = (length text, omega arith, w ∙ ap (λ t. Some (a ++ t)) (sym (take-length text)))
-
--- a front of a text is one of every text that goes on from it
-pub front_longer : (x y : List ℕ) (a b : Option (List ℕ)) → WroteFront x a b → WroteFront (x ++ y) a b
-front_longer x y None b w = w
-front_longer x y (Some a) b w =
-    (w.0, omega (arith, w.1, length-append x y), w.2 ∙ ap (λ t. Some (a ++ t)) (sym (take-append-le w.0 x y w.1)))
-
--- a proper front of a text is one of every text that goes on from it
-pub proper_longer : (x y : List ℕ) (a b : Option (List ℕ)) → WroteProperFront x a b → WroteProperFront (x ++ y) a b
-proper_longer x y None b w = w
-proper_longer x y (Some a) b w =
-    (w.0, omega (arith, w.1, length-append x y), w.2 ∙ ap (λ t. Some (a ++ t)) (sym (take-append-le w.0 x y (omega (arith, w.1)))))
-
--- a piece and then the first n bytes of a text are the first bytes of both
-joined_front : (x y a : List ℕ) (n : ℕ) → (a ++ x) ++ take n y ≡ a ++ take (length x + n) (x ++ y)
-joined_front x y a n = append_assoc a x (take n y) ∙ ap (λ t. a ++ t) (sym (take-append-add x y n))
-
--- a text and then a front of the next are a front of both
-pub front_after : (x y : List ℕ) (a b c : Option (List ℕ)) → Wrote x a b → WroteFront y b c → WroteFront (x ++ y) a c
-front_after x y None b c h w = subst (λ m. WroteFront y m c) h w
-front_after x y (Some a) b c h w =
-    let w' = subst (λ m. WroteFront y m c) h w in
-    (length x + w'.0, omega (arith, w'.1, length-append x y), w'.2 ∙ ap Some (joined_front x y a w'.0))
-
--- a text and then a proper front of the next are a proper front of both
-pub proper_after : (x y : List ℕ) (a b c : Option (List ℕ)) → Wrote x a b → WroteProperFront y b c → WroteProperFront (x ++ y) a c
-proper_after x y None b c h w = subst (λ m. WroteProperFront y m c) h w
-proper_after x y (Some a) b c h w =
-    let w' = subst (λ m. WroteProperFront y m c) h w in
-    (length x + w'.0, omega (arith, w'.1, length-append x y), w'.2 ∙ ap Some (joined_front x y a w'.0))
+if_err_weaker : {A E : Type 0} (r : Result A E) (P Q : E → Type 0) → IfErr r P → ((e : E) → P e → Q e) → IfErr r Q
+if_err_weaker (Ok x) P Q h f = tt
+if_err_weaker (Err e) P Q h f = f e h
 
 -- what stops the telling of a text stops that of every text that goes on from it
 pub halts_longer : (h : Halt) (x y : List ℕ) (r : SinkRun) → Halts h x r → Halts h (x ++ y) r
@@ -54,8 +22,17 @@ halts_longer NoMemory x y r w = front_longer x y r.before r.after w
 halts_longer Failed x y r w = (w.0, proper_longer x y r.before r.after w.1)
 
 -- what stops the telling of a text stops that of a text that was begun by another
-pub halts_after : (h : Halt) (x y : List ℕ) (f g k : ℕ) (a b c : Option (List ℕ)) → f ≤ g → Wrote x a b →
-    Halts h y (sink_run g k b c) → Halts h (x ++ y) (sink_run f k a c)
+pub halts_after : (h : Halt) (x y : List ℕ) (f g k : ℕ) (a b c : Option (List ℕ)) → f ≤ g → Wrote x a b
+    → Halts h y (sink_run g k b c) → Halts h (x ++ y) (sink_run f k a c)
 halts_after NoMemory x y f g k a b c e w h = front_after x y a b c w h
 halts_after Failed x y f g k a b c e w h =
     let rose : Rose g k = h.0 in (omega arith, proper_after x y a b c w h.1)
+
+-- what a call writes behind a text that was written, and what stops it there, is so of both
+module _ {A : Type 0} (r : Result A Halt) (x y : List ℕ) (f g k : ℕ) (a b c : Option (List ℕ)) (w : Wrote x a b) where
+  pub ok_after : OnOk r (Wrote y b c) → OnOk r (Wrote (x ++ y) a c)
+  ok_after h = on_ok_weaker r _ _ h (λ v. wrote_both x y a b c w v)
+
+  pub err_after : f ≤ g → IfErr r (λ h. Halts h y (sink_run g k b c))
+      → IfErr r (λ h. Halts h (x ++ y) (sink_run f k a c))
+  err_after e h = if_err_weaker r _ _ h (λ t v. halts_after t x y f g k a b c e w v)

@@ -21,18 +21,21 @@ pub same_atoms : (a b : Rc GroundAtom Global) → same_atom a b ≡ same_term (s
 same_atoms a b = ap (λ s. bytes_eq a.value.name b.value.name && s) (same_names a.value.args.items b.value.args.items)
 
 -- the set has an atom where the state has its term
-pub is_present : (a : Rc GroundAtom Global) (keys : List (Rc GroundAtom Global)) → list_any (same_atom a) keys ≡ member (shared_term a) (plain_terms keys)
+pub is_present : (a : Rc GroundAtom Global) (keys : List (Rc GroundAtom Global))
+    → list_any (same_atom a) keys ≡ member (shared_term a) (plain_terms keys)
 is_present a [] = refl
 is_present a (key ∷ keys) =
     ap (λ s. s || list_any (same_atom a) keys) (same_atoms a key)
     ∙ ap (λ s. same_term (shared_term a) (shared_term key) || s) (is_present a keys)
 
 -- an atom put into the set is added to the state
-pub inserted : (keys : List (Rc GroundAtom Global)) (a : Rc GroundAtom Global) → plain_terms (insert_key same_atom keys a) ≡ added (plain_terms keys) (shared_term a ∷ [])
+pub inserted : (keys : List (Rc GroundAtom Global)) (a : Rc GroundAtom Global)
+    → plain_terms (insert_key same_atom keys a) ≡ added (plain_terms keys) (shared_term a ∷ [])
 inserted keys a =
     by_case (list_any (same_atom a) keys)
     ∙ ap (λ s. cond s (plain_terms keys) (plain_terms keys ++ shared_term a ∷ [])) (is_present a keys)
   where
-    by_case : (b : Bool) → plain_terms (cond b keys (keys ++ a ∷ [])) ≡ cond b (plain_terms keys) (plain_terms keys ++ shared_term a ∷ [])
+    by_case : (b : Bool) → plain_terms (cond b keys (keys ++ a ∷ []))
+        ≡ cond b (plain_terms keys) (plain_terms keys ++ shared_term a ∷ [])
     by_case true = refl
     by_case false = map_push shared_term keys a

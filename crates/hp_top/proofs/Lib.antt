@@ -12,6 +12,7 @@ pub mod LowerLoops
 pub mod LowerSteps
 pub mod MarkLemmas
 pub mod NetworksInOrder
+pub mod NoteSteps
 pub mod Numbers
 pub mod OneByOne
 pub mod Outcomes

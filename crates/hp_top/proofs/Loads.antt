@@ -14,21 +14,24 @@ use Rattle.hp_syntax.specs.declared.limits.TheConstants.{LARGEST_TEXT, LONGEST_T
 use Rattle.hp_syntax.specs.Forest.{Forest, IsForest, nesting, longest_token}
 use Rattle.hp_syntax.specs.Refusal.{Refusal, IsRefused}
 use Rattle.hp_syntax.specs.Steps as steps
-use Rattle.hp_top.specs.declared.refusing.Unplanned.{Unplanned}
+use Rattle.hp_syntax.specs.TextForms.{Form, IsRead}
+use Rattle.hp_top.specs.declared.loading.LoadError.{LoadError}
 use Rattle.hp_top.specs.Outcome as outcome
-use Rattle.hp_top.specs.Outcome.{Form, IsRead, Why, InText, InForm, IsUnreadable}
+use Rattle.hp_top.specs.Outcome.{Why, InText, InForm, IsUnreadable}
 use Rattle.hp_top.specs.Loading as loading
 use Rattle.hp_top.specs.Loading.{ToldFile, ReadsFile, Holds, Reads, IsUnread, IsRefusedFor, StopsAt, of_text, of_form}
 
 module _ {A : Type 0} (which : Input) (form : Form A) where
   -- bytes whose text is refused are read as nothing for that reason
-  pub text_refused : (bytes : List ℕ) (e : TextRefusal) → RefusesText bytes e → IsRefusedFor which form bytes (of_text which e)
+  pub text_refused : (bytes : List ℕ) (e : TextRefusal) → RefusesText bytes e
+      → IsRefusedFor which form bytes (of_text which e)
   text_refused bytes (texts.Bad kind offset) r =
       loading.IsRefusedFor.Unreadable (InText (record { kind = kind; offset = offset })) refl (outcome.ByText _ r refl)
   text_refused bytes texts.NoMemory r = loading.IsRefusedFor.WithoutMemory refl
 
   -- bytes whose forest has no form are read as nothing for that reason
-  pub form_refused : (bytes : List ℕ) (f : Forest) (e : FormRefusal) → IsForest bytes f → Refuses e (form (length bytes) f) → IsRefusedFor which form bytes (of_form which e)
+  pub form_refused : (bytes : List ℕ) (f : Forest) (e : FormRefusal) → IsForest bytes f
+      → Refuses e (form (length bytes) f) → IsRefusedFor which form bytes (of_form which e)
   form_refused bytes f (forms.Expected what span) s r =
       loading.IsRefusedFor.Unreadable (InForm (steps.Expected what span)) refl (outcome.ByForm f _ s r refl)
   form_refused bytes f (forms.SeveralPairs span) s r =
@@ -37,9 +40,11 @@ module _ {A : Type 0} (which : Input) (form : Form A) where
 
 module _ (refused_whole : (text : List ℕ) (r : Refusal) → IsRefused (take (LARGEST_TEXT + 1) text) r → IsRefused text r)
     (spelled_whole : (text : List ℕ) (f : Forest) → IsForest (take (LARGEST_TEXT + 1) text) f → IsForest text f)
-    (kept : (text : List ℕ) (f : Forest) → IsForest text f → (length text ≤ LARGEST_TEXT) × (longest_token f ≤ LONGEST_TOKEN) × (nesting f ≤ DEEPEST_NESTING)) where
+    (kept : (text : List ℕ) (f : Forest) → IsForest text f
+    → (length text ≤ LARGEST_TEXT) × (longest_token f ≤ LONGEST_TOKEN) × (nesting f ≤ DEEPEST_NESTING)) where
   -- a front that spells a forest is the whole text
-  front_is_whole : (text : List ℕ) (f : Forest) → IsForest (take (LARGEST_TEXT + 1) text) f → take (LARGEST_TEXT + 1) text ≡ text
+  front_is_whole : (text : List ℕ) (f : Forest) → IsForest (take (LARGEST_TEXT + 1) text) f
+      → take (LARGEST_TEXT + 1) text ≡ text
   front_is_whole text f s =
       let h : length text ≤ LARGEST_TEXT = (kept text f (spelled_whole text f s)).0 in
       take_all (LARGEST_TEXT + 1) text (omega arith)
@@ -50,35 +55,42 @@ module _ (refused_whole : (text : List ℕ) (r : Refusal) → IsRefused (take (L
     read_whole text x h = subst (λ t. IsRead form t x) (front_is_whole text h.forest h.spelled) h
 
     -- a front that is read as nothing is that of a text which is read as nothing
-    unreadable_whole : (text : List ℕ) (why : Why) → IsUnreadable form (take (LARGEST_TEXT + 1) text) why → IsUnreadable form text why
+    unreadable_whole : (text : List ℕ) (why : Why) → IsUnreadable form (take (LARGEST_TEXT + 1) text) why
+        → IsUnreadable form text why
     unreadable_whole text why (outcome.ByText r h e) = outcome.ByText r (refused_whole text r h) e
     unreadable_whole text why (outcome.ByForm f m s k e) =
         subst (λ t. IsUnreadable form t why) (front_is_whole text f s) (outcome.ByForm f m s k e)
 
     -- what the front of a file is read as the told file is
-    pub reads_file : (bytes : List ℕ) (file : ToldFile) (x : A) → ReadsFile bytes file → IsRead form bytes x → Reads form file x
+    pub reads_file : (bytes : List ℕ) (file : ToldFile) (x : A) → ReadsFile bytes file
+        → IsRead form bytes x → Reads form file x
     reads_file bytes None x r h = tt
     reads_file bytes (Some None) x r h = r
     reads_file bytes (Some (Some text)) x r h = read_whole text x (subst (λ b. IsRead form b x) r h)
 
-    unreadable_file : (bytes : List ℕ) (file : ToldFile) (why : Why) → ReadsFile bytes file → IsUnreadable form bytes why → Holds (λ text. IsUnreadable form text why) file
+    unreadable_file : (bytes : List ℕ) (file : ToldFile) (why : Why) → ReadsFile bytes file
+        → IsUnreadable form bytes why → Holds (λ text. IsUnreadable form text why) file
     unreadable_file bytes None why r h = tt
     unreadable_file bytes (Some None) why r h = r
-    unreadable_file bytes (Some (Some text)) why r h = unreadable_whole text why (subst (λ b. IsUnreadable form b why) r h)
+    unreadable_file bytes (Some (Some text)) why r h =
+        unreadable_whole text why (subst (λ b. IsUnreadable form b why) r h)
 
     -- a file whose front is read as nothing stops the run
-    pub stops_file : (which : Input) (bytes : List ℕ) (file : ToldFile) (cause : Unplanned) (before now : Input → ℕ) → ReadsFile bytes file → IsRefusedFor which form bytes cause → StopsAt which form cause file before now
-    stops_file which bytes file cause before now r (loading.IsRefusedFor.WithoutMemory e) = loading.StopsAt.WithoutMemory e
+    pub stops_file : (which : Input) (bytes : List ℕ) (file : ToldFile) (cause : LoadError) (before now : Input → ℕ)
+        → ReadsFile bytes file → IsRefusedFor which form bytes cause → StopsAt which form cause file before now
+    stops_file which bytes file cause before now r (loading.IsRefusedFor.WithoutMemory e) =
+        loading.StopsAt.WithoutMemory e
     stops_file which bytes file cause before now r (loading.IsRefusedFor.Unreadable why e h) =
         loading.StopsAt.Unreadable why e (unreadable_file bytes file why r h)
 
 -- a fact of what was read, for another fact that follows
-pub read_weaker : {T : Type 0} (P Q : T → Type 0) (r : Result T Unplanned) → IfOk r P → ((x : T) → P x → Q x) → IfOk r Q
+pub read_weaker : {T : Type 0} (P Q : T → Type 0) (r : Result T LoadError) → IfOk r P → ((x : T) → P x → Q x) → IfOk r Q
 read_weaker P Q (Ok x) p f = f x p
 read_weaker P Q (Err e) p f = tt
 
 -- a fact of a cause, for another fact that follows
-pub cause_weaker : {T : Type 0} (P Q : Unplanned → Type 0) (r : Result T Unplanned) → IfErr r P → ((e : Unplanned) → P e → Q e) → IfErr r Q
+pub cause_weaker : {T : Type 0} (P Q : LoadError → Type 0) (r : Result T LoadError) → IfErr r P
+    → ((e : LoadError) → P e → Q e) → IfErr r Q
 cause_weaker P Q (Ok x) p f = tt
 cause_weaker P Q (Err e) p f = f e p
 
@@ -87,14 +99,17 @@ rose_since : (before mid now : ℕ) → before ≤ mid → Rose mid now → Rose
 rose_since before mid now h r = omega arith
 
 -- an input that is unread since a later moment is unread since an earlier one
-unread_since : (which : Input) (told file : ToldFile) (before mid now : Input → ℕ) → before which ≤ mid which → told ≡ file → IsUnread which told mid now → IsUnread which file before now
+unread_since : (which : Input) (told file : ToldFile) (before mid now : Input → ℕ) → before which ≤ mid which
+    → told ≡ file → IsUnread which told mid now → IsUnread which file before now
 unread_since which told file before mid now h q (inl r) = inl (rose_since (before which) (mid which) (now which) h r)
 unread_since which told file before mid now h q (inr r) = inr (sym q ∙ r)
 
 -- what stops a run at a file since a later moment does since an earlier one
-pub stops_since : {A : Type 0} (which : Input) (form : Form A) (cause : Unplanned) (told file : ToldFile) (before mid now : Input → ℕ) → ((w : Input) → before w ≤ mid w) → told ≡ file →
-    StopsAt which form cause told mid now → StopsAt which form cause file before now
-stops_since which form cause told file before mid now h q (loading.StopsAt.WithoutMemory e) = loading.StopsAt.WithoutMemory e
+pub stops_since : {A : Type 0} (which : Input) (form : Form A) (cause : LoadError) (told file : ToldFile)
+    (before mid now : Input → ℕ) → ((w : Input) → before w ≤ mid w) → told ≡ file
+    → StopsAt which form cause told mid now → StopsAt which form cause file before now
+stops_since which form cause told file before mid now h q (loading.StopsAt.WithoutMemory e) =
+    loading.StopsAt.WithoutMemory e
 stops_since which form cause told file before mid now h q (loading.StopsAt.Unread e u) =
     loading.StopsAt.Unread e (unread_since which told file before mid now (h which) q u)
 stops_since which form cause told file before mid now h q (loading.StopsAt.Unreadable why e u) =

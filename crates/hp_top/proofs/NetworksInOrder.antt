@@ -55,7 +55,8 @@ mutual
   -- the normal parts have the same tasks as the parts
   normal_parts_tasks : (ns : Networks) → tasks_in_all (normal_parts ns) ≡ tasks_in_all ns
   normal_parts_tasks NoNetwork = refl
-  normal_parts_tasks (And n ns) = unless_empty_tasks (normal n) (normal_parts ns) ∙ (rw (normal_tasks n, normal_parts_tasks ns) refl)
+  normal_parts_tasks (And n ns) =
+      unless_empty_tasks (normal n) (normal_parts ns) ∙ (rw (normal_tasks n, normal_parts_tasks ns) refl)
 
 -- leaving out an empty part leaves none
 unless_empty_solid : (n : Network) (ns : Networks) → IsWhole n → AreSolid ns → AreSolid (unless_empty n ns)
@@ -85,7 +86,8 @@ mutual
   -- no normal part of a list is empty
   normal_parts_solid : (ns : Networks) → AreSolid (normal_parts ns)
   normal_parts_solid NoNetwork = tt
-  normal_parts_solid (And n ns) = unless_empty_solid (normal n) (normal_parts ns) (normal_whole n) (normal_parts_solid ns)
+  normal_parts_solid (And n ns) =
+      unless_empty_solid (normal n) (normal_parts ns) (normal_whole n) (normal_parts_solid ns)
 
 -- the place is that of the first task, which has these tasks behind it
 abbrev pub Leads : Network → Place → Term → List Term → Type 0
@@ -102,30 +104,36 @@ IsFront _ _ = ⊥
 -- the first task and those behind it are all
 leads_tasks : (n : Network) (p : Place) (t : Term) (b : List Term) → Leads n p t b → tasks_in n ≡ t ∷ b
 leads_tasks (Task s i) [] t b l = ap (λ x. x ∷ []) l.0 ∙ ap (λ x. t ∷ x) (sym l.1)
-leads_tasks (Ordered (And n ns)) (zero ∷ p) t b l = ap (λ x. x ++ tasks_in_all ns) (leads_tasks n p t l.0 l.1) ∙ ap (λ x. t ∷ x) (sym l.2)
+leads_tasks (Ordered (And n ns)) (zero ∷ p) t b l =
+    ap (λ x. x ++ tasks_in_all ns) (leads_tasks n p t l.0 l.1) ∙ ap (λ x. t ∷ x) (sym l.2)
 leads_tasks _ _ t b l = absurd l
 
 -- the task stands at its place
-leads_part : (n : Network) (p : Place) (t : Term) (b : List Term) → Leads n p t b → (i : Bool) × (part_at n p ≡ Some (Task t i))
+leads_part : (n : Network) (p : Place) (t : Term) (b : List Term) → Leads n p t b
+    → (i : Bool) × (part_at n p ≡ Some (Task t i))
 leads_part (Task s i) [] t b l = (i, ap (λ x. Some (Task x i)) l.0)
 leads_part (Ordered (And n ns)) (zero ∷ p) t b l = leads_part n p t l.0 l.1
 leads_part _ _ t b l = absurd l
 
 -- another part in the place of the first task
-leads_with : (n : Network) (p : Place) (t : Term) (b : List Term) (x : Network) → Leads n p t b → tasks_in (with_part n p x) ≡ tasks_in x ++ b
+leads_with : (n : Network) (p : Place) (t : Term) (b : List Term) (x : Network) → Leads n p t b
+    → tasks_in (with_part n p x) ≡ tasks_in x ++ b
 leads_with (Task s i) [] t b x l = sym (append-nil (tasks_in x)) ∙ ap (λ y. tasks_in x ++ y) (sym l.1)
 leads_with (Ordered (And n ns)) (zero ∷ p) t b x l =
-    ap (λ y. y ++ tasks_in_all ns) (leads_with n p t l.0 x l.1) ∙ (append_assoc (tasks_in x) l.0 (tasks_in_all ns) ∙ ap (λ y. tasks_in x ++ y) (sym l.2))
+    ap (λ y. y ++ tasks_in_all ns) (leads_with n p t l.0 x l.1)
+    ∙ (append_assoc (tasks_in x) l.0 (tasks_in_all ns) ∙ ap (λ y. tasks_in x ++ y) (sym l.2))
 leads_with _ _ t b x l = absurd l
 
 -- no part becomes empty by it, where the other part is not empty
-leads_solid : (n : Network) (p : Place) (t : Term) (b : List Term) (x : Network) → Leads n p t b → IsSolid n → IsSolid x → IsSolid (with_part n p x)
+leads_solid : (n : Network) (p : Place) (t : Term) (b : List Term) (x : Network) → Leads n p t b → IsSolid n → IsSolid x
+    → IsSolid (with_part n p x)
 leads_solid (Task u i) [] t b x l s' s = s
 leads_solid (Ordered (And n ns)) (zero ∷ p) t b x l s' s = (leads_solid n p t l.0 x l.1 s'.0 s, s'.1)
 leads_solid _ _ t b x l s' s = absurd l
 
 -- with another part in the place of the first task, that place is one of a first part
-leads_front : (n : Network) (p : Place) (t : Term) (b : List Term) (x : Network) → Leads n p t b → IsFront (with_part n p x) p
+leads_front : (n : Network) (p : Place) (t : Term) (b : List Term) (x : Network) → Leads n p t b
+    → IsFront (with_part n p x) p
 leads_front (Task s i) [] t b x l = tt
 leads_front (Ordered (And n ns)) (zero ∷ p) t b x l = leads_front n p t l.0 x l.1
 leads_front _ _ t b x l = absurd l
@@ -222,7 +230,9 @@ pub data Stage (n : Network) (focus : Option Place) : Type 0 where
   Goes : Next n focus → Stage n focus
 
 -- the task at the one place that comes first is next
-next_of : (n : Network) (focus : Option Place) (ps : List Place) (p : Place) (t : Term) (b : List Term) → candidates n focus ≡ immediate_first n ps → ps ≡ p ∷ [] → Leads n p t b → is_empty n ≡ false → IsSolid n → Next n focus
+next_of : (n : Network) (focus : Option Place) (ps : List Place) (p : Place) (t : Term) (b : List Term)
+    → candidates n focus ≡ immediate_first n ps → ps ≡ p ∷ [] → Leads n p t b → is_empty n ≡ false
+    → IsSolid n → Next n focus
 next_of n focus ps p t b c o l e s = record {
   place = p;
   task = t;
@@ -284,13 +294,19 @@ pub finish_in_order : (n : Network) (p : Place) → InOrder (finish n p).0 (fini
 finish_in_order n p = normal_in_order (with_part n p Empty)
 
 -- the subtasks of a task that is decomposed come first
-pub expand_tasks : (n : Network) (p : Place) (t : Term) (b : List Term) (x : Network) → Leads n p t b → tasks_in (expand n p x).0 ≡ tasks_in x ++ b
+pub expand_tasks : (n : Network) (p : Place) (t : Term) (b : List Term) (x : Network) → Leads n p t b
+    → tasks_in (expand n p x).0 ≡ tasks_in x ++ b
 expand_tasks n p t b Empty l = finish_tasks n p t b l
 expand_tasks n p t b (Task s i) l = leads_with n p t b (Task s i) l
 expand_tasks n p t b (Ordered ns) l = leads_with n p t b (Ordered ns) l
 
 -- and what is left is in order
-pub expand_in_order : (n : Network) (p : Place) (t : Term) (b : List Term) (x : Network) → Leads n p t b → IsSolid n → IsWhole x → InOrder (expand n p x).0 (expand n p x).1
+pub expand_in_order : (n : Network) (p : Place) (t : Term) (b : List Term) (x : Network) → Leads n p t b → IsSolid n
+    → IsWhole x → InOrder (expand n p x).0 (expand n p x).1
 expand_in_order n p t b Empty l s w = finish_in_order n p
-expand_in_order n p t b (Task u i) l s w = front_in_order (with_part n p (Task u i)) p (leads_solid n p t b (Task u i) l s tt) (leads_front n p t b (Task u i) l)
-expand_in_order n p t b (Ordered ns) l s w = front_in_order (with_part n p (Ordered ns)) p (leads_solid n p t b (Ordered ns) l s w) (leads_front n p t b (Ordered ns) l)
+expand_in_order n p t b (Task u i) l s w =
+    front_in_order (with_part n p (Task u i)) p (leads_solid n p t b (Task u i) l s tt)
+    (leads_front n p t b (Task u i) l)
+expand_in_order n p t b (Ordered ns) l s w =
+    front_in_order (with_part n p (Ordered ns)) p (leads_solid n p t b (Ordered ns) l s w)
+    (leads_front n p t b (Ordered ns) l)

@@ -11,13 +11,16 @@ cons_option_is None ys = refl
 cons_option_is (Some y) ys = refl
 
 -- a filter that changes makes of a list what it makes of the first element and of the others
-pub filter_map_step : {X Y : Type 0} (h : X → Option Y) (x : X) (xs : List X) → filter_map h (x ∷ xs) ≡ option_to_list (h x) ++ filter_map h xs
+pub filter_map_step : {X Y : Type 0} (h : X → Option Y) (x : X) (xs : List X)
+    → filter_map h (x ∷ xs) ≡ option_to_list (h x) ++ filter_map h xs
 filter_map_step h x xs = cons_option_is (h x) (filter_map h xs)
 
 -- what comes of a list in two steps comes of it in one
-pub flat_map_twice : {X Y Z : Type 0} (f : Y → List Z) (g : X → List Y) (xs : List X) → flat_map (λ x. flat_map f (g x)) xs ≡ flat_map f (flat_map g xs)
+pub flat_map_twice : {X Y Z : Type 0} (f : Y → List Z) (g : X → List Y) (xs : List X)
+    → flat_map (λ x. flat_map f (g x)) xs ≡ flat_map f (flat_map g xs)
 flat_map_twice f g [] = refl
-flat_map_twice f g (x ∷ xs) = ap (λ zs. flat_map f (g x) ++ zs) (flat_map_twice f g xs) ∙ sym (flat_map-append f (g x) (flat_map g xs))
+flat_map_twice f g (x ∷ xs) =
+    ap (λ zs. flat_map f (g x) ++ zs) (flat_map_twice f g xs) ∙ sym (flat_map-append f (g x) (flat_map g xs))
 
 -- a list is the elements of it, each alone
 pub flat_map_same : {X : Type 0} (xs : List X) → flat_map (λ x. x ∷ []) xs ≡ xs

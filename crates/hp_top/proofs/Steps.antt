@@ -1,13 +1,12 @@
--- One more read, and one more write.
-use Rattle.std.proofs.Common.{◌≡◌, ℕ, ◌+◌, ◌≤◌, List, [], ◌∷◌, ◌++◌, length, take, drop, Option, Some, None, arith, refl, ap, sym, ◌∙◌, subst, length-append, append_assoc, take-add, append-nil}
+-- One more read.
+use Rattle.std.proofs.Common.{◌≡◌, ℕ, ◌+◌, ◌≤◌, List, [], ◌∷◌, ◌++◌, length, take, drop, Option, Some, None, arith, refl, ap, sym, ◌∙◌, subst, length-append, append-nil}
 use Rattle.std.proofs.Math.Seq.{take-append_seam, drop-append_seam, drop-append-add}
 use Rattle.std.proofs.lemmas.List.{take_all}
-use Rattle.hp_io.specs.Rules.{Appended}
 use Rattle.hp_top.specs.Reading.{ReadsTo, Left, TakesUpTo, Grows}
-use Rattle.hp_top.specs.Writing.{Wrote}
 
 -- what was read up to the limit is the front of the rest, up to one byte past it
-pub full : (most : ℕ) (bytes : List ℕ) (old now : Option (List ℕ)) → Left bytes old now → length bytes ≡ most + 1 → ReadsTo most bytes old
+pub full : (most : ℕ) (bytes : List ℕ) (old now : Option (List ℕ)) → Left bytes old now
+    → length bytes ≡ most + 1 → ReadsTo most bytes old
 full most bytes None now a h = omega arith
 full most bytes (Some old) now a h = sym (ap (take (most + 1)) a.2 ∙ rw (← h) (take-append_seam bytes a.0))
 
@@ -17,7 +16,9 @@ no_more xs [] zs e h = e ∙ append-nil xs
 no_more xs (y ∷ ys) zs e h = absurd (omega (arith, ap length e, length-append xs (y ∷ ys)))
 
 -- what was read until nothing more came is the whole rest
-pub ended : (most : ℕ) (before after : List ℕ) (n : ℕ) (old mid new : Option (List ℕ)) → Left before old mid → Grows n before after mid new → n ≡ 0 → length after ≡ length before + n → length before ≤ most + 1 → ReadsTo most after old
+pub ended : (most : ℕ) (before after : List ℕ) (n : ℕ) (old mid new : Option (List ℕ)) → Left before old mid
+    → Grows n before after mid new → n ≡ 0 → length after ≡ length before + n
+    → length before ≤ most + 1 → ReadsTo most after old
 ended most before after n None mid new a t z e h = omega arith
 ended most before after n (Some old) mid new a t z e h =
     let t' = subst (λ m. Grows n before after m new) a.1 t in
@@ -26,22 +27,20 @@ ended most before after n (Some old) mid new a t z e h =
     let short : after ≡ before = no_more before t'.1 after t'.4 (omega arith) in
     short ∙ sym (ap (take (most + 1)) same ∙ take_all (most + 1) before h)
 
--- a front that was written and then a piece behind it are a longer front
-pub write_step : (text : List ℕ) (done n : ℕ) (old mid new : Option (List ℕ)) → Wrote (take done text) old mid → Appended n (drop done text) mid new → Wrote (take (done + n) text) old new
-write_step text done n None mid new a t = subst (λ m. Appended n (drop done text) m new) a t
-write_step text done n (Some old) mid new a t =
-    let t' = subst (λ m. Appended n (drop done text) m new) a t in
-    t' ∙ rw (take-add, append_assoc) refl
-
 -- what is left after some bytes were read is left after that many of the front were taken
-pub left_takes : (most : ℕ) (bytes : List ℕ) (old now : Option (List ℕ)) → Left bytes old now → length bytes ≤ most → TakesUpTo most old now
+pub left_takes : (most : ℕ) (bytes : List ℕ) (old now : Option (List ℕ)) → Left bytes old now
+    → length bytes ≤ most → TakesUpTo most old now
 left_takes most bytes None now a h = a
 left_takes most bytes (Some old) now a h =
     (length bytes, h, a.1 ∙ ap Some (sym (ap (drop (length bytes)) a.2 ∙ drop-append_seam bytes a.0)))
 
 -- some bytes that were read and then at most some more are at most both
-pub takes_more : (most room : ℕ) (bytes : List ℕ) (old mid new : Option (List ℕ)) → Left bytes old mid → TakesUpTo room mid new → length bytes + room ≤ most → TakesUpTo most old new
+pub takes_more : (most room : ℕ) (bytes : List ℕ) (old mid new : Option (List ℕ)) → Left bytes old mid
+    → TakesUpTo room mid new → length bytes + room ≤ most → TakesUpTo most old new
 takes_more most room bytes None mid new a t h = subst (λ m. TakesUpTo room m new) a t
 takes_more most room bytes (Some old) mid new a t h =
-    let t' = subst (λ m. TakesUpTo room m new) a.1 t in
-    (length bytes + t'.0, omega (arith, t'.1), t'.2 ∙ ap Some (sym (ap (drop (length bytes + t'.0)) a.2 ∙ drop-append-add bytes a.0 t'.0)))
+    let t' = subst (λ m. TakesUpTo room m new) a.1 t in (
+      length bytes + t'.0,
+      omega (arith, t'.1),
+      t'.2 ∙ ap Some (sym (ap (drop (length bytes + t'.0)) a.2 ∙ drop-append-add bytes a.0 t'.0)),
+    )

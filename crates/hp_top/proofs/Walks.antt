@@ -46,12 +46,14 @@ both_have d [] ds h k = k
 both_have d (c ∷ cs) ds h k = (h.0, both_have d cs ds h.1 k)
 
 -- children that are made one of each element have so many left where each has
-mapped_have : {X : Type 0} (d : ℕ) (f : X → FlatChild) → ((x : X) → HasDepth d (f x)) → (xs : List X) → HaveDepth d (map f xs)
+mapped_have : {X : Type 0} (d : ℕ) (f : X → FlatChild) → ((x : X) → HasDepth d (f x))
+    → (xs : List X) → HaveDepth d (map f xs)
 mapped_have d f h [] = tt
 mapped_have d f h (x ∷ xs) = (h x, mapped_have d f h xs)
 
 -- children that are made several of each element have so many left where each has
-joined_have : {X : Type 0} (d : ℕ) (f : X → List FlatChild) → ((x : X) → HaveDepth d (f x)) → (xs : List X) → HaveDepth d (flat_map f xs)
+joined_have : {X : Type 0} (d : ℕ) (f : X → List FlatChild) → ((x : X) → HaveDepth d (f x)) → (xs : List X)
+    → HaveDepth d (flat_map f xs)
 joined_have d f h [] = tt
 joined_have d f h (x ∷ xs) = both_have d (f x) (flat_map f xs) (h x) (joined_have d f h xs)
 
@@ -76,7 +78,9 @@ module _ (n : FlatNode) (t : Term) (behind : List Term) where
   subtasks_have (Ok sub) = refl
 
   -- the children by the first branch that has a satisfier have one decomposition less
-  first_has : (es : List Bindings) (child : Bindings → FlatChild) (others : List FlatChild) → ((e : Bindings) → HasDepth (n.depth - 1) (child e)) → HaveDepth (n.depth - 1) others → HaveDepth (n.depth - 1) (first_used es child others)
+  first_has : (es : List Bindings) (child : Bindings → FlatChild) (others : List FlatChild)
+      → ((e : Bindings) → HasDepth (n.depth - 1) (child e)) → HaveDepth (n.depth - 1) others
+      → HaveDepth (n.depth - 1) (first_used es child others)
   first_has [] child others h k = k
   first_has (e ∷ es) child others h k = mapped_have (n.depth - 1) child h (e ∷ es)
 
@@ -108,7 +112,8 @@ unfolding flat_children
 children_have rules n = tasks_have n rules n.tasks
 
 -- what is seen below children is what is seen within the decompositions that they have left
-seen_below : (rules : List Rule) (d : ℕ) (cs : List FlatChild) → HaveDepth d cs → flat_map (shown_child (shown_within rules d)) cs ≡ shown_below rules cs
+seen_below : (rules : List Rule) (d : ℕ) (cs : List FlatChild) → HaveDepth d cs
+    → flat_map (shown_child (shown_within rules d)) cs ≡ shown_below rules cs
 unfolding shown_at
 seen_below rules d [] h = refl
 seen_below rules d (FlatDid m ∷ cs) h =
@@ -117,23 +122,27 @@ seen_below rules d (FlatDid m ∷ cs) h =
 seen_below rules d (FlatFault f ∷ cs) h = ap (λ vs. FaultShown f ∷ vs) (seen_below rules d cs h.1)
 
 -- a list that is changed element by element and reversed is one that is reversed and changed
-map_reversed : {X Y : Type 0} (f : X → Y) (xs ys : List X) → map f (reverse_aux xs ys) ≡ reverse_aux (map f xs) (map f ys)
+map_reversed : {X Y : Type 0} (f : X → Y) (xs ys : List X)
+    → map f (reverse_aux xs ys) ≡ reverse_aux (map f xs) (map f ys)
 map_reversed f [] ys = refl
 map_reversed f (x ∷ xs) ys = map_reversed f xs (x ∷ ys)
 
 -- children that were appended the last first come in turn
-in_turn : (old found : List Choice) → reverse (map flat_choice (old ++ reverse found)) ≡ map flat_choice found ++ reverse (map flat_choice old)
+in_turn : (old found : List Choice)
+    → reverse (map flat_choice (old ++ reverse found)) ≡ map flat_choice found ++ reverse (map flat_choice old)
 in_turn old found =
     ap reverse (map-append flat_choice old (reverse found))
     ∙ (reverse-append (map flat_choice old) (map flat_choice (reverse found))
-    ∙ ap (λ cs. cs ++ reverse (map flat_choice old)) (ap reverse (map_reversed flat_choice found []) ∙ reverse-reverse (map flat_choice found)))
+    ∙ ap (λ cs. cs ++ reverse (map flat_choice old))
+    (ap reverse (map_reversed flat_choice found []) ∙ reverse-reverse (map flat_choice found)))
 
 module _ (rules : List Rule) where
   -- without tasks a node is a plan
   plan_within : (d : ℕ) (n : FlatNode) → is_done n.tasks ≡ true → shown_within rules d n ≡ PlanShown n ∷ []
   unfolding shown_within
   plan_within zero n done = ap (λ b. cond b (PlanShown n) CutShown ∷ []) done
-  plan_within (suc d) n done = ap (λ b. cond b (PlanShown n ∷ []) (flat_map (shown_child (shown_within rules d)) (flat_children rules n))) done
+  plan_within (suc d) n done =
+      ap (λ b. cond b (PlanShown n ∷ []) (flat_map (shown_child (shown_within rules d)) (flat_children rules n))) done
 
   -- a node with tasks and no decomposition left is cut off
   cut_within : (d : ℕ) (n : FlatNode) → is_done n.tasks ≡ false → d ≡ 0 → shown_within rules d n ≡ CutShown ∷ []
@@ -142,38 +151,49 @@ module _ (rules : List Rule) where
   cut_within (suc d) n done none = absurd (omega arith)
 
   -- what is seen at a node with tasks and decompositions left is what is seen at its children
-  open_within : (d : ℕ) (n : FlatNode) → n.depth ≡ d → is_done n.tasks ≡ false → d ≢ 0 → shown_within rules d n ≡ shown_below rules (flat_children rules n)
+  open_within : (d : ℕ) (n : FlatNode) → n.depth ≡ d → is_done n.tasks ≡ false → d ≢ 0
+      → shown_within rules d n ≡ shown_below rules (flat_children rules n)
   unfolding shown_within
   open_within zero n is done some = absurd (some refl)
   open_within (suc d) n is done some =
       let less : n.depth - 1 ≡ d = omega arith in
       ap (λ b. cond b (PlanShown n ∷ []) (flat_map (shown_child (shown_within rules d)) (flat_children rules n))) done
-      ∙ seen_below rules d (flat_children rules n) (subst (λ (k : ℕ). HaveDepth k (flat_children rules n)) less (children_have rules n))
+      ∙ seen_below rules d (flat_children rules n)
+      (subst (λ (k : ℕ). HaveDepth k (flat_children rules n)) less (children_have rules n))
 
   -- what is left, by its parts
   abbrev pub left : Bool → FlatNode → List Choice → List Shown
   left fresh n pending = heard_shown (shown_here rules fresh n ++ shown_below rules (reverse (map flat_choice pending)))
 
   -- where the node reached has no tasks, its plan comes next
-  pub plan_left : (fresh : Bool) (n : FlatNode) (pending : List Choice) → fresh ≡ true → is_done n.tasks ≡ true → left fresh n pending ≡ PlanShown n ∷ left false n pending
+  pub plan_left : (fresh : Bool) (n : FlatNode) (pending : List Choice) → fresh ≡ true → is_done n.tasks ≡ true
+      → left fresh n pending ≡ PlanShown n ∷ left false n pending
   unfolding shown_at
   plan_left fresh n pending is done =
       ap (λ b. left b n pending) is
-      ∙ ap (λ vs. heard_shown (vs ++ shown_below rules (reverse (map flat_choice pending)))) (plan_within n.depth n done)
+      ∙ ap (λ vs. heard_shown (vs ++ shown_below rules (reverse (map flat_choice pending))))
+      (plan_within n.depth n done)
 
   -- where the node reached has tasks and no decomposition left, a cut comes next
-  pub cut_left : (fresh : Bool) (n : FlatNode) (pending : List Choice) → fresh ≡ true → is_done n.tasks ≡ false → n.depth ≡ 0 → left fresh n pending ≡ CutShown ∷ left false n pending
+  pub cut_left : (fresh : Bool) (n : FlatNode) (pending : List Choice) → fresh ≡ true → is_done n.tasks ≡ false
+      → n.depth ≡ 0 → left fresh n pending ≡ CutShown ∷ left false n pending
   unfolding shown_at
   cut_left fresh n pending is done none =
       ap (λ b. left b n pending) is
-      ∙ ap (λ vs. heard_shown (vs ++ shown_below rules (reverse (map flat_choice pending)))) (cut_within n.depth n done none)
+      ∙ ap (λ vs. heard_shown (vs ++ shown_below rules (reverse (map flat_choice pending))))
+      (cut_within n.depth n done none)
 
   -- where the node reached has tasks and decompositions left, its children come next
-  pub open_left : (fresh : Bool) (n : FlatNode) (old new found : List Choice) → fresh ≡ true → is_done n.tasks ≡ false → n.depth ≢ 0 → map flat_choice found ≡ flat_children rules n → new ≡ old ++ reverse found → left false n new ≡ left fresh n old
+  pub open_left : (fresh : Bool) (n : FlatNode) (old new found : List Choice) → fresh ≡ true → is_done n.tasks ≡ false
+      → n.depth ≢ 0 → map flat_choice found ≡ flat_children rules n → new ≡ old ++ reverse found
+      → left false n new ≡ left fresh n old
   unfolding shown_at
   open_left fresh n old new found is done some all grown =
       ap (λ cs. heard_shown (shown_below rules (reverse (map flat_choice cs)))) grown
-      ∙ (ap (λ cs. heard_shown (shown_below rules cs)) (in_turn old found ∙ ap (λ cs. cs ++ reverse (map flat_choice old)) all)
-      ∙ (ap heard_shown (flat_map-append (shown_child (shown_at rules)) (flat_children rules n) (reverse (map flat_choice old)))
-      ∙ (ap (λ vs. heard_shown (vs ++ shown_below rules (reverse (map flat_choice old)))) (sym (open_within n.depth n refl done some))
+      ∙ (ap (λ cs. heard_shown (shown_below rules cs))
+      (in_turn old found ∙ ap (λ cs. cs ++ reverse (map flat_choice old)) all)
+      ∙ (ap heard_shown
+      (flat_map-append (shown_child (shown_at rules)) (flat_children rules n) (reverse (map flat_choice old)))
+      ∙ (ap (λ vs. heard_shown (vs ++ shown_below rules (reverse (map flat_choice old))))
+      (sym (open_within n.depth n refl done some))
       ∙ ap (λ b. left b n old) (sym is))))

@@ -1,7 +1,7 @@
 pub mod Codes
+pub mod CheckTexts
 pub mod Command
 pub mod Flat
-pub mod Lines
 pub mod Loading
 pub mod Lowers
 pub mod Marks
@@ -16,5 +16,4 @@ pub mod Telling
 pub mod Told
 pub mod Touching
 pub mod Words
-pub mod Writing
 pub mod Samples

@@ -1,4 +1,4 @@
--- What is known once two files were read, and why a run goes no further.
+-- What is known of two files that are read, and why a run goes no further.
 use Rattle.std.specs.Prelude.{◌≡◌, ◌⊎◌, ℕ, ◌+◌, List, Option, Some, None, take}
 use Rattle.hp_io.specs.declared.folder.Input.{Input}
 use Rattle.hp_io.specs.declared.folder.Input.TheVariants as inputs
@@ -9,12 +9,13 @@ use Rattle.hp_text.specs.declared.forest.TextRefusal.{TextRefusal}
 use Rattle.hp_text.specs.declared.forest.TextRefusal.TheVariants as texts
 use Rattle.hp_syntax.specs.declared.limits.TheConstants.{LARGEST_TEXT}
 use Rattle.hp_syntax.specs.Grammar.{domain_form, problem_form}
-use Rattle.hp_syntax.specs.Rules as plain
 use Rattle.hp_syntax.specs.Steps.{Expected, SeveralPairs}
 use Rattle.hp_syntax.specs.Syntax as whole
-use Rattle.hp_top.specs.declared.refusing.Unplanned.{Unplanned}
-use Rattle.hp_top.specs.declared.refusing.Unplanned.TheVariants as causes
-use Rattle.hp_top.specs.Outcome.{Form, IsRead, Why, InText, InForm, IsUnreadable, Verdict, Faulty, LaterDomain, LaterProblem, Runs, verdict}
+use Rattle.hp_out.specs.declared.refusal.Refusal.TheVariants as refusals
+use Rattle.hp_top.specs.declared.loading.LoadError.{LoadError}
+use Rattle.hp_top.specs.declared.loading.LoadError.TheVariants as causes
+use Rattle.hp_syntax.specs.TextForms.{Form, IsRead}
+use Rattle.hp_top.specs.Outcome.{Why, InText, InForm, IsUnreadable}
 
 -- what a folder tells of a file: nothing, that there is none, or its bytes
 abbrev pub ToldFile : Type 0
@@ -43,32 +44,33 @@ abbrev pub IsUnread : Input → ToldFile → (Input → ℕ) → (Input → ℕ)
 IsUnread which file before now = Rose (before which) (now which) ⊎ (file ≡ Some None)
 
 -- the cause that tells why a text is read as nothing
-abbrev pub cause_of : Input → Why → Unplanned
-cause_of which (InText r) = causes.Text which r.kind r.offset
-cause_of which (InForm (Expected what s)) = causes.Form which what s
-cause_of which (InForm (SeveralPairs s)) = causes.Several s
+abbrev pub cause_of : Input → Why → LoadError
+cause_of which (InText r) = causes.Refused (refusals.Text which r.kind r.offset)
+cause_of which (InForm (Expected what s)) = causes.Refused (refusals.Form which what s)
+cause_of which (InForm (SeveralPairs s)) = causes.Refused (refusals.Several s)
 
 -- the cause of a refused text, and of a forest without a form
-abbrev pub of_text : Input → TextRefusal → Unplanned
-of_text which (texts.Bad kind offset) = causes.Text which kind offset
+abbrev pub of_text : Input → TextRefusal → LoadError
+of_text which (texts.Bad kind offset) = causes.Refused (refusals.Text which kind offset)
 of_text which texts.NoMemory = causes.NoMemory
 
-abbrev pub of_form : Input → FormRefusal → Unplanned
-of_form which (forms.Expected what span) = causes.Form which what span
-of_form which (forms.SeveralPairs span) = causes.Several span
+abbrev pub of_form : Input → FormRefusal → LoadError
+of_form which (forms.Expected what span) = causes.Refused (refusals.Form which what span)
+of_form which (forms.SeveralPairs span) = causes.Refused (refusals.Several span)
 of_form which forms.NoMemory = causes.NoMemory
 
 -- bytes are read as nothing for this cause, or there is too little memory to know
-pub data IsRefusedFor {A : Type 0} (which : Input) (form : Form A) (bytes : List ℕ) (cause : Unplanned) : Type 0 where
+pub data IsRefusedFor {A : Type 0} (which : Input) (form : Form A) (bytes : List ℕ) (cause : LoadError) : Type 0 where
   WithoutMemory : cause ≡ causes.NoMemory → IsRefusedFor which form bytes cause
   Unreadable : (why : Why) → cause ≡ cause_of which why → IsUnreadable form bytes why
       → IsRefusedFor which form bytes cause
 
 -- a file is read as nothing for this cause
-pub data StopsAt {A : Type 0} (which : Input) (form : Form A) (cause : Unplanned) (file : ToldFile)
+pub data StopsAt {A : Type 0} (which : Input) (form : Form A) (cause : LoadError) (file : ToldFile)
     (before now : Input → ℕ) : Type 0 where
   WithoutMemory : cause ≡ causes.NoMemory → StopsAt which form cause file before now
-  Unread : cause ≡ causes.Read which → IsUnread which file before now → StopsAt which form cause file before now
+  Unread : cause ≡ causes.Refused (refusals.Read which) → IsUnread which file before now
+      → StopsAt which form cause file before now
   Unreadable : (why : Why) → cause ≡ cause_of which why → Holds (λ text. IsUnreadable form text why) file
       → StopsAt which form cause file before now
 
@@ -80,30 +82,8 @@ pub record IsProblemUnread (domain problem : ToldFile) (before now : Input → �
   pub is_read : Reads domain_form domain of_domain
   pub unread : IsUnread inputs.Problem problem before now
 
--- what is read of both, and what of it is run
-pub record IsPrepared (domain problem : ToldFile) (d : plain.Domain) (p : plain.Problem) : Type 0 where
-  pub whole_domain : whole.Domain
-  pub whole_problem : whole.Problem
-  pub reads_domain : Reads domain_form domain whole_domain
-  pub reads_problem : Reads problem_form problem whole_problem
-  pub runs : verdict whole_domain whole_problem ≡ Runs d p
-
--- a verdict by which nothing is run has this cause, or there is too little memory to know
-abbrev pub Rejects : Verdict → Unplanned → Type 0
-Rejects v causes.NoMemory = Unit {0}
-Rejects v (causes.Read which) = ⊥
-Rejects v (causes.Text which kind offset) = ⊥
-Rejects v (causes.Form which what span) = ⊥
-Rejects v (causes.Several span) = ⊥
-Rejects v (causes.Check fault) = v ≡ Faulty fault
-Rejects v (causes.DomainLater span) = v ≡ LaterDomain span
-Rejects v causes.ProblemLater = v ≡ LaterProblem
-
--- why a run stops before it plans: the problem's file matters only where the domain's is read, and the verdict only
--- where both are
-pub data Stops (cause : Unplanned) (domain problem : ToldFile) (before now : Input → ℕ) : Type 0 where
+-- why a run stops before both files are read: the problem's file matters only where the domain's is read
+pub data Stops (cause : LoadError) (domain problem : ToldFile) (before now : Input → ℕ) : Type 0 where
   AtDomain : StopsAt inputs.Domain domain_form cause domain before now → Stops cause domain problem before now
   AtProblem : (d : whole.Domain) → Reads domain_form domain d
       → StopsAt inputs.Problem problem_form cause problem before now → Stops cause domain problem before now
-  AtVerdict : (d : whole.Domain) (p : whole.Problem) → Reads domain_form domain d → Reads problem_form problem p
-      → Rejects (verdict d p) cause → Stops cause domain problem before now

@@ -14,8 +14,11 @@ use Rattle.hp_syntax.specs.Steps.{Misform, Expected, SeveralPairs}
 use Rattle.hp_syntax.specs.Syntax as whole
 use Rattle.hp_syntax.specs.Walk.{Visit, walk}
 use Rattle.hp_syntax.specs.Report.{Ending, Stopped, AtFault, AtCut, AtEnd, seen, plans, ending, report}
-use Rattle.hp_top.specs.Command.{Command, accepts}
-use Rattle.hp_top.specs.Lines.{check_word, kind_word, at_offset, at_span, expected_text, refused, refused_read, refused_usage}
+use Rattle.hp_syntax.specs.TextForms.{Form, IsRead}
+use Rattle.hp_syntax.specs.Written.{domain_text, problem_text}
+use Rattle.hp_top.specs.CheckTexts.{check_text}
+use Rattle.hp_top.specs.Command.{Command, Job, Planning, Checking, Showing, accepts}
+use Rattle.hp_out.specs.Lines.{check_word, kind_word, text_of, at_offset, at_span, expected_text, refused, refused_read, refused_usage}
 use Rattle.hp_top.specs.declared.status.Status.{Status}
 use Rattle.hp_top.specs.declared.status.Status.TheVariants.{Done, Usage, ReadFault, DomainRefused, ProblemRefused, RunFault, NoPlan, CutShort}
 
@@ -26,17 +29,7 @@ Files = List ℕ → Option (List ℕ)
 abbrev pub Answer : Type 0
 Answer = List ℕ × Status
 
--- ---- what a text is read as
-
--- a grammar says what the forest of a text of this length is the form of
-abbrev pub Form : Type 0 → Type 0
-Form A = ℕ → Forest → Result A Misform
-
--- what a text is read as by a grammar: it spells a forest, whose form this is
-pub record IsRead {A : Type 0} (form : Form A) (text : List ℕ) (x : A) : Type 0 where
-  pub forest : Forest
-  pub spelled : IsForest text forest
-  pub form_is : form (length text) forest ≡ Ok x
+-- ---- a text that is read as nothing
 
 -- why a text is read as nothing: its text is refused, or its form
 pub data Why : Type 0 where
@@ -69,12 +62,9 @@ unreadable which (InText r) = refusal which (at_offset (kind_word r.kind) r.offs
 unreadable which (InForm (Expected what s)) = refusal which (expected_text what s)
 unreadable which (InForm (SeveralPairs s)) = refusal inputs.Problem (at_span (codes "SeveralPairs") s)
 
-abbrev pub input_of : CheckFault → Input
-input_of f = cond f.in_problem inputs.Problem inputs.Domain
-
 -- the checks find a fault
 abbrev pub faulty : CheckFault → Answer
-faulty f = refusal (input_of f) (at_span (check_word f.kind) f.span)
+faulty f = refusal (text_of f.in_problem) (at_span (check_word f.kind) f.span)
 
 -- a rule of the domain holds a form that is run later
 abbrev pub later_domain : Span → Answer
@@ -97,38 +87,35 @@ planned_status AtEnd p = cond (nat_lt 0 p) Done NoPlan
 unfoldable pub walk_status : ℕ → List Visit → Status
 walk_status k vs = planned_status (ending k (seen k vs)) (plans (seen k vs))
 
--- what a command comes to, once it is known what is run
-abbrev pub answer_of : Command → Domain → Problem → Answer
-answer_of c d p = (report c.plans (walk d p c.depth), walk_status c.plans (walk d p c.depth))
+-- what so many plans down to a depth come to, once it is known what is run
+abbrev pub plan_answer : ℕ → ℕ → Domain → Problem → Answer
+plan_answer k n d p = (report k (walk d p n), walk_status k (walk d p n))
 
 -- ---- a domain and a problem that are read
 
--- what is found of them: the first fault of the checks, a form that is run later, or what is run
-pub data Verdict : Type 0 where
-  Faulty : (fault : CheckFault) → Verdict
-  LaterDomain : (span : Span) → Verdict
-  LaterProblem : Verdict
-  Runs : (domain : Domain) → (problem : Problem) → Verdict
+-- by what the domain and the problem are lowered to: a form that is run later, or the plans
+abbrev pub lowered_answer : ℕ → ℕ → Result Domain Span → Option Problem → Answer
+lowered_answer k n (Err s) p = later_domain s
+lowered_answer k n (Ok d) None = later_problem
+lowered_answer k n (Ok d) (Some p) = plan_answer k n d p
 
--- by the first fault, and by what the domain and the problem are lowered to
-abbrev pub verdict_by : Option CheckFault → Result Domain Span → Option Problem → Verdict
-verdict_by (Some f) d p = Faulty f
-verdict_by None (Err s) p = LaterDomain s
-verdict_by None (Ok d) None = LaterProblem
-verdict_by None (Ok d) (Some p) = Runs d p
+-- what is done with a domain and a problem in which the checks find no fault
+abbrev pub job_answer : Job → whole.Domain → whole.Problem → Answer
+job_answer (Planning k n) d p = lowered_answer k n (lower_domain d) (lower_problem p)
+job_answer Checking d p = (check_text d p, Done)
+job_answer Showing d p = (domain_text d ++ problem_text p, Done)
 
-abbrev pub verdict : whole.Domain → whole.Problem → Verdict
-verdict d p = verdict_by (first_of (domain_faults d ++ problem_faults d p)) (lower_domain d) (lower_problem p)
+-- the first fault that the checks find, or else this
+abbrev pub unless_faulty : Option CheckFault → Answer → Answer
+unless_faulty (Some f) a = faulty f
+unless_faulty None a = a
 
-abbrev pub answer_by : Command → Verdict → Answer
-answer_by c (Faulty f) = faulty f
-answer_by c (LaterDomain s) = later_domain s
-answer_by c LaterProblem = later_problem
-answer_by c (Runs d p) = answer_of c d p
+abbrev pub first_fault : whole.Domain → whole.Problem → Option CheckFault
+first_fault d p = first_of (domain_faults d ++ problem_faults d p)
 
 -- what a command comes to, once its domain and its problem are read
 abbrev pub answer_of_read : Command → whole.Domain → whole.Problem → Answer
-answer_of_read c d p = answer_by c (verdict d p)
+answer_of_read c d p = unless_faulty (first_fault d p) (job_answer c.job d p)
 
 -- ---- outcomes
 

@@ -7,8 +7,8 @@ use Rattle.hp_top.specs.declared.status.Status.TheVariants as status
 use Rattle.hp_top.specs.Command.{Command, accepts}
 use Rattle.hp_top.specs.Outcome.{Files, Outcome}
 use Rattle.hp_top.specs.Loading.{ToldFile, IsUnread, IsProblemUnread}
-use Rattle.hp_top.specs.Lines.{refused_usage, refused_read}
-use Rattle.hp_top.specs.Writing.{SinkRun, Wrote, WroteFront, WroteProperFront}
+use Rattle.hp_out.specs.Lines.{refused_usage, refused_read}
+use Rattle.hp_out.specs.Writing.{SinkRun, Wrote, WroteFront, WroteProperFront}
 
 -- the folder tells these files
 abbrev pub TellsFiles : (List ℕ → ToldFile) → Files → Type 0

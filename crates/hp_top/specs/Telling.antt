@@ -5,14 +5,14 @@ use Rattle.hp_syntax.specs.Report.{ending_text}
 use Rattle.hp_top.specs.declared.lines.Ending.{Ending}
 use Rattle.hp_top.specs.declared.lines.Ending.TheVariants.{Stopped}
 use Rattle.hp_top.specs.declared.planning.Progress.{Progress}
-use Rattle.hp_top.specs.declared.planning.Halt.{Halt}
-use Rattle.hp_top.specs.declared.planning.Halt.TheVariants.{NoMemory, Failed}
+use Rattle.hp_top.specs.declared.telling.Halt.{Halt}
+use Rattle.hp_top.specs.declared.telling.Halt.TheVariants.{NoMemory, Failed}
 use Rattle.hp_top.specs.declared.status.Status.{Status}
 use Rattle.hp_top.specs.declared.status.Status.TheVariants as status
 use Rattle.hp_top.specs.Flat.{Shown}
 use Rattle.hp_top.specs.Outcome.{Answer, planned_status}
 use Rattle.hp_top.specs.Told.{told, told_status, ending_of}
-use Rattle.hp_top.specs.Writing.{SinkRun, Wrote, WroteFront, WroteProperFront}
+use Rattle.hp_out.specs.Writing.{SinkRun, Wrote, WroteFront, WroteProperFront}
 
 -- the text that is left, and the status to end with, of k plans asked
 abbrev pub left : ℕ → Progress → List Shown → List ℕ

@@ -7,59 +7,32 @@ ghost use Rattle.hp_io.specs.declared.folder.Input.{Input};
 ghost use Rattle.hp_top.specs.Command.{accepts, make_command};
 ghost use Rattle.hp_top.specs.Outcome.{Files};
 ghost use Rattle.hp_top.specs.Run.{TellsFiles, IsOutcome, RefusesWords, ReadFails, WritesFront, WritesProperFront};
-ghost use Rattle.hp_top.specs.Serving.{Serves, Ends, refusal_of};
-ghost use Rattle.hp_top.specs.Telling.{Tells};
+ghost use Rattle.hp_top.specs.Serving.{Serves, Ends};
 ghost use Rattle.hp_top.specs.Touching.{Touches, TouchesNamed, input_run};
-ghost use Rattle.hp_top.specs.Writing.{sink_run};
+ghost use Rattle.hp_top.specs.Words.{HasPlans, job_of};
+ghost use Rattle.hp_out.specs.Writing.{sink_run};
 
 use crate::laws::every_run_has_an_outcome;
 use crate::loading::load;
-use crate::planning::plan;
-use crate::refusing::{Unplanned, refusal_line, refusal_status};
+use crate::refusing::{refuse, refuse_files};
+use crate::serving::serve_job;
 use crate::status::Status;
-use crate::words::{Asked, numbers_asked};
-use crate::writing::write_all;
+use crate::words::{Job, job_asked};
 use hp_io::{Folder, Input, Sink};
-use hp_syntax::laws::{lowered_domains_are_well_formed, walks_meet_no_fault};
+use hp_out::Refusal;
 use std::alloc::Global;
 
-/// Writes a text, and answers this status.
-fn end_with<K: Sink>(out: &mut K, text: &[u8], status: Status) -> Status
-    ensures tells { Tells (text.now, status) result
-        (sink_run (K.faults out.old) (K.faults out.new) (K.bytes out.old) (K.bytes out.new)) }
-    ensures either { (result ≡ status) ⊎ (result ≡ Status.WriteFault) }
-    ensures later { K.faults out.old ≤ K.faults out.new }
-{
-    match write_all(out, text) {
-        Ok(()) => status,
-        Err(_) => Status::WriteFault,
-    }
-}
-
-/// Writes why nothing is planned.
-fn refuse<K: Sink>(alloc: Global, out: &mut K, cause: Unplanned) -> Status
-    ensures tells { Tells (refusal_of cause) result
-        (sink_run (K.faults out.old) (K.faults out.new) (K.bytes out.old) (K.bytes out.new)) }
-    ensures faultless { result ≢ Status.RunFault }
-    ensures later { K.faults out.old ≤ K.faults out.new }
-{
-    match refusal_line(alloc, cause) {
-        Ok(line) => end_with(out, line.as_slice(), refusal_status(cause)),
-        Err(_) => Status::NoMemory,
-    }
-}
-
-/// Reads two files, and plans.
+/// Reads two files, and does the job with them.
 fn serve_command<F: Folder, K: Sink>(
     alloc: Global,
     domain: &str,
     problem: &str,
-    asked: Asked,
+    job: Job,
     folder: &mut F,
     out: &mut K,
 ) -> Status
-    requires { 0 < asked.plans }
-    ensures serves { Serves (make_command domain.now problem.now asked.plans asked.depth) (F.file folder.old)
+    requires { HasPlans job }
+    ensures serves { Serves (make_command domain.now problem.now (job_of job)) (F.file folder.old)
         result (F.faults folder.old) (F.faults folder.new)
         (sink_run (K.faults out.old) (K.faults out.new) (K.bytes out.old) (K.bytes out.new)) }
     ensures faultless { result ≢ Status.RunFault }
@@ -70,13 +43,8 @@ fn serve_command<F: Folder, K: Sink>(
         (input_run (F.begun folder.old w) (F.begun folder.new w) (F.rest folder.old w) (F.rest folder.new w)) }
 {
     match load(alloc, folder, domain, problem) {
-        Ok(prepared) => {
-            // Nothing runs here: the laws make known that the walk meets no fault.
-            lowered_domains_are_well_formed();
-            walks_meet_no_fault();
-            plan(alloc, &prepared, asked, out)
-        }
-        Err(cause) => refuse(alloc, out, cause),
+        Ok(loaded) => serve_job(alloc, loaded, job, out),
+        Err(error) => refuse_files(out, error),
     }
 }
 
@@ -96,21 +64,23 @@ fn serve<F: Folder, K: Sink>(alloc: Global, words: &[String], folder: &mut F, ou
         × RefusesWords result
         (sink_run (K.faults out.old) (K.faults out.new) (K.bytes out.old) (K.bytes out.new)) }
 {
-    match numbers_asked(words) {
-        None => end_with(out, b"refused usage\n", Status::Usage),
-        Some(asked) => serve_command(
+    match job_asked(words) {
+        None => refuse(out, &Refusal::Usage),
+        Some(job) => serve_command(
             alloc,
             words[1].as_str(),
             words[2].as_str(),
-            asked,
+            job,
             folder,
             out,
         ),
     }
 }
 
-/// Runs a command: `plan DOMAIN PROBLEM K DEPTH` writes the first K plans down to that depth, each
-/// as soon as it is found, and one ending line.
+/// Runs a command. `plan DOMAIN PROBLEM K DEPTH` writes the first K plans down to that depth, each
+/// as soon as it is found, and one ending line. `check DOMAIN PROBLEM` writes how many rules and atoms
+/// there are, a note for each task that no rule serves, and `accepted`. `show DOMAIN PROBLEM` writes both
+/// in canonical text.
 ///
 /// The words don't hold the program's own name. Nothing is written before both files are read and
 /// accepted, but the one line of a refusal; after want of memory or a fault of the sink nothing

@@ -2,10 +2,10 @@
 #![tactic(auto)]
 
 mod changing;
+mod checking;
 mod children;
 mod command;
 mod initial;
-mod judging;
 pub mod laws;
 mod lines;
 mod loading;
@@ -18,13 +18,15 @@ mod reading;
 mod refusing;
 pub mod samples;
 mod satisfying;
+mod serving;
+mod showing;
 mod status;
+mod telling;
 #[cfg(test)]
 mod tests;
 mod valuing;
 mod walk;
 mod words;
-mod writing;
 
 pub use command::run;
 pub use status::Status;

@@ -1,54 +1,81 @@
-//! From two files to what is run of them.
+//! From two files to a domain and a problem.
 
-ghost use Rattle.std.specs.Prelude.{◌≡◌, ◌≢◌, ◌≤◌, ℕ, true, List, Some, None, Ok, Err, IfOk, IfErr, IsErrOf};
+ghost use Rattle.std.specs.Prelude.{◌≡◌, ◌≢◌, ◌≤◌, ℕ, true, List, length, Some, None, Ok, Err, IfOk, IfErr, IsErrOf};
 ghost use Rattle.hp_io.specs.Inputs.{by_input};
 ghost use Rattle.hp_io.specs.declared.folder.Input.{Input};
 ghost use Rattle.hp_io.specs.declared.folder.Input.TheVariants as inputs;
+ghost use Rattle.hp_syntax.specs.Forest.{IsForest};
 ghost use Rattle.hp_syntax.specs.Grammar.{domain_form, problem_form};
 ghost use Rattle.hp_syntax.specs.Views.{domain_of, problem_of};
-ghost use Rattle.hp_top.specs.Program.{plain_domain, plain_problem};
-ghost use Rattle.hp_top.specs.Outcome.{IsRead};
-ghost use Rattle.hp_top.specs.Loading.{ReadsFile, Reads, IsUnread, IsPrepared, IsRefusedFor, StopsAt, Stops, of_text, of_form};
+ghost use Rattle.hp_syntax.specs.TextForms.{IsRead};
+ghost use Rattle.hp_text.specs.Nodes.{forest_of};
+ghost use Rattle.hp_text.specs.Refusals.{RefusesText};
+ghost use Rattle.hp_top.specs.Loading.{ReadsFile, Reads, IsUnread, IsRefusedFor, StopsAt, Stops, of_text, of_form};
 ghost use Rattle.hp_top.specs.Touching.{Touches, IsUntouched, input_run};
 
-use crate::judging::{Prepared, judged};
 use crate::reading::{ReadError, read_rest};
-use crate::refusing::Unplanned;
 use hp_forms::FormRefusal;
 use hp_io::{BeginError, Folder, Input};
+use hp_out::Refusal;
 use hp_syntax::laws::{limits_are_kept, refusals_are_decided_by_the_front};
 use hp_syntax::{Domain, Problem};
-use hp_text::{TextRefusal, read};
+use hp_text::{Forest, TextRefusal, read};
 use std::alloc::Global;
 
-/// Why nothing is planned, where a text has no forest.
-fn of_text(which: Input, refusal: TextRefusal) -> Unplanned
+/// Why two files aren't read as a domain and a problem.
+#[derive(Clone, Copy, Debug, PartialEq, Eq)]
+pub enum LoadError {
+    NoMemory,
+    /// A file isn't there, couldn't be read, or its text or its form is refused.
+    Refused(Refusal),
+}
+
+/// A domain and a problem that are read.
+#[derive(Drop)]
+pub struct Loaded {
+    pub domain: Domain,
+    pub problem: Problem,
+}
+
+/// Why a text isn't read that has no forest.
+fn of_text(which: Input, refusal: TextRefusal) -> LoadError
     ensures { result ≡ of_text which refusal }
 {
     match refusal {
-        TextRefusal::Bad(kind, offset) => Unplanned::Text(which, kind, offset),
-        TextRefusal::NoMemory => Unplanned::NoMemory,
+        TextRefusal::Bad(kind, offset) => LoadError::Refused(Refusal::Text(which, kind, offset)),
+        TextRefusal::NoMemory => LoadError::NoMemory,
     }
 }
 
-/// Why nothing is planned, where a forest has no form.
-fn of_form(which: Input, refusal: FormRefusal) -> Unplanned
+/// Why a text isn't read of which the forest has no form.
+fn of_form(which: Input, refusal: FormRefusal) -> LoadError
     ensures { result ≡ of_form which refusal }
 {
     match refusal {
-        FormRefusal::Expected { what, span } => Unplanned::Form(which, what, span),
-        FormRefusal::SeveralPairs { span } => Unplanned::Several(span),
-        FormRefusal::NoMemory => Unplanned::NoMemory,
+        FormRefusal::Expected { what, span } => LoadError::Refused(Refusal::Form(
+            which, what, span,
+        )),
+        FormRefusal::SeveralPairs { span } => LoadError::Refused(Refusal::Several(span)),
+        FormRefusal::NoMemory => LoadError::NoMemory,
     }
 }
 
-/// The domain that a text is.
-fn domain_in(alloc: Global, bytes: &[u8]) -> Result<Domain, Unplanned>
-    ensures domain { IfOk result (λ d. IsRead domain_form bytes.now (domain_of d)) }
-    ensures refused { IfErr result (IsRefusedFor inputs.Domain domain_form bytes.now) }
+/// The forest of a text. The text is gone when this returns.
+fn forest_in(alloc: Global, bytes: Vec<u8>) -> Result<Forest, TextRefusal>
+    ensures forest { IfOk result (λ f. IsForest bytes.items (forest_of f)) }
+    ensures length { IfOk result (λ f. f.len ≡ length bytes.items) }
+    ensures refused { IfErr result (RefusesText bytes.items) }
 {
-    match read(alloc, bytes) {
-        Ok(forest) => match hp_forms::domain(alloc, &forest) {
+    read(alloc, bytes.as_slice())
+}
+
+/// The domain that a text is.
+fn domain_in(alloc: Global, bytes: Vec<u8>) -> Result<Domain, LoadError>
+    ensures domain { IfOk result (λ d. IsRead domain_form bytes.items (domain_of d)) }
+    ensures refused { IfErr result (IsRefusedFor inputs.Domain domain_form bytes.items) }
+{
+    match forest_in(alloc, bytes) {
+        Ok(forest) => match hp_forms::into_domain(alloc, forest) {
             Ok(domain) => Ok(domain),
             Err(refusal) => Err(of_form(Input::Domain, refusal)),
         },
@@ -57,11 +84,11 @@ fn domain_in(alloc: Global, bytes: &[u8]) -> Result<Domain, Unplanned>
 }
 
 /// The problem that a text is.
-fn problem_in(alloc: Global, bytes: &[u8]) -> Result<Problem, Unplanned>
-    ensures problem { IfOk result (λ p. IsRead problem_form bytes.now (problem_of p)) }
-    ensures refused { IfErr result (IsRefusedFor inputs.Problem problem_form bytes.now) }
+fn problem_in(alloc: Global, bytes: Vec<u8>) -> Result<Problem, LoadError>
+    ensures problem { IfOk result (λ p. IsRead problem_form bytes.items (problem_of p)) }
+    ensures refused { IfErr result (IsRefusedFor inputs.Problem problem_form bytes.items) }
 {
-    match read(alloc, bytes) {
+    match forest_in(alloc, bytes) {
         Ok(forest) => match hp_forms::problem(alloc, &forest) {
             Ok(problem) => Ok(problem),
             Err(refusal) => Err(of_form(Input::Problem, refusal)),
@@ -96,7 +123,7 @@ fn file_front<F: Folder>(
 }
 
 /// The domain in a file.
-fn load_domain<F: Folder>(alloc: Global, folder: &mut F, name: &str) -> Result<Domain, Unplanned>
+fn load_domain<F: Folder>(alloc: Global, folder: &mut F, name: &str) -> Result<Domain, LoadError>
     ensures domain { IfOk result (λ d. Reads domain_form (F.file folder.old name.now) (domain_of d)) }
     ensures stops { IfErr result (λ e. StopsAt inputs.Domain domain_form e (F.file folder.old name.now)
         (F.faults folder.old) (F.faults folder.new)) }
@@ -113,15 +140,15 @@ fn load_domain<F: Folder>(alloc: Global, folder: &mut F, name: &str) -> Result<D
             // Nothing runs here: the laws make known that the front is read as the whole text is.
             refusals_are_decided_by_the_front();
             limits_are_kept();
-            domain_in(alloc, bytes.as_slice())
+            domain_in(alloc, bytes)
         }
-        Err(ReadError::Failed) => Err(Unplanned::Read(Input::Domain)),
-        Err(ReadError::NoMemory) => Err(Unplanned::NoMemory),
+        Err(ReadError::Failed) => Err(LoadError::Refused(Refusal::Read(Input::Domain))),
+        Err(ReadError::NoMemory) => Err(LoadError::NoMemory),
     }
 }
 
 /// The problem in a file.
-fn load_problem<F: Folder>(alloc: Global, folder: &mut F, name: &str) -> Result<Problem, Unplanned>
+fn load_problem<F: Folder>(alloc: Global, folder: &mut F, name: &str) -> Result<Problem, LoadError>
     ensures problem { IfOk result (λ p. Reads problem_form (F.file folder.old name.now) (problem_of p)) }
     ensures stops { IfErr result (λ e. StopsAt inputs.Problem problem_form e (F.file folder.old name.now)
         (F.faults folder.old) (F.faults folder.new)) }
@@ -138,22 +165,22 @@ fn load_problem<F: Folder>(alloc: Global, folder: &mut F, name: &str) -> Result<
             // Nothing runs here: the laws make known that the front is read as the whole text is.
             refusals_are_decided_by_the_front();
             limits_are_kept();
-            problem_in(alloc, bytes.as_slice())
+            problem_in(alloc, bytes)
         }
-        Err(ReadError::Failed) => Err(Unplanned::Read(Input::Problem)),
-        Err(ReadError::NoMemory) => Err(Unplanned::NoMemory),
+        Err(ReadError::Failed) => Err(LoadError::Refused(Refusal::Read(Input::Problem))),
+        Err(ReadError::NoMemory) => Err(LoadError::NoMemory),
     }
 }
 
-/// What is run of a domain and of a problem of it. What else was read is gone when this returns.
+/// The domain and the problem in two files. What else was read is gone when this returns.
 pub fn load<F: Folder>(
     alloc: Global,
     folder: &mut F,
     domain: &str,
     problem: &str,
-) -> Result<Prepared, Unplanned>
-    ensures prepared { IfOk result (λ p. IsPrepared (F.file folder.old domain.now) (F.file folder.old problem.now)
-        (plain_domain p.domain) (plain_problem p.problem)) }
+) -> Result<Loaded, LoadError>
+    ensures domain { IfOk result (λ l. Reads domain_form (F.file folder.old domain.now) (domain_of l.domain)) }
+    ensures problem { IfOk result (λ l. Reads problem_form (F.file folder.old problem.now) (problem_of l.problem)) }
     ensures stops { IfErr result (λ e. Stops e (F.file folder.old domain.now) (F.file folder.old problem.now)
         (F.faults folder.old) (F.faults folder.new)) }
     ensures files { (n : List ℕ) → F.file folder.new n ≡ F.file folder.old n }
@@ -165,9 +192,8 @@ pub fn load<F: Folder>(
         Ok(domain) => domain,
         Err(cause) => return Err(cause),
     };
-    let problem = match load_problem(alloc, folder, problem) {
-        Ok(problem) => problem,
-        Err(cause) => return Err(cause),
-    };
-    judged(alloc, &domain, &problem)
+    match load_problem(alloc, folder, problem) {
+        Ok(problem) => Ok(Loaded { domain, problem }),
+        Err(cause) => Err(cause),
+    }
 }

@@ -9,15 +9,14 @@ ghost use Rattle.hp_top.specs.Program.{plain_terms, plain_domain, plain_problem}
 ghost use Rattle.hp_top.specs.Rest.{rest};
 ghost use Rattle.hp_top.specs.Told.{told, told_status, ending_of, flat_plan_text, quiet_ending};
 ghost use Rattle.hp_top.specs.Telling.{Visited, Halts, Tells, counted, left, stop_at};
-ghost use Rattle.hp_top.specs.Writing.{Wrote, sink_run};
+ghost use Rattle.hp_out.specs.Writing.{Wrote, sink_run};
 
-use crate::judging::Prepared;
 use crate::lines::{Ending, ending_line, plan_lines};
-use crate::program::GroundAtom;
+use crate::program::{Domain, GroundAtom, Problem};
 use crate::status::Status;
+use crate::telling::{Halt, write};
 use crate::walk::{Step, Walk};
 use crate::words::Asked;
-use crate::writing::write_all;
 use hp_io::Sink;
 use std::alloc::{AllocError, Global};
 use std::rc::Rc;
@@ -31,26 +30,6 @@ struct Progress {
     expansions: u64,
     /// Whether a part of the tree was cut off.
     is_cut: bool,
-}
-
-/// Why the telling stopped.
-#[derive(Clone, Copy)]
-enum Halt {
-    NoMemory,
-    Failed,
-}
-
-/// Writes a text.
-fn write<K: Sink>(out: &mut K, text: &[u8]) -> Result<(), Halt>
-    ensures ok { OnOk result (Wrote text.now (K.bytes out.old) (K.bytes out.new)) }
-    ensures err { IfErr result (λ h. Halts h text.now
-        (sink_run (K.faults out.old) (K.faults out.new) (K.bytes out.old) (K.bytes out.new))) }
-    ensures later { K.faults out.old ≤ K.faults out.new }
-{
-    match write_all(out, text) {
-        Ok(()) => Ok(()),
-        Err(_) => Err(Halt::Failed),
-    }
 }
 
 /// The status of a run that ends so.
@@ -180,15 +159,21 @@ fn tell<K: Sink>(alloc: Global, walk: &mut Walk, most: u64, out: &mut K) -> Resu
 }
 
 /// Plans, and answers how that ended.
-pub fn plan<K: Sink>(alloc: Global, prepared: &Prepared, asked: Asked, out: &mut K) -> Status
+pub fn plan<K: Sink>(
+    alloc: Global,
+    domain: &Domain,
+    problem: &Problem,
+    asked: Asked,
+    out: &mut K,
+) -> Status
     requires { 0 < asked.plans }
-    ensures tells { let visits = walk (plain_domain prepared.now.domain) (plain_problem prepared.now.problem) asked.depth in
+    ensures tells { let visits = walk (plain_domain domain.now) (plain_problem problem.now) asked.depth in
         Tells (report asked.plans visits, walk_status asked.plans visits) result
         (sink_run (K.faults out.old) (K.faults out.new) (K.bytes out.old) (K.bytes out.new)) }
     ensures later { K.faults out.old ≤ K.faults out.new }
 {
-    let rules = prepared.domain.rules.as_slice();
-    let Ok(mut walk) = Walk::new(alloc, rules, &prepared.problem, asked.depth) else {
+    let rules = domain.rules.as_slice();
+    let Ok(mut walk) = Walk::new(alloc, rules, problem, asked.depth) else {
         return Status::NoMemory;
     };
     match tell(alloc, &mut walk, asked.plans, out) {

@@ -1,101 +1,28 @@
-//! Why nothing is planned, and the line and the status that say so.
+//! Why a run does nothing, and the line and the status that say so.
 
-ghost use Rattle.std.specs.Prelude.{◌≡◌, ◌≢◌, ◌++◌, IfOk, OnOk, codes, decimal};
-ghost use Rattle.hp_top.specs.Lines.{what_word, kind_word, check_word, input_word, span_text, at_offset, at_span, expected_text, refused, refused_read};
-ghost use Rattle.hp_top.specs.Outcome.{input_of, refused_status};
-ghost use Rattle.hp_top.specs.Serving.{refusal_of};
+ghost use Rattle.std.specs.Prelude.{◌≡◌, ◌≢◌, ◌⊎◌, ◌≤◌, ◌++◌, ℕ, Option, Result, Ok, IfOk, OnOk, codes, decimal};
+ghost use Rattle.hp_out.specs.Lines.{text_of, span_text, at_span, refused};
+ghost use Rattle.hp_out.specs.Writing.{sink_run};
+ghost use Rattle.hp_syntax.specs.declared.pattern.Span.{Span};
+ghost use Rattle.hp_syntax.specs.Rules as plain;
+ghost use Rattle.hp_top.specs.Lowers.{Refuses, RefusesRules};
+ghost use Rattle.hp_top.specs.Outcome.{refused_status, later_domain, lowered_answer};
+ghost use Rattle.hp_top.specs.Serving.{load_answer, refusal_answer, refusal_status};
+ghost use Rattle.hp_top.specs.Telling.{Tells};
 
 use crate::lines::push_number;
+use crate::loading::LoadError;
+use crate::lowering::{Unlowered, UnloweredDomain};
 use crate::status::Status;
-use hp_io::Input;
-use hp_syntax::{CheckFault, CheckKind, Span, TextKind, What};
+use crate::telling::{end_with, write_refusal};
+use hp_io::{Input, Sink};
+use hp_out::Refusal;
+use hp_syntax::Span;
 use std::alloc::{AllocError, Global};
 
-/// Why nothing is planned.
-#[derive(Clone, Copy, Debug, PartialEq, Eq)]
-pub enum Unplanned {
-    NoMemory,
-    /// The file isn't there or couldn't be read.
-    Read(Input),
-    /// The text spells nothing; told with an offset.
-    Text(Input, TextKind, u32),
-    /// What the text spells has no form: something else was wanted at the span.
-    Form(Input, What, Span),
-    /// The problem has a second pair.
-    Several(Span),
-    /// The checks find a fault.
-    Check(CheckFault),
-    /// A rule of the domain holds a form that isn't run yet.
-    DomainLater(Span),
-    /// The problem does.
-    ProblemLater,
-}
-
-fn what_word(what: What) -> &'static [u8]
-    ensures { result.now ≡ what_word what }
-{
-    match what {
-        What::Domain => b"Domain",
-        What::Problem => b"Problem",
-        What::Name => b"Name",
-        What::Rules => b"Rules",
-        What::Rule => b"Rule",
-        What::Head => b"Head",
-        What::Pre => b"Pre",
-        What::Expr => b"Expr",
-        What::Variable => b"Variable",
-        What::Term => b"Term",
-        What::Tail => b"Tail",
-        What::Atom => b"Atom",
-        What::Atoms => b"Atoms",
-        What::Effects => b"Effects",
-        What::Tasks => b"Tasks",
-        What::Ground => b"Ground",
-        What::End => b"End",
-    }
-}
-
-fn kind_word(kind: TextKind) -> &'static [u8]
-    ensures { result.now ≡ kind_word kind }
-{
-    match kind {
-        TextKind::BadByte => b"BadByte",
-        TextKind::BadNumber => b"BadNumber",
-        TextKind::NumberRange => b"NumberRange",
-        TextKind::TokenLong => b"TokenLong",
-        TextKind::Unclosed => b"Unclosed",
-        TextKind::ExtraClose => b"ExtraClose",
-        TextKind::TooNested => b"TooNested",
-        TextKind::TooLarge => b"TooLarge",
-    }
-}
-
-fn check_word(kind: CheckKind) -> &'static [u8]
-    ensures { result.now ≡ check_word kind }
-{
-    match kind {
-        CheckKind::OtherDomain => b"OtherDomain",
-        CheckKind::UnknownCall => b"UnknownCall",
-        CheckKind::CallArity => b"CallArity",
-        CheckKind::VariableInProblem => b"VariableInProblem",
-        CheckKind::CallInHead => b"CallInHead",
-        CheckKind::TooManyVariables => b"TooManyVariables",
-        CheckKind::ExprNested => b"ExprNested",
-        CheckKind::UnknownOrder => b"UnknownOrder",
-    }
-}
-
-fn input_word(which: Input) -> &'static [u8]
-    ensures { result.now ≡ input_word which }
-{
-    match which {
-        Input::Domain => b"domain",
-        Input::Problem => b"problem",
-    }
-}
-
 fn refused_status(which: Input) -> Status
-    ensures { result ≡ refused_status which }
+    ensures status { result ≡ refused_status which }
+    ensures faultless { result ≢ Status.RunFault }
 {
     match which {
         Input::Domain => Status::DomainRefused,
@@ -103,138 +30,109 @@ fn refused_status(which: Input) -> Status
     }
 }
 
-/// The text that a fault of the checks stands in.
-fn input_of(fault: CheckFault) -> Input
-    ensures { result ≡ input_of fault }
+/// The text of the problem, or of the domain.
+fn text_of(in_problem: bool) -> Input
+    ensures { result ≡ text_of in_problem }
 {
-    if fault.in_problem {
+    if in_problem {
         Input::Problem
     } else {
         Input::Domain
     }
 }
 
-fn push_offset(text: &mut Vec<u8>, word: &[u8], offset: u32) -> Result<(), AllocError>
-    ensures { OnOk result (text.new.items ≡ text.old.items ++ at_offset word.now offset) }
+/// The status of a run that is refused.
+fn refusal_status(refusal: &Refusal) -> Status
+    ensures status { result ≡ refusal_status refusal.now }
+    ensures faultless { result ≢ Status.RunFault }
 {
-    text.extend_from_slice(word)?;
-    text.extend_from_slice(b" at ")?;
-    push_number(text, u64::from(offset))
-}
-
-fn push_span(text: &mut Vec<u8>, word: &[u8], span: Span) -> Result<(), AllocError>
-    ensures { OnOk result (text.new.items ≡ text.old.items ++ at_span word.now span) }
-{
-    push_offset(text, word, span.from)?;
-    text.push(b'-')?;
-    push_number(text, u64::from(span.to))
-}
-
-fn push_expected(text: &mut Vec<u8>, what: What, span: Span) -> Result<(), AllocError>
-    ensures { OnOk result (text.new.items ≡ text.old.items ++ expected_text what span) }
-{
-    text.extend_from_slice(b"Expected ")?;
-    push_span(text, what_word(what), span)
-}
-
-/// The beginning of the line of a refused text.
-fn begun(alloc: Global, which: Input) -> Result<Vec<u8>, AllocError>
-    ensures { IfOk result (λ text. text.items ≡ codes "refused " ++ input_word which ++ codes " ") }
-{
-    let mut text = Vec::new(alloc);
-    text.extend_from_slice(b"refused ")?;
-    text.extend_from_slice(input_word(which))?;
-    text.push(b' ')?;
-    Ok(text)
-}
-
-fn text_line(
-    alloc: Global,
-    which: Input,
-    kind: TextKind,
-    offset: u32,
-) -> Result<Vec<u8>, AllocError>
-    ensures { IfOk result (λ text. text.items ≡ refused which (at_offset (kind_word kind) offset)) }
-{
-    let mut text = begun(alloc, which)?;
-    push_offset(&mut text, kind_word(kind), offset)?;
-    text.push(b'\n')?;
-    Ok(text)
-}
-
-fn form_line(alloc: Global, which: Input, what: What, span: Span) -> Result<Vec<u8>, AllocError>
-    ensures { IfOk result (λ text. text.items ≡ refused which (expected_text what span)) }
-{
-    let mut text = begun(alloc, which)?;
-    push_expected(&mut text, what, span)?;
-    text.push(b'\n')?;
-    Ok(text)
-}
-
-fn span_line(alloc: Global, which: Input, word: &[u8], span: Span) -> Result<Vec<u8>, AllocError>
-    ensures { IfOk result (λ text. text.items ≡ refused which (at_span word.now span)) }
-{
-    let mut text = begun(alloc, which)?;
-    push_span(&mut text, word, span)?;
-    text.push(b'\n')?;
-    Ok(text)
-}
-
-fn word_line(alloc: Global, which: Input, word: &[u8]) -> Result<Vec<u8>, AllocError>
-    ensures { IfOk result (λ text. text.items ≡ refused which word.now) }
-{
-    let mut text = begun(alloc, which)?;
-    text.extend_from_slice(word)?;
-    text.push(b'\n')?;
-    Ok(text)
-}
-
-fn read_line(alloc: Global, which: Input) -> Result<Vec<u8>, AllocError>
-    ensures { IfOk result (λ text. text.items ≡ refused_read which) }
-{
-    let line = match which {
-        Input::Domain => b"refused read domain\n".as_slice(),
-        Input::Problem => b"refused read problem\n".as_slice(),
-    };
-    let mut text = Vec::new(alloc);
-    text.extend_from_slice(line)?;
-    Ok(text)
-}
-
-/// The one line that tells the cause; want of memory has none.
-pub fn refusal_line(alloc: Global, cause: Unplanned) -> Result<Vec<u8>, AllocError>
-    ensures { IfOk result (λ text. text.items ≡ (refusal_of cause).0) }
-{
-    match cause {
-        Unplanned::NoMemory => Ok(Vec::new(alloc)),
-        Unplanned::Read(which) => read_line(alloc, which),
-        Unplanned::Text(which, kind, offset) => text_line(alloc, which, kind, offset),
-        Unplanned::Form(which, what, span) => form_line(alloc, which, what, span),
-        Unplanned::Several(span) => span_line(alloc, Input::Problem, b"SeveralPairs", span),
-        Unplanned::Check(fault) => span_line(
-            alloc,
-            input_of(fault),
-            check_word(fault.kind),
-            fault.span,
-        ),
-        Unplanned::DomainLater(span) => span_line(alloc, Input::Domain, b"Later", span),
-        Unplanned::ProblemLater => word_line(alloc, Input::Problem, b"Later"),
+    match *refusal {
+        Refusal::Usage => Status::Usage,
+        Refusal::Read(_) => Status::ReadFault,
+        Refusal::Text(which, _, _) => refused_status(which),
+        Refusal::Form(which, _, _) => refused_status(which),
+        Refusal::Several(_) => Status::ProblemRefused,
+        Refusal::Check(fault) => refused_status(text_of(fault.in_problem)),
     }
 }
 
-/// The status of a run that ends for the cause.
-pub fn refusal_status(cause: Unplanned) -> Status
-    ensures status { result ≡ (refusal_of cause).1 }
+/// Writes why a run does nothing.
+pub fn refuse<K: Sink>(out: &mut K, refusal: &Refusal) -> Status
+    ensures tells { Tells (refusal_answer refusal.now) result
+        (sink_run (K.faults out.old) (K.faults out.new) (K.bytes out.old) (K.bytes out.new)) }
+    ensures either { (result ≡ refusal_status refusal.now) ⊎ (result ≡ Status.WriteFault) }
     ensures faultless { result ≢ Status.RunFault }
+    ensures later { K.faults out.old ≤ K.faults out.new }
 {
-    match cause {
-        Unplanned::NoMemory => Status::NoMemory,
-        Unplanned::Read(_) => Status::ReadFault,
-        Unplanned::Text(which, _, _) => refused_status(which),
-        Unplanned::Form(which, _, _) => refused_status(which),
-        Unplanned::Check(fault) => refused_status(input_of(fault)),
-        Unplanned::DomainLater(_) => Status::DomainRefused,
-        Unplanned::Several(_) => Status::ProblemRefused,
-        Unplanned::ProblemLater => Status::ProblemRefused,
+    match write_refusal(out, refusal) {
+        Ok(()) => refusal_status(refusal),
+        Err(_) => Status::WriteFault,
+    }
+}
+
+/// The line of a domain that holds a form that isn't run yet.
+fn later_line(alloc: Global, span: Span) -> Result<Vec<u8>, AllocError>
+    ensures { IfOk result (λ text. text.items ≡ (later_domain span).0) }
+{
+    let mut text = Vec::new(alloc);
+    text.extend_from_slice(b"refused domain Later at ")?;
+    push_number(&mut text, u64::from(span.from))?;
+    text.push(b'-')?;
+    push_number(&mut text, u64::from(span.to))?;
+    text.push(b'\n')?;
+    Ok(text)
+}
+
+/// Writes that a rule of the domain holds a form that isn't run yet.
+pub fn refuse_domain<K: Sink>(alloc: Global, out: &mut K, unlowered: UnloweredDomain) -> Status
+    ensures tells { (k n : ℕ) (d : Result plain.Domain Span) (p : Option plain.Problem) → RefusesRules unlowered d →
+        Tells (lowered_answer k n d p) result
+        (sink_run (K.faults out.old) (K.faults out.new) (K.bytes out.old) (K.bytes out.new)) }
+    ensures faultless { result ≢ Status.RunFault }
+    ensures later { K.faults out.old ≤ K.faults out.new }
+{
+    match unlowered {
+        UnloweredDomain::Later(span) => refuse_rule(alloc, out, span),
+        UnloweredDomain::NoMemory => Status::NoMemory,
+    }
+}
+
+/// The same by the rule's span.
+fn refuse_rule<K: Sink>(alloc: Global, out: &mut K, span: Span) -> Status
+    ensures tells { Tells (later_domain span) result
+        (sink_run (K.faults out.old) (K.faults out.new) (K.bytes out.old) (K.bytes out.new)) }
+    ensures faultless { result ≢ Status.RunFault }
+    ensures later { K.faults out.old ≤ K.faults out.new }
+{
+    let Ok(line) = later_line(alloc, span) else {
+        return Status::NoMemory;
+    };
+    end_with(out, line.as_slice(), Status::DomainRefused)
+}
+
+/// Writes that the problem holds a form that isn't run yet.
+pub fn refuse_problem<K: Sink>(out: &mut K, unlowered: Unlowered) -> Status
+    ensures tells { (k n : ℕ) (d : plain.Domain) (p : Option plain.Problem) → Refuses unlowered p →
+        Tells (lowered_answer k n (Ok d) p) result
+        (sink_run (K.faults out.old) (K.faults out.new) (K.bytes out.old) (K.bytes out.new)) }
+    ensures faultless { result ≢ Status.RunFault }
+    ensures later { K.faults out.old ≤ K.faults out.new }
+{
+    match unlowered {
+        Unlowered::Later => end_with(out, b"refused problem Later\n", Status::ProblemRefused),
+        Unlowered::NoMemory => Status::NoMemory,
+    }
+}
+
+/// Writes why two files aren't read.
+pub fn refuse_files<K: Sink>(out: &mut K, error: LoadError) -> Status
+    ensures tells { Tells (load_answer error) result
+        (sink_run (K.faults out.old) (K.faults out.new) (K.bytes out.old) (K.bytes out.new)) }
+    ensures faultless { result ≢ Status.RunFault }
+    ensures later { K.faults out.old ≤ K.faults out.new }
+{
+    match error {
+        LoadError::Refused(refusal) => refuse(out, &refusal),
+        LoadError::NoMemory => Status::NoMemory,
     }
 }

@@ -136,10 +136,80 @@ fn words_are_refused(rt: HostRuntime) -> Result<(), Fail> {
         "plan d p 5 ",
         "plan d p 5 5 --nest",
         "show d p 5 5",
+        "check d",
+        "check d p --nest",
+        "shown d p",
     ] {
         let (got, sink) = run_on(rt.alloc(), (BASIC, SWAP), line, ROOM)?;
         assert_eq!(rt; got, Status::Usage, "for {line}");
         assert_eq!(rt; sink.bytes(), "refused usage\n".as_bytes(), "for {line}");
+    }
+    Ok(())
+}
+
+/// Written as JSHOP2's users write: with comments, `<=` and lists that stand for conjunctions.
+const TRAVEL: &str = "; a trip on foot or by taxi
+(defdomain travel (
+  (:operator (!walk ?x ?y) ((at ?x)) ((at ?x)) ((at ?y)) 3)
+  (:operator (!pay ?old ?new) ((money ?old)) ((money ?old)) ((money ?new)) 0)
+  ; near enough to walk
+  (:- (short ?x ?y) close ((distance ?x ?y ?d) (call <= ?d 2)))
+  (:method (travel ?x ?y) taxi (imply (at ?x) (money ?m))
+    ((!call ?x) (:immediate !pay ?m ?x) (travel . (?x ?y))))))
+";
+
+const TRIP: &str =
+    "(defproblem trip travel ((at home) (list () (a . (b -3)))) ((travel home park) ()))";
+
+/// The same in canonical text.
+const TRAVEL_TEXT: &str = "(defdomain travel (
+(:operator (!walk ?x ?y) (and (at ?x)) ((at ?x)) ((at ?y)) 3)
+(:operator (!pay ?old ?new) (and (money ?old)) ((money ?old)) ((money ?new)) 0)
+(:- (short ?x ?y) close (and (distance ?x ?y ?d) (call <= ?d 2)))
+(:method (travel ?x ?y) taxi (or (not (at ?x)) (money ?m)) (:ordered (!call ?x) (:immediate !pay ?m ?x) (travel ?x ?y)))
+))
+";
+
+const TRIP_TEXT: &str = "(defproblem trip travel
+((at home) (list () (a b -3)))
+(:ordered (travel home park) (:ordered))
+)
+";
+
+/// Canonical text is shown as it is.
+#[test]
+fn files_are_shown(rt: HostRuntime) -> Result<(), Fail> {
+    let mut text = String::from_str(rt.alloc(), TRAVEL_TEXT)?;
+    text.push_str(TRIP_TEXT)?;
+    for files in [(TRAVEL, TRIP), (TRAVEL_TEXT, TRIP_TEXT)] {
+        let (status, sink) = run_on(rt.alloc(), files, "show d p", ROOM)?;
+        assert_eq!(rt; status, Status::Done);
+        assert_eq!(rt; sink.bytes(), text.as_bytes());
+    }
+    Ok(())
+}
+
+#[test]
+fn files_are_checked(rt: HostRuntime) -> Result<(), Fail> {
+    let juggled = "domain basic operators 2 methods 1 axioms 0
+problem p1 atoms 1
+note NoRule juggle in problem at 54-62
+accepted
+";
+    let travelled = "domain travel operators 2 methods 1 axioms 1
+problem trip atoms 2
+note NoRule !call in domain at 337-347
+accepted
+";
+    let other = "refused problem OtherDomain at 15-20\n";
+    for (domain, problem, status, text) in [
+        (BASIC, JUGGLE, Status::Done, juggled),
+        (TRAVEL, TRIP, Status::Done, travelled),
+        (TRAVEL, SWAP, Status::ProblemRefused, other),
+    ] {
+        let (got, sink) = run_on(rt.alloc(), (domain, problem), "check d p", ROOM)?;
+        assert_eq!(rt; got, status);
+        assert_eq!(rt; sink.bytes(), text.as_bytes());
     }
     Ok(())
 }

@@ -1,9 +1,9 @@
 //! The words of a command.
 
 ghost use Rattle.std.specs.List.{list_all};
-ghost use Rattle.std.specs.Prelude.{true, nat_le, IfSome, ◌≡◌, ◌≤◌, ◌^◌, ◌<◌, ℕ, List, None, Some, MatchOption, length, map, string_bytes, slice_get, unwrap_or, [], option_map};
-ghost use Rattle.hp_top.specs.Words.{AsksFor, Spelled};
-ghost use Rattle.hp_top.specs.Command.{accepts, make_command, number_within, number_from, is_number};
+ghost use Rattle.std.specs.Prelude.{true, nat_le, IfSome, ◌≡◌, ◌≢◌, ◌≤◌, ◌^◌, ◌<◌, ℕ, List, None, Some, MatchOption, length, map, string_bytes, slice_get, unwrap_or, [], option_map};
+ghost use Rattle.hp_top.specs.Words.{AsksFor, HasPlans, Spelled, job_of};
+ghost use Rattle.hp_top.specs.Command.{accepts, job_by_word, number_within, number_from, is_number};
 ghost use Rattle.hp_syntax.specs.Text.{is_digit};
 ghost use Rattle.hp_syntax.specs.Lowering.{only_if};
 
@@ -14,6 +14,14 @@ use hp_syntax::limits::{GREATEST_DEPTH, MOST_PLANS};
 pub struct Asked {
     pub plans: u64,
     pub depth: u32,
+}
+
+/// What a command does with its two files.
+#[derive(Clone, Copy)]
+pub enum Job {
+    Plan(Asked),
+    Check,
+    Show,
 }
 
 /// Whether all bytes are digits.
@@ -83,9 +91,10 @@ fn both_numbers(plans: &[u8], depth: &[u8]) -> Option<Asked>
     })
 }
 
-/// What a command asks, where the words are one.
-pub fn numbers_asked(words: &[String]) -> Option<Asked>
-    ensures asks { MatchOption result (accepts (map string_bytes words.now) ≡ None)
+/// The numbers of a command of five words.
+fn numbers_asked(words: &[String]) -> Option<Asked>
+    requires { length words.now ≢ 3 }
+    ensures asks { MatchOption (option_map Job.Plan result) (accepts (map string_bytes words.now) ≡ None)
         (AsksFor (map string_bytes words.now)) }
     ensures five { IfSome result (λ a. length words.now ≡ 5) }
     ensures some { IfSome result (λ a. 0 < a.plans) }
@@ -97,5 +106,32 @@ pub fn numbers_asked(words: &[String]) -> Option<Asked>
         both_numbers(plans.as_bytes(), depth.as_bytes())
     } else {
         None
+    }
+}
+
+/// The job of a word with two files behind it.
+fn job_by_word(word: &str) -> Option<Job>
+    ensures { option_map job_of result ≡ job_by_word word.now }
+{
+    match word {
+        "check" => Some(Job::Check),
+        "show" => Some(Job::Show),
+        _ => None,
+    }
+}
+
+/// What a command asks, where the words are one.
+pub fn job_asked(words: &[String]) -> Option<Job>
+    ensures asks { MatchOption result (accepts (map string_bytes words.now) ≡ None)
+        (AsksFor (map string_bytes words.now)) }
+    ensures files { IfSome result (λ j. 3 ≤ length words.now) }
+    ensures some { IfSome result HasPlans }
+{
+    if let [word, _, _] = words {
+        return job_by_word(word.as_str());
+    }
+    match numbers_asked(words) {
+        Some(asked) => Some(Job::Plan(asked)),
+        None => None,
     }
 }

@@ -6,5 +6,6 @@ use Rattle.hp_top.proofs.changing.without.Given as goal
 
 abbrev pub invariant-loop-atom : goal.invariant-loop-atom
 invariant-loop-atom l =
-    plain_terms l.left.items ++ filter (λ a. not (member a (plain_terms l.deletes))) (plain_terms (drop l.atom-index l.state))
+    plain_terms l.left.items
+    ++ filter (λ a. not (member a (plain_terms l.deletes))) (plain_terms (drop l.atom-index l.state))
     ≡ filter (λ a. not (member a (plain_terms l.deletes))) (plain_terms l.state)

@@ -14,14 +14,21 @@ returns-then-not-is_empty c =
     let e = bindings_of c.args.bindings.now in
     let es = map bindings_of c.in_ok-all.all.items in
     let all : es ≡ satisfiers n.state (plain_atoms c.branch-item.result.pre.items) e =
-    rw (c.deref-in-loop-branch.ensures.value, c.deref.ensures, c.deref-in-loop-branch-2.ensures.value) at c.in_ok-all.ensures in
+    rw (c.deref-in-loop-branch.ensures.value, c.deref.ensures, c.deref-in-loop-branch-2.ensures.value) at
+    c.in_ok-all.ensures in
     let some : 0 < length es =
-    omega (arith, length-map c.in_ok-all.all.items bindings_of, above_zero (vec_len c.in_ok-all.all) c.is_empty.result c.is_empty.ensures c.if-not-is_empty.true) in
+    omega (
+      arith,
+      length-map c.in_ok-all.all.items bindings_of,
+      above_zero (vec_len c.in_ok-all.all) c.is_empty.result c.is_empty.ensures c.if-not-is_empty.true,
+    ) in
     on_ok_weaker c.add_under_branch.result
     (λ h. h
-    ∙ (ap (λ fs. map flat_choice fs ++ map (by_branch n behind c.branch-item.result) (map bindings_of c.in_ok-all.all.items)) c.loop-branch.invariant.same
+    ∙ (ap (λ fs. map flat_choice fs ++ map (by_branch n behind c.branch-item.result)
+    (map bindings_of c.in_ok-all.all.items)) c.loop-branch.invariant.same
     ∙ ap (λ fs. map flat_choice c.args.found.now.items ++ fs)
-    (branch_used n behind c.args.branches.now c.loop-branch.branch-index c.branch-item.result e es _ c.loop-branch-test.true c.branch-item.is all c.loop-branch.invariant.left some)))
+    (branch_used n behind c.args.branches.now c.loop-branch.branch-index c.branch-item.result e es _
+    c.loop-branch-test.true c.branch-item.is all c.loop-branch.invariant.left some)))
     c.add_under_branch.ensures
 
 pub loop-branch-preserved : goal.loop-branch-preserved
@@ -30,9 +37,14 @@ loop-branch-preserved c =
     let e = bindings_of c.args.bindings.now in
     let es = map bindings_of c.in_ok-all.all.items in
     let all : es ≡ satisfiers n.state (plain_atoms c.branch-item.result.pre.items) e =
-    rw (c.deref-in-loop-branch.ensures.value, c.deref.ensures, c.deref-in-loop-branch-2.ensures.value) at c.in_ok-all.ensures in
+    rw (c.deref-in-loop-branch.ensures.value, c.deref.ensures, c.deref-in-loop-branch-2.ensures.value) at
+    c.in_ok-all.ensures in
     let none : length es ≤ 0 =
-    omega (arith, length-map c.in_ok-all.all.items bindings_of, is_zero (vec_len c.in_ok-all.all) c.is_empty.result c.is_empty.ensures c.if-not-is_empty.false) in
+    omega (
+      arith,
+      length-map c.in_ok-all.all.items bindings_of,
+      is_zero (vec_len c.in_ok-all.all) c.is_empty.result c.is_empty.ensures c.if-not-is_empty.false,
+    ) in
     record {
       same = c.loop-branch.invariant.same;
       left = branch_unused n (drop 1 n.tasks) c.args.branches.now c.loop-branch.branch-index c.branch-item.result e es _
@@ -47,4 +59,6 @@ returns c =
     ap (map flat_choice) c.loop-branch.invariant.same
     ∙ (sym (append-nil (map flat_choice c.args.found.now.items))
     ∙ ap (λ fs. map flat_choice c.args.found.now.items ++ fs)
-    (ap (λ bs. by_branches n behind bs e) (sym (drop_all c.loop-branch.branch-index c.args.branches.now c.loop-branch-test.false)) ∙ c.loop-branch.invariant.left))
+    (ap (λ bs. by_branches n behind bs e)
+    (sym (drop_all c.loop-branch.branch-index c.args.branches.now c.loop-branch-test.false))
+    ∙ c.loop-branch.invariant.left))

@@ -5,5 +5,9 @@ use Rattle.hp_top.proofs.children.add_under_branch.Given as goal
 
 abbrev pub invariant-loop-satisfier : goal.invariant-loop-satisfier
 invariant-loop-satisfier l =
-    map flat_choice l.found.items ++ map (by_branch (flat_node l.node.value) (drop 1 (flat_node l.node.value).tasks) l.branch) (map bindings_of (into_iter_items l.satisfier-iterator))
-    ≡ map flat_choice l.initial.found.items ++ map (by_branch (flat_node l.node.value) (drop 1 (flat_node l.node.value).tasks) l.branch) (map bindings_of l.fn.all.items)
+    map flat_choice l.found.items
+    ++ map (by_branch (flat_node l.node.value) (drop 1 (flat_node l.node.value).tasks) l.branch)
+    (map bindings_of (into_iter_items l.satisfier-iterator))
+    ≡ map flat_choice l.initial.found.items
+    ++ map (by_branch (flat_node l.node.value) (drop 1 (flat_node l.node.value).tasks) l.branch)
+    (map bindings_of l.fn.all.items)

@@ -6,5 +6,9 @@ use Rattle.hp_top.proofs.children.add_under_operator.Given as goal
 
 abbrev pub invariant-loop-satisfier : goal.invariant-loop-satisfier
 invariant-loop-satisfier l =
-    map flat_choice l.found.items ++ map (by_operator (flat_node l.node.value) (shared_term l.task) (drop 1 (flat_node l.node.value).tasks) l.operator) (map bindings_of (into_iter_items l.satisfier-iterator))
-    ≡ map flat_choice l.initial.found.items ++ map (by_operator (flat_node l.node.value) (shared_term l.task) (drop 1 (flat_node l.node.value).tasks) l.operator) (map bindings_of l.fn.all.items)
+    map flat_choice l.found.items ++ map
+    (by_operator (flat_node l.node.value) (shared_term l.task) (drop 1 (flat_node l.node.value).tasks) l.operator)
+    (map bindings_of (into_iter_items l.satisfier-iterator))
+    ≡ map flat_choice l.initial.found.items ++ map
+    (by_operator (flat_node l.node.value) (shared_term l.task) (drop 1 (flat_node l.node.value).tasks) l.operator)
+    (map bindings_of l.fn.all.items)

@@ -10,9 +10,12 @@ use Rattle.hp_top.specs.Flat.{FlatNode, flat_node, flat_choice, flat_children, c
 use Rattle.hp_top.proofs.children.choices.Goals as goal
 
 -- the first task is done, and the others stay behind it
-for_first : (n : FlatNode) (rules : List Rule) (tasks behind : List (Rc GroundAtom Global)) (task : Rc GroundAtom Global) → tasks ≡ task ∷ behind → by_rules n (shared_term task) (drop 1 (plain_terms tasks)) rules ≡ children_for n rules (plain_terms tasks)
+for_first : (n : FlatNode) (rules : List Rule) (tasks behind : List (Rc GroundAtom Global))
+    (task : Rc GroundAtom Global) → tasks ≡ task ∷ behind
+    → by_rules n (shared_term task) (drop 1 (plain_terms tasks)) rules ≡ children_for n rules (plain_terms tasks)
 for_first n rules tasks behind task is =
-    ap (λ ts. by_rules n (shared_term task) (drop 1 (plain_terms ts)) rules) is ∙ ap (λ ts. children_for n rules (plain_terms ts)) (sym is)
+    ap (λ ts. by_rules n (shared_term task) (drop 1 (plain_terms ts)) rules) is
+    ∙ ap (λ ts. children_for n rules (plain_terms ts)) (sym is)
 
 pub returns-in-Some : goal.returns-in-Some
 unfolding flat_children
@@ -27,4 +30,5 @@ unfolding flat_children
 returns-in-None c =
     ap (map flat_choice) c.new.ensures.items
     ∙ ap (λ ts. children_for (flat_node c.args.node.now.value) c.args.rules.now (plain_terms ts))
-    (sym (nil_from_length _ c.in-None.ensures.cases) ∙ (c.deref-2.ensures.value ∙ ap (λ n. n.tasks.items) c.deref.ensures))
+    (sym (nil_from_length _ c.in-None.ensures.cases)
+    ∙ (c.deref-2.ensures.value ∙ ap (λ n. n.tasks.items) c.deref.ensures))

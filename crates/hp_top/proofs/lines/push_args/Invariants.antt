@@ -5,4 +5,5 @@ use Rattle.hp_top.proofs.lines.push_args.Given as goal
 
 abbrev pub invariant-loop-arg : goal.invariant-loop-arg
 invariant-loop-arg l =
-    l.text.items ++ terms_text (plain_symbols (drop l.arg-index l.args)) ≡ l.fn.text.items ++ terms_text (plain_symbols l.args)
+    l.text.items ++ terms_text (plain_symbols (drop l.arg-index l.args))
+    ≡ l.fn.text.items ++ terms_text (plain_symbols l.args)

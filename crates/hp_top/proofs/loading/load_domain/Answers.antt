@@ -9,11 +9,11 @@ returns-in-Ok-clause-domain g c =
     let front = c.refusals_are_decided_by_the_front.ensures in
     read_weaker _ _ c.domain_in.result c.domain_in.ensures.domain
     (λ x h. reads_file front.refused front.spelled c.limits_are_kept.ensures.needed domain_form _ _ (domain_of x)
-    (rw c.as_slice.ensures.value c.in-Ok.ensures.bytes) h)
+    c.in-Ok.ensures.bytes h)
 
 pub returns-in-Ok-clause-stops : goal.returns-in-Ok-clause-stops
 returns-in-Ok-clause-stops g c =
     let front = c.refusals_are_decided_by_the_front.ensures in
     cause_weaker _ _ c.domain_in.result c.domain_in.ensures.refused
     (λ e h. stops_file front.refused front.spelled c.limits_are_kept.ensures.needed domain_form inputs.Domain _ _ e _ _
-    (rw c.as_slice.ensures.value c.in-Ok.ensures.bytes) h)
+    c.in-Ok.ensures.bytes h)

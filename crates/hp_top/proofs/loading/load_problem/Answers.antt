@@ -9,11 +9,12 @@ returns-in-Ok-clause-problem g c =
     let front = c.refusals_are_decided_by_the_front.ensures in
     read_weaker _ _ c.problem_in.result c.problem_in.ensures.problem
     (λ x h. reads_file front.refused front.spelled c.limits_are_kept.ensures.needed problem_form _ _ (problem_of x)
-    (rw c.as_slice.ensures.value c.in-Ok.ensures.bytes) h)
+    c.in-Ok.ensures.bytes h)
 
 pub returns-in-Ok-clause-stops : goal.returns-in-Ok-clause-stops
 returns-in-Ok-clause-stops g c =
     let front = c.refusals_are_decided_by_the_front.ensures in
     cause_weaker _ _ c.problem_in.result c.problem_in.ensures.refused
-    (λ e h. stops_file front.refused front.spelled c.limits_are_kept.ensures.needed problem_form inputs.Problem _ _ e _ _
-    (rw c.as_slice.ensures.value c.in-Ok.ensures.bytes) h)
+    (λ e h.
+    stops_file front.refused front.spelled c.limits_are_kept.ensures.needed problem_form inputs.Problem _ _ e _ _
+    c.in-Ok.ensures.bytes h)

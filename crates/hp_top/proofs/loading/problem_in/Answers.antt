@@ -7,7 +7,8 @@ use Rattle.hp_top.proofs.loading.problem_in.Goals as goal
 pub returns-in-Ok-clause-refused : goal.returns-in-Ok-clause-refused
 returns-in-Ok-clause-refused c =
     rw c.of_form.ensures
-    (form_refused inputs.Problem problem_form _ (forest_of c.in-Ok.forest) c.in-Err-problem.refusal c.in-Ok.ensures.forest
+    (form_refused inputs.Problem problem_form _
+    (forest_of c.in-Ok.forest) c.in-Err-problem.refusal c.in-Ok.ensures.forest
     (rw (← c.in-Ok.ensures.length) c.in-Err-problem.ensures.form))
 
 pub returns-clause-refused : goal.returns-clause-refused

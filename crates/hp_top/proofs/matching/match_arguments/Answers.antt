@@ -9,5 +9,7 @@ returns-then-arguments-names c =
 
 pub loop-i-preserved : goal.loop-i-preserved
 loop-i-preserved c =
-    arguments_more c.args.arguments.now c.args.names.now c.loop-i.i c.index-arguments-i.result c.index-names-i.result _ _ c.in_ok-match_argument.field-0 _
-    c.loop-i-test.true (omega arith) c.index-arguments-i.is c.index-names-i.is c.in_ok-match_argument.ensures c.if-not-branch.false c.loop-i.invariant
+    arguments_more c.args.arguments.now c.args.names.now c.loop-i.i c.index-arguments-i.result c.index-names-i.result _
+    _ c.in_ok-match_argument.field-0 _
+    c.loop-i-test.true (omega arith) c.index-arguments-i.is c.index-names-i.is c.in_ok-match_argument.ensures
+    c.if-not-branch.false c.loop-i.invariant

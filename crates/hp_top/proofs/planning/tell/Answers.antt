@@ -6,7 +6,10 @@ use Rattle.hp_top.proofs.planning.tell.Goals as goal
 
 pub loop-ending-preserved : goal.loop-ending-preserved
 loop-ending-preserved g c =
-    let v = subst (λ o. Visited o c.args.most c.loop-ending.progress c.visit.new.progress (rest c.loop-ending.walk) (rest c.visit.new.walk) (g.K.Sink.bytes c.loop-ending.out) (g.K.Sink.bytes c.visit.new.out)) c.in-Ok-None.field-0-is c.in-Ok-None.ensures.visited in
+    let v = subst
+    (λ o. Visited o c.args.most c.loop-ending.progress c.visit.new.progress (rest c.loop-ending.walk)
+    (rest c.visit.new.walk) (g.K.Sink.bytes c.loop-ending.out) (g.K.Sink.bytes c.visit.new.out))
+    c.in-Ok-None.field-0-is c.in-Ok-None.ensures.visited in
     record {
       gone = goes_through _ _ _ _ _ _ _ _ _ _ c.loop-ending.invariant.gone v.0;
       fewer = v.1;
@@ -15,10 +18,15 @@ loop-ending-preserved g c =
 
 pub returns-in-Ok-Some-clause-err : goal.returns-in-Ok-Some-clause-err
 returns-in-Ok-Some-clause-err g c =
-    let v = subst (λ o. Visited o c.args.most c.loop-ending.progress c.visit.new.progress (rest c.loop-ending.walk) (rest c.visit.new.walk) (g.K.Sink.bytes c.loop-ending.out) (g.K.Sink.bytes c.visit.new.out)) c.in-Ok-Some.field-0-is c.in-Ok-Some.ensures.visited in
-    halted_at_end c.args.most _ _ _ c.in-Ok-Some.ending c.close.result _ _ _ _ _ _ (omega (arith, c.loop-ending.invariant.later, c.visit.ensures.later))
+    let v = subst
+    (λ o. Visited o c.args.most c.loop-ending.progress c.visit.new.progress (rest c.loop-ending.walk)
+    (rest c.visit.new.walk) (g.K.Sink.bytes c.loop-ending.out) (g.K.Sink.bytes c.visit.new.out))
+    c.in-Ok-Some.field-0-is c.in-Ok-Some.ensures.visited in
+    halted_at_end c.args.most _ _ _ c.in-Ok-Some.ending c.close.result _ _ _ _ _ _
+    (omega (arith, c.loop-ending.invariant.later, c.visit.ensures.later))
     (goes_to_close _ _ _ _ _ _ _ _ _ _ c.loop-ending.invariant.gone v) c.close.ensures.err
 
 pub returns-in-Err-clause-err : goal.returns-in-Err-clause-err
 returns-in-Err-clause-err g c =
-    halted_midway c.args.most _ _ _ _ c.in-Err.halt _ _ _ _ _ _ c.loop-ending.invariant.later c.loop-ending.invariant.gone c.in-Err.ensures.err
+    halted_midway c.args.most _ _ _ _ c.in-Err.halt _ _ _ _ _ _ c.loop-ending.invariant.later
+    c.loop-ending.invariant.gone c.in-Err.ensures.err

@@ -7,19 +7,28 @@ use Rattle.hp_top.proofs.reading.read_rest.Goals as goal
 pub returns-clause-bytes : goal.returns-clause-bytes
 returns-clause-bytes g c =
     elim c.loop-which-test.branch [
-      | else-loop-which-test w ↦ rw w.bytes-is (full LARGEST_TEXT c.loop-which.bytes.items _ _ c.loop-which.invariant.left (omega arith))
+      | else-loop-which-test w ↦
+          rw w.bytes-is (full LARGEST_TEXT c.loop-which.bytes.items _ _ c.loop-which.invariant.left (omega arith))
       | then-loop-which-test+in_ok-count+then-count-eq0 w ↦
-          rw w.bytes-is (ended LARGEST_TEXT c.loop-which.bytes.items _ w.in_ok-count.count _ _ _ c.loop-which.invariant.left w.in_ok-count.ensures.grown w.if-count-eq0.true (w.in_ok-count.ensures.length.0) c.loop-which.invariant.room)
+          rw w.bytes-is
+          (ended LARGEST_TEXT c.loop-which.bytes.items _ w.in_ok-count.count _ _ _ c.loop-which.invariant.left
+          w.in_ok-count.ensures.grown w.if-count-eq0.true (w.in_ok-count.ensures.length.0) c.loop-which.invariant.room)
     ]
 
 pub returns-in_err-count-clause-takes : goal.returns-in_err-count-clause-takes
 returns-in_err-count-clause-takes g c =
-    takes_more (LARGEST_TEXT + 1) _ c.loop-which.bytes.items _ _ _ c.loop-which.invariant.left c.read_more.ensures.takes (omega arith)
+    takes_more (LARGEST_TEXT + 1) _ c.loop-which.bytes.items _ _ _ c.loop-which.invariant.left c.read_more.ensures.takes
+    (omega arith)
 
 pub returns-clause-takes : goal.returns-clause-takes
 returns-clause-takes g c =
     elim c.loop-which-test.branch [
-      | else-loop-which-test w ↦ rw w.folder-is (left_takes (LARGEST_TEXT + 1) c.loop-which.bytes.items _ _ c.loop-which.invariant.left c.loop-which.invariant.room)
+      | else-loop-which-test w ↦
+          rw w.folder-is
+          (left_takes (LARGEST_TEXT + 1) c.loop-which.bytes.items _ _ c.loop-which.invariant.left
+          c.loop-which.invariant.room)
       | then-loop-which-test+in_ok-count+then-count-eq0 w ↦
-          rw w.folder-is (takes_more (LARGEST_TEXT + 1) _ c.loop-which.bytes.items _ _ _ c.loop-which.invariant.left w.read_more.ensures.takes (omega arith))
+          rw w.folder-is
+          (takes_more (LARGEST_TEXT + 1) _ c.loop-which.bytes.items _ _ _ c.loop-which.invariant.left
+          w.read_more.ensures.takes (omega arith))
     ]

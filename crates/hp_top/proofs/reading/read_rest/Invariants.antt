@@ -11,7 +11,8 @@ invariant-loop-which g l =
       room : length l.bytes.items ≤ LARGEST_TEXT + 1;
       left : Left l.bytes.items (folder.rest l.fn.folder l.fn.which) (folder.rest l.folder l.which);
       begun : folder.begun l.folder l.which ≡ true;
-      others : (w : Input) → w ≢ l.fn.which → (folder.begun l.folder w ≡ folder.begun l.fn.folder w) × (folder.rest l.folder w ≡ folder.rest l.fn.folder w);
+      others : (w : Input) → w ≢ l.fn.which → (folder.begun l.folder w ≡ folder.begun l.fn.folder w)
+          × (folder.rest l.folder w ≡ folder.rest l.fn.folder w);
       files : (n : List ℕ) → folder.file l.folder n ≡ folder.file l.fn.folder n;
       later : (w : Input) → folder.faults l.fn.folder w ≤ folder.faults l.folder w;
     }

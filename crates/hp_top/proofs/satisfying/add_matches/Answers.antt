@@ -13,9 +13,11 @@ loop-ground-preserved c =
     let a = plain_atom c.args.atom.now in
     let e = bindings_of c.args.bindings.now in
     let by : Term → Option Bindings = λ t. match_atom a t e in
-    gather_more (λ xs. matches (plain_terms xs) a e) (λ g. option_to_list (by (shared_term g))) (λ g xs. filter_map_step by (shared_term g) (plain_terms xs))
+    gather_more (λ xs. matches (plain_terms xs) a e) (λ g. option_to_list (by (shared_term g)))
+    (λ g xs. filter_map_step by (shared_term g) (plain_terms xs))
     _ _ c.ground-item.result _ _ _ c.loop-ground-test.true c.ground-item.is
-    (c.in_ok-add_match.ensures ∙ ap (λ o. map bindings_of c.loop-ground.found.items ++ option_to_list o) (c.in_ok-match_atom.ensures ∙ ap (λ g. by (plain_term g)) c.deref.ensures))
+    (c.in_ok-add_match.ensures ∙ ap (λ o. map bindings_of c.loop-ground.found.items ++ option_to_list o)
+    (c.in_ok-match_atom.ensures ∙ ap (λ g. by (plain_term g)) c.deref.ensures))
     c.loop-ground.invariant
 
 pub returns : goal.returns
@@ -23,5 +25,6 @@ returns c =
     let a = plain_atom c.args.atom.now in
     let e = bindings_of c.args.bindings.now in
     let by : Term → Option Bindings = λ t. match_atom a t e in
-    gather_all (λ xs. matches (plain_terms xs) a e) (λ g. option_to_list (by (shared_term g))) (λ g xs. filter_map_step by (shared_term g) (plain_terms xs))
+    gather_all (λ xs. matches (plain_terms xs) a e) (λ g. option_to_list (by (shared_term g)))
+    (λ g xs. filter_map_step by (shared_term g) (plain_terms xs))
     _ _ _ _ refl c.loop-ground-test.false c.loop-ground.invariant

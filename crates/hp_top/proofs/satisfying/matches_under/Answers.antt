@@ -10,7 +10,8 @@ loop-bindings-preserved c =
     let s = plain_terms c.args.state.now in
     let a = plain_atom c.args.atom.now in
     gather_more (λ bs. flat_map (matches s a) (map bindings_of bs)) (λ b. matches s a (bindings_of b)) (λ b bs. refl)
-    _ _ c.bindings-item.result _ _ _ c.loop-bindings-test.true c.bindings-item.is c.in_ok-add_matches.ensures c.loop-bindings.invariant
+    _ _ c.bindings-item.result _ _ _ c.loop-bindings-test.true c.bindings-item.is c.in_ok-add_matches.ensures
+    c.loop-bindings.invariant
 
 pub returns : goal.returns
 returns c =

@@ -6,5 +6,6 @@ use Rattle.hp_top.proofs.satisfying.matches_under.Given as goal
 
 abbrev pub invariant-loop-bindings : goal.invariant-loop-bindings
 invariant-loop-bindings l =
-    map bindings_of l.found.items ++ flat_map (matches (plain_terms l.state) (plain_atom l.atom)) (map bindings_of (drop l.bindings-index l.current))
+    map bindings_of l.found.items
+    ++ flat_map (matches (plain_terms l.state) (plain_atom l.atom)) (map bindings_of (drop l.bindings-index l.current))
     ≡ flat_map (matches (plain_terms l.state) (plain_atom l.atom)) (map bindings_of l.current)

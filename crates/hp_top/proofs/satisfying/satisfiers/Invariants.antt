@@ -6,5 +6,6 @@ use Rattle.hp_top.proofs.satisfying.satisfiers.Given as goal
 
 abbrev pub invariant-loop-atom : goal.invariant-loop-atom
 invariant-loop-atom l =
-    flat_map (satisfiers (plain_terms l.state) (plain_atoms (drop l.atom-index l.atoms))) (map bindings_of l.current.items)
+    flat_map (satisfiers (plain_terms l.state) (plain_atoms (drop l.atom-index l.atoms)))
+    (map bindings_of l.current.items)
     ≡ flat_map (satisfiers (plain_terms l.state) (plain_atoms l.atoms)) (map bindings_of l.initial.current.items)

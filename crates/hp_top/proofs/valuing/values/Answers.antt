@@ -17,5 +17,6 @@ pub returns : goal.returns
 returns c =
     let e = bindings_of c.args.bindings.now in
     values_all (λ a. atom_value (plain_atom a) e) (λ as'. atom_values (plain_atoms as') e) ◌∷◌ (λ a as'. refl)
-    [] c.args.atoms.now c.loop-atom.atom-index (plain_terms c.loop-atom.found.items) _ refl c.loop-atom-test.false c.loop-atom.invariant
+    [] c.args.atoms.now c.loop-atom.atom-index
+    (plain_terms c.loop-atom.found.items) _ refl c.loop-atom-test.false c.loop-atom.invariant
     ∙ ap Ok (list_in_front (plain_terms c.loop-atom.found.items))

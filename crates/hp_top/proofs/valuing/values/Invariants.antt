@@ -7,4 +7,5 @@ use Rattle.hp_top.proofs.valuing.values.Given as goal
 abbrev pub invariant-loop-atom : goal.invariant-loop-atom
 invariant-loop-atom l =
     atom_values (plain_atoms l.atoms) (bindings_of l.bindings)
-    ≡ behind ◌∷◌ (plain_terms l.found.items) (atom_values (plain_atoms (drop l.atom-index l.atoms)) (bindings_of l.bindings))
+    ≡ behind ◌∷◌ (plain_terms l.found.items)
+    (atom_values (plain_atoms (drop l.atom-index l.atoms)) (bindings_of l.bindings))

@@ -8,4 +8,5 @@ use Rattle.hp_top.proofs.valuing.values_of_arguments.Given as goal
 abbrev pub invariant-loop-argument : goal.invariant-loop-argument
 invariant-loop-argument l =
     part_values (plain_patterns l.arguments) (bindings_of l.bindings)
-    ≡ behind More (map Symbol l.names.items) (part_values (plain_patterns (drop l.argument-index l.arguments)) (bindings_of l.bindings))
+    ≡ behind More (map Symbol l.names.items)
+    (part_values (plain_patterns (drop l.argument-index l.arguments)) (bindings_of l.bindings))

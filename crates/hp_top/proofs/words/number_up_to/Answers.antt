@@ -5,4 +5,5 @@ use Rattle.hp_top.proofs.words.number_up_to.Goals as goal
 
 pub returns-then-number-most : goal.returns-then-number-most
 returns-then-number-most c =
-    over_most c.args.digits.now c.loop-digit.digit-index c.loop-digit.number _ c.args.most c.loop-digit.invariant.left (omega arith) (grind (arith, common_steps)) c.if-number-most.true
+    over_most c.args.digits.now c.loop-digit.digit-index c.loop-digit.number _ c.args.most c.loop-digit.invariant.left
+    (omega arith) (grind (arith, common_steps)) c.if-number-most.true
