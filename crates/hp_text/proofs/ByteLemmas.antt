@@ -1,11 +1,10 @@
 -- What stands at an offset, by its byte and the comment that is open there.
-use Rattle.std.proofs.Common.{◌≡◌, ℕ, ◌<◌, ◌≤◌, Bool, true, false, cond, List, length, slice_index, refl, sym, ◌∙◌, ap, arith}
+use Rattle.std.proofs.Common.{◌≡◌, ℕ, ◌<◌, Bool, true, false, cond, List, length, slice_index, refl, sym, ◌∙◌, arith, ◌+◌}
 use Rattle.std.specs.Prelude.{◌==◌, ◌||◌}
 use Rattle.std.proofs.lemmas.Bool.Decides.{nat_tests}
 use Rattle.std.proofs.lemmas.Bool.{lt-ltb, eqb-true, false_from_ne_true}
 use Rattle.hp_syntax.specs.Text.{Kind, Blank, Opening, Closing, NameByte, Bad, End, is_blank, is_name_byte, byte_kind, comment_after, in_comment, kind_at}
-use Rattle.hp_syntax.specs.Refusal.{is_name}
-use Rattle.hp_syntax.proofs.TextLemmas.{kind_at-byte, kind_at-comment, kind_at-end, kind_within, is_name-NameByte}
+use Rattle.hp_syntax.proofs.TextLemmas.{in_comment-next, kind_at-byte, kind_at-comment, kind_within}
 
 -- what stands at an offset within the text
 pub kind_at-within : (text : List ℕ) (i : ℕ) → i < length text
@@ -14,18 +13,52 @@ pub kind_at-within : (text : List ℕ) (i : ℕ) → i < length text
 unfolding kind_at
 kind_at-within text i l = rw (lt-ltb i (length text) l) refl
 
-blank_at : (inside blank : Bool) (k : Kind) → (inside || blank) ≡ true → cond inside Blank (cond blank Blank k) ≡ Blank
-blank_at true blank k h = refl
-blank_at false true k h = refl
-blank_at false false k h = cc
+-- a blank begins no comment
+blank_no_comment : (b : ℕ) → is_blank b ≡ true → comment_after false b ≡ false
+blank_no_comment b h = grind (arith, nat_tests)
 
--- a byte of a comment and a blank byte are blank
-pub gap_byte : (text : List ℕ) (i : ℕ) → i < length text
-    → (comment_after (in_comment text i) (slice_index text i) || is_blank (slice_index text i)) ≡ true
-    → kind_at text i ≡ Blank
-gap_byte text i l h =
-    kind_at-within text i l
-    ∙ blank_at (comment_after (in_comment text i) (slice_index text i)) (is_blank (slice_index text i)) _ h
+-- behind a blank outside comments no comment is open
+pub quiet_behind_blank : (text : List ℕ) (i : ℕ) → in_comment text i ≡ false
+    → is_blank (slice_index text i) ≡ true → in_comment text (i + 1) ≡ false
+quiet_behind_blank text i q h = in_comment-next text i ∙ rw q (blank_no_comment (slice_index text i) h)
+
+-- outside comments a blank is one
+pub blank_byte : (text : List ℕ) (i : ℕ) → i < length text → in_comment text i ≡ false
+    → is_blank (slice_index text i) ≡ true → kind_at text i ≡ Blank
+blank_byte text i l q h =
+    kind_at-byte text i l (rw q (blank_no_comment (slice_index text i) h)) ∙ rw h refl
+
+-- a semicolon begins a comment, and is one of its bytes
+pub comment_begins : (text : List ℕ) (i : ℕ) → i < length text → in_comment text i ≡ false
+    → slice_index text i ≡ 59 → (kind_at text i ≡ Blank) × (in_comment text (i + 1) ≡ true)
+comment_begins text i l q e = (kind_at-comment text i l (rw (q, e) refl), in_comment-next text i ∙ rw (q, e) refl)
+
+open_still : (b : ℕ) → (b ≡ 10 → ⊥) → comment_after true b ≡ true
+open_still b n = grind (arith, nat_tests)
+
+-- a comment goes on behind what is no line feed
+pub comment_more : (text : List ℕ) (i : ℕ) → in_comment text i ≡ true → (slice_index text i ≡ 10 → ⊥)
+    → in_comment text (i + 1) ≡ true
+comment_more text i q n = in_comment-next text i ∙ rw q (open_still (slice_index text i) n)
+
+closed_by : (b : ℕ) → comment_after true b ≡ false → is_blank b ≡ true
+closed_by b h = grind (arith, nat_tests)
+
+blank_either : (inside blank : Bool) (k : Kind) → (inside ≡ false → blank ≡ true)
+    → cond inside Blank (cond blank Blank k) ≡ Blank
+blank_either true blank k h = refl
+blank_either false true k h = refl
+blank_either false false k h = absurd (let x : false ≡ true = h refl in cc)
+
+-- where a comment is open each byte is blank
+pub comment_byte : (text : List ℕ) (i : ℕ) → i < length text → in_comment text i ≡ true → kind_at text i ≡ Blank
+comment_byte text i l q =
+    let b = slice_index text i in
+    kind_at-within text i l ∙ rw q (blank_either (comment_after true b) (is_blank b) _ (closed_by b))
+
+-- behind a line feed no comment is open
+pub quiet_behind_line : (text : List ℕ) (i : ℕ) → slice_index text i ≡ 10 → in_comment text (i + 1) ≡ false
+quiet_behind_line text i e = in_comment-next text i ∙ rw e refl
 
 no_blank_at : (inside blank opens closes names : Bool) → (inside || blank) ≡ false
     → cond inside Blank (cond blank Blank (cond opens Opening (cond closes Closing (cond names NameByte Bad)))) ≡ Blank
@@ -37,12 +70,16 @@ no_blank_at false false false true names h e = cc
 no_blank_at false false false false true h e = cc
 no_blank_at false false false false false h e = cc
 
--- no other byte is blank
-pub no_gap_byte : (text : List ℕ) (i : ℕ) → i < length text
-    → (comment_after (in_comment text i) (slice_index text i) || is_blank (slice_index text i)) ≡ false
-    → kind_at text i ≡ Blank → ⊥
-no_gap_byte text i l h e =
+-- what is neither blank nor a semicolon begins no gap
+no_gap_begins : (b : ℕ) → is_blank b ≡ false → (b ≡ 59 → ⊥) → (comment_after false b || is_blank b) ≡ false
+no_gap_begins b h n = grind (arith, nat_tests)
+
+-- outside comments no other byte is blank
+pub no_blank_byte : (text : List ℕ) (i : ℕ) → i < length text → in_comment text i ≡ false
+    → is_blank (slice_index text i) ≡ false → (slice_index text i ≡ 59 → ⊥) → kind_at text i ≡ Blank → ⊥
+no_blank_byte text i l q f n e =
     let b = slice_index text i in
+    let h : (comment_after (in_comment text i) b || is_blank b) ≡ false = rw q (no_gap_begins b f n) in
     no_blank_at (comment_after (in_comment text i) b) (is_blank b) (b == 40) (b == 41) (is_name_byte b) h
     (sym (kind_at-within text i l) ∙ e)
 
@@ -51,7 +88,7 @@ name_no_comment : (b : ℕ) → is_name_byte b ≡ true → comment_after false 
 name_no_comment b h = grind (arith, nat_tests)
 
 -- a name byte is one by itself
-name_kind : (b : ℕ) → is_name_byte b ≡ true → byte_kind b ≡ NameByte
+pub name_kind : (b : ℕ) → is_name_byte b ≡ true → byte_kind b ≡ NameByte
 name_kind b h = grind (arith, nat_tests)
 
 -- outside comments a name byte is one of a token
@@ -84,23 +121,6 @@ name_byte_only text i e =
 pub unblank_byte : (text : List ℕ) (i : ℕ) → i < length text → (kind_at text i ≡ Blank → ⊥)
     → kind_at text i ≡ byte_kind (slice_index text i)
 unblank_byte text i l h = kind_at-byte text i l (false_from_ne_true _ (λ e. h (kind_at-comment text i l e)))
-
--- outside comments what stands at an offset is a byte of a token where it is a name byte
-pub is_name-byte : (text : List ℕ) (i : ℕ) → i < length text → in_comment text i ≡ false
-    → is_name (kind_at text i) ≡ is_name_byte (slice_index text i)
-is_name-byte text i l q =
-    let told : (v : Bool) → is_name_byte (slice_index text i) ≡ v
-    → is_name (kind_at text i) ≡ v =
-    λ v. elim v as (λ v. is_name_byte (slice_index text i) ≡ v → is_name (kind_at text i) ≡ v) [
-      | true ↦ λ h. ap is_name (name_byte text i l q h)
-      | false ↦ λ h. is_name-NameByte (kind_at text i)
-          (λ k. let x : true ≡ false = sym (name_byte_only text i k) ∙ h in cc)
-    ] in
-    told (is_name_byte (slice_index text i)) refl
-
--- behind a text's last byte there is no byte of a token
-pub is_name-end : (text : List ℕ) (i : ℕ) → length text ≤ i → is_name (kind_at text i) ≡ false
-is_name-end text i l = ap is_name (kind_at-end text i l)
 
 opens_only : (inside blank opens closes names : Bool)
     → cond inside Blank
@@ -170,3 +190,21 @@ within_no_end text i l h =
     no_end (comment_after (in_comment text i) (slice_index text i)) (is_blank (slice_index text i))
     (slice_index text i == 40) (slice_index text i == 41) (is_name_byte (slice_index text i))
     (sym (kind_at-within text i l) ∙ h)
+
+-- what is nothing else is bad
+bad_left : (k : Kind) → (k ≡ Blank → ⊥) → (k ≡ Opening → ⊥) → (k ≡ Closing → ⊥) → (k ≡ NameByte → ⊥) → (k ≡ End → ⊥)
+    → k ≡ Bad
+bad_left Blank a b c d e = absurd (a refl)
+bad_left Opening a b c d e = absurd (b refl)
+bad_left Closing a b c d e = absurd (c refl)
+bad_left NameByte a b c d e = absurd (d refl)
+bad_left End a b c d e = absurd (e refl)
+bad_left Bad a b c d e = refl
+
+-- what is no bracket and no name byte is bad where it isn't blank
+pub bad_byte : (text : List ℕ) (i : ℕ) → i < length text → (kind_at text i ≡ Blank → ⊥)
+    → (slice_index text i ≡ 40 → ⊥) → (slice_index text i ≡ 41 → ⊥) → is_name_byte (slice_index text i) ≡ false
+    → kind_at text i ≡ Bad
+bad_byte text i l blank opens closes names =
+    bad_left (kind_at text i) blank (λ e. opens (opening_byte text i e)) (λ e. closes (closing_byte text i e))
+    (λ e. let x : true ≡ false = sym (name_byte_only text i e) ∙ names in cc) (within_no_end text i l)

@@ -6,23 +6,15 @@ use Rattle.hp_syntax.specs.Text.{Opening, Closing, NameByte, Blank, kind_at, IsG
 use Rattle.hp_syntax.specs.Refusal.{open_before}
 use Rattle.hp_syntax.specs.Forest as plain
 use Rattle.hp_syntax.specs.Forest.{span_of, Spells, SpellsNode}
-use Rattle.hp_syntax.proofs.TextLemmas.{level_over_token, level_over_list, outside_behind, quiet_behind}
+use Rattle.hp_syntax.proofs.TextLemmas.{level_over_token, level_over_list}
 use Rattle.hp_syntax.specs.declared.name.Name.{Name}
 use Rattle.hp_text.specs.declared.forest.Node.{Node}
 use Rattle.hp_text.specs.declared.forest.NodeKind.TheVariants as kinds
 use Rattle.hp_text.specs.Nodes.{node_of, nodes_of}
 use Rattle.hp_text.specs.NodeLaws.{node_of-name, node_of-number, node_of-list}
 use Rattle.hp_text.specs.Places.{IsBetween, IsNodeAt, IsRead}
+use Rattle.hp_text.proofs.PlaceLemmas.{between_brackets}
 use Rattle.hp_text.proofs.Runs.{read_more, read_spelled}
-
--- behind a bracket no token or comment goes on
-pub between_brackets : (text : List ℕ) (i : ℕ) → i < length text → (kind_at text i ≡ NameByte → ⊥)
-    → (kind_at text i ≡ Blank → ⊥) → IsBetween text (i + 1)
-between_brackets text i l name blank = record {
-  within = omega arith;
-  begins = λ _. outside_behind text i name;
-  quiet = quiet_behind text i blank l;
-}
 
 -- an opening bracket is no name byte
 pub opening_no_name : (text : List ℕ) (i : ℕ) → kind_at text i ≡ Opening → kind_at text i ≡ NameByte → ⊥

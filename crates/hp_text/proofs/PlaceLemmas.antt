@@ -1,11 +1,11 @@
 -- What one more byte does to gaps, tokens and places.
-use Rattle.std.proofs.Common.{◌≡◌, ℕ, ◌+◌, ◌<◌, ◌≤◌, true, false, List, length, slice_index, sym, ◌∙◌, arith, ⊎_elim}
-use Rattle.std.specs.Prelude.{◌||◌}
+use Rattle.std.proofs.Common.{◌≡◌, ℕ, ◌+◌, ◌-◌, ◌<◌, ◌≤◌, true, false, List, length, slice_index, get_or, take, drop, refl, sym, ap, ◌∙◌, arith, ⊎_elim}
 use Rattle.std.proofs.lemmas.Bool.{cases_lt}
-use Rattle.hp_syntax.specs.Text.{Kind, Blank, NameByte, End, is_blank, is_name_byte, comment_after, in_comment, kind_at, IsOutside, IsGap}
-use Rattle.hp_syntax.proofs.TextLemmas.{kind_at-end, kind_within, quiet_behind}
+use Rattle.std.proofs.lemmas.List.{take_all, get_or-drop, length-drop}
+use Rattle.hp_syntax.specs.Text.{Kind, Blank, NameByte, End, is_blank, is_name_byte, in_comment, kind_at, IsGap}
+use Rattle.hp_syntax.proofs.TextLemmas.{kind_at-end, kind_within, quiet_behind, outside_behind}
 use Rattle.hp_text.specs.Places.{IsBetween, IsStop}
-use Rattle.hp_text.proofs.ByteLemmas.{no_gap_byte, name_byte_only}
+use Rattle.hp_text.proofs.ByteLemmas.{blank_byte, quiet_behind_blank, comment_byte, quiet_behind_line, no_blank_byte, name_byte_only}
 
 -- one more byte of a kind
 run_more : (k : Kind) (text : List ℕ) (from i : ℕ) → ((j : ℕ) → from ≤ j → j < i → kind_at text j ≡ k)
@@ -31,11 +31,56 @@ gap_none text a b e = record {
 pub blank_no_name : (text : List ℕ) (i : ℕ) → kind_at text i ≡ Blank → kind_at text i ≡ NameByte → ⊥
 blank_no_name text i e k = let x : Blank ≡ NameByte = sym e ∙ k in cc
 
+-- two gaps are one
+pub gap_gap : (text : List ℕ) (a b c : ℕ) → IsGap text a b → IsGap text b c → IsGap text a c
+gap_gap text a b c g h = record {
+  order = let o : a ≤ b = g.order in let q : b ≤ c = h.order in omega arith;
+  blank = λ i o l. ⊎_elim (λ below. g.blank i o below) (λ above. h.blank i above l) (cases_lt i b);
+}
+
+-- the first part of a gap is one
+pub gap_part : (text : List ℕ) (a b c : ℕ) → IsGap text a c → a ≤ b → b ≤ c → IsGap text a b
+gap_part text a b c g o l = record { order = o; blank = λ i p m. g.blank i p (omega arith) }
+
+-- behind a blank outside comments no token or comment goes on
+pub between_blanks : (text : List ℕ) (i : ℕ) → i < length text → in_comment text i ≡ false
+    → is_blank (slice_index text i) ≡ true → IsBetween text (i + 1)
+between_blanks text i l q h = record {
+  within = omega arith;
+  begins = λ _. outside_behind text i (blank_no_name text i (blank_byte text i l q h));
+  quiet = λ _. quiet_behind_blank text i q h;
+}
+
+-- a line feed ends a comment, and is one more blank
+pub between_lines : (text : List ℕ) (i : ℕ) → i < length text → in_comment text i ≡ true → slice_index text i ≡ 10
+    → IsBetween text (i + 1)
+between_lines text i l q e = record {
+  within = omega arith;
+  begins = λ _. outside_behind text i (blank_no_name text i (comment_byte text i l q));
+  quiet = λ _. quiet_behind_line text i e;
+}
+
+-- before its first byte a text has no token and no comment
+pub between_first : (text : List ℕ) → IsBetween text 0
+between_first text = record { within = omega arith; begins = λ _ i e. absurd (omega arith); quiet = λ _. refl }
+
+-- behind a bracket no token or comment goes on
+pub between_brackets : (text : List ℕ) (i : ℕ) → i < length text → (kind_at text i ≡ NameByte → ⊥)
+    → (kind_at text i ≡ Blank → ⊥) → IsBetween text (i + 1)
+between_brackets text i l name blank = record {
+  within = omega arith;
+  begins = λ _. outside_behind text i name;
+  quiet = λ _. quiet_behind text i blank l;
+}
+
 -- a gap ends at a byte that is neither blank nor of a comment
 pub stop_here : (text : List ℕ) (i : ℕ) → i < length text
-    → (comment_after (in_comment text i) (slice_index text i) || is_blank (slice_index text i)) ≡ false
-    → (kind_at text i ≡ NameByte → IsOutside text i) → IsStop text i
-stop_here text i l h b = record { within = omega arith; begins = b; stops = no_gap_byte text i l h }
+    → is_blank (slice_index text i) ≡ false → (slice_index text i ≡ 59 → ⊥) → IsBetween text i → IsStop text i
+stop_here text i l h n p = record {
+  within = omega arith;
+  begins = p.begins;
+  stops = no_blank_byte text i l (p.quiet l) h n;
+}
 
 -- a gap ends with the text
 pub stop_at_end : (text : List ℕ) (i : ℕ) → i ≡ length text → IsStop text i
@@ -46,6 +91,18 @@ stop_at_end text i e =
       begins = λ h. let x : End ≡ NameByte = sym end ∙ h in cc;
       stops = λ h. let x : End ≡ Blank = sym end ∙ h in cc;
     }
+
+rest_whole : (text : List ℕ) (n : ℕ) → take (length text - n) (drop n text) ≡ drop n text
+rest_whole text n = take_all (length text - n) (drop n text) (let e = length-drop n text in omega (arith, e))
+
+-- the rest of a text has the bytes behind a place
+pub rest_byte : (text : List ℕ) (n k i : ℕ) → i ≡ n + k
+    → get_or (take (length text - n) (drop n text)) k 0 ≡ slice_index text i
+rest_byte text n k i e = rw (rest_whole text n, get_or-drop n text k 0, e) refl
+
+-- the rest of a text is as long as what is behind a place
+pub rest_length : (text : List ℕ) (n : ℕ) → length (take (length text - n) (drop n text)) ≡ length text - n
+rest_length text n = ap length (rest_whole text n) ∙ length-drop n text
 
 -- one byte is a token so far
 pub token_begins : (text : List ℕ) (from : ℕ) → kind_at text from ≡ NameByte → (j : ℕ) → from ≤ j → j < from + 1
@@ -76,4 +133,4 @@ token_ends_there text i l k = let x : End ≡ NameByte = sym (kind_at-end text i
 -- no token or comment goes on behind a token
 pub between_tokens : (text : List ℕ) (i : ℕ) → i ≤ length text → (kind_at text i ≡ NameByte → ⊥)
     → in_comment text i ≡ false → IsBetween text i
-between_tokens text i l h q = record { within = l; begins = λ k. absurd (h k); quiet = q }
+between_tokens text i l h q = record { within = l; begins = λ k. absurd (h k); quiet = λ _. q }

@@ -1,20 +1,12 @@
 -- How nodes that were read one after the other join.
-use Rattle.std.proofs.Common.{◌≡◌, ℕ, ◌+◌, ◌≤◌, List, [], ◌∷◌, ◌++◌, length, ap, ◌∙◌, sym, refl, arith, ⊎_elim}
-use Rattle.std.proofs.lemmas.Bool.{cases_lt}
+use Rattle.std.proofs.Common.{◌≡◌, ℕ, ◌+◌, ◌≤◌, List, [], ◌∷◌, ◌++◌, length, ap, ◌∙◌, sym, refl, arith}
 use Rattle.hp_syntax.specs.Text.{IsGap}
 use Rattle.hp_syntax.specs.Refusal.{open_before, IsClear}
 use Rattle.hp_syntax.specs.Forest.{Node, Forest, Bare, Grow, span_of, Spells, SpellsNode, IsForest}
 use Rattle.hp_syntax.proofs.TextLemmas.{level_over_gap}
 use Rattle.hp_text.specs.Nodes.{grown}
 use Rattle.hp_text.specs.Places.{IsRead, joined}
-use Rattle.hp_text.proofs.PlaceLemmas.{gap_none}
-
--- two gaps are one
-gap_gap : (text : List ℕ) (a b c : ℕ) → IsGap text a b → IsGap text b c → IsGap text a c
-gap_gap text a b c g h = record {
-  order = let o : a ≤ b = g.order in let q : b ≤ c = h.order in omega arith;
-  blank = λ i o l. ⊎_elim (λ below. g.blank i o below) (λ above. h.blank i above l) (cases_lt i b);
-}
+use Rattle.hp_text.proofs.PlaceLemmas.{gap_none, gap_gap}
 
 -- a gap before a forest is part of what spells it
 gap_then : (text : List ℕ) (a b to : ℕ) (g : Forest) → IsGap text a b → Spells text b to g → Spells text a to g

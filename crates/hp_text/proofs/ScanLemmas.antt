@@ -1,31 +1,19 @@
 -- What is refused at an offset of a scan, and what is known behind it.
-use Rattle.std.proofs.Common.{◌≡◌, ℕ, ◌+◌, ◌<◌, ◌≤◌, Bool, true, false, cond, List, [], ◌∷◌, length, slice_index, slice_range, reverse, refl, sym, ◌∙◌, ap, arith, add-one, ⊎_elim, Option, Some, None, IfNone, IfSome}
+use Rattle.std.proofs.Common.{◌≡◌, ℕ, ◌+◌, ◌-◌, ◌<◌, ◌≤◌, true, false, List, [], ◌∷◌, length, slice_range, reverse, refl, sym, ◌∙◌, ap, arith, ⊎_elim, Option, Some, None, IfNone, IfSome}
 use Rattle.std.specs.Prelude.{◌==◌}
 use Rattle.std.proofs.lemmas.Bool.{lt-ltb, le-ltb, cases_lt}
 use Rattle.std.proofs.lemmas.Bool.Decides.{nat_tests}
 use Rattle.hp_syntax.specs.declared.limits.TheConstants.{LARGEST_TEXT, LONGEST_TOKEN}
 use Rattle.hp_syntax.specs.declared.text.TextKind.TheVariants.{BadByte, TokenLong, TooLarge}
-use Rattle.hp_syntax.specs.Text.{Kind, Blank, Opening, Closing, NameByte, Bad, End, byte_kind, comment_after, in_comment, kind_at, spelling_of}
-use Rattle.hp_syntax.specs.Refusal.{refused, opened, open_before, is_name, token_start, numeral_refusal, token_refusal, kind_refusal, refusal_at, IsClear, IsRefused}
-use Rattle.hp_syntax.proofs.TextLemmas.{in_comment-next, open_before-next, kind_at-end, refusal_at-within, refusal_at-end, clear_more}
-use Rattle.hp_text.specs.declared.byte.ByteKind.{ByteKind}
+use Rattle.hp_syntax.specs.Text.{Kind, Blank, Opening, Closing, NameByte, Bad, End, kind_at, spelling_of, IsToken, IsGap}
+use Rattle.hp_syntax.specs.Refusal.{refused, opened, open_before, is_name, token_start, numeral_refusal, token_refusal, kind_refusal, refusal_at, IsClear}
+use Rattle.hp_syntax.proofs.TextLemmas.{open_before-next, level_over, level_over_gap, is_name-NameByte, token_start-run, kind_at-end, refusal_at-within, refusal_at-end, clear_more}
 use Rattle.hp_text.specs.declared.scan.State.{State}
 use Rattle.hp_text.specs.declared.scan.FirstRefusal.{FirstRefusal}
-use Rattle.hp_text.specs.Bytes.{plain_kind}
-use Rattle.hp_text.specs.Refusals.{plain_refusal}
+use Rattle.hp_text.specs.Refusals.{plain_refusal, TellsFirst}
 use Rattle.hp_text.specs.Scan.{IsScanned}
-use Rattle.hp_text.proofs.ByteLemmas.{kind_at-within}
-
--- what a byte is known to be stands at its offset
-pub kind_seen : (text : List ℕ) (i : ℕ) (before behind : Bool) (k : ByteKind) → i < length text
-    → before ≡ in_comment text i → behind ≡ comment_after before (slice_index text i)
-    → plain_kind k ≡ cond behind Blank (byte_kind (slice_index text i)) → kind_at text i ≡ plain_kind k
-kind_seen text i before behind k l e f h = kind_at-within text i l ∙ rw (← e, ← f) (sym h)
-
--- a comment is open behind a byte as it was seen there
-pub comment_seen : (text : List ℕ) (i : ℕ) (before behind : Bool) → before ≡ in_comment text i
-    → behind ≡ comment_after before (slice_index text i) → behind ≡ in_comment text (i + 1)
-comment_seen text i before behind e f = f ∙ rw e (sym (in_comment-next text i))
+use Rattle.hp_text.specs.Places.{IsBetween}
+use Rattle.hp_text.proofs.PlaceLemmas.{between_brackets, between_first}
 
 -- a token that goes on is refused nothing
 pub token_on : (text : List ℕ) (from i : ℕ) → i < from + LONGEST_TOKEN → is_name (kind_at text (i + 1)) ≡ true
@@ -80,71 +68,9 @@ pub refusal_at-name : (text : List ℕ) (i from : ℕ) → i < LARGEST_TEXT → 
     → from ≡ token_start text i → refusal_at text i ≡ token_refusal text from i
 refusal_at-name text i from l h e = refusal_of_kind text i NameByte l h ∙ ap (λ x. token_refusal text x i) (sym e)
 
--- where a token begins that a byte behind this one belongs to
-token_start-next : (text : List ℕ) (i : ℕ)
-    → token_start text (i + 1) ≡ cond (is_name (kind_at text i)) (token_start text i) (i + 1)
-unfolding token_start
-token_start-next text i =
-    ap (token_start text) (add-one i)
-    ∙ ap (λ n. cond (is_name (kind_at text i)) (token_start text i) n) (sym (add-one i))
-
--- what is known behind a byte that is no name byte
-pub scanned_behind : (text : List ℕ) (i : ℕ) (s t : State) (r : Option FirstRefusal) (k : Kind) → IsScanned text i s
-    → kind_at text i ≡ k → is_name k ≡ false → plain_refusal r ≡ refusal_at text i
-    → IfNone r (reverse t.brackets.items ≡ opened k i (reverse s.brackets.items)) → IfNone r (t.token ≡ i + 1)
-    → t.in_comment ≡ in_comment text (i + 1) → IfNone r (IsScanned text (i + 1) t)
-scanned_behind text i s t (Some x) k known here other same brackets token comment = tt
-scanned_behind text i s t None k known here other same brackets token comment = record {
-  clear = clear_more text i known.clear (sym same);
-  comment = comment;
-  token = token ∙ sym (token_start-next text i ∙ rw (here, other) refl);
-  begun = omega arith;
-  short = omega arith;
-  brackets = brackets ∙ rw (known.brackets, open_before-next text i, here) refl;
-}
-
--- a token that is refused nothing isn't too long
-short_enough : (text : List ℕ) (from i : ℕ) → i ≤ from + LONGEST_TOKEN → token_refusal text from i ≡ None
-    → i + 1 ≤ from + LONGEST_TOKEN
-short_enough text from i l h =
-    ⊎_elim (λ below. omega arith) (λ above. absurd (too_long (omega arith))) (cases_lt i (from + LONGEST_TOKEN))
-  where
-    too_long : i ≡ from + LONGEST_TOKEN → ⊥
-    too_long e = let x : refused TokenLong from ≡ None = sym (token_long text from i e) ∙ h in cc
-
--- what is known behind a name byte
-pub scanned_behind_name : (text : List ℕ) (i : ℕ) (s t : State) (r : Option FirstRefusal) → i < LARGEST_TEXT
-    → IsScanned text i s → kind_at text i ≡ NameByte → plain_refusal r ≡ token_refusal text s.token i
-    → t.brackets ≡ s.brackets → t.token ≡ s.token → t.in_comment ≡ in_comment text (i + 1)
-    → IfNone r (IsScanned text (i + 1) t)
-scanned_behind_name text i s t (Some x) l known here same brackets token comment = tt
-scanned_behind_name text i s t None l known here same brackets token comment =
-    let short : i + 1 ≤ s.token + LONGEST_TOKEN = short_enough text s.token i known.short (sym same) in
-    record {
-      clear = clear_more text i known.clear (refusal_at-name text i s.token l here known.token ∙ sym same);
-      comment = comment;
-      token = token ∙ known.token ∙ sym (token_start-next text i ∙ rw here refl);
-      begun = let b : s.token ≤ i = known.begun in omega arith;
-      short = omega arith;
-      brackets = rw brackets (known.brackets ∙ sym (open_before-next text i ∙ rw here refl));
-    }
-
--- before the first byte nothing is known to be open
-pub scan_begins : (text : List ℕ) (s : State) → s.in_comment ≡ false → s.token ≡ 0 → s.brackets.items ≡ []
-    → IsScanned text 0 s
-unfolding token_start open_before
-scan_begins text s comment token brackets = record {
-  clear = λ i l. absurd (omega arith);
-  comment = comment;
-  token = token;
-  begun = omega arith;
-  short = omega arith;
-  brackets = rw brackets refl;
-}
-
 -- the refusal that is found at an offset before which nothing is refused is the text's
 pub refused_first : (text : List ℕ) (i : ℕ) (r : Option FirstRefusal) → i ≤ length text → IsClear text i
-    → plain_refusal r ≡ refusal_at text i → IfSome r (λ x. IsRefused text (record { kind = x.kind; offset = x.offset }))
+    → plain_refusal r ≡ refusal_at text i → IfSome r (TellsFirst text)
 refused_first text i None l clear same = tt
 refused_first text i (Some x) l clear same = record { at = i; within = l; arises = sym same; first = clear }
 
@@ -153,6 +79,133 @@ pub clear_behind : (text : List ℕ) (i : ℕ) (r : Option FirstRefusal) → IsC
     → plain_refusal r ≡ refusal_at text i → IfNone r (IsClear text (i + 1))
 clear_behind text i None clear same = clear_more text i clear (sym same)
 clear_behind text i (Some x) clear same = tt
+
+-- what is clear stays so over a gap
+pub clear_over_gap : (text : List ℕ) (a b : ℕ) → IsGap text a b → b ≤ LARGEST_TEXT → IsClear text a → IsClear text b
+clear_over_gap text a b g l clear = λ i m.
+    ⊎_elim (λ below. clear i below)
+    (λ above. refusal_at-blank text i (omega arith) (g.blank i above m)) (cases_lt i a)
+
+-- what is known behind a gap within the scan
+pub scanned_over_gap : (text : List ℕ) (end to : ℕ) (s t : State) → IsScanned text end s → end ≤ LARGEST_TEXT
+    → to ≤ end → t.at ≡ to → t.brackets ≡ s.brackets → IsGap text s.at to → (to < end → IsBetween text to)
+    → IsScanned text end t
+scanned_over_gap text end to s t known small l here same g place = record {
+  clear = rw here (clear_over_gap text s.at to g (omega arith) known.clear);
+  within = omega arith;
+  place = rw here place;
+  brackets = rw (same, here) (known.brackets ∙ sym (level_over_gap text s.at to g));
+}
+
+-- what is known behind a bracket
+pub scanned_behind : (text : List ℕ) (end : ℕ) (s t : State) (r : Option FirstRefusal) (k : Kind)
+    → IsScanned text end s → s.at < end → end ≤ length text → kind_at text s.at ≡ k → (k ≡ NameByte → ⊥)
+    → (k ≡ Blank → ⊥) → plain_refusal r ≡ refusal_at text s.at
+    → IfNone r (reverse t.brackets.items ≡ opened k s.at (reverse s.brackets.items)) → IfNone r (t.at ≡ s.at + 1)
+    → IfNone r (IsScanned text end t)
+scanned_behind text end s t (Some x) k known l m kind name blank same brackets here = tt
+scanned_behind text end s t None k known l m kind name blank same brackets here =
+    let within : s.at < length text = omega arith in
+    record {
+      clear = rw here (clear_more text s.at known.clear (sym same));
+      within = omega arith;
+      place =
+          λ _. rw here
+          (between_brackets text s.at within (λ e. name (sym kind ∙ e)) (λ e. blank (sym kind ∙ e)));
+      brackets = rw here (brackets ∙ rw (known.brackets, open_before-next text s.at, kind) refl);
+    }
+
+-- a token before whose end nothing more is looked at is refused nothing within its first bytes
+clear_in_token : (text : List ℕ) (from to n : ℕ) → IsToken text from to → n ≤ LARGEST_TEXT → n ≤ from + LONGEST_TOKEN
+    → n < to → IsClear text from → IsClear text n
+clear_in_token text from to n t small short l clear = λ i m.
+    ⊎_elim (λ below. clear i below) (λ above. inner i m above) (cases_lt i from)
+  where
+    inner : (i : ℕ) → i < n → from ≤ i → refusal_at text i ≡ None
+    inner i m o =
+        refusal_at-name text i from (omega arith) (t.run i o (omega arith))
+        (sym (token_start-run text from i o t.begins (λ j u v. t.run j u (omega arith))))
+        ∙ token_on text from i (omega arith) (ap is_name (t.run (i + 1) (omega arith) (omega arith)))
+
+-- what is refused at the last byte of a token
+refusal_at-token : (text : List ℕ) (from to i : ℕ) → IsToken text from to → i + 1 ≡ to → i < LARGEST_TEXT
+    → i < from + LONGEST_TOKEN
+    → refusal_at text i ≡ numeral_refusal (spelling_of (slice_range text from to)) from
+refusal_at-token text from to i t e small short =
+    let some : from < to = t.some in
+    let o : from ≤ i = omega arith in
+    let behind : kind_at text (i + 1) ≡ NameByte → ⊥ = rw e t.ends in
+    rw (← e)
+    (refusal_at-name text i from small (t.run i o (omega arith))
+    (sym (token_start-run text from i o t.begins (λ j u v. t.run j u (omega arith))))
+    ∙ token_last text from i short (is_name-NameByte (kind_at text (i + 1)) behind))
+
+-- a token that is too long is the first to be refused
+pub long_token_told : (text : List ℕ) (from to : ℕ) (r : Option FirstRefusal) → IsToken text from to
+    → to ≤ length text → from + LONGEST_TOKEN < to → from + LONGEST_TOKEN < LARGEST_TEXT → IsClear text from
+    → plain_refusal r ≡ refused TokenLong from → IfSome r (TellsFirst text)
+long_token_told text from to r t within l small clear same =
+    let i = from + LONGEST_TOKEN in
+    let o : from ≤ i = omega arith in
+    refused_first text i r (omega arith) (clear_in_token text from to i t (omega arith) (omega arith) l clear)
+    (same ∙ sym (refusal_at-name text i from small (t.run i o l)
+    (sym (token_start-run text from i o t.begins (λ j u v. t.run j u (omega arith))))
+    ∙ token_long text from i refl))
+
+-- a token that goes on behind the scan's end is refused nothing before it
+pub cut_token_clear : (text : List ℕ) (from to end : ℕ) → IsToken text from to → end < to → end ≤ LARGEST_TEXT
+    → end ≤ from + LONGEST_TOKEN → IsClear text from → IsClear text end
+cut_token_clear text from to end t l small short clear = clear_in_token text from to end t small short l clear
+
+-- what is clear up to one of two ends is clear up to the first of them
+clear_to_both : (text : List ℕ) (to end : ℕ) (r : Option FirstRefusal) → IfNone r (IsClear text to)
+    → IfNone r ((i : ℕ) → i < to → i < end → refusal_at text i ≡ None)
+clear_to_both text to end None clear = λ i l m. clear i l
+clear_to_both text to end (Some x) clear = tt
+
+-- what a token spells is told first where it is refused
+pub token_told : (text : List ℕ) (from to end : ℕ) (r : Option FirstRefusal) → IsToken text from to → to ≤ length text
+    → to ≤ LARGEST_TEXT → to ≤ from + LONGEST_TOKEN → IsClear text from
+    → plain_refusal r ≡ numeral_refusal (spelling_of (slice_range text from to)) from
+    → IfSome r (TellsFirst text) × IfNone r ((i : ℕ) → i < to → i < end → refusal_at text i ≡ None)
+token_told text from to end r t within small short clear same =
+    let some : from < to = t.some in
+    let i = to - 1 in
+    let e : i + 1 ≡ to = omega arith in
+    let before = clear_in_token text from to i t (omega arith) (omega arith) (omega arith) clear in
+    let alike : plain_refusal r ≡ refusal_at text i =
+    same ∙ sym (refusal_at-token text from to i t e (omega arith) (omega arith)) in
+    let behind = rw e at (clear_behind text i r before alike) in
+    (refused_first text i r (omega arith) before alike, clear_to_both text to end r behind)
+
+-- the brackets that are open stay over the first part of a token
+level_in_token : (text : List ℕ) (from to n : ℕ) → IsToken text from to → from ≤ n → n ≤ to
+    → open_before text n ≡ open_before text from
+level_in_token text from to n t o l =
+    level_over text from n o (λ i u v. ap (λ k. opened k i (open_before text i)) (t.run i u (omega arith)))
+
+-- what is known behind a token that is refused nothing
+pub scanned_behind_token : (text : List ℕ) (end to : ℕ) (s t : State) (r : Option FirstRefusal)
+    → IsScanned text end s → s.at < end → IsToken text s.at to → IsBetween text to → t.at ≤ to → t.at ≤ end
+    → (t.at < end → t.at ≡ to) → s.at < t.at → t.brackets ≡ s.brackets
+    → IfNone r ((i : ℕ) → i < to → i < end → refusal_at text i ≡ None) → IfNone r (IsScanned text end t)
+scanned_behind_token text end to s t (Some x) known l token place o within whole grows same clear = tt
+scanned_behind_token text end to s t None known l token place o within whole grows same clear = record {
+  clear = λ i m. clear i (omega arith) (omega arith);
+  within = within;
+  place = λ m. rw (whole m) place;
+  brackets = rw same (known.brackets ∙ sym (level_in_token text s.at to t.at token (omega arith) o));
+}
+
+-- before the first byte nothing is known to be open
+pub scan_begins : (text : List ℕ) (end : ℕ) (s : State) → s.at ≡ 0 → s.brackets.items ≡ [] → IsScanned text end s
+unfolding open_before
+scan_begins text end s here brackets = record {
+  clear = λ i l. absurd (omega arith);
+  within = omega arith;
+  place = λ _. rw here (between_first text);
+  brackets = rw (brackets, here) refl;
+}
 
 -- the byte behind the largest text is refused
 pub refusal_at-limit : (text : List ℕ) (i : ℕ) → i ≡ LARGEST_TEXT → i < length text

@@ -7,11 +7,11 @@ use Rattle.hp_syntax.specs.Forest.{span_of, Spells, SpellsNode}
 use Rattle.hp_text.specs.declared.forest.Node.{Node}
 use Rattle.hp_text.specs.Nodes.{node_of}
 
--- a place where no token or comment goes on
+-- a place where no token goes on, and no comment unless the text ends
 pub record IsBetween (text : List ℕ) (at' : ℕ) : Type 0 where
   pub within : at' ≤ length text
   pub begins : kind_at text at' ≡ NameByte → IsOutside text at'
-  pub quiet : in_comment text at' ≡ false
+  pub quiet : at' < length text → in_comment text at' ≡ false
 
 -- a place where neither a token nor a gap goes on
 pub record IsStop (text : List ℕ) (at' : ℕ) : Type 0 where

@@ -10,6 +10,10 @@ abbrev pub plain_refusal : Option FirstRefusal → Option Refusal
 plain_refusal None = None
 plain_refusal (Some r) = Some (record { kind = r.kind; offset = r.offset })
 
+-- the text is refused for what is told
+abbrev pub TellsFirst : List ℕ → FirstRefusal → Type 0
+TellsFirst text r = IsRefused text (record { kind = r.kind; offset = r.offset })
+
 -- the text has this refusal, or there is too little memory for its forest
 abbrev pub RefusesText : List ℕ → TextRefusal → Type 0
 RefusesText text (Bad kind offset) = IsRefused text (record { kind = kind; offset = offset })

@@ -1,13 +1,14 @@
-//! The first refusal of a text, found in one loop over its bytes and with no memory from the heap.
+//! The first refusal of a text, found from token to token and with no memory from the heap.
 
-ghost use Rattle.std.specs.Prelude.{◌≡◌, ◌+◌, ◌<◌, ◌≤◌, ◌^◌, [], false, length, reverse, slice_range, IfSome, IfNone};
+ghost use Rattle.std.specs.Prelude.{◌≡◌, ◌+◌, ◌<◌, ◌≤◌, ◌^◌, ℕ, [], None, length, reverse, IfSome, IfNone};
 ghost use Rattle.hp_syntax.specs.Refusal as text;
-ghost use Rattle.hp_syntax.specs.Refusal.{IsRefused, IsClear};
-ghost use Rattle.hp_syntax.specs.Text.{Opening, Closing, NameByte, End, in_comment, kind_at, spelling_of};
-ghost use Rattle.hp_text.specs.Refusals.{plain_refusal};
+ghost use Rattle.hp_syntax.specs.Refusal.{IsClear, refusal_at};
+ghost use Rattle.hp_syntax.specs.Text.{Blank, Opening, Closing, NameByte, End, IsToken, kind_at, spelling_of};
+ghost use Rattle.hp_text.specs.Refusals.{plain_refusal, TellsFirst};
 ghost use Rattle.hp_text.specs.Scan.{IsScanned};
 
-use crate::byte::{ByteKind, comment_after, is_name_byte, kind_of};
+use crate::byte::is_name_byte;
+use crate::gap::{skip_gap, token_end};
 use crate::spelling::{Spelling, spelling_of};
 use arrayvec::ArrayVec;
 use hp_syntax::TextKind;
@@ -20,12 +21,10 @@ pub struct FirstRefusal {
     pub offset: u32,
 }
 
-// What is known before a byte is looked at.
+// How far a text was looked at, with nothing refused.
 #[derive(Drop)]
 struct State {
-    in_comment: bool,
-    // Where the token begins that a name byte here would belong to.
-    token: usize,
+    at: usize,
     // The offsets of the brackets that are open, the innermost last.
     brackets: ArrayVec<u32, DEEPEST_NESTING>,
 }
@@ -51,79 +50,88 @@ fn numeral_refusal(token: &[u8], from: usize) -> Option<FirstRefusal>
     }
 }
 
-// Whether a token that has come this far goes on.
+// What is refused first in a token, of which only what stands before `end` is looked at. A numeral
+// is looked at once.
 #[inline(always)]
-fn goes_on(bytes: &[u8], at: usize) -> bool
-    requires { in_comment bytes.now at ≡ false }
-    ensures { result ≡ text.is_name (kind_at bytes.now at) }
+fn token_refusal(bytes: &[u8], from: usize, to: usize, end: usize) -> Option<FirstRefusal>
+    requires token { IsToken bytes.now from to }
+    requires within { to ≤ length bytes.now }
+    requires begun { from < end }
+    requires small { end ≤ LARGEST_TEXT }
+    requires clear { IsClear bytes.now from }
+    ensures refused { IfSome result (TellsFirst bytes.now) }
+    ensures clear { IfNone result ((i : ℕ) → i < to → i < end → refusal_at bytes.now i ≡ None) }
 {
-    at < bytes.len() && is_name_byte(bytes[at])
-}
-
-// What is refused at a name byte of the token that begins at `from`. A numeral is looked at once, at
-// its last byte.
-#[inline(always)]
-fn token_refusal(bytes: &[u8], from: usize, at: usize) -> Option<FirstRefusal>
-    requires within { at < length bytes.now }
-    requires small { at < LARGEST_TEXT }
-    requires begun { from ≤ at }
-    requires short { at ≤ from + LONGEST_TOKEN }
-    requires quiet { in_comment bytes.now (at + 1) ≡ false }
-    ensures { plain_refusal result ≡ text.token_refusal bytes.now from at }
-{
-    if at >= from + LONGEST_TOKEN {
+    let longest = from + LONGEST_TOKEN;
+    if to > longest && end > longest {
         return refused(TextKind::TokenLong, from);
     }
-    if goes_on(bytes, at + 1) {
+    if to > end {
         return None;
     }
-    numeral_refusal(&bytes[from..at + 1], from)
+    numeral_refusal(&bytes[from..to], from)
 }
 
 impl State {
     fn new() -> State
-        ensures comment { result.in_comment ≡ false }
-        ensures token { result.token ≡ 0 }
+        ensures at { result.at ≡ 0 }
         ensures brackets { result.brackets.items ≡ [] }
     {
         State {
-            in_comment: false,
-            token: 0,
+            at: 0,
             brackets: ArrayVec::new(),
         }
     }
 
     #[inline(always)]
-    fn open_bracket(&mut self, at: usize) -> Option<FirstRefusal>
-        requires { at < LARGEST_TEXT }
-        ensures refused { plain_refusal result ≡ text.kind_refusal [] at Opening (reverse self.old.brackets.items) }
+    fn open_bracket(&mut self) -> Option<FirstRefusal>
+        requires { self.old.at < LARGEST_TEXT }
+        ensures refused { plain_refusal result
+            ≡ text.kind_refusal [] self.old.at Opening (reverse self.old.brackets.items) }
         ensures brackets { IfNone result (reverse self.new.brackets.items
-            ≡ text.opened Opening at (reverse self.old.brackets.items)) }
-        ensures token { IfNone result (self.new.token ≡ at + 1) }
-        ensures comment { self.new.in_comment ≡ self.old.in_comment }
+            ≡ text.opened Opening self.old.at (reverse self.old.brackets.items)) }
+        ensures at { IfNone result (self.new.at ≡ self.old.at + 1) }
     {
         if self.brackets.is_full() {
-            return refused(TextKind::TooNested, at);
+            return refused(TextKind::TooNested, self.at);
         }
-        self.brackets.push(at as u32);
-        self.token = at + 1;
+        self.brackets.push(self.at as u32);
+        self.at += 1;
         None
     }
 
     #[inline(always)]
-    fn close_bracket(&mut self, at: usize) -> Option<FirstRefusal>
-        requires { at < LARGEST_TEXT }
-        ensures refused { plain_refusal result ≡ text.kind_refusal [] at Closing (reverse self.old.brackets.items) }
+    fn close_bracket(&mut self) -> Option<FirstRefusal>
+        requires { self.old.at < LARGEST_TEXT }
+        ensures refused { plain_refusal result
+            ≡ text.kind_refusal [] self.old.at Closing (reverse self.old.brackets.items) }
         ensures brackets { IfNone result (reverse self.new.brackets.items
-            ≡ text.opened Closing at (reverse self.old.brackets.items)) }
-        ensures token { IfNone result (self.new.token ≡ at + 1) }
-        ensures comment { self.new.in_comment ≡ self.old.in_comment }
+            ≡ text.opened Closing self.old.at (reverse self.old.brackets.items)) }
+        ensures at { IfNone result (self.new.at ≡ self.old.at + 1) }
     {
         if self.brackets.pop().is_none() {
-            return refused(TextKind::ExtraClose, at);
+            return refused(TextKind::ExtraClose, self.at);
         }
-        self.token = at + 1;
+        self.at += 1;
         None
+    }
+
+    // Looks at the token that begins here.
+    #[inline(always)]
+    fn pass_token(&mut self, bytes: &[u8], end: usize) -> Option<FirstRefusal>
+        requires end { end ≤ length bytes.now }
+        requires small { end ≤ LARGEST_TEXT }
+        requires within { self.old.at < end }
+        requires byte { kind_at bytes.now self.old.at ≡ NameByte }
+        requires scanned { IsScanned bytes.now end self.old }
+        ensures refused { IfSome result (TellsFirst bytes.now) }
+        ensures scanned { IfNone result (IsScanned bytes.now end self.new) }
+        ensures grows { IfNone result (self.old.at < self.new.at) }
+    {
+        let from = self.at;
+        let to = token_end(bytes, from);
+        self.at = to.min(end);
+        token_refusal(bytes, from, to, end)
     }
 
     // What is refused at the end of the text.
@@ -136,39 +144,61 @@ impl State {
         }
     }
 
-    // Looks at the byte at an offset.
+    // Looks at the bracket or token that begins here.
     #[inline(always)]
-    fn step(&mut self, bytes: &[u8], at: usize) -> Option<FirstRefusal>
-        requires within { at < length bytes.now }
-        requires small { at < LARGEST_TEXT }
-        requires scanned { IsScanned bytes.now at self.old }
-        ensures refused { plain_refusal result ≡ text.refusal_at bytes.now at }
-        ensures scanned { IfNone result (IsScanned bytes.now (at + 1) self.new) }
+    fn pass_part(&mut self, bytes: &[u8], end: usize) -> Option<FirstRefusal>
+        requires end { end ≤ length bytes.now }
+        requires small { end ≤ LARGEST_TEXT }
+        requires within { self.old.at < end }
+        requires stop { kind_at bytes.now self.old.at ≡ Blank → ⊥ }
+        requires scanned { IsScanned bytes.now end self.old }
+        ensures refused { IfSome result (TellsFirst bytes.now) }
+        ensures scanned { IfNone result (IsScanned bytes.now end self.new) }
+        ensures grows { IfNone result (self.old.at < self.new.at) }
     {
-        let byte = bytes[at];
-        self.in_comment = comment_after(self.in_comment, byte);
-        match kind_of(self.in_comment, byte) {
-            ByteKind::NameByte => token_refusal(bytes, self.token, at),
-            ByteKind::Blank => {
-                self.token = at + 1;
-                None
-            }
-            ByteKind::Opening => self.open_bracket(at),
-            ByteKind::Closing => self.close_bracket(at),
-            ByteKind::Bad => refused(TextKind::BadByte, at),
+        let byte = bytes[self.at];
+        if byte == b'(' {
+            return self.open_bracket();
         }
+        if byte == b')' {
+            return self.close_bracket();
+        }
+        if is_name_byte(byte) {
+            return self.pass_token(bytes, end);
+        }
+        refused(TextKind::BadByte, self.at)
+    }
+
+    // Passes a gap, and looks at what stands behind it.
+    #[inline(always)]
+    fn step(&mut self, bytes: &[u8], end: usize) -> Option<FirstRefusal>
+        requires end { end ≤ length bytes.now }
+        requires small { end ≤ LARGEST_TEXT }
+        requires within { self.old.at < end }
+        requires scanned { IsScanned bytes.now end self.old }
+        ensures refused { IfSome result (TellsFirst bytes.now) }
+        ensures scanned { IfNone result (IsScanned bytes.now end self.new) }
+        ensures grows { IfNone result (self.old.at < self.new.at) }
+    {
+        let at = skip_gap(bytes, self.at);
+        if at >= end {
+            self.at = end;
+            return None;
+        }
+        self.at = at;
+        self.pass_part(bytes, end)
     }
 }
 
 /// The refusal of a text, where it has one.
 pub fn first_refusal(bytes: &[u8]) -> Option<FirstRefusal>
-    ensures refused { IfSome result (λ r. IsRefused bytes.now (record { kind = r.kind; offset = r.offset })) }
+    ensures refused { IfSome result (TellsFirst bytes.now) }
     ensures clear { IfNone result (IsClear bytes.now (length bytes.now + 1)) }
 {
     let mut state = State::new();
     let end = bytes.len().min(LARGEST_TEXT);
-    for at in 0..end {
-        let refusal = state.step(bytes, at);
+    while state.at < end {
+        let refusal = state.step(bytes, end);
         if refusal.is_some() {
             return refusal;
         }

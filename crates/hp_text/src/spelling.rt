@@ -29,13 +29,15 @@ fn begins_unsigned(bytes: &[u8]) -> bool
     }
 }
 
+// No digit, point or sign comes behind the digit nine, which most names are told by.
+#[inline(always)]
 fn is_numeral(token: &[u8]) -> bool
     ensures { result ≡ text.is_numeral token.now }
 {
     match token {
         [] => false,
-        [first, rest @ ..] => begins_unsigned(token)
-            || (matches!(first, b'+' | b'-') && begins_unsigned(rest)),
+        [first, rest @ ..] => *first <= b'9'
+            && (begins_unsigned(token) || (matches!(first, b'+' | b'-') && begins_unsigned(rest))),
     }
 }
 
@@ -74,19 +76,31 @@ fn number(token: &[u8]) -> Option<i64>
     }
 }
 
-/// What a token spells.
+// What a numeral spells.
+#[inline(never)]
 #[tactic(auto, unfolding(hp_syntax::specs::Text::spelling_of))]
-pub fn spelling_of(token: &[u8]) -> Spelling
+fn numeral_spelling(token: &[u8]) -> Spelling
+    requires { text.is_numeral token.now ≡ true }
     ensures { plain_spelling result ≡ text.spelling_of token.now }
 {
-    if !is_numeral(token) {
-        return Spelling::Name;
-    }
     if !is_whole(token) {
         return Spelling::NoNumber;
     }
     match number(token) {
         Some(n) => Spelling::Number(n),
         None => Spelling::OutOfRange,
+    }
+}
+
+/// What a token spells.
+#[inline(always)]
+#[tactic(auto, unfolding(hp_syntax::specs::Text::spelling_of))]
+pub fn spelling_of(token: &[u8]) -> Spelling
+    ensures { plain_spelling result ≡ text.spelling_of token.now }
+{
+    if is_numeral(token) {
+        numeral_spelling(token)
+    } else {
+        Spelling::Name
     }
 }

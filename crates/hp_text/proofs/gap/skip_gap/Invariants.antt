@@ -1,13 +1,13 @@
-use Rattle.std.proofs.Common.{length, ◌-◌, ◌≡◌, ◌≤◌}
-use Rattle.hp_syntax.specs.Text.{NameByte, in_comment, kind_at, IsGap, IsOutside}
+use Rattle.std.proofs.Common.{length, ◌-◌, ◌≡◌, ◌<◌, false, slice_index}
+use Rattle.hp_syntax.specs.Text.{is_blank, IsGap}
+use Rattle.hp_text.specs.Places.{IsBetween}
 use Rattle.hp_text.proofs.gap.skip_gap.Given as goal
 
 abbrev pub invariant-loop-end : goal.invariant-loop-end
 invariant-loop-end l = record {
-  within : l.end ≤ length l.bytes;
   gap : IsGap l.bytes l.at l.end;
-  comment : l.in_comment ≡ in_comment l.bytes l.end;
-  begins : kind_at l.bytes l.end ≡ NameByte → IsOutside l.bytes l.end;
+  place : IsBetween l.bytes l.end;
+  stop : l.end < length l.bytes → is_blank (slice_index l.bytes l.end) ≡ false;
 }
 
 abbrev pub decreases-loop-end : goal.decreases-loop-end

@@ -1,21 +1,15 @@
-use Rattle.std.proofs.Common.{rules, ◌≡◌, true, sym, ◌<◌, ◌≤◌, length, slice_index, ◌∙◌, arith}
+use Rattle.std.proofs.Common.{◌≡◌, ◌+◌, ◌<◌, ◌≤◌, false, true, length, slice_index, sym, ap, ◌∙◌, arith}
 use Rattle.hp_syntax.specs.Text.{NameByte, is_name_byte, kind_at}
 use Rattle.hp_text.proofs.gap.token_end.Goals as goal
 use Rattle.hp_text.proofs.ByteLemmas.{name_byte}
-use Rattle.hp_text.proofs.PlaceLemmas.{token_begins, token_more, name_within, quiet_behind_name, token_ends, token_ends_there, between_tokens}
-
--- the token's first byte stands within the text
-pub overflow_add-end : goal.overflow_add-end
-overflow_add-end c =
-    let l : c.args.from < length c.args.bytes.now =
-    name_within c.args.bytes.now c.args.from c.requires.byte in search rules
+use Rattle.hp_text.proofs.PlaceLemmas.{rest_byte, rest_length, token_begins, token_more, quiet_behind_name, token_ends, token_ends_there, between_tokens}
 
 -- the first byte
-pub loop-end-init : goal.loop-end-init
-loop-end-init c =
+pub loop-byte-init : goal.loop-byte-init
+loop-byte-init c =
     let text = c.args.bytes.now in
     let from = c.args.from in
-    let l : from < length text = name_within text from c.requires.byte in
+    let l : from < length text = c.requires.within in
     record {
       some = omega arith;
       within = omega arith;
@@ -24,13 +18,16 @@ loop-end-init c =
     }
 
 -- one more byte
-pub loop-end-preserved : goal.loop-end-preserved
-loop-end-preserved c =
+pub loop-byte-preserved : goal.loop-byte-preserved
+loop-byte-preserved c =
     let text = c.args.bytes.now in
-    let i = c.loop-end.end in
-    let so_far = c.loop-end.invariant in
-    let short : i < length text = omega arith in
-    let byte : is_name_byte (slice_index text i) ≡ true = sym c.is_name_byte.ensures ∙ c.if-is_name_byte.true in
+    let i = c.loop-byte.end in
+    let so_far = c.loop-byte.invariant in
+    let next : i ≡ c.args.from + 1 + c.loop-byte.byte-index = so_far.some in
+    let short : i < length text = omega (arith, rest_length text (c.args.from + 1)) in
+    let byte : is_name_byte (slice_index text i) ≡ true =
+    ap is_name_byte (sym (rest_byte text (c.args.from + 1) c.loop-byte.byte-index i next))
+    ∙ sym c.is_name_byte.ensures ∙ c.if-not-is_name_byte.false in
     let kind : kind_at text i ≡ NameByte = name_byte text i short so_far.quiet byte in
     record {
       some = omega arith;
@@ -40,35 +37,51 @@ loop-end-preserved c =
     }
 
 -- the token ends before the text does
-pub returns-else-is_name_byte-clause-token : goal.returns-else-is_name_byte-clause-token
-returns-else-is_name_byte-clause-token c = record {
-  some = c.loop-end.invariant.some;
-  run = c.loop-end.invariant.run;
-  begins = c.requires.outside;
-  ends = token_ends c.args.bytes.now c.loop-end.end (sym c.is_name_byte.ensures ∙ c.if-is_name_byte.false);
-}
+pub returns-then-not-is_name_byte-clause-token : goal.returns-then-not-is_name_byte-clause-token
+returns-then-not-is_name_byte-clause-token c =
+    let text = c.args.bytes.now in
+    let i = c.loop-byte.end in
+    let next : i ≡ c.args.from + 1 + c.loop-byte.byte-index = c.loop-byte.invariant.some in
+    let byte : is_name_byte (slice_index text i) ≡ false =
+    ap is_name_byte (sym (rest_byte text (c.args.from + 1) c.loop-byte.byte-index i next))
+    ∙ sym c.is_name_byte.ensures ∙ c.if-not-is_name_byte.true in
+    record {
+      some = omega arith;
+      run = c.loop-byte.invariant.run;
+      begins = c.requires.outside;
+      ends = token_ends text i byte;
+    }
 
 -- nothing goes on there
-pub returns-else-is_name_byte-clause-place : goal.returns-else-is_name_byte-clause-place
-returns-else-is_name_byte-clause-place c =
-    between_tokens c.args.bytes.now c.loop-end.end c.loop-end.invariant.within
-    (token_ends c.args.bytes.now c.loop-end.end (sym c.is_name_byte.ensures ∙ c.if-is_name_byte.false))
-    c.loop-end.invariant.quiet
+pub returns-then-not-is_name_byte-clause-place : goal.returns-then-not-is_name_byte-clause-place
+returns-then-not-is_name_byte-clause-place c =
+    let text = c.args.bytes.now in
+    let i = c.loop-byte.end in
+    let next : i ≡ c.args.from + 1 + c.loop-byte.byte-index = c.loop-byte.invariant.some in
+    let byte : is_name_byte (slice_index text i) ≡ false =
+    ap is_name_byte (sym (rest_byte text (c.args.from + 1) c.loop-byte.byte-index i next))
+    ∙ sym c.is_name_byte.ensures ∙ c.if-not-is_name_byte.true in
+    between_tokens text i c.loop-byte.invariant.within (token_ends text i byte) c.loop-byte.invariant.quiet
 
 -- the token ends with the text
-pub returns-after-loop-end-clause-token : goal.returns-after-loop-end-clause-token
-returns-after-loop-end-clause-token c = record {
-  some = c.loop-end.invariant.some;
-  run = c.loop-end.invariant.run;
-  begins = c.requires.outside;
-  ends =
-      let l : length c.args.bytes.now ≤ c.loop-end.end =
-      omega arith in token_ends_there c.args.bytes.now c.loop-end.end l;
-}
+pub returns-clause-token : goal.returns-clause-token
+returns-clause-token c =
+    let text = c.args.bytes.now in
+    let i = c.loop-byte.end in
+    let next : i ≡ c.args.from + 1 + c.loop-byte.byte-index = c.loop-byte.invariant.some in
+    let last : length text ≤ i = omega (arith, rest_length text (c.args.from + 1)) in
+    record {
+      some = omega arith;
+      run = c.loop-byte.invariant.run;
+      begins = c.requires.outside;
+      ends = token_ends_there text i last;
+    }
 
 -- nothing goes on at the text's end
-pub returns-after-loop-end-clause-place : goal.returns-after-loop-end-clause-place
-returns-after-loop-end-clause-place c =
-    let l : length c.args.bytes.now ≤ c.loop-end.end = omega arith in
-    between_tokens c.args.bytes.now c.loop-end.end c.loop-end.invariant.within
-    (token_ends_there c.args.bytes.now c.loop-end.end l) c.loop-end.invariant.quiet
+pub returns-clause-place : goal.returns-clause-place
+returns-clause-place c =
+    let text = c.args.bytes.now in
+    let i = c.loop-byte.end in
+    let next : i ≡ c.args.from + 1 + c.loop-byte.byte-index = c.loop-byte.invariant.some in
+    let last : length text ≤ i = omega (arith, rest_length text (c.args.from + 1)) in
+    between_tokens text i c.loop-byte.invariant.within (token_ends_there text i last) c.loop-byte.invariant.quiet

@@ -8,6 +8,10 @@ use Rattle.hp_text.proofs.reader.word.Goals as goal
 use Rattle.hp_text.proofs.PlaceLemmas.{name_within}
 use Rattle.hp_text.proofs.Clear.{clear_is_short, token_is_spelled, no_other_spelling}
 
+-- the token's first byte stands within the text
+pub token_end-to-requires-clause-within : goal.token_end-to-requires-clause-within
+token_end-to-requires-clause-within c = name_within c.args.bytes.now c.args.from c.requires.byte
+
 -- a clear text isn't too large
 pub overflow_cast-span : goal.overflow_cast-span
 overflow_cast-span c =

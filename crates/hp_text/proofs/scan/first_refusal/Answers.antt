@@ -7,40 +7,43 @@ use Rattle.hp_text.proofs.scan.first_refusal.Goals as goal
 use Rattle.hp_text.proofs.ScanLemmas.{scan_begins, refused_first, clear_behind, refusal_at-limit, refusal_at-last}
 
 -- nothing is open before the first byte
-pub loop-at-init : goal.loop-at-init
-loop-at-init c =
-    scan_begins c.args.bytes.now c.new-state.result c.new-state.ensures.comment c.new-state.ensures.token
+pub loop-state-init : goal.loop-state-init
+loop-state-init c =
+    scan_begins c.args.bytes.now c.min-end.result c.new-state.result c.new-state.ensures.at
     c.new-state.ensures.brackets
 
 -- the text is too large
 pub returns-then-end-bytes-clause-refused : goal.returns-then-end-bytes-clause-refused
 returns-then-end-bytes-clause-refused c =
     let text = c.args.bytes.now in
-    let i = c.loop-at.at in
+    let i = c.loop-state.state.at in
+    let most : i ≤ c.min-end.result = c.loop-state.invariant.within in
     let here : i ≡ c.min-end.result = omega arith in
     let limit : i ≡ LARGEST_TEXT = omega arith in
     let within : i < length text = omega arith in
     let same : plain_refusal c.refused.result ≡ refusal_at text i =
     c.refused.ensures ∙ ap (refused TooLarge) (sym here) ∙ sym (refusal_at-limit text i limit within) in
-    refused_first text i c.refused.result (omega arith) c.loop-at.invariant.clear same
+    refused_first text i c.refused.result (omega arith) c.loop-state.invariant.clear same
 
 -- what is refused at the end
 pub returns-clause-refused : goal.returns-clause-refused
 returns-clause-refused c =
     let text = c.args.bytes.now in
-    let i = c.loop-at.at in
+    let i = c.loop-state.state.at in
+    let most : i ≤ c.min-end.result = c.loop-state.invariant.within in
     let end : length text ≤ i = omega arith in
     let same : plain_refusal c.end_refusal.result ≡ refusal_at text i =
-    c.end_refusal.ensures ∙ sym (refusal_at-last text i _ end c.loop-at.invariant.brackets) in
-    refused_first text i c.end_refusal.result (omega arith) c.loop-at.invariant.clear same
+    c.end_refusal.ensures ∙ sym (refusal_at-last text i _ end c.loop-state.invariant.brackets) in
+    refused_first text i c.end_refusal.result (omega arith) c.loop-state.invariant.clear same
 
 -- nothing is refused at the end either
 pub returns-clause-clear : goal.returns-clause-clear
 returns-clause-clear c =
     let text = c.args.bytes.now in
-    let i = c.loop-at.at in
+    let i = c.loop-state.state.at in
+    let most : i ≤ c.min-end.result = c.loop-state.invariant.within in
     let end : length text ≤ i = omega arith in
     let same : plain_refusal c.end_refusal.result ≡ refusal_at text i =
-    c.end_refusal.ensures ∙ sym (refusal_at-last text i _ end c.loop-at.invariant.brackets) in
+    c.end_refusal.ensures ∙ sym (refusal_at-last text i _ end c.loop-state.invariant.brackets) in
     let whole : i ≡ length text = omega arith in
-    rw (← whole) (clear_behind text i c.end_refusal.result c.loop-at.invariant.clear same)
+    rw (← whole) (clear_behind text i c.end_refusal.result c.loop-state.invariant.clear same)
