@@ -44,7 +44,7 @@ fn domain_list(alloc: Global, span: Span, rest: &[Node]) -> Result<Domain, FormR
 }
 
 /// A problem has one pair of a state and a task list.
-fn no_more_pairs(nodes: &[Node]) -> Result<(), FormRefusal>
+pub fn no_more_pairs(nodes: &[Node]) -> Result<(), FormRefusal>
     ensures { (names : Names) → Reads (λ _. tt) result (grammar.no_more_pairs (nodes_of nodes.now)) names names }
 {
     match nodes {

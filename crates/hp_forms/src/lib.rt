@@ -24,8 +24,6 @@ mod scope;
 mod taking;
 mod tasks;
 mod terms;
-#[cfg(test)]
-mod tests;
 
 pub use hp_syntax::What;
 use hp_syntax::laws::forms_are_numbered;
@@ -61,4 +59,14 @@ pub fn problem(alloc: Global, forest: &Forest) -> Result<Problem, FormRefusal>
 {
     forms_are_numbered();
     files::problem(alloc, forest)
+}
+
+/// The same of a forest that is needed no more: the nodes of an atom or a task are let go once it is
+/// formed, so that the forest and the problem are never there whole at once.
+pub fn into_problem(alloc: Global, forest: Forest) -> Result<Problem, FormRefusal>
+    ensures form { Gives problem_of result (grammar.problem_form forest.len (forest_of forest)) }
+    ensures numbered { IfOk result (λ p. IsNumberedProblem (problem_of p)) }
+{
+    forms_are_numbered();
+    taking::problem(alloc, forest)
 }

@@ -71,7 +71,7 @@ pub fn tasks(scope: &mut Scope, setting: Setting, node: &Node) -> Result<NetPat,
 /// By what a list begins with: a list or `nil` begins an ordered list.
 #[cycle(tasks)]
 #[tactic(auto, unfolding(hp_syntax::specs::Grammar::list_tasks, hp_syntax::specs::Views::tasks_of))]
-fn list_tasks(
+pub fn list_tasks(
     scope: &mut Scope,
     setting: Setting,
     span: Span,

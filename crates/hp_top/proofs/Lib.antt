@@ -17,6 +17,7 @@ pub mod Numbers
 pub mod OneByOne
 pub mod Outcomes
 pub mod PlainRules
+pub mod RereadLemmas
 pub mod RuleSteps
 pub mod RunEnds
 pub mod SampleReads
@@ -26,3 +27,4 @@ pub mod Tellings
 pub mod ToldReport
 pub mod ToldWalks
 pub mod Walks
+pub mod WrittenLayouts

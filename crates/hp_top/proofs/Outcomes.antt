@@ -38,12 +38,12 @@ module _ (one : (t : List ℕ) (f g : Forest) → IsForest t f → IsForest t g 
     form_of f g r h k e = ap (form (length t)) (one t f g h k) ∙ e
 
     -- a text is read as one value
-    read_one : (x y : A) → IsRead form t x → IsRead form t y → x ≡ y
+    pub read_one : (x y : A) → IsRead form t x → IsRead form t y → x ≡ y
     read_one x y h k =
         one_ok (form (length t) h.forest) x y h.form_is (form_of h.forest k.forest (Ok y) h.spelled k.spelled k.form_is)
 
     -- no text that is read as a value is read as nothing
-    read_no : (x : A) (why : Why) → IsRead form t x → IsUnreadable form t why → ⊥
+    pub read_no : (x : A) (why : Why) → IsRead form t x → IsUnreadable form t why → ⊥
     read_no x why h (outcome.ByText r i e) = apart t h.forest r h.spelled i
     read_no x why h (outcome.ByForm f m s k e) =
         ok_or_err (form (length t) h.forest) x m h.form_is (form_of h.forest f (Err m) h.spelled s k)

@@ -8,6 +8,7 @@ pub mod Marks
 pub mod Outcome
 pub mod Program
 pub mod Reading
+pub mod Rereading
 pub mod Rest
 pub mod Run
 pub mod Serving

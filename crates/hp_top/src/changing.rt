@@ -111,35 +111,3 @@ pub(crate) fn changed(
     }
     Ok(next)
 }
-
-#[cfg(test)]
-mod tests {
-    use super::*;
-    use hp_syntax::Name;
-    use std::test::Fail;
-
-    fn atoms(alloc: Global, names: &[&[u8]]) -> Result<GroundAtoms, Fail> {
-        let mut all = Vec::new(alloc);
-        for name in names {
-            let name = Name::new(alloc, name)?;
-            let args = Vec::new(alloc);
-            all.push(Rc::new(alloc, GroundAtom { name, args })?)?;
-        }
-        Ok(all)
-    }
-
-    #[test]
-    fn keeps_places(rt: HostRuntime) -> Result<(), Fail> {
-        let alloc = rt.alloc();
-        let state = atoms(alloc, &[b"a", b"b", b"c"])?;
-        let deletes = atoms(alloc, &[b"b", b"absent", b"a"])?;
-        let adds = atoms(alloc, &[b"d", b"c", b"a", b"d"])?;
-        let next = changed(alloc, &state, &deletes, &adds)?;
-        let wanted = atoms(alloc, &[b"c", b"d", b"a"])?;
-        assert!(rt; next.len() == wanted.len());
-        for (a, b) in next.iter().zip(&wanted) {
-            assert!(rt; **a == **b);
-        }
-        Ok(())
-    }
-}

@@ -16,14 +16,13 @@ mod planning;
 mod program;
 mod reading;
 mod refusing;
+pub mod rereading;
 pub mod samples;
 mod satisfying;
 mod serving;
 mod showing;
 mod status;
 mod telling;
-#[cfg(test)]
-mod tests;
 mod valuing;
 mod walk;
 mod words;

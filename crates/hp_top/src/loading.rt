@@ -70,7 +70,7 @@ fn forest_in(alloc: Global, bytes: Vec<u8>) -> Result<Forest, TextRefusal>
 }
 
 /// The domain that a text is.
-fn domain_in(alloc: Global, bytes: Vec<u8>) -> Result<Domain, LoadError>
+pub fn domain_in(alloc: Global, bytes: Vec<u8>) -> Result<Domain, LoadError>
     ensures domain { IfOk result (λ d. IsRead domain_form bytes.items (domain_of d)) }
     ensures refused { IfErr result (IsRefusedFor inputs.Domain domain_form bytes.items) }
 {
@@ -84,12 +84,12 @@ fn domain_in(alloc: Global, bytes: Vec<u8>) -> Result<Domain, LoadError>
 }
 
 /// The problem that a text is.
-fn problem_in(alloc: Global, bytes: Vec<u8>) -> Result<Problem, LoadError>
+pub fn problem_in(alloc: Global, bytes: Vec<u8>) -> Result<Problem, LoadError>
     ensures problem { IfOk result (λ p. IsRead problem_form bytes.items (problem_of p)) }
     ensures refused { IfErr result (IsRefusedFor inputs.Problem problem_form bytes.items) }
 {
     match forest_in(alloc, bytes) {
-        Ok(forest) => match hp_forms::problem(alloc, &forest) {
+        Ok(forest) => match hp_forms::into_problem(alloc, forest) {
             Ok(problem) => Ok(problem),
             Err(refusal) => Err(of_form(Input::Problem, refusal)),
         },

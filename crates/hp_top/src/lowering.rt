@@ -9,8 +9,6 @@ mod fixed;
 mod marks;
 mod refusal;
 mod rules;
-#[cfg(test)]
-mod tests;
 
 use crate::program::{Domain, Problem};
 use fixed::{fixed_atoms, fixed_tasks};

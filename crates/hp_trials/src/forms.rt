@@ -1,4 +1,6 @@
-use crate::{FormRefusal, What, domain, into_domain, problem};
+//! Where domains and problems are refused by the grammar, and how wide they may be.
+
+use hp_forms::{FormRefusal, What, domain, into_domain, into_problem, problem};
 use hp_syntax::{PatKind, Rule, Span};
 use hp_text::read;
 use std::alloc::{AllocError, Global};
@@ -96,11 +98,21 @@ fn problems_are_refused_where_the_grammar_stops(rt: HostRuntime) -> Result<(), F
             "(defproblem p d ((q a b . (c d))) (:immediate))",
             expected(What::Name, 45, 46),
         ),
+        ("(defproblem p d () ((a) 1))", expected(What::Tasks, 24, 25)),
+        (
+            "(defproblem p d () (:ordered (a) b))",
+            expected(What::Tasks, 33, 34),
+        ),
+        (
+            "(defproblem p d () (:unordered (a) (nil (b) c)))",
+            expected(What::Tasks, 44, 45),
+        ),
         ("(defproblem p d () () ()) x", several),
         ("(defproblem p d () ())", None),
     ] {
         let forest = read(rt.alloc(), text.as_bytes())?;
         assert_eq!(rt; problem(rt.alloc(), &forest).err(), want, "in {text}");
+        assert_eq!(rt; into_problem(rt.alloc(), forest).err(), want, "in {text}");
     }
     Ok(())
 }
@@ -135,6 +147,22 @@ fn wide_lists_are_read_and_dropped(rt: HostRuntime) -> Result<(), Fail> {
         let text = wide(rt.alloc(), front, part, count, end)?;
         let forest = read(rt.alloc(), text.as_slice())?;
         assert!(rt; domain(rt.alloc(), &forest).is_ok(), "in {front}");
+    }
+    Ok(())
+}
+
+/// So may those of a problem, whose nodes are let go one by one.
+#[test]
+fn wide_problems_are_read_and_dropped(rt: HostRuntime) -> Result<(), Fail> {
+    for (front, part, count, end) in [
+        ("(defproblem p d (", "(q)", 60_000, ") ())"),
+        ("(defproblem p d () (", "(q)", 60_000, "))"),
+        ("(defproblem p d () (:unordered", " (q)", 60_000, "))"),
+        ("(defproblem p d () (:ordered (nil", " (q)", 60_000, ")))"),
+    ] {
+        let text = wide(rt.alloc(), front, part, count, end)?;
+        let forest = read(rt.alloc(), text.as_slice())?;
+        assert!(rt; into_problem(rt.alloc(), forest).is_ok(), "in {front}");
     }
     Ok(())
 }

@@ -1,10 +1,10 @@
 //! Whole runs over a folder and a sink in memory: the bytes that are written, and the status.
 
-use crate::laws::{every_run_has_an_outcome, outcomes_are_one};
-use crate::samples::basic_comes_to_its_plan;
-use crate::{Status, run};
 use hp_io::{MemFolder, MemSink};
 use hp_syntax::limits::{LARGEST_TEXT, LONGEST_TOKEN};
+use hp_top::laws::{every_run_has_an_outcome, outcomes_are_one};
+use hp_top::samples::basic_comes_to_its_plan;
+use hp_top::{Status, run};
 use std::alloc::Global;
 use std::test::Fail;
 
