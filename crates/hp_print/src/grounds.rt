@@ -2,7 +2,7 @@
 
 ghost use Rattle.std.specs.Prelude.{◌≡◌, ◌++◌, OnOk};
 ghost use Rattle.hp_syntax.specs.GroundViews.{ground_of, grounds_of};
-ghost use Rattle.hp_syntax.specs.Report.{term_text, terms_text};
+ghost use Rattle.hp_syntax.specs.TermTexts.{term_text, terms_text};
 ghost use Rattle.hp_syntax.specs.Terms.{Listed};
 
 use crate::words::push_number;

@@ -7,7 +7,7 @@
 
 ghost use Rattle.std.specs.Prelude.{◌≡◌, IfOk};
 ghost use Rattle.hp_syntax.specs.GroundViews.{ground_of};
-ghost use Rattle.hp_syntax.specs.Report.{term_text};
+ghost use Rattle.hp_syntax.specs.TermTexts.{term_text};
 ghost use Rattle.hp_syntax.specs.Views.{pattern_of, atom_of, tasks_of, domain_of, problem_of};
 ghost use Rattle.hp_syntax.specs.Written as written;
 ghost use Rattle.hp_syntax.specs.Written.{node_text};

@@ -1,34 +1,32 @@
 -- What is written of a walk, and how a run of it ends.
-use Rattle.std.specs.Prelude.{ℕ, suc, ◌+◌, ◌-◌, ◌^◌, min, cond, ◌==◌, nat_le, List, [], ◌∷◌, ◌++◌, length, codes, decimal}
+use Rattle.std.specs.Prelude.{ℕ, suc, ◌-◌, ◌^◌, min, Bool, cond, ◌==◌, nat_le, List, [], ◌∷◌, ◌++◌, length, codes, decimal, flat_map}
 use Rattle.std.specs.Fmt.{signed_decimal}
-use Rattle.std.specs.List.{flat_map}
 use Rattle.hp_syntax.specs.declared.fault.RunFault.{RunFault}
 use Rattle.hp_syntax.specs.declared.fault.FaultKind.{FaultKind}
 use Rattle.hp_syntax.specs.declared.fault.FaultKind.TheVariants as kinds
-use Rattle.hp_syntax.specs.Terms.{Term, Terms, Symbol, Number, Listed, NoTerm, More}
+use Rattle.hp_syntax.specs.Terms.{Term}
+use Rattle.hp_syntax.specs.TermTexts.{term_text}
 use Rattle.hp_syntax.specs.Walk.{Node, Visit, Did, Plan, CutHere, FaultHere}
 
--- a term, with single spaces
-abbrev mutual
-  pub term_text : Term → List ℕ
-  term_text (Symbol name) = name
-  term_text (Number n) = signed_decimal n
-  term_text (Listed NoTerm) = codes "()"
-  term_text (Listed (More t ts)) = codes "(" ++ term_text t ++ terms_text ts
-
-  pub terms_text : Terms → List ℕ
-  terms_text NoTerm = codes ")"
-  terms_text (More t ts) = codes " " ++ term_text t ++ terms_text ts
-
--- one line for each step
-abbrev pub steps_text : List Term → List ℕ
-steps_text ts = flat_map (λ t. term_text t ++ codes "\n") ts
+-- one line for each term
+abbrev pub lines_text : List Term → List ℕ
+lines_text ts = flat_map (λ t. term_text t ++ codes "\n") ts
 
 -- a plan: its number, cost and number of steps, and then its steps
 unfoldable pub plan_text : ℕ → Node → List ℕ
 plan_text i n =
     codes "plan " ++ decimal i ++ codes " cost " ++ signed_decimal n.cost
-    ++ codes " steps " ++ decimal (length n.steps) ++ codes "\n" ++ steps_text n.steps
+    ++ codes " steps " ++ decimal (length n.steps) ++ codes "\n" ++ lines_text n.steps
+
+-- what holds and what is protected at the end of a plan
+unfoldable pub state_text : Node → List ℕ
+state_text n =
+    codes "state " ++ decimal (length n.state) ++ codes "\n" ++ lines_text n.state
+    ++ codes "protections " ++ decimal (length n.guards) ++ codes "\n" ++ lines_text n.guards
+
+-- a plan, with its state where states are asked for
+abbrev pub told_plan : Bool → ℕ → Node → List ℕ
+told_plan states i n = plan_text i n ++ cond states (state_text n) []
 
 -- how many visits of a list are Plans, and how many are Dids
 abbrev pub plans : List Visit → ℕ
@@ -59,13 +57,20 @@ pub data Ending : Type 0 where
   AtCut : Ending
   AtEnd : Ending
 
+-- a Cut among what ends so
+abbrev pub cut_before : Ending → Ending
+cut_before (AtFault f) = AtFault f
+cut_before Stopped = AtCut
+cut_before AtCut = AtCut
+cut_before AtEnd = AtCut
+
 -- a fault decides, which can only be the last visit; else a Cut
 abbrev pub closing : List Visit → Ending
 closing [] = AtEnd
 closing (v ∷ vs) =
     elim v.sight [
       | FaultHere f ↦ AtFault f
-      | CutHere ↦ elim (closing vs) [ AtFault f ↦ AtFault f | Stopped ↦ AtCut | AtCut ↦ AtCut | AtEnd ↦ AtCut ]
+      | CutHere ↦ cut_before (closing vs)
       | Did ↦ closing vs
       | Plan ↦ closing vs
     ]
@@ -97,18 +102,18 @@ ending_text x p n =
     ++ codes " expansions " ++ decimal (min n (2 ^ 64 - 1)) ++ codes "\n"
 
 -- the text of each plan that was seen, by number from i on
-abbrev pub plan_texts : ℕ → List Visit → List ℕ
-plan_texts i [] = []
-plan_texts i (v ∷ vs) =
+abbrev pub plan_texts : Bool → ℕ → List Visit → List ℕ
+plan_texts states i [] = []
+plan_texts states i (v ∷ vs) =
     elim v.sight [
-      | Plan ↦ plan_text i v.node ++ plan_texts (i + 1) vs
-      | Did ↦ plan_texts i vs
-      | CutHere ↦ plan_texts i vs
-      | FaultHere f ↦ plan_texts i vs
+      | Plan ↦ told_plan states i v.node ++ plan_texts states (suc i) vs
+      | Did ↦ plan_texts states i vs
+      | CutHere ↦ plan_texts states i vs
+      | FaultHere f ↦ plan_texts states i vs
     ]
 
--- the whole text of a run for k plans of a walk
-unfoldable pub report : ℕ → List Visit → List ℕ
-report k walk =
-    plan_texts 1 (seen k walk)
+-- the whole text of a run for k plans of a walk, with their states or without
+unfoldable pub report : ℕ → Bool → List Visit → List ℕ
+report k states walk =
+    plan_texts states 1 (seen k walk)
     ++ ending_text (ending k (seen k walk)) (plans (seen k walk)) (dids (seen k walk))

@@ -1,10 +1,16 @@
 -- The tree of ordered task decomposition, and its visits, depth first.
-use Rattle.std.specs.Prelude.{ℕ, zero, suc, ◌+◌, ◌-◌, Bool, true, false, cond, ℤ, pos, ◌+ℤ◌, List, [], ◌∷◌, ◌++◌, length, Option, Some, None, Result, Ok, Err}
+use Rattle.std.specs.Prelude.{ℕ, zero, suc, ◌-◌, Bool, true, false, ◌&&◌, ◌==◌, cond, ℤ, pos, ◌+ℤ◌, List, [], ◌∷◌, ◌++◌, length, Option, Some, None, Result, Ok, Err, flat_map}
+use Rattle.std.specs.Option.{option_and_then}
 use Rattle.hp_syntax.specs.declared.fault.RunFault.{RunFault}
-use Rattle.hp_syntax.specs.Terms.{Term, Bindings, unbound}
-use Rattle.hp_syntax.specs.Expressions.{Event, Sat, Cut, Fault, State, match_atom}
-use Rattle.hp_syntax.specs.Networks.{Network, Empty, Task, Ordered, Place, normal, candidates, finish, expand, part_at}
-use Rattle.hp_syntax.specs.Rules.{Operator, Branch, Method, Rule, Does, Refines, Domain, Problem, Tasks, Changes, Applied, Now, Guarded, Going, Went, Stops, precondition_events, tasks_value, effects, apply, added}
+use Rattle.hp_syntax.specs.Syntax.{Tasks, Operator, Branch, Method, Rule, Does, Refines, Concludes, Pair}
+use Rattle.hp_syntax.specs.Terms.{Term}
+use Rattle.hp_syntax.specs.Values.{Bindings, unbound}
+use Rattle.hp_syntax.specs.Matching.{match_atom}
+use Rattle.hp_syntax.specs.Events.{Event, Sat, Cut, Fault, State, axioms_of}
+use Rattle.hp_syntax.specs.Preconditions.{precondition_events}
+use Rattle.hp_syntax.specs.Networks.{Network, Empty, Task, Ordered, Unordered, Place, tasks_value, is_empty, normal, part_at, candidates, finish, expand}
+use Rattle.hp_syntax.specs.Changes.{Changes, Applied, Now, Guarded, Going, Went, Stops, added, apply, effects}
+use Rattle.hp_syntax.specs.GroundPatterns.{atoms_said, network_said}
 
 -- a node of the tree: what holds and is protected, what is left to do, the steps so far with their
 -- cost, and how many decompositions may follow
@@ -17,19 +23,21 @@ pub record Node : Type 0 where
   pub cost : ℤ
   pub depth : ℕ
 
+-- ---- children
+
 -- what stands in a node's list of children
 pub data Child : Type 0 where
   DidChild : (node : Node) → Child
   CutChild : Child
   FaultChild : (f : RunFault) → Child
 
--- an event that is no Sat stays
-abbrev pub child_of_event : Event → List Child
-child_of_event (Sat e) = []
-child_of_event Cut = CutChild ∷ []
-child_of_event (Fault f) = FaultChild f ∷ []
+-- an event as a child, where a Sat becomes these
+abbrev pub child_of : (Bindings → List Child) → Event → List Child
+child_of f (Sat e) = f e
+child_of f Cut = CutChild ∷ []
+child_of f (Fault x) = FaultChild x ∷ []
 
--- after an operator: its changes applied, its task done, the step and its cost added
+-- after an operator: its changes are applied, its task is done, the step and its cost are added
 abbrev pub operated : Node → Place → Term → ℤ → Applied → List Child
 operated n p t c (Guarded d) = []
 operated n p t c (Now s g) =
@@ -43,14 +51,14 @@ operated n p t c (Now s g) =
       depth = n.depth - 1;
     }) ∷ []
 
-abbrev pub operator_child : Node → Place → Term → Going (Changes × ℤ) → List Child
-operator_child n p t (Stops x) = child_of_event x
-operator_child n p t (Went r) = operated n p t r.1 (apply n.state n.guards r.0)
+abbrev pub after_effects : Node → Place → Term → Going (Changes × ℤ) → List Child
+after_effects n p t (Stops x) = child_of (λ e. []) x
+after_effects n p t (Went r) = operated n p t r.1 (apply n.state n.guards r.0)
 
--- after a method: its subtasks in the place of its task
-abbrev pub method_child : Node → Place → Result Network RunFault → List Child
-method_child n p (Err f) = FaultChild f ∷ []
-method_child n p (Ok sub) =
+-- after a method: its subtasks stand in the place of its task
+abbrev pub decomposed : Node → Place → Result Network RunFault → List Child
+decomposed n p (Err f) = FaultChild f ∷ []
+decomposed n p (Ok sub) =
     DidChild (record {
       state = n.state;
       guards = n.guards;
@@ -61,63 +69,61 @@ method_child n p (Ok sub) =
       depth = n.depth - 1;
     }) ∷ []
 
--- one child for each satisfier of an operator's precondition
-abbrev pub operator_children : Node → Place → Term → Operator → List Event → List Child
-operator_children n p t o [] = []
-operator_children n p t o (Sat e ∷ xs) = operator_child n p t (effects o e) ++ operator_children n p t o xs
-operator_children n p t o (Cut ∷ xs) = CutChild ∷ operator_children n p t o xs
-operator_children n p t o (Fault f ∷ xs) = FaultChild f ∷ operator_children n p t o xs
+-- the events of a branch's precondition, with its tasks
+pub record Choice : Type 0 where
+  pub tasks : Tasks
+  pub events : List Event
 
--- one child for each satisfier of a branch's precondition
-abbrev pub branch_children : Node → Place → Tasks → List Event → List Child
-branch_children n p ts [] = []
-branch_children n p ts (Sat e ∷ xs) = method_child n p (tasks_value ts e) ++ branch_children n p ts xs
-branch_children n p ts (Cut ∷ xs) = CutChild ∷ branch_children n p ts xs
-branch_children n p ts (Fault f ∷ xs) = FaultChild f ∷ branch_children n p ts xs
+abbrev pub choice : Tasks → List Event → Choice
+choice ts xs = record { tasks = ts; events = xs }
 
--- the children of the first branch whose list of events isn't empty; of the others none
-abbrev pub unless_none : List Event → List Child → List Child → List Child
-unless_none [] own others = others
-unless_none (x ∷ xs) own others = own
+-- this branch, unless its list is empty
+abbrev pub chosen_or : Tasks → List Event → Option Choice → Option Choice
+chosen_or ts [] other = other
+chosen_or ts (x ∷ xs) other = Some (choice ts (x ∷ xs))
 
-abbrev pub method_children : Node → Place → List Branch → Bindings → List Child
-method_children n p [] e = []
-method_children n p (b ∷ bs) e =
-    unless_none (precondition_events n.state b.pre e)
-    (branch_children n p b.tasks (precondition_events n.state b.pre e)) (method_children n p bs e)
+abbrev pub choice_children : Node → Place → Option Choice → List Child
+choice_children n p None = []
+choice_children n p (Some c) = flat_map (child_of (λ b. decomposed n p (tasks_value c.tasks b))) c.events
 
-abbrev pub matched_operator : Node → Place → Term → Operator → Option Bindings → List Child
-matched_operator n p t o None = []
-matched_operator n p t o (Some e) = operator_children n p t o (precondition_events n.state o.pre e)
+-- the rules of the domain, and how deep axioms may call one another, are fixed
+module _ (rules : List Rule) (nest : ℕ) where
+  -- by an operator, for each satisfier of its precondition
+  abbrev pub operator_children : Node → Place → Term → Operator → Option Bindings → List Child
+  operator_children n p t o None = []
+  operator_children n p t o (Some e) =
+      flat_map (child_of (λ b. after_effects n p t (effects (axioms_of rules) nest n.state o b)))
+      (precondition_events (axioms_of rules) nest n.state o.pre e)
 
-abbrev pub matched_method : Node → Place → Method → Option Bindings → List Child
-matched_method n p m None = []
-matched_method n p m (Some e) = method_children n p m.branches e
+  -- the first branch whose list of events isn't empty
+  abbrev pub chosen : State → List Branch → Bindings → Option Choice
+  chosen s [] e = None
+  chosen s (b ∷ bs) e =
+      chosen_or b.tasks (precondition_events (axioms_of rules) nest s b.pre e) (chosen s bs e)
 
--- the children by one rule, where its head matches the task
-abbrev pub rule_children : Node → Place → Term → Rule → List Child
-rule_children n p t (Does o) = matched_operator n p t o (match_atom o.head t (unbound (length o.vars)))
-rule_children n p t (Refines m) = matched_method n p m (match_atom m.head t (unbound (length m.vars)))
+  abbrev pub method_children : Node → Place → Method → Option Bindings → List Child
+  method_children n p m None = []
+  method_children n p m (Some e) = choice_children n p (chosen n.state m.branches e)
 
--- the children by each rule, in the order of the domain
-abbrev pub rules_children : Node → Place → Term → List Rule → List Child
-rules_children n p t [] = []
-rules_children n p t (r ∷ rs) = rule_children n p t r ++ rules_children n p t rs
+  -- by a rule, where its head matches the task
+  abbrev pub rule_children : Node → Place → Term → Rule → List Child
+  rule_children n p t (Does o) = operator_children n p t o (match_atom o.head t (unbound (length o.vars)))
+  rule_children n p t (Refines m) = method_children n p m (match_atom m.head t (unbound (length m.vars)))
+  rule_children n p t (Concludes x) = []
 
-module _ (domain : Domain) where
+  -- by each rule, in the order of the domain
   abbrev pub task_children : Node → Place → Option Network → List Child
   task_children n p None = []
   task_children n p (Some Empty) = []
-  task_children n p (Some (Task t i)) = rules_children n p t domain.rules
+  task_children n p (Some (Task t i)) = flat_map (rule_children n p t) rules
   task_children n p (Some (Ordered ns)) = []
-
-  abbrev pub places_children : Node → List Place → List Child
-  places_children n [] = []
-  places_children n (p ∷ ps) = task_children n p (part_at n.network p) ++ places_children n ps
+  task_children n p (Some (Unordered ns)) = []
 
   -- the children of a node: by each candidate, by each rule, by each satisfier
   unfoldable pub children : Node → List Child
-  children n = places_children n (candidates n.network n.focus)
+  children n = flat_map (λ p. task_children n p (part_at n.network p)) (candidates n.network n.focus)
+
+-- ---- visits
 
 -- what is seen at a visit
 pub data Sight : Type 0 where
@@ -135,31 +141,35 @@ pub record Visit : Type 0 where
 abbrev pub visit : List ℕ → Node → Sight → Visit
 visit p n x = record { path = p; node = n; sight = x }
 
--- the visits of a node's children from left to right, of which the next Did has this number
-abbrev pub visits_of : (Node → List ℕ → List Visit) → Node → List ℕ → ℕ → List Child → List Visit
-visits_of below n p i [] = []
-visits_of below n p i (CutChild ∷ cs) = visit p n CutHere ∷ visits_of below n p i cs
-visits_of below n p i (FaultChild f ∷ cs) = visit p n (FaultHere f) ∷ visits_of below n p i cs
-visits_of below n p i (DidChild m ∷ cs) =
-    visit (p ++ i ∷ []) m Did ∷ (below m (p ++ i ∷ []) ++ visits_of below n p (i + 1) cs)
+-- the next Did has the next number; another child has that of the next Did
+abbrev pub number_after : ℕ → Child → ℕ
+number_after i (DidChild m) = suc i
+number_after i CutChild = i
+number_after i (FaultChild f) = i
 
-abbrev pub is_empty : Network → Bool
-is_empty Empty = true
-is_empty (Task t i) = false
-is_empty (Ordered ns) = false
+-- the children with the numbers of the Dids, of which the first has this one
+abbrev pub numbered : ℕ → List Child → List (ℕ × Child)
+numbered i [] = []
+numbered i (c ∷ cs) = (i, c) ∷ numbered (number_after i c) cs
 
--- the visits at and below a node: a Plan where nothing is left to do, else a Cut where no
+-- what is seen by a child of a node, and below it
+abbrev pub child_visits : (Node → List ℕ → List Visit) → Node → List ℕ → ℕ × Child → List Visit
+child_visits below n p (i, DidChild m) = visit (p ++ i ∷ []) m Did ∷ below m (p ++ i ∷ [])
+child_visits below n p (i, CutChild) = visit p n CutHere ∷ []
+child_visits below n p (i, FaultChild f) = visit p n (FaultHere f) ∷ []
+
+-- the visits at and below a node at a path: a Plan where nothing is left to do, else a Cut where no
 -- decomposition is left, else those of its children
-unfoldable pub visits_within : Domain → ℕ → Node → List ℕ → List Visit
-visits_within domain zero n p = visit p n (cond (is_empty n.network) Plan CutHere) ∷ []
-visits_within domain (suc d) n p =
+unfoldable pub visits_within : List Rule → ℕ → ℕ → Node → List ℕ → List Visit
+visits_within rules nest zero n p = visit p n (cond (is_empty n.network) Plan CutHere) ∷ []
+visits_within rules nest (suc d) n p =
     cond (is_empty n.network) (visit p n Plan ∷ [])
-    (visits_of (visits_within domain d) n p 0 (children domain n))
+    (flat_map (child_visits (visits_within rules nest d) n p) (numbered 0 (children rules nest n)))
 
-unfoldable pub visits : Domain → Node → List ℕ → List Visit
-visits domain n p = visits_within domain n.depth n p
+unfoldable pub visits : List Rule → ℕ → Node → List ℕ → List Visit
+visits rules nest n p = visits_within rules nest n.depth n p
 
--- up to and including the first fault
+-- a list of visits is heard up to and including its first fault
 abbrev pub heard_visits : List Visit → List Visit
 heard_visits [] = []
 heard_visits (v ∷ vs) =
@@ -170,18 +180,47 @@ heard_visits (v ∷ vs) =
       | CutHere ↦ v ∷ heard_visits vs
     ]
 
--- the root of a problem at a depth
-abbrev pub root : Problem → ℕ → Node
-root problem d = record {
-  state = added [] problem.state;
+-- the root of a pair at a depth
+unfoldable pub root : Pair → ℕ → Node
+root pair d = record {
+  state = added [] (atoms_said pair.state);
   guards = [];
-  network = normal problem.tasks;
+  network = normal (network_said pair.tasks);
   focus = None;
   steps = [];
   cost = pos 0;
   depth = d;
 }
 
--- the walk of a problem: all visits of its tree, depth first, up to the first fault
-unfoldable pub walk : Domain → Problem → ℕ → List Visit
-walk domain problem d = heard_visits (visits domain (root problem d) [])
+-- the walk of a pair at a depth: all visits of its tree, depth first, up to the first fault
+unfoldable pub walk : List Rule → ℕ → Pair → ℕ → List Visit
+walk rules nest pair d = heard_visits (visits rules nest (root pair d) [])
+
+-- ---- paths
+
+-- the node of the i-th Did among children
+abbrev pub did_at : List Child → ℕ → Option Node
+did_at [] i = None
+did_at (DidChild m ∷ cs) zero = Some m
+did_at (DidChild m ∷ cs) (suc i) = did_at cs i
+did_at (CutChild ∷ cs) i = did_at cs i
+did_at (FaultChild f ∷ cs) i = did_at cs i
+
+-- the node that a path reaches from a node; nothing is below a node without tasks or without depth
+unfoldable pub node_at : List Rule → ℕ → Node → List ℕ → Option Node
+node_at rules nest n [] = Some n
+node_at rules nest n (i ∷ p) =
+    cond (is_empty n.network) None
+    (cond (n.depth == 0) None
+    (option_and_then (λ m. node_at rules nest m p) (did_at (children rules nest n) i)))
+
+-- a path begins another
+abbrev pub begins : List ℕ → List ℕ → Bool
+begins [] q = true
+begins (i ∷ p) [] = false
+begins (i ∷ p) (j ∷ q) = (i == j) && begins p q
+
+-- a list of visits without the leading ones that lie at or below a path
+abbrev pub skip : List ℕ → List Visit → List Visit
+skip p [] = []
+skip p (v ∷ vs) = cond (begins p v.path) (skip p vs) (v ∷ vs)

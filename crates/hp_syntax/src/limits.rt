@@ -15,8 +15,17 @@ pub const MOST_VARIABLES: usize = 256;
 /// How deep logical expressions may nest: the whole expression of a rule's part is at level 1.
 pub const DEEPEST_EXPRESSION: usize = 24;
 
+/// How deep the terms of a run may nest: a list is one deeper than its deepest part.
+pub const DEEPEST_TERM: usize = 64;
+
 /// The most plans that may be asked for.
 pub const MOST_PLANS: u64 = 1_000_000_000;
 
 /// The greatest depth that may be asked for.
 pub const GREATEST_DEPTH: u32 = 1_000;
+
+/// How deep axioms may call one another, as it may be asked at most.
+pub const MOST_LEVELS: u32 = 128;
+
+/// The same where nothing is asked.
+pub const USUAL_LEVELS: u32 = 64;

@@ -1,6 +1,7 @@
 -- Matching argument by argument, and the values of arguments.
 use Rattle.std.proofs.Common.{◌≡◌, ◌≢◌, ℕ, zero, suc, ◌+◌, ◌<◌, Bool, true, List, [], ◌∷◌, length, map, drop, get_or, replicate, Option, Some, None, option_map, refl, ap, sym, ◌∙◌}
-use Rattle.hp_syntax.specs.Terms.{Bindings, Symbol, match_term, match_parts, and_then, unbound}
+use Rattle.hp_syntax.specs.Terms.{Symbol}
+use Rattle.hp_top.specs.SmallTerms.{Bindings, match_term, match_parts, and_then, unbound}
 use Rattle.hp_top.specs.declared.program.Argument.{Argument}
 use Rattle.hp_top.specs.Program.{plain_pattern, plain_patterns, plain_symbols}
 use Rattle.hp_top.specs.Stops.{extended}

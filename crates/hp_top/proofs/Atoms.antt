@@ -5,7 +5,7 @@ use Rattle.std.specs.Global.{Global}
 use Rattle.std.specs.declared.rc.Rc.{Rc}
 use lib.Pointwise.{pointwise}
 use Rattle.hp_syntax.specs.Terms.{Term, same_term, same_terms}
-use Rattle.hp_syntax.specs.Rules.{member}
+use Rattle.hp_top.specs.SmallRules.{member}
 use Rattle.hp_top.specs.declared.program.GroundAtom.{GroundAtom}
 use Rattle.hp_top.specs.Program.{plain_symbols, shared_term, plain_terms}
 use Rattle.hp_top.proofs.Gather.{left_more}

@@ -1,6 +1,7 @@
 -- Branches of a method, of which the first that has a satisfier is used.
 use Rattle.std.proofs.Common.{◌≡◌, ℕ, ◌+◌, ◌<◌, ◌≤◌, List, [], ◌∷◌, length, map, drop, get_or, refl, ap, sym, ◌∙◌, arith}
-use Rattle.hp_syntax.specs.Terms.{Term, Bindings}
+use Rattle.hp_syntax.specs.Terms.{Term}
+use Rattle.hp_top.specs.SmallTerms.{Bindings}
 use Rattle.hp_top.specs.declared.program.Branch.{Branch}
 use Rattle.hp_top.specs.Program.{plain_atoms}
 use Rattle.hp_top.specs.Flat.{FlatNode, FlatChild, satisfiers, by_branch, by_branches, first_used}

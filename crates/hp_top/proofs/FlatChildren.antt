@@ -2,13 +2,14 @@
 use Rattle.std.proofs.Common.{◌≡◌, ◌-◌, ℤ, pos, ◌+ℤ◌, List, [], ◌∷◌, ◌++◌, map, length, Option, Some, None, Result, Ok, Err, refl, sym, ap, ◌∙◌, append-nil, length-append}
 use Rattle.std.proofs.Math.IntN.{pos-+ℤ-pos}
 use Rattle.hp_syntax.specs.declared.fault.RunFault.{RunFault}
-use Rattle.hp_syntax.specs.Terms.{Term, Bindings, unbound}
-use Rattle.hp_syntax.specs.Expressions.{Sat, match_atom}
-use Rattle.hp_syntax.specs.Networks.{Network, Ordered, normal}
-use Rattle.hp_syntax.specs.Lowering.{conjunction, each_network}
-use Rattle.hp_syntax.specs.Rules as rules
-use Rattle.hp_syntax.specs.Rules.{apply, precondition_events, tasks_value, effects}
-use Rattle.hp_syntax.specs.Walk.{Node, Child, DidChild, FaultChild, operated, operator_child, method_child, operator_children, branch_children, unless_none, method_children, matched_operator, matched_method, rule_children, rules_children, children}
+use Rattle.hp_syntax.specs.Terms.{Term}
+use Rattle.hp_top.specs.SmallTerms.{Bindings, unbound}
+use Rattle.hp_top.specs.SmallExpressions.{Sat, match_atom}
+use Rattle.hp_top.specs.SmallNetworks.{Network, Ordered, normal}
+use Rattle.hp_top.specs.SmallLowering.{conjunction, each_network}
+use Rattle.hp_top.specs.SmallRules as rules
+use Rattle.hp_top.specs.SmallRules.{apply, precondition_events, tasks_value, effects}
+use Rattle.hp_top.specs.SmallWalk.{Node, Child, DidChild, FaultChild, operated, operator_child, method_child, operator_children, branch_children, unless_none, method_children, matched_operator, matched_method, rule_children, rules_children, children}
 use Rattle.hp_top.specs.declared.program.RuleAtom.{RuleAtom}
 use Rattle.hp_top.specs.declared.program.Operator.{Operator}
 use Rattle.hp_top.specs.declared.program.Branch.{Branch}

@@ -1,7 +1,7 @@
 -- The visits of the tree, and what is seen as the engine goes through it.
 use Rattle.std.proofs.Common.{◌≡◌, ℕ, zero, suc, ◌+◌, cond, pos, List, [], ◌∷◌, ◌++◌, length, refl, sym, ap, ◌∙◌}
 use Rattle.std.specs.List.{flat_map}
-use Rattle.hp_syntax.specs.Walk.{Node, Child, DidChild, CutChild, FaultChild, children, Sight, Did, Plan, CutHere, FaultHere, Visit, visit, visits_of, visits_within, visits, is_empty, root}
+use Rattle.hp_top.specs.SmallWalk.{Node, Child, DidChild, CutChild, FaultChild, children, Sight, Did, Plan, CutHere, FaultHere, Visit, visit, visits_of, visits_within, visits, is_empty, root}
 use Rattle.hp_top.specs.declared.program.Domain.{Domain}
 use Rattle.hp_top.specs.declared.program.Problem.{Problem}
 use Rattle.hp_top.specs.Program.{plain_domain, plain_problem, plain_terms}

@@ -1,12 +1,12 @@
 -- What stops the telling of a text stops that of a longer one.
-use Rattle.std.proofs.Common.{◌≡◌, ℕ, ◌+◌, ◌<◌, ◌≤◌, List, [], ◌∷◌, ◌++◌, length, map, take, drop, slice_index_or, Option, Result, Ok, Err, OnOk, IfErr, arith, ap, sym, subst, refl}
+use Rattle.std.proofs.Common.{ℕ, ◌+◌, ◌≤◌, List, ◌++◌, Option, Result, Ok, Err, OnOk, IfErr, arith}
 use Rattle.hp_io.specs.Rules.{Rose}
 use Rattle.hp_top.specs.declared.telling.Halt.{Halt}
 use Rattle.hp_top.specs.declared.telling.Halt.TheVariants.{NoMemory, Failed}
 use Rattle.hp_top.specs.Telling.{Halts}
 use Rattle.hp_out.specs.Writing.{SinkRun, sink_run, Wrote}
 use Rattle.hp_out.proofs.FrontLemmas.{front_longer, proper_longer, front_after, proper_after}
-use Rattle.hp_out.proofs.WriteSteps.{wrote_both, seam}
+use Rattle.hp_out.proofs.WriteSteps.{wrote_both}
 
 on_ok_weaker : {A E : Type 0} (r : Result A E) (P Q : Type 0) → OnOk r P → (P → Q) → OnOk r Q
 on_ok_weaker (Ok x) P Q h f = f h

@@ -7,7 +7,7 @@ use Rattle.std.proofs.lemmas.List.{map_push}
 use Rattle.indexmap.specs.IndexSet.{insert_key}
 use lib.Pointwise.{pointwise}
 use Rattle.hp_syntax.specs.Terms.{same_term}
-use Rattle.hp_syntax.specs.Rules.{member, added}
+use Rattle.hp_top.specs.SmallRules.{member, added}
 use Rattle.hp_top.specs.declared.program.GroundAtom.{GroundAtom}
 use Rattle.hp_top.specs.Program.{shared_term, plain_terms}
 use Rattle.hp_top.proofs.Atoms.{same_names}

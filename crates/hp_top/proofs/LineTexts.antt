@@ -1,7 +1,7 @@
 -- Lines, by their parts.
 use Rattle.std.proofs.Common.{◌≡◌, ℕ, ◌-◌, ◌^◌, ◌<◌, min, List, ◌++◌, length, codes, decimal, refl, ap, arith}
 use Rattle.hp_syntax.specs.Terms.{Term}
-use Rattle.hp_syntax.specs.Report.{Ending, ending_text, ending_word, steps_text}
+use Rattle.hp_top.specs.SmallReport.{Ending, ending_text, ending_word, steps_text}
 use Rattle.hp_top.specs.Told.{flat_plan_text}
 
 least : (n : ℕ) → n < 2 ^ 64 → min n (2 ^ 64 - 1) ≡ n

@@ -1,8 +1,7 @@
 -- From what was read of a file to the whole file, and why a run stops there.
-use Rattle.std.proofs.Common.{◌≡◌, ◌⊎◌, inl, inr, ℕ, ◌+◌, ◌≤◌, List, length, take, Some, None, Result, Ok, Err, IfOk, IfErr, arith, refl, sym, ◌∙◌, subst}
+use Rattle.std.proofs.Common.{◌≡◌, inl, inr, ℕ, ◌+◌, ◌≤◌, List, length, take, Some, None, Result, Ok, Err, IfOk, IfErr, arith, refl, sym, ◌∙◌, subst}
 use Rattle.std.proofs.lemmas.List.{take_all}
 use Rattle.hp_io.specs.declared.folder.Input.{Input}
-use Rattle.hp_io.specs.declared.folder.Input.TheVariants as inputs
 use Rattle.hp_io.specs.Rules.{Rose}
 use Rattle.hp_forms.specs.declared.refusal.FormRefusal.{FormRefusal}
 use Rattle.hp_forms.specs.declared.refusal.FormRefusal.TheVariants as forms

@@ -1,8 +1,8 @@
 -- Loops that lower the elements of a list one by one.
 use Rattle.std.proofs.Common.{◌≡◌, ℕ, ◌+◌, ◌<◌, ◌≤◌, List, [], ◌∷◌, ◌++◌, length, map, drop, get_or, Option, Some, None, refl, ap, sym, ◌∙◌, option_map}
 use Rattle.std.proofs.lemmas.List.{drop_all, map-append}
-use Rattle.hp_syntax.specs.Terms.{NoPart, Part}
-use Rattle.hp_syntax.specs.Lowering.{joined}
+use Rattle.hp_top.specs.SmallTerms.{NoPart, Part}
+use Rattle.hp_top.specs.SmallLowering.{joined}
 use Rattle.hp_top.specs.declared.program.Argument.{Argument}
 use Rattle.hp_top.specs.declared.lowering.refusal.Unlowered.{Unlowered}
 use Rattle.hp_top.specs.declared.lowering.refusal.Unlowered.TheVariants as refusals

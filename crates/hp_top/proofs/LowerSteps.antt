@@ -1,8 +1,9 @@
 -- Lists as they are lowered, element by element.
 use Rattle.std.proofs.Common.{◌≡◌, true, false, List, ◌∷◌, Option, Some, None, option_map, refl}
 use Rattle.hp_syntax.specs.Syntax as whole
-use Rattle.hp_syntax.specs.Terms.{Terms, More, Symbol, and_then}
-use Rattle.hp_syntax.specs.Lowering.{joined, conjuncts, atoms_of_effects, atoms_of_task_list, lower_fixed}
+use Rattle.hp_syntax.specs.Terms.{Terms, More, Symbol}
+use Rattle.hp_top.specs.SmallTerms.{and_then}
+use Rattle.hp_top.specs.SmallLowering.{joined, conjuncts, atoms_of_effects, atoms_of_task_list, lower_fixed}
 use Rattle.hp_top.specs.Lowers.{atom_in, changed_atom, task_in, symbol_in}
 
 module _ {B : Type 0} (one : whole.Atom → Option B) (all : List whole.Atom → Option (List B))

@@ -7,12 +7,12 @@ use Rattle.std.proofs.lemmas.Bool.Decides.{nat_tests}
 use Rattle.std.proofs.lemmas.List.{length-set, length-replicate}
 use Rattle.std.proofs.lemmas.List.Folds.{list_all-append}
 use Rattle.hp_syntax.specs.Syntax as whole
-use Rattle.hp_syntax.specs.Terms.{Patterns, Variable, Constant, Numeral, NoPart, Part, and_then}
-use Rattle.hp_syntax.specs.Expressions.{Atom}
-use Rattle.hp_syntax.specs.Rules.{Branch}
-use Rattle.hp_syntax.specs.WellFormed.{AreBelow, InAllBelow}
-use Rattle.hp_syntax.specs.Lowering.{only_if, joined, make_branch, all_hold, lower_atoms, atoms_of_precondition, atoms_of_tasks, variables_of_terms, variables_of_atoms, are_bound, lower_branches}
-use Rattle.hp_syntax.proofs.LoweringLemmas.{atoms_below}
+use Rattle.hp_top.specs.SmallTerms.{Patterns, Variable, Constant, Numeral, NoPart, Part, and_then}
+use Rattle.hp_top.specs.SmallExpressions.{Atom}
+use Rattle.hp_top.specs.SmallRules.{Branch}
+use Rattle.hp_top.specs.SmallDomains.{AreBelow, InAllBelow}
+use Rattle.hp_top.specs.SmallLowering.{only_if, joined, make_branch, all_hold, lower_atoms, atoms_of_precondition, atoms_of_tasks, variables_of_terms, variables_of_atoms, are_bound, lower_branches}
+use Rattle.hp_top.proofs.SmallLoweringLemmas.{atoms_below}
 use Rattle.hp_top.specs.declared.program.Argument.{Argument}
 use Rattle.hp_top.specs.declared.program.RuleAtom.{RuleAtom}
 use Rattle.hp_top.specs.Program.{plain_patterns, plain_atoms}

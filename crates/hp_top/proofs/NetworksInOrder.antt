@@ -1,8 +1,8 @@
 -- Networks whose tasks are done one after the other, as lists of tasks.
 use Rattle.std.proofs.Common.{◌≡◌, zero, Bool, true, false, cond, ◌||◌, List, [], ◌∷◌, ◌++◌, map, Option, Some, None, refl, sym, ap, ◌∙◌, append_assoc, append-nil}
 use Rattle.hp_syntax.specs.Terms.{Term}
-use Rattle.hp_syntax.specs.Networks.{Network, Networks, Empty, Task, Ordered, NoNetwork, And, unless_empty, as_list, normal, normal_parts, Place, firsts, part_at, with_part, is_immediate, immediate_first, firsts_below, candidates, finish, expand}
-use Rattle.hp_syntax.specs.Walk.{is_empty}
+use Rattle.hp_top.specs.SmallNetworks.{Network, Networks, Empty, Task, Ordered, NoNetwork, And, unless_empty, as_list, normal, normal_parts, Place, firsts, part_at, with_part, is_immediate, immediate_first, firsts_below, candidates, finish, expand}
+use Rattle.hp_top.specs.SmallWalk.{is_empty}
 
 -- the tasks of a network, from left to right
 abbrev mutual

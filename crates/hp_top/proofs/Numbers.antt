@@ -2,8 +2,8 @@
 use Rattle.std.proofs.Common.{◌≡◌, ℕ, ◌+◌, ◌-◌, ◌*◌, ◌<◌, ◌≤◌, nat_le, drop, add-one, drop-cons, ◌∙◌, Bool, true, false, List, [], ◌∷◌, length, map, Option, Some, None, option_map, String, Global, string_bytes, bytes_eq, codes, get_or, arith, refl, ap, sym, MatchOption}
 use Rattle.std.specs.Prelude.{slice_index_or}
 use Rattle.std.proofs.lemmas.Bool.{lt-leb}
-use Rattle.hp_syntax.specs.Lowering.{only_if}
 use Rattle.hp_syntax.specs.declared.limits.TheConstants.{MOST_PLANS, GREATEST_DEPTH}
+use Rattle.hp_top.specs.SmallLowering.{only_if}
 use Rattle.hp_top.specs.declared.words.Asked.{Asked}
 use Rattle.hp_top.specs.Command.{Job, number_from, number_within, job_by_word, planning, accepts, make_command}
 use Rattle.hp_top.specs.Words.{AsksFor, Spelled, job_of}

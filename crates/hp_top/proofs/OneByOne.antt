@@ -2,7 +2,8 @@
 use Rattle.std.proofs.Common.{◌≡◌, ℕ, ◌+◌, ◌<◌, ◌≤◌, List, [], ◌∷◌, ◌++◌, length, map, drop, get_or, Result, Ok, Err, refl, ap, sym, ◌∙◌}
 use Rattle.std.proofs.lemmas.List.{drop_all}
 use Rattle.hp_syntax.specs.declared.fault.RunFault.{RunFault}
-use Rattle.hp_syntax.specs.Terms.{NoTerm, More, Symbol, on_ok}
+use Rattle.hp_syntax.specs.Terms.{NoTerm, More, Symbol}
+use Rattle.hp_top.specs.SmallTerms.{on_ok}
 use Rattle.hp_top.specs.Program.{plain_symbols}
 use Rattle.hp_top.proofs.Gather.{left_more}
 

@@ -5,11 +5,12 @@ use Rattle.std.proofs.lemmas.List.{map-append}
 use Rattle.std.specs.List.{cons_option, flat_map}
 use Rattle.hp_syntax.specs.declared.fault.RunFault.{RunFault}
 use Rattle.hp_syntax.specs.declared.pattern.Span.{Span}
-use Rattle.hp_syntax.specs.Terms.{Term, Bindings, on_ok}
-use Rattle.hp_syntax.specs.Expressions.{Atom, Event, Sat, State, through, events_of_both, state_events, sat_if, match_atom, atom_value, heard}
-use Rattle.hp_syntax.specs.Networks.{Network, Task, Ordered, And}
-use Rattle.hp_syntax.specs.Rules.{Changes, Now, Going, Went, and_go, go_on, effect_atoms, effects, task_list_value, tasks_value, precondition_events, first_guarded, applied, apply}
-use Rattle.hp_syntax.specs.Lowering.{all_hold, conjunction, each_task, task_list, changes, make_operator, each_network}
+use Rattle.hp_syntax.specs.Terms.{Term}
+use Rattle.hp_top.specs.SmallTerms.{Bindings, on_ok}
+use Rattle.hp_top.specs.SmallExpressions.{Atom, Event, Sat, State, through, events_of_both, state_events, sat_if, match_atom, atom_value, heard}
+use Rattle.hp_top.specs.SmallNetworks.{Network, Task, Ordered, And}
+use Rattle.hp_top.specs.SmallRules.{Changes, Now, Going, Went, and_go, go_on, effect_atoms, effects, task_list_value, tasks_value, precondition_events, first_guarded, applied, apply}
+use Rattle.hp_top.specs.SmallLowering.{all_hold, conjunction, each_task, task_list, changes, make_operator, each_network}
 use Rattle.hp_top.specs.Flat.{matches, satisfiers, atom_values}
 use Rattle.hp_top.proofs.NetworksInOrder.{tasks_in_all}
 

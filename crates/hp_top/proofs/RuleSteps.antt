@@ -4,10 +4,10 @@ use Rattle.std.specs.Option.{ok_or}
 use Rattle.std.proofs.lemmas.List.{drop_all, map-append}
 use Rattle.hp_syntax.specs.declared.pattern.Span.{Span}
 use Rattle.hp_syntax.specs.Syntax as whole
-use Rattle.hp_syntax.specs.Terms.{and_then}
-use Rattle.hp_syntax.specs.Expressions.{Atom}
-use Rattle.hp_syntax.specs.Rules.{Rule, Does}
-use Rattle.hp_syntax.specs.Lowering.{only_if, make_operator, make_method, lower_atom, lower_atoms, atoms_of_precondition, atoms_of_effects, variables_of_atoms, are_bound, is_default, lower_operator, lower_method, lower_rule, span_of_rule, before_rules, lower_rules, lower_branches}
+use Rattle.hp_top.specs.SmallTerms.{and_then}
+use Rattle.hp_top.specs.SmallExpressions.{Atom}
+use Rattle.hp_top.specs.SmallRules.{Rule, Does}
+use Rattle.hp_top.specs.SmallLowering.{only_if, make_operator, make_method, lower_atom, lower_atoms, atoms_of_precondition, atoms_of_effects, variables_of_atoms, are_bound, is_default, lower_operator, lower_method, lower_rule, span_of_rule, before_rules, lower_rules, lower_branches}
 use Rattle.hp_top.specs.declared.lowering.refusal.Unlowered.{Unlowered}
 use Rattle.hp_top.specs.declared.lowering.refusal.Unlowered.TheVariants as refusals
 use Rattle.hp_top.specs.declared.lowering.refusal.UnloweredDomain.{UnloweredDomain}
@@ -16,7 +16,7 @@ use Rattle.hp_top.specs.Lowers.{Refuses, RefusesRules, one_rule}
 use Rattle.hp_top.specs.Marks.{marked, marks_of, are_marked, branches_by}
 use Rattle.hp_top.proofs.Gather.{left_more}
 use Rattle.hp_top.proofs.MarkLemmas.{bound_is_marked, branches_same}
-use Rattle.hp_syntax.proofs.Matching.{and_then_some}
+use Rattle.hp_top.proofs.SmallMatching.{and_then_some}
 
 -- ---- methods
 

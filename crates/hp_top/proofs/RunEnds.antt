@@ -1,5 +1,5 @@
 -- From how a run ends to what the top call promises.
-use Rattle.std.proofs.Common.{◌≡◌, ◌≢◌, ◌⊎◌, inl, inr, ℕ, ◌-◌, ◌≤◌, List, [], ◌∷◌, length, map, Bool, true, false, cond, nat_lt, nat_le, nat_eq, Option, Some, None, Result, Ok, Err, ◌++◌, String, Global, string_bytes, get_or, arith, refl, ap, sym, ◌∙◌, subst}
+use Rattle.std.proofs.Common.{◌≡◌, ◌≢◌, ◌⊎◌, inl, inr, ℕ, ◌-◌, ◌≤◌, List, [], ◌∷◌, length, map, Bool, true, false, cond, nat_lt, nat_le, nat_eq, Option, Some, None, Result, Ok, Err, String, Global, string_bytes, get_or, arith, refl, ap, sym, ◌∙◌, subst}
 use Rattle.std.specs.Prelude.{slice_index_or}
 use Rattle.std.specs.List.{All}
 use Rattle.std.proofs.lemmas.Bool.{cond_both}
@@ -9,15 +9,15 @@ use Rattle.hp_io.specs.declared.folder.Input.TheVariants as inputs
 use Rattle.hp_io.specs.Rules.{Rose}
 use Rattle.hp_syntax.specs.declared.check.CheckFault.{CheckFault}
 use Rattle.hp_syntax.specs.declared.pattern.Span.{Span}
-use Rattle.hp_syntax.specs.Lowering.{lower_domain, lower_problem}
 use Rattle.hp_syntax.specs.Grammar.{domain_form, problem_form}
-use Rattle.hp_syntax.specs.Rules as plain
 use Rattle.hp_syntax.specs.Steps.{Expected, SeveralPairs}
 use Rattle.hp_syntax.specs.Syntax as whole
-use Rattle.hp_syntax.specs.Laws.{IsFaultless}
-use Rattle.hp_syntax.specs.Report.{Ending, Stopped, AtFault, AtCut, AtEnd, closing, ending, seen, plans, report}
-use Rattle.hp_syntax.specs.Walk.{Sight, Did, Plan, CutHere, FaultHere, Visit, walk}
 use Rattle.hp_out.specs.declared.refusal.Refusal.TheVariants as refusals
+use Rattle.hp_top.specs.SmallLowering.{lower_domain, lower_problem}
+use Rattle.hp_top.specs.SmallRules as plain
+use Rattle.hp_top.specs.SmallLaws.{IsFaultless}
+use Rattle.hp_top.specs.SmallReport.{Ending, Stopped, AtFault, AtCut, AtEnd, closing, ending, seen, plans, report}
+use Rattle.hp_top.specs.SmallWalk.{Sight, Did, Plan, CutHere, FaultHere, Visit, walk}
 use Rattle.hp_top.specs.declared.loading.LoadError.{LoadError}
 use Rattle.hp_top.specs.declared.loading.LoadError.TheVariants as causes
 use Rattle.hp_top.specs.declared.status.Status.{Status}
@@ -31,7 +31,7 @@ use Rattle.hp_top.specs.Loading.{ToldFile, Holds, Reads, IsUnread, IsProblemUnre
 use Rattle.hp_out.specs.Lines.{text_of, refused_usage, refused_read}
 use Rattle.hp_top.specs.Run.{TellsFiles, IsOutcome, RefusesWords, OfDomain, OfProblem, ReadFails, CouldWrite, OfOutcome, OfReading, WritesFront, WritesProperFront}
 use Rattle.hp_top.specs.Serving as serving
-use Rattle.hp_top.specs.Serving.{Serves, Ends, load_answer}
+use Rattle.hp_top.specs.Serving.{Ends, load_answer}
 use Rattle.hp_top.specs.Telling as telling
 use Rattle.hp_top.specs.Telling.{Tells}
 use Rattle.hp_out.specs.Writing.{SinkRun, Wrote, WroteFront, WroteProperFront}

@@ -3,11 +3,12 @@ use Rattle.std.proofs.Common.{◌≡◌, ℕ, [], length, Result, Ok, Err, refl,
 use Rattle.hp_syntax.specs.Checks.{domain_faults, problem_faults, pattern_faults, patterns_faults, expression_faults, expressions_faults, tasks_faults, task_list_faults}
 use Rattle.hp_syntax.specs.Forest.{IsForest}
 use Rattle.hp_syntax.specs.Grammar.{domain_form, problem_form, atoms, branch_name, branch_tasks, branches, cost, domain_list, effect, effects, expression, expressions, file, file_list, headed, items, keyed_effect, keyed_rule, list, list_expression, list_precondition, list_tasks, method, name, named_atom, named_branch, operator, pair, precondition, problem_list, rule, task_list, tasks, term, terms, word_tail, word_term}
-use Rattle.hp_syntax.specs.Lowering.{lower_domain, lower_problem}
-use Rattle.hp_syntax.specs.Samples.{basic_text, basic_forest, basic_domain, swap_text, swap_forest, swap_problem, empty_text, empty_forest, empty_problem}
+use Rattle.hp_syntax.specs.Samples.{basic_text, basic_forest, swap_text, swap_forest, empty_text, empty_forest}
 use Rattle.hp_syntax.specs.Steps.{Misform}
 use Rattle.hp_syntax.specs.Syntax.{Domain, Problem}
 use Rattle.hp_syntax.specs.TextForms.{IsRead}
+use Rattle.hp_top.specs.SmallLowering.{lower_domain, lower_problem}
+use Rattle.hp_top.specs.SmallSamples.{basic_domain, swap_problem, empty_problem}
 use Rattle.hp_top.specs.Command.{Command, Planning, make_command}
 use Rattle.hp_top.specs.Outcome.{plan_answer, answer_of_read}
 

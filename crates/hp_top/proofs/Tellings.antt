@@ -1,7 +1,7 @@
 -- One visit more that was told, and the whole telling.
 use Rattle.std.proofs.Common.{◌≡◌, ℕ, ◌+◌, ◌-◌, ◌^◌, min, List, [], ◌∷◌, ◌++◌, ◌≤◌, Option, Some, None, Result, Ok, Err, IfErr, refl, ap, sym, ◌∙◌, subst, append_assoc, append-nil}
-use Rattle.hp_syntax.specs.Report.{ending_text}
 use Rattle.hp_syntax.specs.Terms.{Term}
+use Rattle.hp_top.specs.SmallReport.{ending_text}
 use Rattle.hp_top.specs.declared.lines.Ending.{Ending}
 use Rattle.hp_top.specs.declared.planning.Progress.{Progress}
 use Rattle.hp_top.specs.declared.telling.Halt.{Halt}

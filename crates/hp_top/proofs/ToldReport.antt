@@ -3,9 +3,9 @@ use Rattle.std.proofs.Common.{◌≡◌, ℕ, zero, suc, ◌+◌, ◌-◌, ◌^�
 use Rattle.std.proofs.lemmas.Bool.{lt-leb, eq-eqb, ne_eqb}
 use Rattle.std.proofs.lemmas.Bool.Decides.{nat_tests}
 use Rattle.hp_syntax.specs.declared.fault.RunFault.{RunFault}
-use Rattle.hp_syntax.specs.Report as report
-use Rattle.hp_syntax.specs.Report.{plan_text, plans, dids, seen, closing, ending_text, plan_texts, report}
-use Rattle.hp_syntax.specs.Walk.{Node, Sight, Did, Plan, CutHere, FaultHere, Visit, visit, heard_visits, visits, root, walk}
+use Rattle.hp_top.specs.SmallReport as report
+use Rattle.hp_top.specs.SmallReport.{plan_text, plans, dids, seen, closing, ending_text, plan_texts, report}
+use Rattle.hp_top.specs.SmallWalk.{Node, Sight, Did, Plan, CutHere, FaultHere, Visit, visit, heard_visits, visits, root, walk}
 use Rattle.hp_top.specs.declared.program.Domain.{Domain}
 use Rattle.hp_top.specs.declared.program.Problem.{Problem}
 use Rattle.hp_top.specs.declared.status.Status.{Status}

@@ -1,7 +1,7 @@
 -- How a run ends that tells a whole walk.
 use Rattle.std.proofs.Common.{◌≡◌, ℕ, ◌<◌, false, List, refl, ap, ◌∙◌, subst}
-use Rattle.hp_syntax.specs.Report.{report}
-use Rattle.hp_syntax.specs.Walk.{walk}
+use Rattle.hp_top.specs.SmallReport.{report}
+use Rattle.hp_top.specs.SmallWalk.{walk}
 use Rattle.hp_top.specs.declared.telling.Halt.{Halt}
 use Rattle.hp_top.specs.declared.telling.Halt.TheVariants.{NoMemory, Failed}
 use Rattle.hp_top.specs.declared.program.Domain.{Domain}

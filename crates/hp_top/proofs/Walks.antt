@@ -7,8 +7,9 @@ use Rattle.std.proofs.lemmas.List.Concat.{flat_map-append}
 use Rattle.std.specs.Global.{Global}
 use Rattle.std.specs.declared.rc.Rc.{Rc}
 use Rattle.hp_syntax.specs.declared.fault.RunFault.{RunFault}
-use Rattle.hp_syntax.specs.Terms.{Term, Bindings, unbound}
-use Rattle.hp_syntax.specs.Expressions.{match_atom}
+use Rattle.hp_syntax.specs.Terms.{Term}
+use Rattle.hp_top.specs.SmallTerms.{Bindings, unbound}
+use Rattle.hp_top.specs.SmallExpressions.{match_atom}
 use Rattle.hp_top.specs.declared.node.Choice.{Choice}
 use Rattle.hp_top.specs.declared.program.GroundAtom.{GroundAtom}
 use Rattle.hp_top.specs.declared.program.Rule.{Rule}

@@ -5,7 +5,7 @@ use Rattle.hp_io.specs.declared.folder.Input.{Input}
 use Rattle.hp_io.specs.declared.folder.Input.TheVariants as inputs
 use Rattle.hp_syntax.specs.declared.limits.TheConstants.{MOST_PLANS, GREATEST_DEPTH}
 use Rattle.hp_syntax.specs.Text.{is_digit}
-use Rattle.hp_syntax.specs.Lowering.{only_if, joined}
+use Rattle.hp_top.specs.SmallLowering.{only_if, joined}
 
 -- a number is `0`, or digits without a leading zero
 abbrev pub is_number : List ℕ → Bool

@@ -3,9 +3,10 @@
 use Rattle.std.specs.Prelude.{ℕ, zero, suc, ◌-◌, Bool, true, false, not, cond, List, [], ◌∷◌, ◌++◌, map, filter, drop, length, Option, Some, None, Result, Ok, Err, option_map}
 use Rattle.std.specs.List.{filter_map, flat_map}
 use Rattle.hp_syntax.specs.declared.fault.RunFault.{RunFault}
-use Rattle.hp_syntax.specs.Terms.{Term, Symbol, Bindings, unbound, on_ok}
-use Rattle.hp_syntax.specs.Expressions.{Atom, State, match_atom, atom_value}
-use Rattle.hp_syntax.specs.Rules.{member, added}
+use Rattle.hp_syntax.specs.Terms.{Term, Symbol}
+use Rattle.hp_top.specs.SmallTerms.{Bindings, unbound, on_ok}
+use Rattle.hp_top.specs.SmallExpressions.{Atom, State, match_atom, atom_value}
+use Rattle.hp_top.specs.SmallRules.{member, added}
 use Rattle.hp_top.specs.declared.node.Node.{Node}
 use Rattle.hp_top.specs.declared.node.Choice.{Choice}
 use Rattle.hp_top.specs.declared.node.Choice.TheVariants as chosen

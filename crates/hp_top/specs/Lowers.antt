@@ -2,10 +2,10 @@
 use Rattle.std.specs.Prelude.{◌≡◌, false, Option, Some, None, Result, Ok, Err}
 use Rattle.hp_syntax.specs.declared.pattern.Span.{Span}
 use Rattle.hp_syntax.specs.Syntax as whole
-use Rattle.hp_syntax.specs.Lowering.{lower_rule, span_of_rule}
-use Rattle.hp_syntax.specs.Rules.{Rule}
 use Rattle.hp_syntax.specs.Terms.{Term, Symbol}
 use Rattle.std.specs.Option.{ok_or}
+use Rattle.hp_top.specs.SmallLowering.{lower_rule, span_of_rule}
+use Rattle.hp_top.specs.SmallRules.{Rule}
 use Rattle.hp_top.specs.declared.lowering.refusal.Unlowered.{Unlowered}
 use Rattle.hp_top.specs.declared.lowering.refusal.Unlowered.TheVariants as refusals
 use Rattle.hp_top.specs.declared.lowering.refusal.UnloweredDomain.{UnloweredDomain}

@@ -3,10 +3,10 @@ use Rattle.std.specs.Prelude.{ℕ, Bool, true, false, List, [], ◌∷◌, Optio
 use Rattle.std.specs.Option.{unwrap_or}
 use Rattle.std.specs.List.{list_all}
 use Rattle.hp_syntax.specs.Syntax as whole
-use Rattle.hp_syntax.specs.Terms.{and_then}
-use Rattle.hp_syntax.specs.Expressions.{Atom}
-use Rattle.hp_syntax.specs.Rules.{Branch}
-use Rattle.hp_syntax.specs.Lowering.{only_if, joined, make_branch, lower_atoms, atoms_of_precondition, atoms_of_tasks, variables_of_atoms}
+use Rattle.hp_top.specs.SmallTerms.{and_then}
+use Rattle.hp_top.specs.SmallExpressions.{Atom}
+use Rattle.hp_top.specs.SmallRules.{Branch}
+use Rattle.hp_top.specs.SmallLowering.{only_if, joined, make_branch, lower_atoms, atoms_of_precondition, atoms_of_tasks, variables_of_atoms}
 
 -- marks with one more at each of these numbers
 abbrev pub marked : List Bool → List ℕ → List Bool

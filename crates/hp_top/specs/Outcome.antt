@@ -7,15 +7,15 @@ use Rattle.hp_syntax.specs.declared.pattern.Span.{Span}
 use Rattle.hp_syntax.specs.Checks.{first_of, domain_faults, problem_faults}
 use Rattle.hp_syntax.specs.Forest.{Forest, IsForest}
 use Rattle.hp_syntax.specs.Grammar.{domain_form, problem_form}
-use Rattle.hp_syntax.specs.Lowering.{lower_domain, lower_problem}
 use Rattle.hp_syntax.specs.Refusal.{Refusal, IsRefused}
-use Rattle.hp_syntax.specs.Rules.{Domain, Problem}
 use Rattle.hp_syntax.specs.Steps.{Misform, Expected, SeveralPairs}
 use Rattle.hp_syntax.specs.Syntax as whole
-use Rattle.hp_syntax.specs.Walk.{Visit, walk}
-use Rattle.hp_syntax.specs.Report.{Ending, Stopped, AtFault, AtCut, AtEnd, seen, plans, ending, report}
 use Rattle.hp_syntax.specs.TextForms.{Form, IsRead}
 use Rattle.hp_syntax.specs.Written.{domain_text, problem_text}
+use Rattle.hp_top.specs.SmallLowering.{lower_domain, lower_problem}
+use Rattle.hp_top.specs.SmallRules.{Domain, Problem}
+use Rattle.hp_top.specs.SmallWalk.{Visit, walk}
+use Rattle.hp_top.specs.SmallReport.{Ending, Stopped, AtFault, AtCut, AtEnd, seen, plans, ending, report}
 use Rattle.hp_top.specs.CheckTexts.{check_text}
 use Rattle.hp_top.specs.Command.{Command, Job, Planning, Checking, Showing, accepts}
 use Rattle.hp_out.specs.Lines.{check_word, kind_word, text_of, at_offset, at_span, expected_text, refused, refused_read, refused_usage}

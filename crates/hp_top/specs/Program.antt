@@ -2,11 +2,12 @@
 use Rattle.std.specs.Prelude.{ℕ, List, [], ◌∷◌, map}
 use Rattle.std.specs.Global.{Global}
 use Rattle.std.specs.declared.rc.Rc.{Rc}
-use Rattle.hp_syntax.specs.Terms as plain
-use Rattle.hp_syntax.specs.Terms.{Term, Terms, Symbol, Listed, NoTerm, More, Pattern, Patterns, NoPart, Part}
-use Rattle.hp_syntax.specs.Expressions as expressions
-use Rattle.hp_syntax.specs.Lowering.{make_atom, make_operator, make_branch, make_method, make_domain, make_problem}
-use Rattle.hp_syntax.specs.Rules as rules
+use Rattle.hp_syntax.specs.Terms.{Term, Terms, Symbol, Listed, NoTerm, More}
+use Rattle.hp_top.specs.SmallTerms as plain
+use Rattle.hp_top.specs.SmallTerms.{Pattern, Patterns, NoPart, Part}
+use Rattle.hp_top.specs.SmallExpressions as expressions
+use Rattle.hp_top.specs.SmallLowering.{make_atom, make_operator, make_branch, make_method, make_domain, make_problem}
+use Rattle.hp_top.specs.SmallRules as rules
 use Rattle.hp_top.specs.declared.program.GroundAtom.{GroundAtom}
 use Rattle.hp_top.specs.declared.program.Argument.{Argument}
 use Rattle.hp_top.specs.declared.program.Argument.TheVariants.{Variable, Name}

@@ -1,12 +1,12 @@
 -- What is left of a walk, and what a visit leaves of it.
 use Rattle.std.specs.Prelude.{◌≡◌, ℕ, Bool, cond, List, [], ◌∷◌, ◌++◌, map, reverse}
 use Rattle.std.specs.List.{flat_map}
+use Rattle.hp_top.specs.SmallRules.{added}
 use Rattle.hp_top.specs.declared.program.Problem.{Problem}
 use Rattle.hp_top.specs.declared.program.Rule.{Rule}
 use Rattle.hp_top.specs.declared.walk.Walk.{Walk}
 use Rattle.hp_top.specs.declared.walk.Step.{Step}
 use Rattle.hp_top.specs.declared.walk.Step.TheVariants as steps
-use Rattle.hp_syntax.specs.Rules.{added}
 use Rattle.hp_top.specs.Program.{plain_terms}
 use Rattle.hp_top.specs.Flat.{FlatNode, FlatChild, flat_node, flat_choice, Shown, DidShown, PlanShown, CutShown, FaultShown, shown_at, shown_child, heard_shown}
 

@@ -1,10 +1,9 @@
 -- How a run ends, and why.
 use Rattle.std.specs.Prelude.{◌≡◌, ℕ, List, Some, None, codes}
 use Rattle.hp_io.specs.declared.folder.Input.{Input}
-use Rattle.hp_io.specs.declared.folder.Input.TheVariants as inputs
 use Rattle.hp_syntax.specs.Grammar.{domain_form, problem_form}
 use Rattle.hp_syntax.specs.Syntax as whole
-use Rattle.hp_out.specs.Lines.{text_of, refused_usage}
+use Rattle.hp_out.specs.Lines.{text_of}
 use Rattle.hp_out.specs.RefusalTexts.{refusal_text}
 use Rattle.hp_out.specs.Writing.{SinkRun}
 use Rattle.hp_out.specs.declared.refusal.Refusal.{Refusal}

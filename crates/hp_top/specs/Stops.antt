@@ -1,7 +1,7 @@
 -- What results that may stop at a fault, or for want of memory, stand for.
 use Rattle.std.specs.Prelude.{◌≡◌, Bool, cond, Option, Some, None, Result, Ok, Err}
 use Rattle.hp_syntax.specs.declared.fault.RunFault.{RunFault}
-use Rattle.hp_syntax.specs.Terms.{Bindings}
+use Rattle.hp_top.specs.SmallTerms.{Bindings}
 use Rattle.hp_top.specs.declared.node.Node.{Node}
 use Rattle.hp_top.specs.declared.valuing.Stop.{Stop}
 use Rattle.hp_top.specs.declared.valuing.Stop.TheVariants.{Fault, NoMemory}

@@ -1,7 +1,7 @@
 -- What telling a walk has written, and what is left to tell.
 use Rattle.std.specs.Prelude.{◌≡◌, ℕ, ◌+◌, ◌<◌, ◌==◌, cond, List, ◌++◌, Option, Some, None, length}
 use Rattle.hp_io.specs.Rules.{Rose}
-use Rattle.hp_syntax.specs.Report.{ending_text}
+use Rattle.hp_top.specs.SmallReport.{ending_text}
 use Rattle.hp_top.specs.declared.lines.Ending.{Ending}
 use Rattle.hp_top.specs.declared.lines.Ending.TheVariants.{Stopped}
 use Rattle.hp_top.specs.declared.planning.Progress.{Progress}

@@ -1,8 +1,8 @@
 -- What is told of a walk as the engine goes through it: the text and the status from any moment on.
 use Rattle.std.specs.Prelude.{ℕ, ◌+◌, ◌==◌, Bool, true, cond, List, [], ◌∷◌, ◌++◌, length, codes, decimal}
 use Rattle.hp_syntax.specs.Terms.{Term}
-use Rattle.hp_syntax.specs.Report as report
-use Rattle.hp_syntax.specs.Report.{steps_text, ending_text}
+use Rattle.hp_top.specs.SmallReport as report
+use Rattle.hp_top.specs.SmallReport.{steps_text, ending_text}
 use Rattle.hp_top.specs.declared.lines.Ending.{Ending}
 use Rattle.hp_top.specs.declared.lines.Ending.TheVariants.{Stopped, Fault, Cut, End}
 use Rattle.hp_top.specs.declared.status.Status.{Status}

@@ -2,7 +2,7 @@
 
 ghost use Rattle.std.specs.Prelude.{◌≡◌, ◌++◌, ◌∷◌, [], not, filter, IfOk, OnOk};
 ghost use Rattle.hp_syntax.specs.Terms.{same_term};
-ghost use Rattle.hp_syntax.specs.Rules.{member, added};
+ghost use Rattle.hp_top.specs.SmallRules.{member, added};
 ghost use Rattle.hp_top.specs.Program.{plain_term, shared_term, plain_terms};
 ghost use Rattle.hp_top.specs.Flat.{changed};
 

@@ -1,7 +1,7 @@
 //! The state at the root of the tree.
 
 ghost use Rattle.std.specs.Prelude.{◌≡◌, ◌∷◌, [], IfOk, OnOk};
-ghost use Rattle.hp_syntax.specs.Rules.{added};
+ghost use Rattle.hp_top.specs.SmallRules.{added};
 ghost use Rattle.hp_top.specs.Program.{shared_term, plain_terms};
 
 use crate::changing::{copy_atoms, share};

@@ -1,4 +1,7 @@
 //! The top call: from the words of a command to the bytes that it writes.
+//!
+//! The engine runs a small language as yet. The definitions of what that means stand beside it, in
+//! `specs/Small*.antt`, and the laws over them in `small_laws`.
 #![tactic(auto)]
 
 mod changing;
@@ -21,6 +24,8 @@ pub mod samples;
 mod satisfying;
 mod serving;
 mod showing;
+pub mod small_laws;
+pub mod small_samples;
 mod status;
 mod telling;
 mod valuing;

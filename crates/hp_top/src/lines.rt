@@ -1,7 +1,8 @@
 //! The lines that are written of a walk.
 
 ghost use Rattle.std.specs.Prelude.{◌≡◌, ◌++◌, ◌-◌, ◌^◌, ◌<◌, ◌≤◌, IfOk, OnOk, decimal};
-ghost use Rattle.hp_syntax.specs.Report.{term_text, terms_text, steps_text, ending_text, ending_word, kind_text};
+ghost use Rattle.hp_syntax.specs.TermTexts.{term_text, terms_text};
+ghost use Rattle.hp_top.specs.SmallReport.{steps_text, ending_text, ending_word, kind_text};
 ghost use Rattle.hp_top.specs.Program.{plain_symbols, shared_term, plain_terms};
 ghost use Rattle.hp_top.specs.Told.{flat_plan_text, ending_of};
 

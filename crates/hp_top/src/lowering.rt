@@ -1,6 +1,6 @@
 //! What is run of a domain and a problem of the whole language, in the engine's types.
-ghost use Rattle.hp_syntax.specs.Lowering.{lower_domain, lower_problem};
 ghost use Rattle.hp_syntax.specs.Views.{domain_of, problem_of};
+ghost use Rattle.hp_top.specs.SmallLowering.{lower_domain, lower_problem};
 ghost use Rattle.hp_top.specs.Lowers.{Lowers, LowersRules};
 ghost use Rattle.hp_top.specs.Program.{plain_domain, plain_problem};
 
@@ -17,7 +17,7 @@ use rules::rules;
 use std::alloc::Global;
 
 /// The domain that is run, or the first rule with a form that is run later.
-#[tactic(auto, unfolding(hp_syntax::specs::Lowering::lower_domain))]
+#[tactic(auto, unfolding(crate::specs::SmallLowering::lower_domain))]
 pub fn domain(alloc: Global, domain: &hp_syntax::Domain) -> Result<Domain, UnloweredDomain>
     ensures { LowersRules plain_domain result (lower_domain (domain_of domain.now)) }
 {
@@ -28,7 +28,7 @@ pub fn domain(alloc: Global, domain: &hp_syntax::Domain) -> Result<Domain, Unlow
 }
 
 /// The problem that is run, unless it holds a form that is run later.
-#[tactic(auto, unfolding(hp_syntax::specs::Lowering::lower_problem))]
+#[tactic(auto, unfolding(crate::specs::SmallLowering::lower_problem))]
 pub fn problem(alloc: Global, problem: &hp_syntax::Problem) -> Result<Problem, Unlowered>
     ensures { Lowers plain_problem result (lower_problem (problem_of problem.now)) }
 {

@@ -1,8 +1,9 @@
 //! Bindings, and matching an atom of a rule with an atom without variables.
 
 ghost use Rattle.std.specs.Prelude.{◌≡◌, IfOk, option_map, option_copied, slice_set};
-ghost use Rattle.hp_syntax.specs.Terms.{Symbol, bound, meet, match_term, match_parts, unbound};
-ghost use Rattle.hp_syntax.specs.Expressions.{match_atom};
+ghost use Rattle.hp_syntax.specs.Terms.{Symbol};
+ghost use Rattle.hp_top.specs.SmallTerms.{bound, meet, match_term, match_parts, unbound};
+ghost use Rattle.hp_top.specs.SmallExpressions.{match_atom};
 ghost use Rattle.hp_top.specs.Program.{plain_atom, plain_term, plain_pattern, plain_patterns, plain_symbols};
 ghost use Rattle.hp_top.specs.Flat.{bindings_of};
 ghost use Rattle.hp_top.specs.Stops.{extended};

@@ -1,8 +1,8 @@
 //! The walk of a problem, with each plan written as it is found.
 
 ghost use Rattle.std.specs.Prelude.{◌≡◌, ◌≤◌, ◌<◌, ◌+◌, false, IfOk, IfErr, OnOk};
-ghost use Rattle.hp_syntax.specs.Report.{report, ending_text};
-ghost use Rattle.hp_syntax.specs.Walk.{walk};
+ghost use Rattle.hp_top.specs.SmallReport.{report, ending_text};
+ghost use Rattle.hp_top.specs.SmallWalk.{walk};
 ghost use Rattle.hp_top.specs.Flat.{heard_shown, shown_at};
 ghost use Rattle.hp_top.specs.Outcome.{planned_status, walk_status};
 ghost use Rattle.hp_top.specs.Program.{plain_terms, plain_domain, plain_problem};

@@ -4,7 +4,7 @@ ghost use Rattle.std.specs.Prelude.{◌≡◌, ◌≢◌, ◌⊎◌, ◌≤◌, 
 ghost use Rattle.hp_out.specs.Lines.{text_of, span_text, at_span, refused};
 ghost use Rattle.hp_out.specs.Writing.{sink_run};
 ghost use Rattle.hp_syntax.specs.declared.pattern.Span.{Span};
-ghost use Rattle.hp_syntax.specs.Rules as plain;
+ghost use Rattle.hp_top.specs.SmallRules as plain;
 ghost use Rattle.hp_top.specs.Lowers.{Refuses, RefusesRules};
 ghost use Rattle.hp_top.specs.Outcome.{refused_status, later_domain, lowered_answer};
 ghost use Rattle.hp_top.specs.Serving.{load_answer, refusal_answer, refusal_status};

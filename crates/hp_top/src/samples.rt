@@ -1,10 +1,11 @@
 //! What the words and the files of the sample `basic` come to, by the definitions alone.
 
-ghost use Rattle.std.specs.Prelude.{◌++◌, codes};
+ghost use Rattle.std.specs.Prelude.{◌≡◌, ◌++◌, [], ◌∷◌, Some, None, true, false, codes};
 ghost use Rattle.hp_syntax.specs.Samples.{swap_text, empty_text};
 ghost use Rattle.hp_top.specs.declared.status.Status.TheVariants.{Done, CutShort};
 ghost use Rattle.hp_top.specs.Outcome.{Outcome};
 ghost use Rattle.hp_top.specs.Samples.{basic_files, plan_words};
+ghost use Rattle.hp_top.specs.WholePlans.{options, options_after, plan_asked, asked};
 
 use hp_syntax::samples::samples_are_spelled;
 
@@ -24,3 +25,20 @@ pub fn basic_comes_to_its_plan()
 {
     samples_are_spelled();
 }
+
+/// The options of `plan` once the whole language is run: in any order, each at most once, levels up to 128.
+pub fn options_are_read()
+    ensures none { options_after None false [] ≡ Some (options 64 false) }
+    ensures both { options_after None false (codes "--states" ∷ codes "--nest" ∷ codes "5" ∷ [])
+        ≡ Some (options 5 true) }
+    ensures other_order { options_after None false (codes "--nest" ∷ codes "0" ∷ codes "--states" ∷ [])
+        ≡ Some (options 0 true) }
+    ensures most { options_after None false (codes "--nest" ∷ codes "128" ∷ []) ≡ Some (options 128 false) }
+    ensures too_many { options_after None false (codes "--nest" ∷ codes "129" ∷ []) ≡ None }
+    ensures no_number { options_after None false (codes "--nest" ∷ []) ≡ None }
+    ensures twice { options_after None false (codes "--states" ∷ codes "--states" ∷ []) ≡ None }
+    ensures plan { plan_asked
+        (codes "plan" ∷ codes "d" ∷ codes "--nest" ∷ codes "5" ∷ codes "10" ∷ codes "--states" ∷ [])
+        ≡ Some (asked (codes "d") (codes "--nest") 5 10 (options 64 true)) }
+    ensures no_plan { plan_asked (codes "plan" ∷ codes "d" ∷ codes "p" ∷ codes "0" ∷ codes "10" ∷ []) ≡ None }
+{}

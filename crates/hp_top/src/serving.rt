@@ -3,9 +3,9 @@
 ghost use Rattle.std.specs.Prelude.{◌≡◌, ◌≢◌, ◌≤◌, ◌<◌, ℕ, List, None, map};
 ghost use Rattle.hp_check.specs.NoteViews.{note_of};
 ghost use Rattle.hp_out.specs.Writing.{sink_run};
-ghost use Rattle.hp_syntax.specs.Lowering.{lower_domain, lower_problem};
 ghost use Rattle.hp_syntax.specs.Notes as plain;
 ghost use Rattle.hp_syntax.specs.Views.{domain_of, problem_of};
+ghost use Rattle.hp_top.specs.SmallLowering.{lower_domain, lower_problem};
 ghost use Rattle.hp_top.specs.Command.{make_command};
 ghost use Rattle.hp_top.specs.Outcome.{lowered_answer, job_answer, answer_of_read};
 ghost use Rattle.hp_top.specs.Telling.{Tells};
@@ -17,13 +17,13 @@ use crate::lowering;
 use crate::planning::plan;
 use crate::refusing::{refuse, refuse_domain, refuse_problem};
 use crate::showing::show;
+use crate::small_laws::{lowered_domains_are_well_formed, walks_meet_no_fault};
 use crate::status::Status;
 use crate::telling::Halt;
 use crate::words::{Asked, Job};
 use hp_check::{CheckRefusal, Note, check};
 use hp_io::Sink;
 use hp_out::Refusal;
-use hp_syntax::laws::{lowered_domains_are_well_formed, walks_meet_no_fault};
 use std::alloc::Global;
 
 /// Plans what the engine runs of an accepted domain and problem.

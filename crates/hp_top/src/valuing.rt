@@ -1,8 +1,9 @@
 //! The atoms that atoms of a rule stand for under bindings.
 
 ghost use Rattle.std.specs.Prelude.{◌≡◌};
-ghost use Rattle.hp_syntax.specs.Terms.{Symbol, bound, value, value_of_variable, values as part_values};
-ghost use Rattle.hp_syntax.specs.Expressions.{atom_value};
+ghost use Rattle.hp_syntax.specs.Terms.{Symbol};
+ghost use Rattle.hp_top.specs.SmallTerms.{bound, value, value_of_variable, values as part_values};
+ghost use Rattle.hp_top.specs.SmallExpressions.{atom_value};
 ghost use Rattle.hp_top.specs.Program.{plain_atom, plain_atoms, plain_pattern, plain_patterns, plain_symbols, shared_term, plain_terms};
 ghost use Rattle.hp_top.specs.Flat.{bindings_of, atom_values};
 ghost use Rattle.hp_top.specs.Stops.{Gives};

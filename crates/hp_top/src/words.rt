@@ -2,10 +2,10 @@
 
 ghost use Rattle.std.specs.List.{list_all};
 ghost use Rattle.std.specs.Prelude.{true, nat_le, IfSome, ◌≡◌, ◌≢◌, ◌≤◌, ◌^◌, ◌<◌, ℕ, List, None, Some, MatchOption, length, map, string_bytes, slice_get, unwrap_or, [], option_map};
+ghost use Rattle.hp_top.specs.SmallLowering.{only_if};
 ghost use Rattle.hp_top.specs.Words.{AsksFor, HasPlans, Spelled, job_of};
 ghost use Rattle.hp_top.specs.Command.{accepts, job_by_word, number_within, number_from, is_number};
 ghost use Rattle.hp_syntax.specs.Text.{is_digit};
-ghost use Rattle.hp_syntax.specs.Lowering.{only_if};
 
 use hp_syntax::limits::{GREATEST_DEPTH, MOST_PLANS};
 

@@ -1,9 +1,9 @@
 //! Atoms of rules: heads, preconditions, effects and tasks.
 ghost use Rattle.std.specs.Prelude.{◌≡◌, length, map};
-ghost use Rattle.hp_syntax.specs.Lowering as plain;
-ghost use Rattle.hp_syntax.specs.Lowering.{lower_term, lower_terms, lower_atom, lower_atoms, atoms_of_precondition, atoms_of_expression, conjuncts, atoms_of_effects, atoms_of_tasks, atoms_of_task_list};
-ghost use Rattle.hp_syntax.specs.Terms.{and_then};
 ghost use Rattle.hp_syntax.specs.Views.{pattern_of, patterns_of, atom_of, expression_of, expressions_of, precondition_of, effect_of, tasks_of, task_list_of};
+ghost use Rattle.hp_top.specs.SmallLowering as plain;
+ghost use Rattle.hp_top.specs.SmallLowering.{lower_term, lower_terms, lower_atom, lower_atoms, atoms_of_precondition, atoms_of_expression, conjuncts, atoms_of_effects, atoms_of_tasks, atoms_of_task_list};
+ghost use Rattle.hp_top.specs.SmallTerms.{and_then};
 ghost use Rattle.hp_top.specs.Lowers.{Lowers, atom_in, changed_atom, task_in};
 ghost use Rattle.hp_top.specs.Program.{plain_pattern, plain_patterns, plain_atom, plain_atoms};
 

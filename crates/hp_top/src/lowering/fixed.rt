@@ -1,7 +1,8 @@
 //! Atoms without variables: the state and the tasks of a problem.
-ghost use Rattle.hp_syntax.specs.Lowering.{lower_fixed, lower_fixed_atom, lower_fixed_atoms, atoms_of_tasks, atoms_of_task_list};
-ghost use Rattle.hp_syntax.specs.Terms.{Symbol, and_then};
+ghost use Rattle.hp_syntax.specs.Terms.{Symbol};
 ghost use Rattle.hp_syntax.specs.Views.{pattern_of, patterns_of, atom_of, atoms_of, tasks_of, task_list_of};
+ghost use Rattle.hp_top.specs.SmallLowering.{lower_fixed, lower_fixed_atom, lower_fixed_atoms, atoms_of_tasks, atoms_of_task_list};
+ghost use Rattle.hp_top.specs.SmallTerms.{and_then};
 ghost use Rattle.hp_top.specs.Lowers.{Lowers, symbol_in, task_in};
 ghost use Rattle.hp_top.specs.Program.{plain_symbols, plain_terms, shared_term};
 

@@ -1,7 +1,7 @@
 //! Which variables are bound, as marks at their numbers.
 ghost use Rattle.std.specs.Prelude.{◌≡◌, ◌∷◌, [], IfOk, true, slice_set};
 ghost use Rattle.std.specs.List.{list_all};
-ghost use Rattle.hp_syntax.specs.Lowering.{variables_of_terms, variables_of_atoms};
+ghost use Rattle.hp_top.specs.SmallLowering.{variables_of_terms, variables_of_atoms};
 ghost use Rattle.hp_top.specs.Marks as plain;
 ghost use Rattle.hp_top.specs.Marks.{marked, marks_of};
 ghost use Rattle.hp_top.specs.Program.{plain_atom, plain_atoms, plain_patterns};

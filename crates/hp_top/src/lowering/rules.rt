@@ -1,8 +1,8 @@
 //! Operators and methods.
 ghost use Rattle.std.specs.Prelude.{◌≡◌, ◌&&◌, IfOk, map};
-ghost use Rattle.hp_syntax.specs.Lowering as plain;
-ghost use Rattle.hp_syntax.specs.Lowering.{lower_operator, lower_method, lower_rule, lower_rules};
 ghost use Rattle.hp_syntax.specs.Views.{pattern_of, operator_of, branch_of, method_of, rule_of};
+ghost use Rattle.hp_top.specs.SmallLowering as plain;
+ghost use Rattle.hp_top.specs.SmallLowering.{lower_operator, lower_method, lower_rule, lower_rules};
 ghost use Rattle.hp_top.specs.Lowers.{Lowers, LowersRules, one_rule};
 ghost use Rattle.hp_top.specs.Marks as marks;
 ghost use Rattle.hp_top.specs.Marks.{branch_by, branches_by};

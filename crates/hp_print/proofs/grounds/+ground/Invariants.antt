@@ -1,6 +1,6 @@
 use Rattle.std.proofs.Common.{◌≡◌, ◌++◌, drop}
 use Rattle.hp_syntax.specs.GroundViews.{ground_of, grounds_of}
-use Rattle.hp_syntax.specs.Report.{terms_text}
+use Rattle.hp_syntax.specs.TermTexts.{terms_text}
 use Rattle.hp_print.proofs.Sizes.{term_size, terms_size}
 use Rattle.hp_print.proofs.grounds.+ground.Given as goal
 

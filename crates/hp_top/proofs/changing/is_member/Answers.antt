@@ -1,7 +1,7 @@
 use Rattle.std.proofs.Common.{sym, ◌∙◌, ap}
 use Rattle.std.proofs.lemmas.List.{drop_all}
 use Rattle.hp_syntax.specs.Terms.{same_term}
-use Rattle.hp_syntax.specs.Rules.{member}
+use Rattle.hp_top.specs.SmallRules.{member}
 use Rattle.hp_top.specs.Program.{plain_term, plain_terms}
 use Rattle.hp_top.proofs.Atoms.{member_more, member_found}
 use Rattle.hp_top.proofs.changing.is_member.Goals as goal

@@ -1,5 +1,5 @@
 use Rattle.std.proofs.Common.{◌≡◌, drop}
-use Rattle.hp_syntax.specs.Rules.{member}
+use Rattle.hp_top.specs.SmallRules.{member}
 use Rattle.hp_top.specs.Program.{plain_term, plain_terms}
 use Rattle.hp_top.proofs.changing.is_member.Given as goal
 

@@ -1,7 +1,7 @@
 use Rattle.std.proofs.Common.{Bool, not, [], ◌∷◌, refl}
 use Rattle.std.specs.List.{filter}
 use Rattle.hp_syntax.specs.Terms.{Term}
-use Rattle.hp_syntax.specs.Rules.{member}
+use Rattle.hp_top.specs.SmallRules.{member}
 use Rattle.hp_top.specs.Program.{shared_term, plain_terms}
 use Rattle.hp_top.proofs.Gather.{gather_more, gather_all}
 use Rattle.hp_top.proofs.Atoms.{filter_step}

@@ -1,6 +1,6 @@
 use Rattle.std.proofs.Common.{◌≡◌, ◌++◌, drop, not}
 use Rattle.std.specs.List.{filter}
-use Rattle.hp_syntax.specs.Rules.{member}
+use Rattle.hp_top.specs.SmallRules.{member}
 use Rattle.hp_top.specs.Program.{plain_terms}
 use Rattle.hp_top.proofs.changing.without.Given as goal
 

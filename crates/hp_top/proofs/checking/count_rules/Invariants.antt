@@ -1,4 +1,4 @@
-use Rattle.std.proofs.Common.{◌≡◌, ◌+◌, take, map}
+use Rattle.std.proofs.Common.{◌≡◌, take, map}
 use Rattle.std.specs.List.{count_by}
 use Rattle.hp_syntax.specs.Views.{rule_of}
 use Rattle.hp_top.specs.CheckTexts.{is_operator, is_method, is_axiom}

@@ -1,10 +1,8 @@
-use Rattle.std.proofs.Common.{◌++◌, ◌∙◌, subst, map, codes}
-use Rattle.hp_check.specs.NoteViews.{note_of}
-use Rattle.hp_out.specs.Writing.{Wrote, sink_run}
+use Rattle.std.proofs.Common.{◌++◌, codes}
+use Rattle.hp_out.specs.Writing.{sink_run}
 use Rattle.hp_syntax.specs.Notes.{notes}
 use Rattle.hp_syntax.specs.Views.{domain_of, problem_of}
 use Rattle.hp_top.specs.CheckTexts.{count_lines, notes_text}
-use Rattle.hp_top.specs.Telling.{Halts}
 use Rattle.hp_top.proofs.Fronts.{err_after, halts_longer}
 use Rattle.hp_top.proofs.checking.tell_accepted.Goals as goal
 

@@ -1,6 +1,6 @@
 use Rattle.std.proofs.Common.{◌≡◌, [], ◌∷◌, refl, ◌∙◌, ap, subst}
 use Rattle.std.specs.Prelude.{IfOk}
-use Rattle.hp_syntax.specs.Rules.{added}
+use Rattle.hp_top.specs.SmallRules.{added}
 use Rattle.hp_top.specs.Program.{shared_term, plain_terms}
 use Rattle.hp_top.proofs.Gather.{fold_more, fold_all}
 use Rattle.hp_top.proofs.initial.initial_state.Goals as goal

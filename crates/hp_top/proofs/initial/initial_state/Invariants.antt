@@ -1,5 +1,5 @@
 use Rattle.std.proofs.Common.{◌≡◌, [], drop}
-use Rattle.hp_syntax.specs.Rules.{added}
+use Rattle.hp_top.specs.SmallRules.{added}
 use Rattle.hp_top.specs.Program.{plain_terms}
 use Rattle.hp_top.proofs.initial.initial_state.Given as goal
 

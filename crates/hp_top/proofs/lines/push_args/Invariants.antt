@@ -1,5 +1,5 @@
 use Rattle.std.proofs.Common.{◌≡◌, ◌++◌, drop}
-use Rattle.hp_syntax.specs.Report.{terms_text}
+use Rattle.hp_syntax.specs.TermTexts.{terms_text}
 use Rattle.hp_top.specs.Program.{plain_symbols}
 use Rattle.hp_top.proofs.lines.push_args.Given as goal
 

@@ -1,5 +1,5 @@
 use Rattle.std.proofs.Common.{◌≡◌, ◌++◌, drop}
-use Rattle.hp_syntax.specs.Report.{steps_text}
+use Rattle.hp_top.specs.SmallReport.{steps_text}
 use Rattle.hp_top.specs.Program.{plain_terms}
 use Rattle.hp_top.proofs.lines.push_steps.Given as goal
 

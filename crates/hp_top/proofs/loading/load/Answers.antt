@@ -1,8 +1,7 @@
-use Rattle.std.proofs.Common.{subst}
 use Rattle.hp_io.specs.declared.folder.Input.TheVariants as inputs
 use Rattle.hp_syntax.specs.Grammar.{problem_form}
-use Rattle.hp_syntax.specs.Views.{domain_of, problem_of}
-use Rattle.hp_top.specs.Loading.{Reads, AtDomain, AtProblem}
+use Rattle.hp_syntax.specs.Views.{domain_of}
+use Rattle.hp_top.specs.Loading.{AtDomain, AtProblem}
 use Rattle.hp_top.proofs.Loads.{stops_since}
 use Rattle.hp_top.proofs.loading.load.Goals as goal
 

@@ -1,5 +1,5 @@
 use Rattle.std.proofs.Common.{◌≡◌, drop}
-use Rattle.hp_syntax.specs.Terms.{match_parts}
+use Rattle.hp_top.specs.SmallTerms.{match_parts}
 use Rattle.hp_top.specs.Program.{plain_patterns, plain_symbols}
 use Rattle.hp_top.specs.Flat.{bindings_of}
 use Rattle.hp_top.proofs.matching.match_arguments.Given as goal

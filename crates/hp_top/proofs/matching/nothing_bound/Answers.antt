@@ -1,5 +1,6 @@
 use Rattle.std.proofs.Common.{◌≡◌, ◌∙◌, ap, map, option_map, arith}
-use Rattle.hp_syntax.specs.Terms.{Symbol, unbound}
+use Rattle.hp_syntax.specs.Terms.{Symbol}
+use Rattle.hp_top.specs.SmallTerms.{unbound}
 use Rattle.hp_top.proofs.Arguments.{nothing_stands}
 use Rattle.hp_top.proofs.matching.nothing_bound.Goals as goal
 

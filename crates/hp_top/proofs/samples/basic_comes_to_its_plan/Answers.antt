@@ -1,8 +1,8 @@
 use Rattle.std.proofs.Common.{refl}
 use Rattle.std.specs.Fmt.{digits}
-use Rattle.hp_syntax.specs.Report.{report, plan_text, ending_text}
 use Rattle.hp_syntax.specs.Samples.{basic_text, swap_text, empty_text}
-use Rattle.hp_syntax.specs.Walk.{walk, visits, visits_within, children}
+use Rattle.hp_top.specs.SmallReport.{report, plan_text, ending_text}
+use Rattle.hp_top.specs.SmallWalk.{walk, visits, visits_within, children}
 use Rattle.hp_top.specs.Outcome.{Judged, ByCommand, walk_status}
 use Rattle.hp_top.proofs.SampleReads.{plan_of, basic_read, basic_is_read, swap_read, swap_is_read, swap_runs, empty_read, empty_is_read, empty_runs}
 use Rattle.hp_top.proofs.samples.basic_comes_to_its_plan.Goals as goal

@@ -1,7 +1,8 @@
 use Rattle.std.proofs.Common.{◌++◌, ◌∙◌, ap, refl, map, Option}
 use Rattle.std.specs.Option.{option_to_list}
-use Rattle.hp_syntax.specs.Terms.{Term, Bindings}
-use Rattle.hp_syntax.specs.Expressions.{match_atom}
+use Rattle.hp_syntax.specs.Terms.{Term}
+use Rattle.hp_top.specs.SmallTerms.{Bindings}
+use Rattle.hp_top.specs.SmallExpressions.{match_atom}
 use Rattle.hp_top.specs.Program.{plain_atom, plain_term, shared_term, plain_terms}
 use Rattle.hp_top.specs.Flat.{bindings_of, matches}
 use Rattle.hp_top.proofs.Gather.{gather_more, gather_all}

@@ -1,5 +1,5 @@
 use Rattle.hp_syntax.specs.Views.{domain_of}
-use Rattle.hp_syntax.specs.Walk.{walk}
+use Rattle.hp_top.specs.SmallWalk.{walk}
 use Rattle.hp_top.specs.Program.{plain_domain, plain_problem}
 use Rattle.hp_top.proofs.RunEnds.{told_quiet}
 use Rattle.hp_top.proofs.serving.serve_plan.Goals as goal

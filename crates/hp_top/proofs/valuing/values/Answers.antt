@@ -1,5 +1,5 @@
 use Rattle.std.proofs.Common.{[], ◌∷◌, refl, ap, ◌∙◌, Ok}
-use Rattle.hp_syntax.specs.Expressions.{atom_value}
+use Rattle.hp_top.specs.SmallExpressions.{atom_value}
 use Rattle.hp_top.specs.Program.{plain_atom, plain_atoms, shared_term, plain_terms}
 use Rattle.hp_top.specs.Flat.{bindings_of, atom_values}
 use Rattle.hp_top.proofs.Gather.{map_pushed}

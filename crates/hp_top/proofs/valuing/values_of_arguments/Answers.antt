@@ -1,5 +1,6 @@
 use Rattle.std.proofs.Common.{map, refl, ap, ◌∙◌, Ok}
-use Rattle.hp_syntax.specs.Terms.{Symbol, More, NoTerm, value, values as part_values}
+use Rattle.hp_syntax.specs.Terms.{Symbol, More, NoTerm}
+use Rattle.hp_top.specs.SmallTerms.{value, values as part_values}
 use Rattle.hp_top.specs.Program.{plain_pattern, plain_patterns}
 use Rattle.hp_top.specs.Flat.{bindings_of}
 use Rattle.hp_top.proofs.Gather.{map_pushed}

@@ -1,5 +1,6 @@
 use Rattle.std.proofs.Common.{◌≡◌, map, drop}
-use Rattle.hp_syntax.specs.Terms.{Symbol, More, values as part_values}
+use Rattle.hp_syntax.specs.Terms.{Symbol, More}
+use Rattle.hp_top.specs.SmallTerms.{values as part_values}
 use Rattle.hp_top.specs.Program.{plain_patterns}
 use Rattle.hp_top.specs.Flat.{bindings_of}
 use Rattle.hp_top.proofs.OneByOne.{behind}

@@ -1,7 +1,7 @@
 use Rattle.std.proofs.Common.{◌≡◌, ◌∷◌, drop, map}
-use Rattle.hp_syntax.specs.Terms.{and_then}
-use Rattle.hp_syntax.specs.Lowering.{atoms_of_effects, lower_atoms}
 use Rattle.hp_syntax.specs.Views.{effect_of}
+use Rattle.hp_top.specs.SmallTerms.{and_then}
+use Rattle.hp_top.specs.SmallLowering.{atoms_of_effects, lower_atoms}
 use Rattle.hp_top.specs.Program.{plain_atom}
 use Rattle.hp_top.proofs.LowerLoops.{behind}
 use Rattle.hp_top.proofs.lowering.atoms.effects.Given as goal

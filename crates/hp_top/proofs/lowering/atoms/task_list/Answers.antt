@@ -1,7 +1,7 @@
 use Rattle.std.proofs.Common.{◌∷◌, [], ◌∙◌, ap, refl, map, Some}
-use Rattle.hp_syntax.specs.Terms.{and_then}
-use Rattle.hp_syntax.specs.Lowering.{atoms_of_task_list, lower_atom, lower_atoms}
 use Rattle.hp_syntax.specs.Views.{tasks_of, task_list_of}
+use Rattle.hp_top.specs.SmallTerms.{and_then}
+use Rattle.hp_top.specs.SmallLowering.{atoms_of_task_list, lower_atom, lower_atoms}
 use Rattle.hp_top.specs.Lowers.{task_in}
 use Rattle.hp_top.specs.Program.{plain_atom}
 use Rattle.hp_top.proofs.LowerLoops.{one_more, all_lowered}

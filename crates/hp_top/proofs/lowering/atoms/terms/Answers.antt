@@ -1,7 +1,7 @@
 use Rattle.std.proofs.Common.{◌∙◌, ap, refl, Some}
-use Rattle.hp_syntax.specs.Terms.{Part, NoPart}
-use Rattle.hp_syntax.specs.Lowering.{lower_term, lower_terms}
 use Rattle.hp_syntax.specs.Views.{pattern_of, patterns_of}
+use Rattle.hp_top.specs.SmallTerms.{Part, NoPart}
+use Rattle.hp_top.specs.SmallLowering.{lower_term, lower_terms}
 use Rattle.hp_top.specs.Program.{plain_pattern}
 use Rattle.hp_top.proofs.LowerLoops.{one_more, all_lowered, patterns_in_front}
 use Rattle.hp_top.proofs.lowering.atoms.terms.Goals as goal

@@ -1,7 +1,7 @@
 use Rattle.std.proofs.Common.{◌≡◌, drop, map}
-use Rattle.hp_syntax.specs.Terms.{Part}
-use Rattle.hp_syntax.specs.Lowering.{lower_terms}
 use Rattle.hp_syntax.specs.Views.{patterns_of}
+use Rattle.hp_top.specs.SmallTerms.{Part}
+use Rattle.hp_top.specs.SmallLowering.{lower_terms}
 use Rattle.hp_top.specs.Program.{plain_pattern}
 use Rattle.hp_top.proofs.LowerLoops.{behind}
 use Rattle.hp_top.proofs.lowering.atoms.terms.Given as goal

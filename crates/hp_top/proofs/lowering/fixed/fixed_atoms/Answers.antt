@@ -1,6 +1,6 @@
 use Rattle.std.proofs.Common.{◌∷◌, [], ◌∙◌, ap, refl, map, Some}
-use Rattle.hp_syntax.specs.Lowering.{lower_fixed_atom, lower_fixed_atoms}
 use Rattle.hp_syntax.specs.Views.{atom_of, atoms_of}
+use Rattle.hp_top.specs.SmallLowering.{lower_fixed_atom, lower_fixed_atoms}
 use Rattle.hp_top.specs.Program.{shared_term}
 use Rattle.hp_top.proofs.LowerLoops.{one_more, all_lowered}
 use Rattle.hp_top.proofs.OneByOne.{list_in_front}

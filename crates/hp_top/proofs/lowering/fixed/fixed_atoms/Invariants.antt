@@ -1,6 +1,6 @@
 use Rattle.std.proofs.Common.{◌≡◌, ◌∷◌, drop, map}
-use Rattle.hp_syntax.specs.Lowering.{lower_fixed_atoms}
 use Rattle.hp_syntax.specs.Views.{atoms_of}
+use Rattle.hp_top.specs.SmallLowering.{lower_fixed_atoms}
 use Rattle.hp_top.specs.Program.{shared_term}
 use Rattle.hp_top.proofs.LowerLoops.{behind}
 use Rattle.hp_top.proofs.lowering.fixed.fixed_atoms.Given as goal

@@ -1,7 +1,7 @@
 use Rattle.std.proofs.Common.{◌∙◌, ap, refl, Some}
 use Rattle.hp_syntax.specs.Terms.{More, Symbol, NoTerm}
-use Rattle.hp_syntax.specs.Lowering.{lower_fixed}
 use Rattle.hp_syntax.specs.Views.{pattern_of, patterns_of}
+use Rattle.hp_top.specs.SmallLowering.{lower_fixed}
 use Rattle.hp_top.specs.Lowers.{symbol_in}
 use Rattle.hp_top.proofs.LowerLoops.{one_more, all_lowered}
 use Rattle.hp_top.proofs.OneByOne.{names_in_front}

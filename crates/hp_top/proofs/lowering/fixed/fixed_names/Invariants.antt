@@ -1,7 +1,7 @@
 use Rattle.std.proofs.Common.{◌≡◌, drop, map}
 use Rattle.hp_syntax.specs.Terms.{More, Symbol}
-use Rattle.hp_syntax.specs.Lowering.{lower_fixed}
 use Rattle.hp_syntax.specs.Views.{patterns_of}
+use Rattle.hp_top.specs.SmallLowering.{lower_fixed}
 use Rattle.hp_top.proofs.LowerLoops.{behind}
 use Rattle.hp_top.proofs.lowering.fixed.fixed_names.Given as goal
 

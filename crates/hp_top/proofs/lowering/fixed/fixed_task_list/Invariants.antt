@@ -1,7 +1,7 @@
 use Rattle.std.proofs.Common.{◌≡◌, ◌∷◌, drop, map}
-use Rattle.hp_syntax.specs.Terms.{and_then}
-use Rattle.hp_syntax.specs.Lowering.{atoms_of_task_list, lower_fixed_atoms}
 use Rattle.hp_syntax.specs.Views.{task_list_of}
+use Rattle.hp_top.specs.SmallTerms.{and_then}
+use Rattle.hp_top.specs.SmallLowering.{atoms_of_task_list, lower_fixed_atoms}
 use Rattle.hp_top.specs.Program.{shared_term}
 use Rattle.hp_top.proofs.LowerLoops.{behind}
 use Rattle.hp_top.proofs.lowering.fixed.fixed_task_list.Given as goal

@@ -1,6 +1,6 @@
 use Rattle.std.proofs.Common.{◌≡◌, drop}
 use Rattle.std.specs.List.{list_all}
-use Rattle.hp_syntax.specs.Lowering.{variables_of_terms}
+use Rattle.hp_top.specs.SmallLowering.{variables_of_terms}
 use Rattle.hp_top.specs.Marks.{is_marked}
 use Rattle.hp_top.specs.Program.{plain_patterns}
 use Rattle.hp_top.proofs.lowering.marks.are_args_marked.Given as goal

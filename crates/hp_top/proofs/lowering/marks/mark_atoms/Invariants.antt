@@ -1,5 +1,5 @@
 use Rattle.std.proofs.Common.{◌≡◌, drop}
-use Rattle.hp_syntax.specs.Lowering.{variables_of_atoms}
+use Rattle.hp_top.specs.SmallLowering.{variables_of_atoms}
 use Rattle.hp_top.specs.Marks.{marked}
 use Rattle.hp_top.specs.Program.{plain_atoms}
 use Rattle.hp_top.proofs.lowering.marks.mark_atoms.Given as goal

@@ -1,7 +1,7 @@
 use Rattle.std.proofs.Common.{◌≡◌, ap, sym, ◌∙◌, map, option_map, Some, length, rules}
 use Rattle.std.proofs.lemmas.Result.{err_from_is_err_and}
-use Rattle.hp_syntax.specs.Lowering.{make_method}
 use Rattle.hp_syntax.specs.Views.{branch_of, method_of}
+use Rattle.hp_top.specs.SmallLowering.{make_method}
 use Rattle.hp_top.specs.Program.{plain_atom, plain_branch}
 use Rattle.hp_top.specs.Marks.{branches_by}
 use Rattle.hp_top.proofs.LowerLoops.{refuses_same}

@@ -1,8 +1,8 @@
 use Rattle.std.proofs.Common.{◌≡◌, ◌&&◌, ap, ap₂, sym, ◌∙◌, map, length, Some, rules}
-use Rattle.hp_syntax.specs.Terms.{and_then}
-use Rattle.hp_syntax.specs.Rules.{Does}
-use Rattle.hp_syntax.specs.Lowering.{only_if, make_operator, lower_atoms, atoms_of_effects, variables_of_atoms, is_default}
 use Rattle.hp_syntax.specs.Views.{pattern_of, effect_of, operator_of}
+use Rattle.hp_top.specs.SmallTerms.{and_then}
+use Rattle.hp_top.specs.SmallRules.{Does}
+use Rattle.hp_top.specs.SmallLowering.{only_if, make_operator, lower_atoms, atoms_of_effects, variables_of_atoms, is_default}
 use Rattle.hp_top.specs.Program.{plain_atom, plain_atoms}
 use Rattle.hp_top.specs.Marks.{marked, are_marked}
 use Rattle.hp_top.proofs.RuleSteps.{operator_by}

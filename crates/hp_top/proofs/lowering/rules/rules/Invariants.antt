@@ -1,6 +1,6 @@
 use Rattle.std.proofs.Common.{◌≡◌, drop, map}
-use Rattle.hp_syntax.specs.Lowering.{lower_rules}
 use Rattle.hp_syntax.specs.Views.{rule_of}
+use Rattle.hp_top.specs.SmallLowering.{lower_rules}
 use Rattle.hp_top.specs.Program.{plain_rule}
 use Rattle.hp_top.proofs.RuleSteps.{in_front_of}
 use Rattle.hp_top.proofs.lowering.rules.rules.Given as goal

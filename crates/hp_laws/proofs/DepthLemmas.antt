@@ -1,0 +1,150 @@
+-- The children of a node see nothing of its depth, and have one decomposition less.
+use Rattle.std.proofs.Common.{◌≡◌, ℕ, suc, ◌-◌, List, [], ◌∷◌, length, Option, Some, None, Result, Ok, Err, refl, sym, ◌∙◌, ap, subst, arith, ⊎_elim, map}
+use Rattle.std.specs.Prelude.{Contains, ℤ, flat_map}
+use Rattle.std.specs.List.{All}
+use Rattle.std.proofs.lemmas.List.Elements.{All-map, All-contains}
+use Rattle.hp_syntax.specs.declared.fault.RunFault.{RunFault}
+use Rattle.hp_syntax.specs.Syntax.{Operator, Method, Rule, Does, Refines, Concludes}
+use Rattle.hp_syntax.specs.Terms.{Term}
+use Rattle.hp_syntax.specs.Values.{Bindings, unbound}
+use Rattle.hp_syntax.specs.Matching.{match_atom}
+use Rattle.hp_syntax.specs.Events.{Event, Sat, Cut, Fault, axioms_of}
+use Rattle.hp_syntax.specs.Preconditions.{precondition_events}
+use Rattle.hp_syntax.specs.Networks.{Network, Empty, Task, Ordered, Unordered, Place, part_at, candidates, tasks_value}
+use Rattle.hp_syntax.specs.Changes.{Changes, Applied, Now, Guarded, Going, Went, Stops, apply, effects}
+use Rattle.hp_syntax.specs.Walk.{Node, Child, DidChild, CutChild, FaultChild, child_of, operated, after_effects, decomposed, Choice, choice_children, operator_children, chosen, method_children, rule_children, task_children, children, number_after, numbered}
+use Rattle.hp_laws.proofs.JoinLemmas.{all_from, map_join, join_same, contains_first, contains_later, contains_cases, contains_none}
+
+-- a node, or a child, that has another depth
+abbrev pub at_depth : ℕ → Node → Node
+at_depth k n = record n { depth = k }
+
+abbrev pub child_at_depth : ℕ → Child → Child
+child_at_depth k (DidChild m) = DidChild (at_depth k m)
+child_at_depth k CutChild = CutChild
+child_at_depth k (FaultChild f) = FaultChild f
+
+-- where each event gives children of another depth, so do all events
+events_at_depth : (k : ℕ) (a b : Bindings → List Child) → ((e : Bindings) → a e ≡ map (child_at_depth k) (b e))
+    → (xs : List Event) → flat_map (child_of a) xs ≡ map (child_at_depth k) (flat_map (child_of b) xs)
+events_at_depth k a b h xs =
+    join_same (child_of a) (λ x. map (child_at_depth k) (child_of b x)) xs
+    (all_from (λ x. child_of a x ≡ map (child_at_depth k) (child_of b x)) each xs)
+    ∙ sym (map_join (child_of b) (child_at_depth k) xs)
+  where
+    each : (x : Event) → child_of a x ≡ map (child_at_depth k) (child_of b x)
+    each (Sat e) = h e
+    each Cut = refl
+    each (Fault x) = refl
+
+module _ (k : ℕ) (n : Node) where
+  -- the child after an operator of a node of another depth is its child, of one decomposition less
+  applied_at_depth : (p : Place) (t : Term) (c : ℤ) (a : Applied)
+      → operated (at_depth k n) p t c a ≡ map (child_at_depth (k - 1)) (operated n p t c a)
+  applied_at_depth p t c (Guarded d) = refl
+  applied_at_depth p t c (Now s g) = refl
+
+  effects_at_depth : (p : Place) (t : Term) (g : Going (Changes × ℤ))
+      → after_effects (at_depth k n) p t g ≡ map (child_at_depth (k - 1)) (after_effects n p t g)
+  effects_at_depth p t (Stops (Sat e)) = refl
+  effects_at_depth p t (Stops Cut) = refl
+  effects_at_depth p t (Stops (Fault x)) = refl
+  effects_at_depth p t (Went r) = applied_at_depth p t r.1 (apply n.state n.guards r.0)
+
+  -- so is the child after a method
+  subtasks_at_depth : (p : Place) (r : Result Network RunFault)
+      → decomposed (at_depth k n) p r ≡ map (child_at_depth (k - 1)) (decomposed n p r)
+  subtasks_at_depth p (Ok sub) = refl
+  subtasks_at_depth p (Err f) = refl
+
+  choice_at_depth : (p : Place) (o : Option Choice)
+      → choice_children (at_depth k n) p o ≡ map (child_at_depth (k - 1)) (choice_children n p o)
+  choice_at_depth p None = refl
+  choice_at_depth p (Some c) =
+      events_at_depth (k - 1) (λ b. decomposed (at_depth k n) p (tasks_value c.tasks b))
+      (λ b. decomposed n p (tasks_value c.tasks b)) (λ b. subtasks_at_depth p (tasks_value c.tasks b)) c.events
+
+  module _ (rules : List Rule) (nest : ℕ) where
+    -- the children by a rule of a node of another depth are its children, of one decomposition less
+    operator_at_depth : (p : Place) (t : Term) (o : Operator) (e : Option Bindings)
+        → operator_children rules nest (at_depth k n) p t o e
+        ≡ map (child_at_depth (k - 1)) (operator_children rules nest n p t o e)
+    operator_at_depth p t o None = refl
+    operator_at_depth p t o (Some e) =
+        events_at_depth (k - 1) (λ b. after_effects (at_depth k n) p t (effects (axioms_of rules) nest n.state o b))
+        (λ b. after_effects n p t (effects (axioms_of rules) nest n.state o b))
+        (λ b. effects_at_depth p t (effects (axioms_of rules) nest n.state o b))
+        (precondition_events (axioms_of rules) nest n.state o.pre e)
+
+    method_at_depth : (p : Place) (m : Method) (e : Option Bindings)
+        → method_children rules nest (at_depth k n) p m e
+        ≡ map (child_at_depth (k - 1)) (method_children rules nest n p m e)
+    method_at_depth p m None = refl
+    method_at_depth p m (Some e) = choice_at_depth p (chosen rules nest n.state m.branches e)
+
+    rule_at_depth : (p : Place) (t : Term) (r : Rule)
+        → rule_children rules nest (at_depth k n) p t r
+        ≡ map (child_at_depth (k - 1)) (rule_children rules nest n p t r)
+    rule_at_depth p t (Does o) = operator_at_depth p t o (match_atom o.head t (unbound (length o.vars)))
+    rule_at_depth p t (Refines m) = method_at_depth p m (match_atom m.head t (unbound (length m.vars)))
+    rule_at_depth p t (Concludes x) = refl
+
+    -- so are those of a task
+    task_at_depth : (p : Place) (o : Option Network)
+        → task_children rules nest (at_depth k n) p o
+        ≡ map (child_at_depth (k - 1)) (task_children rules nest n p o)
+    task_at_depth p None = refl
+    task_at_depth p (Some Empty) = refl
+    task_at_depth p (Some (Task t i)) =
+        join_same (rule_children rules nest (at_depth k n) p t)
+        (λ r. map (child_at_depth (k - 1)) (rule_children rules nest n p t r)) rules
+        (all_from (λ r. rule_children rules nest (at_depth k n) p t r
+        ≡ map (child_at_depth (k - 1)) (rule_children rules nest n p t r)) (rule_at_depth p t) rules)
+        ∙ sym (map_join (rule_children rules nest n p t) (child_at_depth (k - 1)) rules)
+    task_at_depth p (Some (Ordered ns)) = refl
+    task_at_depth p (Some (Unordered ns)) = refl
+
+    -- so are all children of a node of another depth
+    pub children_at_depth : children rules nest (at_depth k n) ≡ map (child_at_depth (k - 1)) (children rules nest n)
+    unfolding children
+    children_at_depth =
+        join_same (λ p. task_children rules nest (at_depth k n) p (part_at n.network p))
+        (λ p. map (child_at_depth (k - 1)) (task_children rules nest n p (part_at n.network p)))
+        (candidates n.network n.focus)
+        (all_from (λ p. task_children rules nest (at_depth k n) p (part_at n.network p)
+        ≡ map (child_at_depth (k - 1)) (task_children rules nest n p (part_at n.network p)))
+        (λ p. task_at_depth p (part_at n.network p)) (candidates n.network n.focus))
+        ∙ sym (map_join (λ p. task_children rules nest n p (part_at n.network p)) (child_at_depth (k - 1))
+        (candidates n.network n.focus))
+
+-- what a list of numbered children contains is one of the children
+pub contained_child : (i j : ℕ) (c : Child) (cs : List Child) → Contains (numbered i cs) (j, c) → Contains cs c
+contained_child i j c [] h = absurd (contains_none (j, c) h)
+contained_child i j c (x ∷ cs) h =
+    ⊎_elim (λ e. subst (λ y. Contains (y ∷ cs) c) (sym (ap (λ y. y.1) e)) (contains_first c cs))
+    (λ k. contains_later x c cs (contained_child (number_after i x) j c cs k))
+    (contains_cases (i, x) (j, c) (numbered (number_after i x) cs) h)
+
+-- a child has this depth, where it is a node
+abbrev HasDepth : ℕ → Child → Type 0
+HasDepth k (DidChild m) = m.depth ≡ k
+HasDepth k CutChild = Unit {0}
+HasDepth k (FaultChild f) = Unit {0}
+
+has_depth : (k : ℕ) (c : Child) → HasDepth k (child_at_depth k c)
+has_depth k (DidChild m) = refl
+has_depth k CutChild = tt
+has_depth k (FaultChild f) = tt
+
+-- a child of a node that has a decomposition left has one less
+pub child_depth : (rules : List Rule) (nest : ℕ) (n m : Node) (d i : ℕ) → n.depth ≡ suc d
+    → Contains (numbered 0 (children rules nest n)) (i, DidChild m) → m.depth ≡ d
+child_depth rules nest n m d i e c =
+    let k = contained_child 0 i (DidChild m) (children rules nest n) c in
+    let a : All (HasDepth (n.depth - 1)) (map (child_at_depth (n.depth - 1)) (children rules nest n)) =
+    All-map (HasDepth (n.depth - 1)) (child_at_depth (n.depth - 1)) (children rules nest n)
+    (all_from (λ x. HasDepth (n.depth - 1) (child_at_depth (n.depth - 1) x)) (has_depth (n.depth - 1))
+    (children rules nest n)) in
+    let b = All-contains (HasDepth (n.depth - 1)) (children rules nest n) (DidChild m)
+    (subst (All (HasDepth (n.depth - 1))) (sym (children_at_depth n.depth n rules nest)) a) k in
+    omega arith

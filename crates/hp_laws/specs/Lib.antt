@@ -1,0 +1,4 @@
+pub mod Readings
+pub mod TreeLaws
+pub mod Derivations
+pub mod SatisfierLaws

@@ -1,0 +1,38 @@
+-- What a run on two texts comes to by the definitions alone.
+use Rattle.std.specs.Prelude.{◌≡◌, ℕ, Bool, List, [], ◌∷◌, length, Result, Ok, Err}
+use Rattle.hp_syntax.specs.Forest.{Forest, IsForest}
+use Rattle.hp_syntax.specs.Grammar.{domain_form, problem_form}
+use Rattle.hp_syntax.specs.Report.{report}
+use Rattle.hp_syntax.specs.Steps.{Misform}
+use Rattle.hp_syntax.specs.Syntax.{Domain, Pair, Problem, Rule}
+use Rattle.hp_syntax.specs.Walk.{walk}
+
+-- what is asked of a run: so many plans, down to a depth, with so many axiom levels, with states or without
+pub record Asked : Type 0 where
+  pub plans : ℕ
+  pub depth : ℕ
+  pub nest : ℕ
+  pub states : Bool
+
+abbrev pub asked : ℕ → ℕ → ℕ → Bool → Asked
+asked k d n s = record { plans = k; depth = d; nest = n; states = s }
+
+-- the report of the walk of the first pair
+abbrev pub text_of_pairs : Asked → List Rule → List Pair → List ℕ
+text_of_pairs a rules [] = []
+text_of_pairs a rules (pair ∷ more) = report a.plans a.states (walk rules a.nest pair a.depth)
+
+-- the text of a run, where the domain and the problem have forms
+abbrev pub text_of_forms : Asked → Result Domain Misform → Result Problem Misform → List ℕ
+text_of_forms a (Err m) p = []
+text_of_forms a (Ok d) (Err m) = []
+text_of_forms a (Ok d) (Ok p) = text_of_pairs a d.rules p.pairs
+
+-- a run on the texts of a domain and of a problem, which spell their forests, writes this
+pub record Writes (a : Asked) (domain problem text : List ℕ) : Type 0 where
+  pub domain_forest : Forest
+  pub problem_forest : Forest
+  pub domain_spelled : IsForest domain domain_forest
+  pub problem_spelled : IsForest problem problem_forest
+  pub written : text_of_forms a (domain_form (length domain) domain_forest)
+      (problem_form (length problem) problem_forest) ≡ text

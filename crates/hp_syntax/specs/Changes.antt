@@ -1,0 +1,142 @@
+-- What an operator does to a state and its protections, and what it costs.
+use Rattle.std.specs.Prelude.{ℕ, cond, not, ℤ, List, [], ◌∷◌, ◌++◌, filter, Option, Some, None, Result, Ok, Err}
+use Rattle.hp_syntax.specs.declared.pattern.Span.{Span}
+use Rattle.hp_syntax.specs.declared.fault.RunFault.{RunFault}
+use Rattle.hp_syntax.specs.declared.fault.FaultKind.TheVariants.{NotNumber}
+use Rattle.hp_syntax.specs.Syntax.{Pattern, Variable, Listing, Call, Atom, Expression, Axiom, Effect, Change, Protection, Each, Operator}
+use Rattle.hp_syntax.specs.Syntax as syntax
+use Rattle.hp_syntax.specs.Terms.{Term, Symbol, Number, Listed, same_term, member}
+use Rattle.hp_syntax.specs.Calls.{fault_at}
+use Rattle.hp_syntax.specs.Values.{Bindings, value, atom_value}
+use Rattle.hp_syntax.specs.Events.{Event, Sat, Cut, Fault, State, sat}
+use Rattle.hp_syntax.specs.Preconditions.{heard}
+
+-- the atoms that an operator unguards, deletes, adds and guards
+pub record Changes : Type 0 where
+  pub unguard : List Term
+  pub delete : List Term
+  pub add : List Term
+  pub guard : List Term
+
+-- ---- applying changes
+
+abbrev pub without_first : Term → List Term → List Term
+without_first x [] = []
+without_first x (y ∷ ys) = cond (same_term x y) ys (y ∷ without_first x ys)
+
+-- the protections that are left once each of these has cancelled its first equal entry
+abbrev pub cancelled : List Term → List Term → List Term
+cancelled g [] = g
+cancelled g (u ∷ us) = cancelled (without_first u g) us
+
+-- the first of these that is protected
+abbrev pub first_guarded : List Term → List Term → Option Term
+first_guarded g [] = None
+first_guarded g (d ∷ ds) = cond (member d g) (Some d) (first_guarded g ds)
+
+-- the state with these atoms appended in turn, where they are absent
+abbrev pub added : State → List Term → State
+added s [] = s
+added s (a ∷ rest) = added (cond (member a s) s (s ++ a ∷ [])) rest
+
+-- the state without the atoms to delete, and then with those to add
+abbrev pub changed : State → Changes → State
+changed s c = added (filter (λ a. not (member a c.delete)) s) c.add
+
+-- what applying changes gives: the state and the protections then, or the protected atom that forbids it
+pub data Applied : Type 0 where
+  Now : (state : State) → (guards : List Term) → Applied
+  Guarded : (atom : Term) → Applied
+
+abbrev pub unless_guarded : Option Term → State → List Term → Applied
+unless_guarded None s g = Now s g
+unless_guarded (Some d) s g = Guarded d
+
+unfoldable pub apply : State → List Term → Changes → Applied
+apply s g c =
+    unless_guarded (first_guarded (cancelled g c.unguard) c.delete) (changed s c)
+    (cancelled g c.unguard ++ c.guard)
+
+-- ---- the changes and the cost of an operator
+
+-- going through an operator's effects: it went, or a Cut or a Fault stops it
+pub data Going (A : Type 0) : Type 0 where
+  Went : (x : A) → Going A
+  Stops : (x : Event) → Going A
+
+abbrev pub and_go : {A B : Type 0} → Going A → (A → Going B) → Going B
+and_go (Went x) f = f x
+and_go (Stops x) f = Stops x
+
+abbrev pub go_on : {A : Type 0} → Result A RunFault → Going A
+go_on (Ok x) = Went x
+go_on (Err f) = Stops (Fault f)
+
+abbrev pub atom_values : List Atom → Bindings → Going (List Term)
+atom_values [] e = Went []
+atom_values (a ∷ rest) e =
+    and_go (go_on (atom_value a e)) (λ t. and_go (atom_values rest e) (λ ts. Went (t ∷ ts)))
+
+-- the values of the atoms under each Sat in turn; a Cut or a Fault stops here
+abbrev pub values_for_each : List Atom → List Event → Going (List Term)
+values_for_each as' [] = Went []
+values_for_each as' (Cut ∷ xs) = Stops Cut
+values_for_each as' (Fault f ∷ xs) = Stops (Fault f)
+values_for_each as' (Sat e ∷ xs) =
+    and_go (atom_values as' e) (λ ts. and_go (values_for_each as' xs) (λ us. Went (ts ++ us)))
+
+-- what a list of effects comes to: atoms, and atoms of protections
+pub record Gathered : Type 0 where
+  pub atoms : List Term
+  pub protections : List Term
+
+abbrev pub gathered : Gathered → Gathered → Gathered
+gathered x y = record { atoms = x.atoms ++ y.atoms; protections = x.protections ++ y.protections }
+
+abbrev pub of_atoms : List Term → Gathered
+of_atoms ts = record { atoms = ts; protections = [] }
+
+abbrev pub of_protection : Term → Gathered
+of_protection t = record { atoms = []; protections = t ∷ [] }
+
+module _ (axioms : List Axiom) (nest : ℕ) (s : State) where
+  -- of an effect in a state; a `forall` goes through its satisfiers
+  abbrev pub effect_values : Effect → Bindings → Going Gathered
+  effect_values (Change a) e = and_go (go_on (atom_value a e)) (λ t. Went (of_atoms (t ∷ [])))
+  effect_values (Protection a) e = and_go (go_on (atom_value a e)) (λ t. Went (of_protection t))
+  effect_values (Each vs E as') e =
+      and_go (values_for_each as' (heard (sat axioms s nest E e))) (λ ts. Went (of_atoms ts))
+
+  -- of a list of effects, from left to right
+  abbrev pub effects_values : List Effect → Bindings → Going Gathered
+  effects_values [] e = Went (of_atoms [])
+  effects_values (x ∷ xs) e =
+      and_go (effect_values x e) (λ g. and_go (effects_values xs e) (λ h. Went (gathered g h)))
+
+abbrev pub pattern_span : Pattern → Span
+pattern_span (Variable s v) = s
+pattern_span (syntax.Symbol s name) = s
+pattern_span (syntax.Number s n) = s
+pattern_span (Listing s ps tail) = s
+pattern_span (Call s name args) = s
+
+-- a cost must be a number
+abbrev pub cost_of : Span → Term → Going ℤ
+cost_of s (Number n) = Went n
+cost_of s (Symbol name) = Stops (Fault (fault_at NotNumber s))
+cost_of s (Listed ts) = Stops (Fault (fault_at NotNumber s))
+
+abbrev pub cost_value : Pattern → Bindings → Going ℤ
+cost_value p e = and_go (go_on (value p e)) (cost_of (pattern_span p))
+
+abbrev pub changes_of : Gathered → Gathered → Changes
+changes_of d a =
+    record { unguard = d.protections; delete = d.atoms; add = a.atoms; guard = a.protections }
+
+-- the changes and the cost of an operator in a state: its delete list first, then its add list, then its cost;
+-- or what stops it
+unfoldable pub effects : List Axiom → ℕ → State → Operator → Bindings → Going (Changes × ℤ)
+effects axioms nest s o e =
+    and_go (effects_values axioms nest s o.dels e) (λ d.
+    and_go (effects_values axioms nest s o.adds e) (λ a.
+    and_go (cost_value o.cost e) (λ c. Went (changes_of d a, c))))
