@@ -1,0 +1,4 @@
+pub mod PlaceLemmas
+pub mod CellLemmas
+pub mod KeyLemmas
+pub mod InternLemmas

@@ -1,0 +1,4 @@
+pub mod Cells
+pub mod Keys
+pub mod Shows
+pub mod TermCode

@@ -1,0 +1,62 @@
+//! What names a term, and what stands at its place.
+ghost use Rattle.std.specs.Prelude.{ℕ, List};
+ghost use Rattle.hp_syntax.specs.Terms.{Term};
+ghost use Rattle.hp_cells.specs.Keys.{Stands, KeepsBack};
+ghost use Rattle.hp_cells.specs.Shows.{Shows, LooksBack};
+
+use hp_syntax::Name;
+use std::marker::Model;
+use std::mem::size_of;
+
+/// Names an interned term: a number, the place of the term among those of its `Cells`. Two cells of one `Cells` are
+/// equal exactly where their terms are.
+#[derive(Clone, Copy, Debug, PartialEq, Eq, Hash)]
+pub struct Cell {
+    pub(crate) place: u32,
+}
+
+const _: () = prove!(size_of::<(Cell, Cell)>() == 8);
+
+impl Model for Cell {
+    ghost use Rattle.std.specs.Prelude.{ℕ};
+
+    ghost Value = { ℕ };
+
+    ghost view = { λ a. a.place };
+
+    ghost inverse = { λ n. record { place = n } };
+}
+
+/// What a term is, without a walk through it: the empty list, a symbol, a number, or a list by its first part and
+/// the list of the others.
+#[derive(Clone, Copy, Debug)]
+pub enum View<'a> {
+    Nil,
+    Sym(&'a Name),
+    Num(i64),
+    Cons(Cell, Cell),
+}
+
+// What stands at a place: a term whose parts stand at earlier ones.
+#[derive(PartialEq, Eq, Hash, Drop)]
+pub(crate) enum Key {
+    Nil,
+    Sym(Name),
+    Num(i64),
+    Cons(Cell, Cell),
+}
+
+impl Key {
+    // What the term is that the key stands for.
+    pub(crate) fn view(&self) -> View<'_>
+        ensures shows { (terms : List Term) (t : Term) → Stands terms self.now t → Shows terms result t }
+        ensures earlier { (cell : ℕ) → KeepsBack cell self.now → LooksBack cell result }
+    {
+        match self {
+            Key::Nil => View::Nil,
+            Key::Sym(name) => View::Sym(name),
+            Key::Num(n) => View::Num(*n),
+            Key::Cons(head, tail) => View::Cons(*head, *tail),
+        }
+    }
+}

@@ -1,0 +1,11 @@
+//! Interned terms: each ground term stands once, and is named by its place.
+#![tactic(auto)]
+
+mod cells;
+mod keys;
+pub mod laws;
+#[cfg(test)]
+mod tests;
+
+pub use cells::Cells;
+pub use keys::{Cell, View};
