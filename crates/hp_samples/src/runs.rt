@@ -75,7 +75,7 @@ pub fn satisfiers_are_sorted()
         (codes "fault NotGround at 67-69 plans 0 expansions 0\n") }
     ensures no_number { Writes (asked 5 5 64 false) sorted_names_domain weights_problem
         (codes "fault NotNumber at 67-69 plans 0 expansions 0\n") }
-    ensures cut_last { Writes (asked 5 5 2 false) sorted_cut_domain weights_problem
+    ensures cut_last { Writes (asked 5 5 64 false) sorted_cut_domain weights_problem
         (codes "plan 1 cost 1 steps 1\n(!do b)\nplan 2 cost 1 steps 1\n(!do a)\nplan 3 cost 1 steps 1\n(!do "
         ++ codes "c)\ncut plans 3 expansions 6\n") }
 {}
@@ -107,15 +107,15 @@ pub fn axioms_conclude()
 
 /// An axiom that calls itself is cut; below `not` the cut stays, and a branch whose only event is a cut is used.
 pub fn cuts_are_not_false()
-    ensures cut { Writes (asked 5 5 3 false) endless_domain weights_problem
+    ensures cut { Writes (asked 5 5 64 false) endless_domain weights_problem
         (codes "cut plans 0 expansions 0\n") }
     ensures none_left { Writes (asked 5 5 0 false) endless_domain weights_problem
         (codes "cut plans 0 expansions 0\n") }
-    ensures negated { Writes (asked 5 5 3 false) not_endless_domain weights_problem
+    ensures negated { Writes (asked 5 5 64 false) not_endless_domain weights_problem
         (codes "cut plans 0 expansions 0\n") }
-    ensures branch { Writes (asked 5 5 3 false) cut_branch_domain weights_problem
+    ensures branch { Writes (asked 5 5 64 false) cut_branch_domain weights_problem
         (codes "cut plans 0 expansions 0\n") }
-    ensures negated_fault { Writes (asked 5 5 3 false) not_fault_domain weights_problem
+    ensures negated_fault { Writes (asked 5 5 64 false) not_fault_domain weights_problem
         (codes "fault NotNumber at 74-87 plans 0 expansions 0\n") }
 {}
 
