@@ -1,0 +1,72 @@
+-- Functions of the call table, number by number.
+use Rattle.std.proofs.Common.{◌≡◌, ℕ, zero, suc, ◌+◌, ◌<◌, ◌≤◌, Bool, true, false, cond, ℤ, pos, neg_ℤ, unsigned_abs, FitsSigned, List, [], ◌∷◌, length, drop, get_or, Option, Some, None, Result, Ok, Err, refl, ap, sym, ◌∙◌, arith}
+use Rattle.std.specs.Prelude.{negsuc}
+use Rattle.std.specs.Int.{w64}
+use Rattle.std.specs.Option.{SomeIff}
+use Rattle.std.proofs.lemmas.List.{drop_more}
+use Rattle.hp_syntax.specs.declared.pattern.Span.{Span}
+use Rattle.hp_syntax.specs.declared.fault.RunFault.{RunFault}
+use Rattle.hp_syntax.specs.declared.fault.FaultKind.TheVariants.{Overflow}
+use Rattle.hp_syntax.specs.Terms.{Term, Terms}
+use Rattle.hp_syntax.specs.Calls.{fits, fault_at, in_turn, of_one, Row, row, called, call}
+use Rattle.hp_eval.specs.CallRows.{fitted}
+
+-- ---- functions carried through numbers
+
+module _ (f : ℤ → ℤ → ℤ) (s : Span) (ns : List ℤ) (i : ℕ) (m n : ℤ) (lt : i < length ns)
+    (is : n ≡ get_or ns i (pos 0)) where
+  -- the next number is first of those that are left
+  next : in_turn f s m (drop i ns) ≡ in_turn f s m (n ∷ drop (i + 1) ns)
+  next =
+      ap (in_turn f s m) (drop_more ns i (pos 0) lt) ∙ ap (λ k. in_turn f s m (k ∷ drop (i + 1) ns)) (sym is)
+
+  -- a result that fits is gone on with
+  pub turned_on : (t : ℤ) → Ok t ≡ fitted s (f m n) → in_turn f s m (drop i ns) ≡ in_turn f s t (drop (i + 1) ns)
+  turned_on t h = next ∙ by_case (f m n) (fits (f m n)) h
+    where
+      by_case : (v : ℤ) (b : Bool) → Ok t ≡ cond b (Ok v) (Err (fault_at Overflow s))
+          → cond b (in_turn f s v (drop (i + 1) ns)) (Err (fault_at Overflow s)) ≡ in_turn f s t (drop (i + 1) ns)
+      by_case v true h = let same : v ≡ t = cc in ap (λ x. in_turn f s x (drop (i + 1) ns)) same
+      by_case v false h = absurd (cc)
+
+  -- a result that doesn't fit is the fault of all
+  pub turned_off : (e : RunFault) → Err e ≡ fitted s (f m n) → Err e ≡ in_turn f s m (drop i ns)
+  turned_off e h = by_case (f m n) (fits (f m n)) h ∙ sym next
+    where
+      by_case : (v : ℤ) (b : Bool) → Err e ≡ cond b (Ok v) (Err (fault_at Overflow s))
+          → Err e ≡ cond b (in_turn f s v (drop (i + 1) ns)) (Err (fault_at Overflow s))
+      by_case v true h = absurd (cc)
+      by_case v false h = let same : e ≡ fault_at Overflow s = cc in ap Err same
+
+-- ---- how far a number is from 0
+
+-- the opposite of a number that fits, fits where the number's size does
+opposite_fits : (n : ℤ) → FitsSigned w64 n → FitsSigned w64 (neg_ℤ n) → FitsSigned w64 (pos (unsigned_abs n))
+opposite_fits (pos n) f g = f
+opposite_fits (negsuc n) f g = g
+
+size_fits : (n : ℤ) → FitsSigned w64 n → FitsSigned w64 (pos (unsigned_abs n)) → FitsSigned w64 (neg_ℤ n)
+size_fits (pos zero) f g = g
+size_fits (pos (suc n)) f g = record { sfits = omega (arith, g.sfits) }
+size_fits (negsuc n) f g = g
+
+-- the size of a number fits where its opposite does
+pub size_iff : (r : Option ℤ) (n : ℤ) → FitsSigned w64 n
+    → SomeIff r (FitsSigned w64 (neg_ℤ n)) (pos (unsigned_abs n))
+    → SomeIff r (FitsSigned w64 (pos (unsigned_abs n))) (pos (unsigned_abs n))
+size_iff None n f h = λ g. h (size_fits n f g)
+size_iff (Some x) n f h = (opposite_fits n f h.0, h.1)
+
+-- a function of one number is of the first of a list of one
+pub of_one_first : (f : Span → ℤ → Result Term RunFault) (s : Span) (ns : List ℤ) → 1 ≤ length ns → length ns < 2
+    → of_one f s (Some ns) ≡ f s (get_or ns 0 (pos 0))
+of_one_first f s [] h k = absurd (omega arith)
+of_one_first f s (n ∷ []) h k = refl
+of_one_first f s (n ∷ m ∷ ms) h k = absurd (omega arith)
+
+-- ---- the call of a name
+
+-- what a row gives is what the call of its name gives
+pub named_call : (name : List ℕ) (ts : Terms) (s : Span) (r : Row) → r ≡ row name → called r ts s ≡ call name ts s
+unfolding call
+named_call name ts s r h = ap (λ q. called q ts s) h

@@ -1,0 +1,78 @@
+-- Terms that are added leave those before at their places.
+use Rattle.std.proofs.Common.{◌≡◌, ℕ, suc, ◌<◌, ◌≤◌, List, [], ◌∷◌, ◌++◌, length, map, take, drop, slice_get, Option, Some, None, refl, ap, ap₂, sym, ◌∙◌, arith, append_assoc, length-append}
+use Rattle.std.specs.List.{All}
+use Rattle.std.proofs.Math.Seq.{take-append_seam, take-length}
+use Rattle.std.proofs.lemmas.List.{take-append-drop}
+use Rattle.std.proofs.lemmas.List.Elements.{All-weaker, All-head, All-tail}
+use Rattle.std.proofs.lemmas.Option.{slice_get_within}
+use Rattle.hp_cells.proofs.PlaceLemmas.{same_in_longer}
+use Rattle.hp_syntax.specs.Terms.{Term}
+use Rattle.hp_eval.specs.GoalViews.{term_or_nil, term_at}
+use Rattle.hp_eval.specs.Growth.{Grows}
+use Rattle.hp_eval.specs.Slotted.{Slotted, AreBelow, named, bindings_of}
+
+-- terms grow into themselves
+pub grows_self : (terms : List Term) → Grows terms terms
+grows_self terms = take-length terms
+
+-- terms with others behind them are grown
+pub grows_behind : (old more : List Term) → Grows old (old ++ more)
+grows_behind old more = take-append_seam old more
+
+module _ (old new : List Term) (g : Grows old new) where
+  -- the terms before are the front of the new terms
+  pub front : new ≡ old ++ drop (length old) new
+  front = sym (take-append-drop (length old) new) ∙ ap (λ ts. ts ++ drop (length old) new) g
+
+  -- terms become no fewer
+  pub grows_length : length old ≤ length new
+  grows_length =
+      let e = ap length front in
+      let l = length-append old (drop (length old) new) in
+      omega (arith, e, l)
+
+  -- the terms before stand at their places
+  pub stays : (i : ℕ) → i < length old → slice_get new i ≡ slice_get old i
+  stays i h = ap (λ ts. slice_get ts i) front ∙ same_in_longer old (drop (length old) new) i h
+
+  -- a cell goes on naming its term
+  pub still_names : (i : ℕ) (t : Term) → slice_get old i ≡ Some t → slice_get new i ≡ Some t
+  still_names i t h = stays i (slice_get_within old i t h) ∙ h
+
+  -- cells of the terms before are cells of the new terms
+  pub all_below : (cells : List ℕ) → All (λ c. c < length old) cells → All (λ c. c < length new) cells
+  all_below cells h =
+      All-weaker (λ c. c < length old) (λ c. c < length new) (λ c p. omega (arith, p, grows_length)) cells h
+
+  -- the terms at cells of the terms before stay
+  pub terms_stay : (cells : List ℕ) → All (λ c. c < length old) cells
+      → map (term_at new) cells ≡ map (term_at old) cells
+  terms_stay [] h = refl
+  terms_stay (c ∷ cs) h =
+      ap₂ ◌∷◌ (ap term_or_nil (stays c (All-head (λ c. c < length old) c cs h)))
+      (terms_stay cs (All-tail (λ c. c < length old) c cs h))
+
+  -- what cells of variables name, stays
+  named_stay : (values : List (Option ℕ))
+      → ((v cell : ℕ) → slice_get values v ≡ Some (Some cell) → cell < length old)
+      → map (named new) values ≡ map (named old) values
+  named_stay [] h = refl
+  named_stay (None ∷ vs) h = ap (λ e. None ∷ e) (named_stay vs (λ v cell. h (suc v) cell))
+  named_stay (Some c ∷ vs) h = ap₂ ◌∷◌ (stays c (h 0 c refl)) (named_stay vs (λ v cell. h (suc v) cell))
+
+  -- bindings of cells of the terms before stay
+  pub bindings_stay : (s : Slotted) → AreBelow (length old) s → bindings_of new s ≡ bindings_of old s
+  bindings_stay s h = named_stay s.values h
+
+  -- slots stay below the number of terms
+  pub below_grows : (s : Slotted) → AreBelow (length old) s → AreBelow (length new) s
+  below_grows s h = λ v cell e. omega (arith, h v cell e, grows_length)
+
+-- growing twice is growing
+pub grows_on : (a b c : List Term) → Grows a b → Grows b c → Grows a c
+grows_on a b c g h =
+    let whole : c ≡ a ++ (drop (length a) b ++ drop (length b) c) =
+    front b c h
+    ∙ (ap (λ ts. ts ++ drop (length b) c) (front a b g)
+    ∙ append_assoc a (drop (length a) b) (drop (length b) c)) in
+    ap (take (length a)) whole ∙ take-append_seam a (drop (length a) b ++ drop (length b) c)

@@ -1,0 +1,45 @@
+use Rattle.std.proofs.Common.{◌≡◌, Some, true, length}
+use Rattle.std.proofs.lemmas.List.Elements.{All-pop}
+use Rattle.hp_eval.specs.GoalViews.{is_below, fillings_of}
+use Rattle.hp_eval.specs.FillSteps.{parts_at}
+use Rattle.hp_eval.proofs.GrowthLemmas.{grows_length, grows_on}
+use Rattle.hp_eval.proofs.GoalViewLemmas.{is_below_more}
+use Rattle.hp_eval.proofs.FillStepLemmas.{part_consed, known_joined}
+use Rattle.hp_eval.proofs.goals.cons_parts.Goals as goal
+
+pub cons_part-requires-clause-part : goal.cons_part-requires-clause-part
+cons_part-requires-clause-part c =
+    let held = c.loop-part.invariant in
+    let items = c.in-Some.ensures.items in
+    let kept = All-pop (λ f. is_below (length c.args.cells.now) f ≡ true) _ _ (Some c.in-Some.part) items held.1 in
+    is_below_more _ _ c.in-Some.part (grows_length _ _ held.2) kept.1
+
+pub loop-part-preserved-in_ok-left : goal.loop-part-preserved-in_ok-left
+loop-part-preserved-in_ok-left c =
+    let held = c.loop-part.invariant in
+    let items = c.in-Some.ensures.items in
+    let kept = All-pop (λ f. is_below (length c.args.cells.now) f ≡ true) _ _ (Some c.in-Some.part) items held.1 in (
+      c.in_ok-left.ensures.names,
+      kept.0,
+      grows_on c.args.cells.now c.loop-part.cells c.cons_part.new.cells held.2 c.in_ok-left.ensures.cells,
+      part_consed c.args.cells.now c.loop-part.cells c.cons_part.new.cells _ c.pop.new.self.items c.in-Some.part
+          c.loop-part.left c.in_ok-left.left held.2 kept.1
+          (known_joined (fillings_of c.args.cells.now c.args.parts.items) (parts_at c.args.cells.now c.args.list)
+          c.requires.known)
+          c.in_ok-left.ensures.parts (rw items at held.3),
+    )
+
+pub loop-part-preserved : goal.loop-part-preserved
+loop-part-preserved c =
+    let held = c.loop-part.invariant in
+    let items = c.in-Some.ensures.items in
+    let kept = All-pop (λ f. is_below (length c.args.cells.now) f ≡ true) _ _ (Some c.in-Some.part) items held.1 in (
+      c.in_ok-left.ensures.names,
+      kept.0,
+      grows_on c.args.cells.now c.loop-part.cells c.cons_part.new.cells held.2 c.in_ok-left.ensures.cells,
+      part_consed c.args.cells.now c.loop-part.cells c.cons_part.new.cells _ c.pop.new.self.items c.in-Some.part
+          c.loop-part.left c.in_ok-left.left held.2 kept.1
+          (known_joined (fillings_of c.args.cells.now c.args.parts.items) (parts_at c.args.cells.now c.args.list)
+          c.requires.known)
+          c.in_ok-left.ensures.parts (rw items at held.3),
+    )

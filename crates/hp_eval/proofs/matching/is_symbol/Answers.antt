@@ -1,0 +1,19 @@
+use Rattle.std.proofs.Common.{ap, sym, inl, inr}
+use Rattle.hp_eval.specs.GoalViews.{term_at}
+use Rattle.hp_eval.specs.Attempts.{is_symbol}
+use Rattle.hp_eval.proofs.CellViews.{named_at}
+use Rattle.hp_eval.proofs.AttemptLemmas.{view_nil, view_cons, view_number}
+use Rattle.hp_eval.proofs.matching.is_symbol.Goals as goal
+
+pub returns-in-Nil : goal.returns-in-Nil
+returns-in-Nil c =
+    let terms = c.args.cells.now in
+    let t = term_at terms c.args.cell in
+    let shown = c.get.ensures.shows t (named_at terms c.args.cell c.requires) in
+    elim c.in-Nil.is [
+      | inl h ↦ sym (ap (is_symbol c.args.name.now) (view_nil terms c.get.result t shown h))
+      | inr q ↦ elim q [
+        | inl p ↦ sym (ap (is_symbol c.args.name.now) (view_number terms c.get.result t p.0 shown p.1))
+        | inr p ↦ sym (ap (is_symbol c.args.name.now) ((view_cons terms c.get.result t p.0 p.1 shown p.2).whole))
+      ]
+    ]

@@ -1,0 +1,17 @@
+use Rattle.std.proofs.Common.{◌≡◌, length, map, drop}
+use Rattle.hp_syntax.specs.Networks.{And, task_list_value}
+use Rattle.hp_syntax.specs.Views.{task_list_of}
+use Rattle.hp_eval.specs.GoalViews.{network_of, TreesBelow}
+use Rattle.hp_eval.specs.Growth.{Grows}
+use Rattle.hp_eval.specs.Slotted.{bindings_of}
+use Rattle.hp_eval.proofs.Loops.{behind}
+use Rattle.hp_eval.proofs.tasks.+tasks.Given as goal
+
+abbrev pub invariant-task_list_value-loop-part : goal.invariant-task_list_value-loop-part
+invariant-task_list_value-loop-part l = record {
+  grows : Grows l.fn.cells l.cells;
+  below : TreesBelow (length l.cells) l.found.items;
+  so_far : task_list_value (task_list_of l.tasks) (bindings_of l.fn.cells l.slots)
+      ≡ behind And (map (network_of l.cells) l.found.items)
+      (task_list_value (task_list_of (drop l.part-index l.tasks)) (bindings_of l.fn.cells l.slots));
+}

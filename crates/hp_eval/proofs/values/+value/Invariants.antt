@@ -1,0 +1,21 @@
+use Rattle.std.proofs.Common.{◌≡◌, ◌<◌, Option, length, map, drop}
+use Rattle.std.specs.List.{All}
+use Rattle.hp_syntax.specs.declared.pattern.Tail.{Tail}
+use Rattle.hp_syntax.specs.Terms.{More}
+use Rattle.hp_syntax.specs.Values.{values}
+use Rattle.hp_syntax.specs.Views.{patterns_of}
+use Rattle.hp_eval.specs.GoalViews.{term_at}
+use Rattle.hp_eval.specs.Growth.{Grows}
+use Rattle.hp_eval.specs.Slotted.{bindings_of}
+use Rattle.hp_eval.proofs.Loops.{behind}
+use Rattle.hp_eval.proofs.values.+value.Given as goal
+
+abbrev pub invariant-part_values-loop-part : goal.invariant-part_values-loop-part
+invariant-part_values-loop-part l = record {
+  grows : Grows l.fn.cells l.cells;
+  below : All (λ c. c < length l.cells) l.found.items;
+  so_far : (tail : Option Tail)
+      → values (patterns_of l.parts) tail (bindings_of l.fn.cells l.slots)
+      ≡ behind More (map (term_at l.cells) l.found.items)
+      (values (patterns_of (drop l.part-index l.parts)) tail (bindings_of l.fn.cells l.slots));
+}

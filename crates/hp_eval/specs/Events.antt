@@ -1,0 +1,38 @@
+-- Events that are given one at a time.
+use Rattle.std.specs.Prelude.{◌≡◌, ℕ, List, [], ◌∷◌, Some}
+use Rattle.hp_syntax.specs.Terms.{Term}
+use Rattle.hp_syntax.specs.Values.{Bindings, bound}
+use Rattle.hp_syntax.specs.Events as plain
+use Rattle.hp_eval.specs.declared.event.Event.{Event}
+use Rattle.hp_eval.specs.declared.event.Event.TheVariants as events
+
+-- what is met while one looks for satisfiers
+abbrev pub Happening : Type 0
+Happening = plain.Event
+
+-- what is told of the first of the events that are left
+abbrev pub event_of : List Happening → Event
+event_of [] = events.End
+event_of (plain.Sat e ∷ xs) = events.Sat
+event_of (plain.Cut ∷ xs) = events.Cut
+event_of (plain.Fault f ∷ xs) = events.Fault f
+
+-- what is left behind the first; after a fault nothing is
+abbrev pub left_after : List Happening → List Happening
+left_after [] = []
+left_after (plain.Sat e ∷ xs) = xs
+left_after (plain.Cut ∷ xs) = xs
+left_after (plain.Fault f ∷ xs) = []
+
+-- where the first event is a Sat, these are its bindings
+abbrev pub AreOfFirst : List Happening → Bindings → Type 0
+AreOfFirst [] b = Unit {0}
+AreOfFirst (plain.Sat e ∷ xs) b = b ≡ e
+AreOfFirst (plain.Cut ∷ xs) b = Unit {0}
+AreOfFirst (plain.Fault f ∷ xs) b = Unit {0}
+
+-- a Sat binds what these bindings bind, to the same terms
+abbrev pub Keeps : Bindings → Happening → Type 0
+Keeps e (plain.Sat b) = (v : ℕ) (t : Term) → bound e v ≡ Some t → bound b v ≡ Some t
+Keeps e plain.Cut = Unit {0}
+Keeps e (plain.Fault f) = Unit {0}

@@ -1,0 +1,11 @@
+pub mod Slotted
+pub mod Growth
+pub mod GoalViews
+pub mod FillSteps
+pub mod Attempts
+pub mod CallRows
+pub mod Steps
+pub mod PartValues
+pub mod Events
+pub mod SlotLaws
+pub mod Answered

@@ -1,0 +1,100 @@
+//! What the variables of a rule stand for.
+ghost use Rattle.std.specs.Prelude.{◌≡◌, ◌-◌, ◌≤◌, ◌<◌, None, Some, IfOk, length, slice_get};
+ghost use Rattle.hp_eval.specs.Slotted.{no_bindings, with_bound, undone, flat};
+
+use hp_cells::Cell;
+use std::alloc::{AllocError, Global};
+use std::marker::Model;
+
+// What the variable of a place stands for, and which variable was bound in the place's turn.
+#[derive(Clone, Copy)]
+struct Slot {
+    value: Option<Cell>,
+    listed: u32,
+}
+
+/// What the variables of one rule stand for, and the order in which they were bound, so that bindings
+/// are undone back to a mark. All its memory is there from the start.
+#[derive(Drop)]
+pub struct Slots {
+    slots: Vec<Slot>,
+    bound: usize,
+}
+
+impl Model for Slots {
+    ghost use Rattle.std.specs.Prelude.{◌≤◌, length};
+    ghost use Rattle.hp_eval.specs.Slotted.{Slotted, AreSlots, stored};
+
+    ghost Value = { Slotted };
+
+    ghost view = { λ a. stored a.slots.items a.bound };
+
+    ghost invariant = { λ a. AreSlots (stored a.slots.items a.bound) × (a.bound ≤ length a.slots.items) };
+}
+
+impl Slots {
+    /// So many variables, none of them bound. Room for all bindings is taken here.
+    pub fn new(alloc: Global, vars: usize) -> Result<Slots, AllocError>
+        requires few { vars ≤ 256 }
+        ensures { IfOk result (λ s. s ≡ no_bindings vars) }
+    {
+        let free = Slot {
+            value: None,
+            listed: 0,
+        };
+        let slots = vec![in alloc; free; vars]?;
+        Ok(Slots { slots, bound: 0 })
+    }
+
+    /// The number of variables.
+    pub fn vars(&self) -> usize
+        ensures { result ≡ length self.now.values }
+    {
+        self.slots.len()
+    }
+
+    /// What a variable stands for.
+    pub fn get(&self, v: u32) -> Option<Cell>
+        requires known { v < length self.now.values }
+        ensures { result ≡ flat (slice_get self.now.values v) }
+    {
+        self.slots[v as usize].value
+    }
+
+    /// Binds a variable.
+    pub fn bind(&mut self, v: u32, cell: Cell)
+        requires unbound { slice_get self.old.values v ≡ Some None }
+        ensures { self.new ≡ with_bound v cell self.old }
+    {
+        self.slots[v as usize].value = Some(cell);
+        self.slots[self.bound].listed = v;
+        self.bound += 1;
+    }
+
+    /// The number of bindings made and not undone.
+    pub fn mark(&self) -> usize
+        ensures { result ≡ length self.now.trail }
+    {
+        self.bound
+    }
+
+    /// Undoes the bindings that were made since there were so many.
+    pub fn undo_to(&mut self, mark: usize)
+        requires earlier { mark ≤ length self.old.trail }
+        ensures { self.new ≡ undone mark self.old }
+    {
+        while self.mark() > mark {
+            self.undo_last();
+        }
+    }
+
+    // Undoes the last binding.
+    fn undo_last(&mut self)
+        requires some { 0 < length self.old.trail }
+        ensures { self.new ≡ undone (length self.old.trail - 1) self.old }
+    {
+        self.bound -= 1;
+        let v = self.slots[self.bound].listed;
+        self.slots[v as usize].value = None;
+    }
+}
