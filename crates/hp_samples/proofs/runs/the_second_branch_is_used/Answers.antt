@@ -15,7 +15,9 @@ use Rattle.hp_syntax.specs.Report as report
 use Rattle.hp_samples.proofs.Forests.{basic_domain_forest, basic_domain_spelled, nothing_problem_forest, nothing_problem_spelled, swap_problem_forest, swap_problem_spelled}
 use Rattle.hp_samples.proofs.runs.the_second_branch_is_used.Goals as goal
 
-pub returns-clause-whole : goal.returns-clause-whole
+-- what each clause says is computed
+all : goal.returns-clause-whole × goal.returns-clause-stopped × goal.returns-clause-cut
+    × goal.returns-clause-enough × goal.returns-clause-nothing_to_do
 unfolding digits grammar.assigned grammar.atoms grammar.axiom_rule grammar.branch_name grammar.branch_tasks
     grammar.branches grammar.called grammar.clauses grammar.cost grammar.domain_list grammar.dotted
     grammar.effect grammar.effects grammar.expression grammar.expressions grammar.file grammar.file_list
@@ -35,122 +37,55 @@ unfolding digits grammar.assigned grammar.atoms grammar.axiom_rule grammar.branc
     ground_patterns.terms_said ground_patterns.network_said ground_patterns.networks_said walk.children
     walk.visits_within walk.visits walk.root walk.walk walk.node_at report.plan_text report.state_text
     report.ending_text report.report
-returns-clause-whole c = record {
-  domain_forest = basic_domain_forest;
-  problem_forest = swap_problem_forest;
-  domain_spelled = basic_domain_spelled;
-  problem_spelled = swap_problem_spelled;
-  written = refl;
-}
+all = (
+  λ c. record {
+    domain_forest = basic_domain_forest;
+    problem_forest = swap_problem_forest;
+    domain_spelled = basic_domain_spelled;
+    problem_spelled = swap_problem_spelled;
+    written = refl;
+  },
+  λ c. record {
+    domain_forest = basic_domain_forest;
+    problem_forest = swap_problem_forest;
+    domain_spelled = basic_domain_spelled;
+    problem_spelled = swap_problem_spelled;
+    written = refl;
+  },
+  λ c. record {
+    domain_forest = basic_domain_forest;
+    problem_forest = swap_problem_forest;
+    domain_spelled = basic_domain_spelled;
+    problem_spelled = swap_problem_spelled;
+    written = refl;
+  },
+  λ c. record {
+    domain_forest = basic_domain_forest;
+    problem_forest = swap_problem_forest;
+    domain_spelled = basic_domain_spelled;
+    problem_spelled = swap_problem_spelled;
+    written = refl;
+  },
+  λ c. record {
+    domain_forest = basic_domain_forest;
+    problem_forest = nothing_problem_forest;
+    domain_spelled = basic_domain_spelled;
+    problem_spelled = nothing_problem_spelled;
+    written = refl;
+  },
+)
+
+pub returns-clause-whole : goal.returns-clause-whole
+returns-clause-whole = all.0
 
 pub returns-clause-stopped : goal.returns-clause-stopped
-unfolding digits grammar.assigned grammar.atoms grammar.axiom_rule grammar.branch_name grammar.branch_tasks
-    grammar.branches grammar.called grammar.clauses grammar.cost grammar.domain_list grammar.dotted
-    grammar.effect grammar.effects grammar.expression grammar.expressions grammar.file grammar.file_list
-    grammar.for_each grammar.headed grammar.immediate grammar.items grammar.keyed_effect grammar.keyed_rule
-    grammar.list grammar.list_expression grammar.list_precondition grammar.list_tail grammar.list_tasks
-    grammar.list_term grammar.method grammar.name grammar.named_atom grammar.named_branch grammar.named_clause
-    grammar.one_expression grammar.operator grammar.order grammar.pair grammar.precondition grammar.problem_list
-    grammar.protection grammar.quantified grammar.rule grammar.sorted grammar.tail grammar.task_list
-    grammar.tasks grammar.term grammar.terms grammar.two_expressions grammar.variable grammar.variables
-    grammar.word_tail grammar.word_term calls.call values.value values.values matching.match_pattern
-    matching.match_parts goals.fill goals.fill_parts goals.match_filled goals.match_fillings goals.start
-    goals.start_parts events.events events.events_of_all events.events_of_any events.all_bound
-    events.parts_bound events.sat preconditions.precondition_events networks.tasks_value
-    networks.task_list_value networks.normal networks.normal_parts networks.firsts networks.firsts_of_first
-    networks.firsts_from networks.part_at networks.nth_part_at networks.with_part networks.with_nth_part
-    networks.candidates networks.finish networks.expand changes.apply changes.effects ground_patterns.term_said
-    ground_patterns.terms_said ground_patterns.network_said ground_patterns.networks_said walk.children
-    walk.visits_within walk.visits walk.root walk.walk walk.node_at report.plan_text report.state_text
-    report.ending_text report.report
-returns-clause-stopped c = record {
-  domain_forest = basic_domain_forest;
-  problem_forest = swap_problem_forest;
-  domain_spelled = basic_domain_spelled;
-  problem_spelled = swap_problem_spelled;
-  written = refl;
-}
+returns-clause-stopped = all.1
 
 pub returns-clause-cut : goal.returns-clause-cut
-unfolding digits grammar.assigned grammar.atoms grammar.axiom_rule grammar.branch_name grammar.branch_tasks
-    grammar.branches grammar.called grammar.clauses grammar.cost grammar.domain_list grammar.dotted
-    grammar.effect grammar.effects grammar.expression grammar.expressions grammar.file grammar.file_list
-    grammar.for_each grammar.headed grammar.immediate grammar.items grammar.keyed_effect grammar.keyed_rule
-    grammar.list grammar.list_expression grammar.list_precondition grammar.list_tail grammar.list_tasks
-    grammar.list_term grammar.method grammar.name grammar.named_atom grammar.named_branch grammar.named_clause
-    grammar.one_expression grammar.operator grammar.order grammar.pair grammar.precondition grammar.problem_list
-    grammar.protection grammar.quantified grammar.rule grammar.sorted grammar.tail grammar.task_list
-    grammar.tasks grammar.term grammar.terms grammar.two_expressions grammar.variable grammar.variables
-    grammar.word_tail grammar.word_term calls.call values.value values.values matching.match_pattern
-    matching.match_parts goals.fill goals.fill_parts goals.match_filled goals.match_fillings goals.start
-    goals.start_parts events.events events.events_of_all events.events_of_any events.all_bound
-    events.parts_bound events.sat preconditions.precondition_events networks.tasks_value
-    networks.task_list_value networks.normal networks.normal_parts networks.firsts networks.firsts_of_first
-    networks.firsts_from networks.part_at networks.nth_part_at networks.with_part networks.with_nth_part
-    networks.candidates networks.finish networks.expand changes.apply changes.effects ground_patterns.term_said
-    ground_patterns.terms_said ground_patterns.network_said ground_patterns.networks_said walk.children
-    walk.visits_within walk.visits walk.root walk.walk walk.node_at report.plan_text report.state_text
-    report.ending_text report.report
-returns-clause-cut c = record {
-  domain_forest = basic_domain_forest;
-  problem_forest = swap_problem_forest;
-  domain_spelled = basic_domain_spelled;
-  problem_spelled = swap_problem_spelled;
-  written = refl;
-}
+returns-clause-cut = all.2
 
 pub returns-clause-enough : goal.returns-clause-enough
-unfolding digits grammar.assigned grammar.atoms grammar.axiom_rule grammar.branch_name grammar.branch_tasks
-    grammar.branches grammar.called grammar.clauses grammar.cost grammar.domain_list grammar.dotted
-    grammar.effect grammar.effects grammar.expression grammar.expressions grammar.file grammar.file_list
-    grammar.for_each grammar.headed grammar.immediate grammar.items grammar.keyed_effect grammar.keyed_rule
-    grammar.list grammar.list_expression grammar.list_precondition grammar.list_tail grammar.list_tasks
-    grammar.list_term grammar.method grammar.name grammar.named_atom grammar.named_branch grammar.named_clause
-    grammar.one_expression grammar.operator grammar.order grammar.pair grammar.precondition grammar.problem_list
-    grammar.protection grammar.quantified grammar.rule grammar.sorted grammar.tail grammar.task_list
-    grammar.tasks grammar.term grammar.terms grammar.two_expressions grammar.variable grammar.variables
-    grammar.word_tail grammar.word_term calls.call values.value values.values matching.match_pattern
-    matching.match_parts goals.fill goals.fill_parts goals.match_filled goals.match_fillings goals.start
-    goals.start_parts events.events events.events_of_all events.events_of_any events.all_bound
-    events.parts_bound events.sat preconditions.precondition_events networks.tasks_value
-    networks.task_list_value networks.normal networks.normal_parts networks.firsts networks.firsts_of_first
-    networks.firsts_from networks.part_at networks.nth_part_at networks.with_part networks.with_nth_part
-    networks.candidates networks.finish networks.expand changes.apply changes.effects ground_patterns.term_said
-    ground_patterns.terms_said ground_patterns.network_said ground_patterns.networks_said walk.children
-    walk.visits_within walk.visits walk.root walk.walk walk.node_at report.plan_text report.state_text
-    report.ending_text report.report
-returns-clause-enough c = record {
-  domain_forest = basic_domain_forest;
-  problem_forest = swap_problem_forest;
-  domain_spelled = basic_domain_spelled;
-  problem_spelled = swap_problem_spelled;
-  written = refl;
-}
+returns-clause-enough = all.3
 
 pub returns-clause-nothing_to_do : goal.returns-clause-nothing_to_do
-unfolding digits grammar.assigned grammar.atoms grammar.axiom_rule grammar.branch_name grammar.branch_tasks
-    grammar.branches grammar.called grammar.clauses grammar.cost grammar.domain_list grammar.dotted
-    grammar.effect grammar.effects grammar.expression grammar.expressions grammar.file grammar.file_list
-    grammar.for_each grammar.headed grammar.immediate grammar.items grammar.keyed_effect grammar.keyed_rule
-    grammar.list grammar.list_expression grammar.list_precondition grammar.list_tail grammar.list_tasks
-    grammar.list_term grammar.method grammar.name grammar.named_atom grammar.named_branch grammar.named_clause
-    grammar.one_expression grammar.operator grammar.order grammar.pair grammar.precondition grammar.problem_list
-    grammar.protection grammar.quantified grammar.rule grammar.sorted grammar.tail grammar.task_list
-    grammar.tasks grammar.term grammar.terms grammar.two_expressions grammar.variable grammar.variables
-    grammar.word_tail grammar.word_term calls.call values.value values.values matching.match_pattern
-    matching.match_parts goals.fill goals.fill_parts goals.match_filled goals.match_fillings goals.start
-    goals.start_parts events.events events.events_of_all events.events_of_any events.all_bound
-    events.parts_bound events.sat preconditions.precondition_events networks.tasks_value
-    networks.task_list_value networks.normal networks.normal_parts networks.firsts networks.firsts_of_first
-    networks.firsts_from networks.part_at networks.nth_part_at networks.with_part networks.with_nth_part
-    networks.candidates networks.finish networks.expand changes.apply changes.effects ground_patterns.term_said
-    ground_patterns.terms_said ground_patterns.network_said ground_patterns.networks_said walk.children
-    walk.visits_within walk.visits walk.root walk.walk walk.node_at report.plan_text report.state_text
-    report.ending_text report.report
-returns-clause-nothing_to_do c = record {
-  domain_forest = basic_domain_forest;
-  problem_forest = nothing_problem_forest;
-  domain_spelled = basic_domain_spelled;
-  problem_spelled = nothing_problem_spelled;
-  written = refl;
-}
+returns-clause-nothing_to_do = all.4
