@@ -16,4 +16,3 @@ pub mod AttemptLemmas
 pub mod MatchingLemmas
 pub mod GoalMatchLemmas
 pub mod StartLemmas
-pub mod AnswerLemmas

@@ -8,4 +8,3 @@ pub mod Steps
 pub mod PartValues
 pub mod Events
 pub mod SlotLaws
-pub mod Answered

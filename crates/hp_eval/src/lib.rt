@@ -5,8 +5,6 @@
 //! goes by the nesting of terms alone, and along the parts of a list there are loops.
 #![tactic(auto)]
 
-#[cfg(test)]
-mod answers;
 mod arithmetic;
 mod calls;
 mod event;
@@ -19,8 +17,6 @@ mod sats;
 mod slots;
 mod starting;
 mod tasks;
-#[cfg(test)]
-mod tests;
 mod values;
 
 pub use calls::call;

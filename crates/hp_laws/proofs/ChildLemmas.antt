@@ -9,7 +9,8 @@ use Rattle.hp_syntax.specs.Matching.{match_atom}
 use Rattle.hp_syntax.specs.Events.{Event, Sat, Cut, Fault, State, axioms_of}
 use Rattle.hp_syntax.specs.Preconditions.{precondition_events}
 use Rattle.hp_syntax.specs.Networks.{Network, Empty, Task, Ordered, Unordered, Place, tasks_value, normal, part_at, candidates, finish, expand}
-use Rattle.hp_syntax.specs.Changes.{Changes, Applied, Now, Guarded, Going, Went, Stops, apply, effects}
+use Rattle.hp_syntax.specs.Changes.{Changes, Applied, Going, Went, Stops, apply, effects}
+use Rattle.hp_syntax.specs.Applying.{Now, Guarded}
 use Rattle.hp_syntax.specs.Walk.{Node, Child, DidChild, CutChild, FaultChild, child_of, operated, after_effects, decomposed, Choice, choice_children, operator_children, chosen, method_children, rule_children, task_children, children}
 use Rattle.hp_laws.specs.Derivations.{situation, situation_at, Choosing, IsNext, node_in, Leads, ByStep, BySubtasks, IsEarlier}
 use Rattle.hp_laws.proofs.Listings.{Listing, Joined, IsOther, restated, no_listing, one_listing, option_listing, join_listing, map_has, has_mapped}

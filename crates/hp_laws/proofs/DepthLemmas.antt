@@ -11,7 +11,8 @@ use Rattle.hp_syntax.specs.Matching.{match_atom}
 use Rattle.hp_syntax.specs.Events.{Event, Sat, Cut, Fault, axioms_of}
 use Rattle.hp_syntax.specs.Preconditions.{precondition_events}
 use Rattle.hp_syntax.specs.Networks.{Network, Empty, Task, Ordered, Unordered, Place, part_at, candidates, tasks_value}
-use Rattle.hp_syntax.specs.Changes.{Changes, Applied, Now, Guarded, Going, Went, Stops, apply, effects}
+use Rattle.hp_syntax.specs.Changes.{Changes, Applied, Going, Went, Stops, apply, effects}
+use Rattle.hp_syntax.specs.Applying.{Now, Guarded}
 use Rattle.hp_syntax.specs.Walk.{Node, Child, DidChild, CutChild, FaultChild, child_of, operated, after_effects, decomposed, Choice, choice_children, operator_children, chosen, method_children, rule_children, task_children, children, number_after, numbered}
 use Rattle.hp_laws.proofs.JoinLemmas.{all_from, map_join, join_same, contains_first, contains_later, contains_cases, contains_none}
 

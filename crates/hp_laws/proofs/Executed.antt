@@ -6,7 +6,7 @@ use Rattle.hp_syntax.specs.Syntax.{Rule, Does}
 use Rattle.hp_syntax.specs.Terms.{Term}
 use Rattle.hp_syntax.specs.Events.{State, Sat, axioms_of}
 use Rattle.hp_syntax.specs.Preconditions.{precondition_events}
-use Rattle.hp_syntax.specs.Changes.{Now}
+use Rattle.hp_syntax.specs.Applying.{Now}
 use Rattle.hp_laws.specs.Derivations.{Situation, Choosing, Performs, Derives, Nothing, ByOperator, ByMethod, Step, Executes}
 
 -- what stands at a number is contained

@@ -7,7 +7,8 @@ use Rattle.hp_syntax.specs.Matching.{match_atom}
 use Rattle.hp_syntax.specs.Events.{Sat, State, axioms_of}
 use Rattle.hp_syntax.specs.Preconditions.{precondition_events}
 use Rattle.hp_syntax.specs.Networks.{Network, Task, Place, tasks_value, normal, part_at, candidates, finish, expand}
-use Rattle.hp_syntax.specs.Changes.{Changes, Now, Went, added, apply, effects}
+use Rattle.hp_syntax.specs.Changes.{Changes, Went, added, apply, effects}
+use Rattle.hp_syntax.specs.Applying.{Now}
 use Rattle.hp_syntax.specs.GroundPatterns.{atoms_said, network_said}
 use Rattle.hp_syntax.specs.Walk.{Node, Choice, chosen}
 

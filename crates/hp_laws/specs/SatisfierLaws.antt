@@ -15,7 +15,7 @@ pub data Matches (s : State) : Expressions → Bindings → List ℕ → Binding
       (places : List ℕ) → fill_goal a e ≡ Ok q → slice_get s i ≡ Some g → match_goal q g e ≡ Some b
       → Matches s rest b places c → Matches s (Also (Holds span a) rest) e (i ∷ places) c
 
--- a conjunction has atoms alone, none of which the axiom's head names
+-- an expression is an atom that an axiom's head doesn't name
 abbrev pub NamesNone : Axiom → Expression → Type 0
 NamesNone x (Holds span a) = x.head.name ≢ a.name
 NamesNone x _ = ⊥

@@ -1,61 +1,31 @@
 -- What an operator does to a state and its protections, and what it costs.
-use Rattle.std.specs.Prelude.{ℕ, cond, not, ℤ, List, [], ◌∷◌, ◌++◌, filter, Option, Some, None, Result, Ok, Err}
+use Rattle.std.specs.Prelude.{ℕ, ℤ, List, [], ◌∷◌, ◌++◌, Result, Ok, Err}
 use Rattle.hp_syntax.specs.declared.pattern.Span.{Span}
 use Rattle.hp_syntax.specs.declared.fault.RunFault.{RunFault}
 use Rattle.hp_syntax.specs.declared.fault.FaultKind.TheVariants.{NotNumber}
-use Rattle.hp_syntax.specs.Syntax.{Pattern, Variable, Listing, Call, Atom, Expression, Axiom, Effect, Change, Protection, Each, Operator}
+use Rattle.hp_syntax.specs.Syntax.{Pattern, Variable, Listing, Call, Atom, Axiom, Effect, Change, Protection, Each, Operator}
 use Rattle.hp_syntax.specs.Syntax as syntax
-use Rattle.hp_syntax.specs.Terms.{Term, Symbol, Number, Listed, same_term, member}
+use Rattle.hp_syntax.specs.Terms.{Term, Symbol, Number, Listed, same_term}
 use Rattle.hp_syntax.specs.Calls.{fault_at}
 use Rattle.hp_syntax.specs.Values.{Bindings, value, atom_value}
 use Rattle.hp_syntax.specs.Events.{Event, Sat, Cut, Fault, State, sat}
 use Rattle.hp_syntax.specs.Preconditions.{heard}
+use Rattle.hp_syntax.specs.Applying.{ChangesOf, AppliedOf, with_added, applied}
 
 -- the atoms that an operator unguards, deletes, adds and guards
-pub record Changes : Type 0 where
-  pub unguard : List Term
-  pub delete : List Term
-  pub add : List Term
-  pub guard : List Term
+abbrev pub Changes : Type 0
+Changes = ChangesOf Term
 
--- ---- applying changes
-
-abbrev pub without_first : Term → List Term → List Term
-without_first x [] = []
-without_first x (y ∷ ys) = cond (same_term x y) ys (y ∷ without_first x ys)
-
--- the protections that are left once each of these has cancelled its first equal entry
-abbrev pub cancelled : List Term → List Term → List Term
-cancelled g [] = g
-cancelled g (u ∷ us) = cancelled (without_first u g) us
-
--- the first of these that is protected
-abbrev pub first_guarded : List Term → List Term → Option Term
-first_guarded g [] = None
-first_guarded g (d ∷ ds) = cond (member d g) (Some d) (first_guarded g ds)
+abbrev pub Applied : Type 0
+Applied = AppliedOf Term
 
 -- the state with these atoms appended in turn, where they are absent
 abbrev pub added : State → List Term → State
-added s [] = s
-added s (a ∷ rest) = added (cond (member a s) s (s ++ a ∷ [])) rest
+added s atoms = with_added same_term s atoms
 
--- the state without the atoms to delete, and then with those to add
-abbrev pub changed : State → Changes → State
-changed s c = added (filter (λ a. not (member a c.delete)) s) c.add
-
--- what applying changes gives: the state and the protections then, or the protected atom that forbids it
-pub data Applied : Type 0 where
-  Now : (state : State) → (guards : List Term) → Applied
-  Guarded : (atom : Term) → Applied
-
-abbrev pub unless_guarded : Option Term → State → List Term → Applied
-unless_guarded None s g = Now s g
-unless_guarded (Some d) s g = Guarded d
-
+-- what applying changes to a state and its protections gives
 unfoldable pub apply : State → List Term → Changes → Applied
-apply s g c =
-    unless_guarded (first_guarded (cancelled g c.unguard) c.delete) (changed s c)
-    (cancelled g c.unguard ++ c.guard)
+apply s g c = applied same_term s g c
 
 -- ---- the changes and the cost of an operator
 

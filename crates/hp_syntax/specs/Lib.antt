@@ -25,6 +25,7 @@ pub mod Goals
 pub mod Events
 pub mod Preconditions
 pub mod Networks
+pub mod Applying
 pub mod Changes
 pub mod GroundPatterns
 pub mod Walk

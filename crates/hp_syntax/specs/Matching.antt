@@ -3,7 +3,7 @@ use Rattle.std.specs.Prelude.{ℕ, cond, Option, Some, None, slice_get, slice_se
 use Rattle.std.specs.Ordering.{int_eq}
 use Rattle.std.specs.Option.{option_and_then}
 use Rattle.hp_syntax.specs.declared.pattern.Tail.{Tail}
-use Rattle.hp_syntax.specs.Syntax.{Pattern, Patterns, Variable, Listing, Call, NoPattern, Before, Atom}
+use Rattle.hp_syntax.specs.Syntax.{Pattern, Patterns, Variable, Listing, NoPattern, Before, Atom}
 use Rattle.hp_syntax.specs.Syntax as syntax
 use Rattle.hp_syntax.specs.Terms.{Term, Terms, Symbol, Number, Listed, NoTerm, More, same_term}
 use Rattle.hp_syntax.specs.Values.{Bindings}

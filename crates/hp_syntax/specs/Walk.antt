@@ -9,7 +9,8 @@ use Rattle.hp_syntax.specs.Matching.{match_atom}
 use Rattle.hp_syntax.specs.Events.{Event, Sat, Cut, Fault, State, axioms_of}
 use Rattle.hp_syntax.specs.Preconditions.{precondition_events}
 use Rattle.hp_syntax.specs.Networks.{Network, Empty, Task, Ordered, Unordered, Place, tasks_value, is_empty, normal, part_at, candidates, finish, expand}
-use Rattle.hp_syntax.specs.Changes.{Changes, Applied, Now, Guarded, Going, Went, Stops, added, apply, effects}
+use Rattle.hp_syntax.specs.Changes.{Changes, Applied, Going, Went, Stops, added, apply, effects}
+use Rattle.hp_syntax.specs.Applying.{Now, Guarded}
 use Rattle.hp_syntax.specs.GroundPatterns.{atoms_said, network_said}
 
 -- a node of the tree: what holds and is protected, what is left to do, the steps so far with their

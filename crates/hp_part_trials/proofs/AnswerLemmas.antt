@@ -7,7 +7,7 @@ use Rattle.hp_eval.specs.declared.event.Event.{Event}
 use Rattle.hp_eval.specs.declared.event.Event.TheVariants as events
 use Rattle.hp_eval.specs.Slotted.{Slotted, Binds, AreBelow, with_bound, undone, bindings_of}
 use Rattle.hp_eval.specs.Events.{event_of, AreOfFirst}
-use Rattle.hp_eval.specs.Answered.{answered, told, AreTold}
+use Rattle.hp_part_trials.specs.Answered.{answered, told, AreTold}
 use Rattle.hp_eval.proofs.SlotLemmas.{binds_self, binds_bound}
 
 -- a Sat leaves its bindings, where it is the first answer

@@ -1,8 +1,8 @@
 use Rattle.std.proofs.Common.{drop, ap, ◌∙◌}
 use Rattle.hp_eval.specs.Slotted.{bindings_of, undone, with_bound}
-use Rattle.hp_eval.specs.Answered.{answered}
-use Rattle.hp_eval.proofs.AnswerLemmas.{first_bindings, told_above, told_undone, told_fits}
-use Rattle.hp_eval.proofs.answers.AnswersSatsU8.next.Goals as goal
+use Rattle.hp_part_trials.specs.Answered.{answered}
+use Rattle.hp_part_trials.proofs.AnswerLemmas.{first_bindings, told_above, told_undone, told_fits}
+use Rattle.hp_part_trials.proofs.answers.AnswersSatsU8.next.Goals as goal
 
 pub returns-clause-sat : goal.returns-clause-sat
 returns-clause-sat c =

@@ -2,12 +2,10 @@
 ghost use Rattle.std.specs.Prelude.{◌≡◌, ◌≤◌, length, drop, slice_get, true, Some, None};
 ghost use Rattle.hp_syntax.specs.Values.{Bindings};
 ghost use Rattle.hp_eval.specs.Events.{event_of, left_after};
-ghost use Rattle.hp_eval.specs.Answered.{answered, told};
+ghost use Rattle.hp_part_trials.specs.Answered.{answered, told};
 
-use crate::event::Event;
-use crate::sats::Sats;
-use crate::slots::Slots;
 use hp_cells::{Cell, Cells};
+use hp_eval::{Event, Sats, Slots};
 use hp_syntax::{FaultKind, RunFault, Span};
 use std::alloc::AllocError;
 use std::test::Fail;
@@ -61,7 +59,7 @@ impl Sats<u8> for Answers {
     ghost use Rattle.std.proofs.Common.{ap};
     ghost use Rattle.hp_eval.specs.Slotted.{bindings_of, undone, with_bound};
     ghost use Rattle.hp_eval.specs.SlotLaws.{bindings_agree};
-    ghost use Rattle.hp_eval.specs.Answered.{AreTold, answers_keep, bound_keeps};
+    ghost use Rattle.hp_part_trials.specs.Answered.{AreTold, answers_keep, bound_keeps};
 
     ghost rest = { λ s b c e. answered (bindings_of c (with_bound s.var s.cell (undone s.mark e)))
         (drop s.place s.events.items) };
