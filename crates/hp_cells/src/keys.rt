@@ -27,6 +27,17 @@ impl Model for Cell {
     ghost inverse = { λ n. record { place = n } };
 }
 
+impl Cell {
+    ghost use Rattle.std.specs.Prelude.{◌≡◌};
+
+    /// The place of the term, by which a table may be indexed.
+    pub fn index(self) -> usize
+        ensures { result ≡ self }
+    {
+        self.place as usize
+    }
+}
+
 /// What a term is, without a walk through it: the empty list, a symbol, a number, or a list by its first part and
 /// the list of the others.
 #[derive(Clone, Copy, Debug)]
