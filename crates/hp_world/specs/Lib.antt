@@ -1,0 +1,5 @@
+pub mod Stages
+pub mod Trails
+pub mod Histories
+pub mod Answers
+pub mod Named
