@@ -1,0 +1,75 @@
+//! The first satisfier alone.
+use hp_cells::Cells;
+use hp_eval::{Event, Sats, Slots};
+use std::alloc::AllocError;
+
+/// Gives the events up to and including the first Sat.
+#[derive(Drop)]
+pub struct First<S> {
+    inner: S,
+    // The first Sat was given.
+    ended: bool,
+}
+
+impl<S> First<S> {
+    ghost use Rattle.std.specs.Prelude.{◌≡◌, List};
+    ghost use Rattle.hp_syntax.specs.Terms.{Term};
+    ghost use Rattle.hp_syntax.specs.Preconditions.{up_to_sat};
+    ghost use Rattle.hp_eval.specs.Slotted.{Slotted};
+
+    /// The first of these satisfiers, which had no call yet. Their start is its start.
+    pub fn new<B>(inner: S) -> First<S>
+    where
+        S: Sats<B>,
+        ensures rest { (b : B) (c : List Term) (e : Slotted)
+            → ⟦<First<S> as Sats<B>>⟧.rest result b c e ≡ up_to_sat (S.rest inner b c e) }
+        ensures suits { (b : B) → S.suits inner b → ⟦<First<S> as Sats<B>>⟧.suits result b }
+        ensures fits { (e : Slotted) → S.fits inner e → ⟦<First<S> as Sats<B>>⟧.fits result e }
+        ensures start { ⟦<First<S> as Sats<B>>⟧.start result ≡ S.start inner }
+        ensures kept { ⟦<First<S> as Sats<B>>⟧.kept result ≡ S.kept inner }
+        ensures live { ⟦<First<S> as Sats<B>>⟧.is_live result ≡ S.is_live inner }
+        ensures open { ⟦<First<S> as Sats<B>>⟧.is_open result ≡ S.is_open inner }
+    {
+        First {
+            inner,
+            ended: false,
+        }
+    }
+}
+
+impl<B, S: Sats<B>> Sats<B> for First<S> {
+    ghost use Rattle.std.specs.Prelude.{cond, []};
+    ghost use Rattle.hp_syntax.specs.Preconditions.{up_to_sat};
+
+    ghost rest = { λ s b c e. cond s.ended [] (up_to_sat (S.rest s.inner b c e)) };
+
+    ghost suits = { λ s b. S.suits s.inner b };
+
+    ghost fits = { λ s e. S.fits s.inner e };
+
+    ghost start = { λ s. S.start s.inner };
+
+    ghost kept = { λ s. S.kept s.inner };
+
+    ghost is_live = { λ s. S.is_live s.inner };
+
+    ghost is_open = { λ s. S.is_open s.inner };
+
+    fn next(&mut self, base: &B, cells: &mut Cells, slots: &mut Slots) -> Result<Event, AllocError> {
+        todo
+    }
+
+    fn close(&mut self, slots: &mut Slots) {
+        self.inner.close(slots);
+    }
+
+    fn live(&self) -> bool {
+        self.inner.live()
+    }
+
+    ghost fits_hold = { ? };
+
+    ghost same_cells = { ? };
+
+    ghost sats_extend = { ? };
+}
