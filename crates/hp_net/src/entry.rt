@@ -1,0 +1,16 @@
+//! The parts of a network.
+use hp_cells::Cell;
+
+/// Whether the parts of a list are done in order.
+#[derive(Clone, Copy, Debug, PartialEq, Eq)]
+pub enum Order {
+    Ordered,
+    Unordered,
+}
+
+/// A task by its cell, immediate or not, or a list with so many parts, which are the networks behind it.
+#[derive(Clone, Copy, Debug)]
+pub(crate) enum Entry {
+    Task(Cell, bool),
+    List(Order, usize),
+}

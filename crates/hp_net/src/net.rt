@@ -1,0 +1,119 @@
+//! A task network with its focus.
+ghost use Rattle.std.specs.Prelude.{◌≡◌, ℕ, ◌<◌, ◌×◌, Bool, List, map, None, Some, IfOk, OnOk, OnErr};
+ghost use Rattle.std.specs.List.{All};
+ghost use Rattle.hp_syntax.specs.Terms.{Term};
+ghost use Rattle.hp_syntax.specs.Networks as plain;
+ghost use Rattle.hp_syntax.specs.Networks.{Place};
+ghost use Rattle.hp_eval.specs.GoalViews.{term_at, network_of, TreeBelow};
+ghost use Rattle.hp_net.specs.Outlines.{focused, place_of, NamesTask, EntryBelow};
+
+use crate::entry::Entry;
+use hp_cells::Cell;
+use hp_eval::TaskTree;
+use std::alloc::{AllocError, Global};
+use std::marker::Model;
+
+/// Names a candidate, until its network is changed.
+#[derive(Clone, Copy, Debug, PartialEq, Eq)]
+pub struct TaskId {
+    entry: usize,
+}
+
+impl Model for TaskId {
+    ghost use Rattle.std.specs.Prelude.{ℕ};
+
+    ghost Value = { ℕ };
+
+    ghost view = { λ a. a.entry };
+}
+
+/// A task network in normal form: no part is empty, and no list has one part. The focus is on the subtasks of the
+/// newest decomposition, unless a task was done since. The network is kept in reading order, so that no call recurs
+/// as deep as the network nests.
+#[derive(Drop)]
+pub struct Net {
+    entries: Vec<Entry>,
+    focus: Option<usize>,
+    alloc: Global,
+}
+
+impl Model for Net {
+    ghost use Rattle.hp_net.specs.Outlines.{Outline, IsOutline};
+
+    ghost Value = { Outline };
+
+    ghost view = { λ n. record { entries = n.entries.items; focus = n.focus } };
+
+    ghost invariant = { λ n. IsOutline (record { entries = n.entries.items; focus = n.focus }) };
+}
+
+impl Net {
+    /// The normal form of a tree, without a focus.
+    pub fn new(alloc: Global, tree: &TaskTree) -> Result<Net, AllocError>
+        ensures net { IfOk result (λ n. (terms : List Term)
+            → focused terms n ≡ (plain.normal (network_of terms tree.now), None)) }
+        ensures below { IfOk result (λ n. (k : ℕ) → TreeBelow k tree.now → All (EntryBelow k) n.entries) }
+    {
+        todo
+    }
+
+    /// Whether nothing is left to do.
+    pub fn is_empty(&self) -> bool
+        ensures { (terms : List Term) → result ≡ plain.is_empty (focused terms self.now).0 }
+    {
+        self.entries.is_empty()
+    }
+
+    /// The tasks that may be done next, from left to right: the first ones of the subtasks that have the focus, or of
+    /// the whole network where there is no focus; where one of them is immediate, the immediate ones alone.
+    pub fn candidates(&self, alloc: Global) -> Result<Vec<TaskId>, AllocError>
+        ensures tasks { IfOk result (λ v. All (NamesTask self.now) v.items) }
+        ensures places { IfOk result (λ v. (terms : List Term) → map (place_of self.now.entries) v.items
+            ≡ map Some (plain.candidates (focused terms self.now).0 (focused terms self.now).1)) }
+    {
+        todo
+    }
+
+    /// The task that an id names.
+    pub fn task(&self, id: TaskId) -> Cell
+        requires { NamesTask self.now id }
+        ensures task { (terms : List Term) (p : Place) → place_of self.now.entries id ≡ Some p
+            → (immediate : Bool) × (plain.part_at (focused terms self.now).0 p
+            ≡ Some (plain.Task (term_at terms result) immediate)) }
+        ensures below { (k : ℕ) → All (EntryBelow k) self.now.entries → result < k }
+    {
+        todo
+    }
+
+    /// Takes a task out, and the focus away. An error leaves the network as it was.
+    pub fn finish(&mut self, id: TaskId) -> Result<(), AllocError>
+        requires { NamesTask self.old id }
+        ensures net { OnOk result ((terms : List Term) (p : Place) → place_of self.old.entries id ≡ Some p
+            → focused terms self.new ≡ plain.finish (focused terms self.old).0 p) }
+        ensures below { (k : ℕ) → All (EntryBelow k) self.old.entries → All (EntryBelow k) self.new.entries }
+        ensures err { OnErr result (self.new ≡ self.old) }
+    {
+        todo
+    }
+
+    /// Puts subtasks in the place of a task, with the focus on them; without subtasks the task is done. An error leaves
+    /// the network as it was.
+    pub fn expand(&mut self, id: TaskId, tree: &TaskTree) -> Result<(), AllocError>
+        requires { NamesTask self.old id }
+        ensures net { OnOk result ((terms : List Term) (p : Place) → place_of self.old.entries id ≡ Some p
+            → focused terms self.new
+            ≡ plain.expand (focused terms self.old).0 p (plain.normal (network_of terms tree.now))) }
+        ensures below { (k : ℕ) → All (EntryBelow k) self.old.entries → TreeBelow k tree.now
+            → All (EntryBelow k) self.new.entries }
+        ensures err { OnErr result (self.new ≡ self.old) }
+    {
+        todo
+    }
+
+    /// An equal network with the same focus.
+    pub fn copy(&self) -> Result<Net, AllocError>
+        ensures { IfOk result (λ n. n ≡ self.now) }
+    {
+        todo
+    }
+}
