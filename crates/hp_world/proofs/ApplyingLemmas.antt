@@ -7,7 +7,7 @@ use Rattle.hp_syntax.specs.Applying.{ChangesOf, is_among, without_first, cancell
 
 module _ {A : Type 0} (same : A → A → Bool) (P : A → Type 0) where
   -- cancelling leaves protections that there were
-  pub without_first_all : (x : A) (ys : List A) → All P ys → All P (without_first same x ys)
+  without_first_all : (x : A) (ys : List A) → All P ys → All P (without_first same x ys)
   without_first_all x [] h = h
   without_first_all x (y ∷ ys) h = by (same x y) (without_first_all x ys (All-tail P y ys h))
     where
@@ -21,7 +21,7 @@ module _ {A : Type 0} (same : A → A → Bool) (P : A → Type 0) where
   cancelled_all g (u ∷ us) h = cancelled_all (without_first same u g) us (without_first_all u g h)
 
   -- adding atoms gives atoms that there were or that are added
-  pub with_added_all : (s as' : List A) → All P s → All P as' → All P (with_added same s as')
+  with_added_all : (s as' : List A) → All P s → All P as' → All P (with_added same s as')
   with_added_all s [] h k = h
   with_added_all s (a ∷ rest) h k =
       with_added_all (cond (is_among same a s) s (s ++ a ∷ [])) rest (by (is_among same a s)) (All-tail P a rest k)
@@ -39,7 +39,7 @@ module _ {A : Type 0} (same : A → A → Bool) (P : A → Type 0) where
 module _ {A B : Type 0} (same : A → A → Bool) (alike : B → B → Bool) (f : A → B) (P : A → Type 0)
     (tells : (x y : A) → P x → P y → same x y ≡ alike (f x) (f y)) where
   -- an atom is among others where the one that it names is among those that they name
-  pub is_among-map : (x : A) (xs : List A) → P x → All P xs → is_among same x xs ≡ is_among alike (f x) (map f xs)
+  is_among-map : (x : A) (xs : List A) → P x → All P xs → is_among same x xs ≡ is_among alike (f x) (map f xs)
   is_among-map x [] p h = refl
   is_among-map x (y ∷ ys) p h =
       ap₂ (λ b c. b || c) (tells x y p (All-head P y ys h)) (is_among-map x ys p (All-tail P y ys h))
@@ -50,7 +50,7 @@ module _ {A B : Type 0} (same : A → A → Bool) (alike : B → B → Bool) (f 
   chosen-map false c xs ys e = ap (λ d. cond d (map f xs) (map f ys)) e
 
   -- cancelling commutes with naming
-  pub without_first-map : (x : A) (ys : List A) → P x → All P ys
+  without_first-map : (x : A) (ys : List A) → P x → All P ys
       → map f (without_first same x ys) ≡ without_first alike (f x) (map f ys)
   without_first-map x [] p h = refl
   without_first-map x (y ∷ ys) p h =

@@ -19,7 +19,7 @@ among_absent a (Some b ∷ ps) h =
     ∙ among_absent a ps (λ i. h (suc i))
 
 -- an atom that stands at a place is among the atoms
-pub among_present : (a : ℕ) (ps : List (Option ℕ)) (i : ℕ) → get_or ps i None ≡ Some a
+among_present : (a : ℕ) (ps : List (Option ℕ)) (i : ℕ) → get_or ps i None ≡ Some a
     → is_among same_cell a (live_atoms ps) ≡ true
 among_present a [] i h = absurd (none-some a h)
 among_present a (None ∷ ps) zero h = absurd (none-some a h)

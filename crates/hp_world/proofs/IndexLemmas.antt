@@ -8,13 +8,13 @@ use Rattle.hp_cells.proofs.PlaceLemmas.{before_or_last, stands_last}
 use Rattle.hp_world.specs.Indexed.{IsAbsent, IsOnlyAt, IsIndex}
 
 -- what stands at a place stands within the list
-pub some_within : (xs : List (Option ℕ)) (i x : ℕ) → get_or xs i None ≡ Some x → i < length xs
+some_within : (xs : List (Option ℕ)) (i x : ℕ) → get_or xs i None ≡ Some x → i < length xs
 some_within [] i x h = absurd (cc)
 some_within (y ∷ xs) zero x h = omega arith
 some_within (y ∷ xs) (suc i) x h = let l = some_within xs i x h in omega arith
 
 -- what is read at a place stands there
-pub stands_at : (xs : List (Option ℕ)) (i x : ℕ) → get_or xs i None ≡ Some x → slice_get xs i ≡ Some (Some x)
+stands_at : (xs : List (Option ℕ)) (i x : ℕ) → get_or xs i None ≡ Some x → slice_get xs i ≡ Some (Some x)
 stands_at xs i x h = slice_get-get_or xs i None (some_within xs i x h) ∙ ap Some h
 
 -- an atom that stands at a place has an entry in the table

@@ -18,7 +18,7 @@ pub front_pushed : {A : Type 0} (xs : List A) (x : A) → front (xs ++ x ∷ [])
 front_pushed xs x = take_at xs (x ∷ []) _ (omega (arith, length_push xs x))
 
 -- a change that can be undone can be undone in a wider table and in more room
-pub fits_more : (width wider room more : ℕ) → width ≤ wider → room ≤ more → (t : Change) (s : Stage)
+fits_more : (width wider room more : ℕ) → width ≤ wider → room ≤ more → (t : Change) (s : Stage)
     → Fits width room t s → Fits wider more t s
 fits_more width wider room more w r (Deleted i a) s f =
     record { place = f.place; empty = f.empty; absent = f.absent; within = omega (arith, f.within) }
@@ -38,7 +38,7 @@ same_history : (p q : List Stage) (s t : Stage) → p ≡ q → s ≡ t
 same_history p q s t e f = cc
 
 -- undoing to an earlier time is the same before and after one more change
-pub undone_pushed : (m : ℕ) (ts : List Change) (t : Change) (s : Stage) → m ≤ length ts
+undone_pushed : (m : ℕ) (ts : List Change) (t : Change) (s : Stage) → m ≤ length ts
     → undone_to m (history (ts ++ t ∷ []) s) ≡ undone_to m (history ts (undone t s))
 undone_pushed m ts t s h =
     same_history _ _ _ _ (pasts_before undone m ts t s h) (past_before undone ts t s m h)
@@ -121,18 +121,6 @@ taken_back old new t sound trail fewer back width room =
           ∙ sym (ap (λ (us : List Change). undone_to m (history us (stage_of old))) trail
           ∙ undone_pushed m rest t (stage_of old) n);
     }
-
--- no change keeps what stood before
-pub stays : (s : Store) → IsSound s → Moves 0 s s
-stays s h = record {
-  keeps = record { mark = omega arith; past = λ m l. refl };
-  sound = h;
-  count = omega arith;
-  trail_room = refl;
-  guards_room = refl;
-  places_room = refl;
-  width = refl;
-}
 
 -- changes after others keep what stood before those
 pub moves_more : (n k : ℕ) (a b c : Store) → Moves n a b → Moves k b c → Moves (n + k) a c

@@ -18,7 +18,7 @@ module _ {C S : Type 0} (undone : C → S → S) where
   unwound_pushed (u ∷ ts) t s = ap (undone u) (unwound_pushed ts t s)
 
   -- one more change adds what stood before it to the past
-  pub pasts_pushed : (ts : List C) (t : C) (s : S)
+  pasts_pushed : (ts : List C) (t : C) (s : S)
       → pasts undone (ts ++ t ∷ []) s ≡ pasts undone ts (undone t s) ++ undone t s ∷ []
   pasts_pushed [] t s = refl
   pasts_pushed (u ∷ ts) t s =

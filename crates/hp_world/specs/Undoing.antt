@@ -38,12 +38,15 @@ Fits width room Protected s = Unit {0}
 abbrev pub IsAny : Stage → Type 0
 IsAny s = Unit {0}
 
+-- the history that a trail makes of what stands
 abbrev pub history : List Change → Stage → History
 history trail s = record { past = pasts undone trail s; now = s }
 
+-- what stands in a store
 abbrev pub stage_of : Store → Stage
 stage_of s = record { places = s.places.places; guards = s.guards.items }
 
+-- what stood before in a store, and what stands
 abbrev pub history_of : Store → History
 history_of s = history s.trail.items (stage_of s)
 

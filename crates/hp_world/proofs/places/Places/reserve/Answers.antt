@@ -19,11 +19,13 @@ loop-atom-preserved c =
       wider = omega (arith, wider, c.loop-atom.invariant.wider);
       width =
           All-more below atoms i c.atom-item.result c.loop-atom-test.true
-          (All-weaker (λ a. a < c.loop-atom.self.width) below (λ a l. omega (arith, wider)) (take i atoms) c.loop-atom.invariant.width)
+          (All-weaker (λ a. a < c.loop-atom.self.width) below (λ a l. omega (arith, wider)) (take i atoms)
+          c.loop-atom.invariant.width)
           here;
     }
 
 pub returns-clause-width : goal.returns-clause-width
 returns-clause-width c =
     let atoms : List ℕ = c.args.atoms.now in
-    subst (λ (xs : List ℕ). AllBelow c.loop-atom.self.width xs) (take_all c.loop-atom.atom-index atoms c.loop-atom-test.false) c.loop-atom.invariant.width
+    let whole = take_all c.loop-atom.atom-index atoms c.loop-atom-test.false in
+    subst (λ (xs : List ℕ). AllBelow c.loop-atom.self.width xs) whole c.loop-atom.invariant.width

@@ -1,4 +1,4 @@
-use Rattle.std.proofs.Common.{◌≡◌, ◌++◌, ◌-◌, ◌+◌, List, Option, ℕ, None, take, replicate, ap, ◌∙◌, sym, subst, arith, vec_len, refl}
+use Rattle.std.proofs.Common.{◌≡◌, ◌≤◌, length, ◌++◌, ◌-◌, ◌+◌, List, Option, ℕ, None, take, replicate, ap, ◌∙◌, sym, subst, arith, vec_len, refl}
 use Rattle.std.proofs.lemmas.List.{take_all}
 use Rattle.hp_world.specs.Indexed.{IsIndex}
 use Rattle.hp_world.proofs.IndexLemmas.{index_padded}
@@ -9,9 +9,10 @@ invariant_of-self c =
     let table : List (Option ℕ) = c.self.inside.table.items in
     let n = c.index-then-len-index.result + 1 in
     let more = n - vec_len c.self.inside.table in
+    let short : length table ≤ c.index.result =
+    omega (arith, c.len.ensures, c.if-len-index.true, c.self.inside.table.ok.0) in
     let whole : take n table ≡ table =
-    take_all n table
-    (omega (arith, c.len.ensures, c.if-len-index.true, c.index.ensures, c.index-then-len-index.ensures, c.self.inside.table.ok.0)) in
+    take_all n table (omega (arith, short, c.index.ensures, c.index-then-len-index.ensures)) in
     let items : c.resize.new.self.items ≡ table ++ replicate more None =
     c.in_ok-resize.ensures.items ∙ ap (λ (t : List (Option ℕ)). t ++ replicate more None) whole in
     subst (λ (t : List (Option ℕ)). IsIndex t c.self.inside.places.items) (sym items)

@@ -46,7 +46,8 @@ returns-clause-ok c =
     let kept : c.add_all.new.self.guards ≡ c.cancel_all.new.self.guards =
     c.add_all.ensures.guards ∙ c.delete_all.ensures.guards in
     let then_guarded : List ℕ → List ℕ = λ xs. xs ++ c.args.guard.now in
-    let now : c.protect_all.new.self.guards.items ≡ then_guarded (cancelled same_cell old.now.guards c.args.unguard.now) =
+    let now : c.protect_all.new.self.guards.items
+    ≡ then_guarded (cancelled same_cell old.now.guards c.args.unguard.now) =
     c.protect_all.ensures.guards ∙ ap (λ (gs : Vec ℕ). then_guarded gs.items) kept ∙ ap then_guarded guards in
     let moves =
     moves_more _ _ _ _ _

@@ -18,7 +18,8 @@ returns-in-Some-clause-atoms c =
 
 pub returns-in-Some-clause-places : goal.returns-in-Some-clause-places
 returns-in-Some-clause-places c =
-    ap (λ (r : Row). length r.places) c.clear.ensures.cleared ∙ length-set c.args.self.now.places.places c.in-Some.place None
+    ap (λ (r : Row). length r.places) c.clear.ensures.cleared
+    ∙ length-set c.args.self.now.places.places c.in-Some.place None
 
 pub returns-in-Some-clause-moves : goal.returns-in-Some-clause-moves
 returns-in-Some-clause-moves c =
