@@ -40,7 +40,7 @@ pub deleted_is : (atoms ds : List ℕ) → deleted atoms ds ≡ filter (λ a. no
 deleted_is atoms [] = deleted_none atoms
 deleted_is atoms (d ∷ ds) = deleted_is (without d atoms) ds ∙ deleted_twice d ds atoms
 
--- what stands where nothing is guarded, or that atom
+-- what applying the changes gives where this is the first protected atom to delete, if there is one
 abbrev outcome : ChangesOf ℕ → History → Option ℕ → AppliedOf ℕ
 outcome c old o =
     unless_guarded o (changed same_cell (live_atoms old.now.places) c)

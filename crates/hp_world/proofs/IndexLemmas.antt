@@ -1,11 +1,12 @@
 -- A table that follows its places.
-use Rattle.std.proofs.Common.{◌≡◌, ◌≢◌, ℕ, zero, suc, ◌<◌, ◌⊎◌, inl, inr, List, [], ◌∷◌, ◌++◌, Option, Some, None, length, get_or, set, slice_get, replicate, refl, sym, ap, ◌∙◌, arith}
+use Rattle.std.proofs.Common.{◌≡◌, ◌≢◌, ℕ, zero, suc, ◌<◌, ◌⊎◌, inl, inr, List, [], ◌∷◌, ◌++◌, Option, Some, None, length, get_or, set, slice_get, replicate, refl, sym, ap, subst, ◌∙◌, arith}
 use Rattle.std.proofs.lemmas.List.{get_or-set_same, get_or-set_other, get_or_append_left}
 use Rattle.std.proofs.lemmas.Option.{slice_get-get_or, get_or_from_slice_get, same_Some, none-some}
 use Rattle.std.proofs.lemmas.Bool.{cases_eq}
 use Rattle.std.specs.Option.{MatchOption}
 use Rattle.hp_cells.proofs.PlaceLemmas.{before_or_last, stands_last}
-use Rattle.hp_world.specs.Indexed.{IsAbsent, IsOnlyAt, IsIndex}
+use Rattle.hp_world.specs.Indexed.{Row, IsAbsent, IsOnlyAt, IsIndex, row_of, IsIndexed}
+use Rattle.hp_world.specs.declared.places.Places.TheInside.{Inside}
 
 -- what stands at a place stands within the list
 some_within : (xs : List (Option ℕ)) (i x : ℕ) → get_or xs i None ≡ Some x → i < length xs
@@ -21,6 +22,13 @@ stands_at xs i x h = slice_get-get_or xs i None (some_within xs i x h) ∙ ap So
 pub atom_within : (table places : List (Option ℕ)) (i a : ℕ) → IsIndex table places
     → get_or places i None ≡ Some a → a < length table
 atom_within table places i a h e = some_within table a i (h.finds a i e)
+
+-- an atom that contracts see at a place has an entry in the table
+pub atom_in_row : (p : Inside) (row : Row) (i a : ℕ) → IsIndexed p → row_of p ≡ row
+    → get_or row.places i None ≡ Some a → a < length p.table.items
+atom_in_row p row i a h view e =
+    let here = subst (λ (r : Row). get_or r.places i None ≡ Some a) (sym view) e in
+    atom_within p.table.items p.places.items i a h here
 
 -- the entry of an atom is its only place, or it stands nowhere
 pub place_from : (table places : List (Option ℕ)) (a : ℕ) (r : Option ℕ) → IsIndex table places

@@ -1,5 +1,5 @@
 -- One change made, or undone.
-use Rattle.std.proofs.Common.{◌≡◌, ℕ, ◌+◌, ◌<◌, ◌≤◌, List, [], ◌∷◌, ◌++◌, inl, inr, Option, None, length, get_or, set, take, refl, sym, ap, ◌∙◌, subst, arith, vec_len, vec_capacity}
+use Rattle.std.proofs.Common.{◌≡◌, ℕ, ◌+◌, ◌<◌, ◌≤◌, List, [], ◌∷◌, ◌++◌, inl, inr, Option, None, length, get_or, set, take, sym, ap, ◌∙◌, subst, arith, vec_len, vec_capacity}
 use Rattle.std.proofs.lemmas.List.{take_at, take_all, length_push, length-set, get_or-set_same, get_or-set_other, get_or_past, same_lists, get_or_default, get_or-take, length-take-le}
 use Rattle.std.proofs.lemmas.Bool.{cases_eq}
 use Rattle.std.proofs.lemmas.Option.{none-some}

@@ -3,7 +3,7 @@ use Rattle.std.proofs.Common.{◌≡◌, ℕ, zero, suc, ◌≤◌, List, [], �
 use Rattle.std.proofs.lemmas.List.{take-append-le, length_push}
 use Rattle.hp_world.specs.Trails.{unwound, pasts, IsUndoable, Keeps}
 
--- what stood before a list of values and a further one is there under the further one as default
+-- a list with one more value reads as the list alone does where the value is its default
 past_pushed : {A : Type 0} (xs : List A) (x y : A) (m : ℕ) → m ≤ length xs
     → get_or (xs ++ x ∷ []) m y ≡ get_or xs m x
 past_pushed [] x y zero h = refl

@@ -1,5 +1,5 @@
 //! Places of atoms, with a table from an atom to its place.
-ghost use Rattle.std.specs.Prelude.{◌≡◌, ℕ, ◌+◌, ◌-◌, ◌<◌, ◌≤◌, [], ◌∷◌, ◌++◌, Some, None, MatchOption, IfOk, OnOk, length, take, slice_get, slice_index_or, slice_set};
+ghost use Rattle.std.specs.Prelude.{◌≡◌, ◌+◌, ◌-◌, ◌<◌, ◌≤◌, [], ◌∷◌, ◌++◌, Some, None, MatchOption, IfOk, OnOk, length, take, slice_get, slice_index_or, slice_set};
 ghost use Rattle.hp_world.specs.Indexed.{IsAbsent, IsOnlyAt};
 ghost use Rattle.hp_world.specs.Stages.{live_atoms, AllBelow};
 

@@ -33,7 +33,7 @@ pub struct Store {
 }
 
 impl Store {
-    ghost use Rattle.std.specs.Prelude.{◌≡◌, ℕ, ◌+◌, ◌<◌, ◌≤◌, [], ◌∷◌, ◌++◌, Some, IfOk, OnOk, OnErr, length, slice_get, vec_len, vec_capacity};
+    ghost use Rattle.std.specs.Prelude.{◌≡◌, ◌+◌, ◌<◌, ◌≤◌, [], ◌∷◌, ◌++◌, Some, IfOk, OnOk, OnErr, length, slice_get, vec_len, vec_capacity};
     ghost use Rattle.hp_syntax.specs.Applying as plain;
     ghost use Rattle.hp_syntax.specs.Applying.{is_among, without_first, cancelled, with_added};
     ghost use Rattle.hp_world.specs.Answers.{Applies};
@@ -118,7 +118,8 @@ impl Store {
         self.trail.len()
     }
 
-    /// Applies changes, unless an atom to delete is still protected after the cancelling.
+    /// Applies changes, unless an atom to delete is still protected after the cancelling. All memory is taken first, so
+    /// that nothing fails once something is changed.
     pub fn apply(
         &mut self,
         unguard: &[Cell],
@@ -133,7 +134,7 @@ impl Store {
             (history_of self.old) (history_of self.new)) }
         ensures err { OnErr result (history_of self.new ≡ history_of self.old) }
     {
-        let changes = steps_of(unguard, del, add, guard)?;
+        let changes = most_changes(unguard, del, add, guard)?;
         self.reserve(changes, add, guard.len())?;
         let before = self.mark();
         self.cancel_all(unguard);
@@ -340,8 +341,8 @@ fn is_named(atom: Option<Cell>, name: Cell, cells: &Cells) -> bool
     }
 }
 
-// How many changes there are at most.
-fn steps_of(
+// How many changes are noted at most.
+fn most_changes(
     unguard: &[Cell],
     del: &[Cell],
     add: &[Cell],
