@@ -1,6 +1,5 @@
 //! The world: what holds and is protected, and what stood before.
-ghost use Rattle.std.specs.Prelude.{◌≡◌, ℕ, ◌≤◌, ◌<◌, [], IfOk, OnOk, OnErr, Some, length, slice_get};
-ghost use Rattle.hp_syntax.specs.Applying.{ChangesOf};
+ghost use Rattle.std.specs.Prelude.{◌≡◌, ℕ, ◌≤◌, ◌<◌, [], IfOk, OnErr, Some, length, slice_get};
 ghost use Rattle.hp_world.specs.Answers.{Applies};
 ghost use Rattle.hp_world.specs.Histories.{mark_of, undone_to};
 ghost use Rattle.hp_world.specs.Named.{IsNextNamed};

@@ -1,0 +1,149 @@
+-- One change made, or undone.
+use Rattle.std.proofs.Common.{◌≡◌, ℕ, ◌+◌, ◌<◌, ◌≤◌, List, [], ◌∷◌, ◌++◌, inl, inr, Option, None, length, get_or, set, take, sym, ap, ◌∙◌, subst, arith, vec_len, vec_capacity}
+use Rattle.std.proofs.lemmas.List.{take_at, take_all, length_push, length-set, get_or-set_same, get_or-set_other, get_or_past, same_lists, get_or_default, get_or-take, length-take-le}
+use Rattle.std.proofs.lemmas.Bool.{cases_eq}
+use Rattle.std.proofs.lemmas.Option.{none-some}
+use Rattle.hp_world.specs.declared.store.Change.{Change}
+use Rattle.hp_world.specs.declared.store.Change.TheVariants.{Deleted, Added, Cancelled, Protected}
+use Rattle.hp_world.specs.declared.store.Store.{Store}
+use Rattle.hp_world.specs.Histories.{History, mark_of, past_at, undone_to, KeepsPasts}
+use Rattle.hp_world.specs.Indexed.{IsOnlyAt}
+use Rattle.hp_world.specs.Stages.{Stage}
+use Rattle.hp_world.specs.Trails.{pasts, IsUndoable}
+use Rattle.hp_world.specs.Undoing.{front, undone, Fits, IsVacant, IsAny, history, stage_of, history_of, IsSound, Moves, Undoes}
+use Rattle.hp_world.proofs.TrailLemmas.{length_pasts, past_before, pasts_before, keeps_pushed, undoable_pushed, undoable_popped, undoable_weaker}
+
+-- all but what comes last are those before it
+pub front_pushed : {A : Type 0} (xs : List A) (x : A) → front (xs ++ x ∷ []) ≡ xs
+front_pushed xs x = take_at xs (x ∷ []) _ (omega (arith, length_push xs x))
+
+-- a change that can be undone can be undone in a wider table and in more room
+fits_more : (width wider room more : ℕ) → width ≤ wider → room ≤ more → (t : Change) (s : Stage)
+    → Fits width room t s → Fits wider more t s
+fits_more width wider room more w r (Deleted i a) s f =
+    record { place = f.place; empty = f.empty; absent = f.absent; within = omega (arith, f.within) }
+fits_more width wider room more w r Added s f = f
+fits_more width wider room more w r (Cancelled i a) s f = (f.0, omega (arith, f.1))
+fits_more width wider room more w r Protected s f = f
+
+-- changes that can be undone can be undone in a wider table and in more room
+pub undoable_more : (width wider room more : ℕ) → width ≤ wider → room ≤ more → (ts : List Change) (s : Stage)
+    → IsUndoable undone (Fits width room) IsAny ts s → IsUndoable undone (Fits wider more) IsAny ts s
+undoable_more width wider room more w r ts s h =
+    undoable_weaker undone (Fits width room) IsAny (Fits wider more) (fits_more width wider room more w r) ts s h
+
+-- equal pasts and an equal present make equal histories
+same_history : (p q : List Stage) (s t : Stage) → p ≡ q → s ≡ t
+    → (λ (h : History). h) (record { past = p; now = s }) ≡ record { past = q; now = t }
+same_history p q s t e f = cc
+
+-- undoing to an earlier time is the same before and after one more change
+undone_pushed : (m : ℕ) (ts : List Change) (t : Change) (s : Stage) → m ≤ length ts
+    → undone_to m (history (ts ++ t ∷ []) s) ≡ undone_to m (history ts (undone t s))
+undone_pushed m ts t s h =
+    same_history _ _ _ _ (pasts_before undone m ts t s h) (past_before undone ts t s m h)
+
+-- undoing to the present changes nothing
+pub undone_end : (m : ℕ) (ts : List Change) (s : Stage) → length ts ≤ m → undone_to m (history ts s) ≡ history ts s
+undone_end m ts s h =
+    let n : length (pasts undone ts s) ≤ m = omega (arith, length_pasts undone ts s) in
+    same_history _ _ _ _ (take_all m (pasts undone ts s) n) (get_or_past (pasts undone ts s) m s n)
+
+-- an atom that was taken off its only place can be put back
+pub vacated : (width : ℕ) (ps : List (Option ℕ)) (i a : ℕ) → IsOnlyAt a ps i → a < width
+    → IsVacant width (set ps i None) i a
+vacated width ps i a h l = record {
+  place = omega (arith, h.within, length-set ps i None);
+  empty = get_or-set_same ps i None None h.within;
+  absent = λ j g. elim (cases_eq j i) [
+    | inl e ↦
+        none-some a (sym (get_or-set_same ps i None None h.within)
+        ∙ ap (λ k. get_or (set ps i None) k None) (sym e) ∙ g)
+    | inr n ↦ n (h.only j (sym (get_or-set_other ps i j None None n) ∙ g))
+  ];
+  within = l;
+}
+
+-- one change that is noted, and that undoing takes back, keeps what stood before
+pub moved : (old new : Store) (t : Change) → IsSound old → new.trail.items ≡ old.trail.items ++ t ∷ []
+    → undone t (stage_of new) ≡ stage_of old → Fits new.places.width (vec_capacity new.guards) t (stage_of new)
+    → vec_len new.trail ≡ vec_len old.trail + 1 → vec_capacity new.trail ≡ vec_capacity old.trail
+    → vec_capacity new.guards ≡ vec_capacity old.guards → new.places.room ≡ old.places.room
+    → new.places.width ≡ old.places.width → Moves 1 old new
+moved old new t sound trail back fits count trail_room guards_room places_room width =
+    let fit = Fits new.places.width (vec_capacity new.guards) in
+    let before : IsUndoable undone fit IsAny old.trail.items (undone t (stage_of new)) =
+    rw (back, guards_room, width) sound in
+    let keeps : KeepsPasts (history old.trail.items (undone t (stage_of new)))
+    (history (old.trail.items ++ t ∷ []) (stage_of new)) = keeps_pushed undone old.trail.items t (stage_of new) in
+    record {
+      keeps =
+          subst (λ (ts : List Change). KeepsPasts (history_of old) (history ts (stage_of new))) (sym trail)
+          (subst
+          (λ (s : Stage). KeepsPasts (history old.trail.items s) (history (old.trail.items ++ t ∷ []) (stage_of new)))
+          back keeps);
+      sound =
+          subst (λ (ts : List Change). IsUndoable undone fit IsAny ts (stage_of new)) (sym trail)
+          (undoable_pushed undone fit IsAny old.trail.items t (stage_of new) tt fits before);
+      count = omega arith;
+      trail_room = trail_room;
+      guards_room = guards_room;
+      places_room = places_room;
+      width = width;
+    }
+
+-- the last change on a trail fits
+pub last_fits : (width room : ℕ) (ts rest : List Change) (t : Change) (s : Stage)
+    → IsUndoable undone (Fits width room) IsAny ts s → ts ≡ rest ++ t ∷ [] → Fits width room t s
+last_fits width room ts rest t s h trail =
+    let fit = Fits width room in
+    (undoable_popped undone fit IsAny rest t s
+    (subst (λ (us : List Change). IsUndoable undone fit IsAny us s) trail h)).0
+
+-- where the last change was taken back, the others can be undone, and earlier times are the same
+pub taken_back : (old new : Store) (t : Change) → IsSound old → old.trail.items ≡ new.trail.items ++ t ∷ []
+    → vec_len new.trail + 1 ≡ vec_len old.trail → stage_of new ≡ undone t (stage_of old)
+    → old.places.width ≤ new.places.width → vec_capacity old.guards ≤ vec_capacity new.guards → Undoes old new
+taken_back old new t sound trail fewer back width room =
+    let fit = Fits old.places.width (vec_capacity old.guards) in
+    let rest = new.trail.items in
+    let popped =
+    undoable_popped undone fit IsAny rest t (stage_of old)
+    (subst (λ (us : List Change). IsUndoable undone fit IsAny us (stage_of old)) trail sound) in
+    record {
+      sound =
+          undoable_more old.places.width new.places.width (vec_capacity old.guards) (vec_capacity new.guards) width room
+          rest (stage_of new) (subst (λ (q : Stage). IsUndoable undone fit IsAny rest q) (sym back) popped.1);
+      fewer = fewer;
+      back = λ m l.
+          let n : m ≤ length rest = omega (arith, l, ap length trail, length_push rest t, old.trail.ok.0) in
+          ap (λ (q : Stage). undone_to m (history rest q)) back
+          ∙ sym (ap (λ (us : List Change). undone_to m (history us (stage_of old))) trail
+          ∙ undone_pushed m rest t (stage_of old) n);
+    }
+
+-- changes after others keep what stood before those
+pub moves_more : (n k : ℕ) (a b c : Store) → Moves n a b → Moves k b c → Moves (n + k) a c
+moves_more n k a b c f g = record {
+  keeps = record {
+    mark = omega (arith, f.keeps.mark, g.keeps.mark);
+    past = λ m l. g.keeps.past m (omega (arith, f.keeps.mark)) ∙ f.keeps.past m l;
+  };
+  sound = g.sound;
+  count = omega (arith, f.count, g.count);
+  trail_room = g.trail_room ∙ f.trail_room;
+  guards_room = g.guards_room ∙ f.guards_room;
+  places_room = g.places_room ∙ f.places_room;
+  width = g.width ∙ f.width;
+}
+
+-- undoing to the old mark gives the old history, where that was kept
+pub rewound : (h g : History) → KeepsPasts h g → undone_to (mark_of h) g ≡ h
+rewound h g k =
+    let n : length (take (mark_of h) g.past) ≡ mark_of h = length-take-le (mark_of h) g.past k.mark in
+    let past : take (mark_of h) g.past ≡ h.past = same_lists _ _ n (λ i d l.
+    get_or-take (mark_of h) g.past i d (omega arith) ∙ get_or_default g.past i d g.now (omega (arith, k.mark))
+    ∙ k.past i (omega arith) ∙ get_or_default h.past i h.now d (omega arith)) in
+    let now : past_at g (mark_of h) ≡ h.now =
+    k.past (mark_of h) (omega arith) ∙ get_or_past h.past (mark_of h) h.now (omega arith) in
+    same_history _ _ _ _ past now

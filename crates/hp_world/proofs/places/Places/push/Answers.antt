@@ -1,0 +1,18 @@
+use Rattle.std.proofs.Common.{◌≡◌, ◌<◌, List, Option, ℕ, Some, set, length, subst, ap, ◌∙◌, sym}
+use Rattle.hp_world.specs.Indexed.{Row, IsIndex, IsAbsent}
+use Rattle.hp_world.proofs.IndexLemmas.{index_pushed}
+use Rattle.hp_world.proofs.places.Places.push.Goals as goal
+
+pub invariant_of-self : goal.invariant_of-self
+invariant_of-self c =
+    let table : List (Option ℕ) = c.self.inside.table.items in
+    let ps : List (Option ℕ) = c.self.inside.places.items in
+    let a = c.args.atom in
+    let gone = subst (λ (r : Row). IsAbsent a r.places) (sym c.self.view_is) c.requires.absent in
+    let within = subst (λ (r : Row). a < r.width) (sym c.self.view_is) c.requires.within in
+    let end : length ps ≡ c.len-place.result = sym (c.len-place.ensures ∙ c.self.inside.places.ok.0) in
+    let written : set table a (Some (length ps)) ≡ set table c.index.result (Some c.len-place.result) =
+    ap (λ k. set table a (Some k)) end ∙ ap (λ k. set table k (Some c.len-place.result)) (sym c.index.ensures) in
+    subst (λ (t : List (Option ℕ)). IsIndex t c.push_reserved.new.self.items) written
+    (subst (λ (p : List (Option ℕ)). IsIndex (set table a (Some (length ps))) p) (sym c.push_reserved.ensures.items)
+    (index_pushed table ps a c.self.invariant gone within))

@@ -1,0 +1,40 @@
+use Rattle.std.proofs.Common.{◌∷◌, ◌++◌, [], cond, List, Option, ℕ, Some, length, ap, ◌∙◌, refl, sym, arith}
+use Rattle.std.proofs.lemmas.List.{length_push}
+use Rattle.hp_world.specs.Indexed.{Row, IsAbsent}
+use Rattle.hp_world.specs.Stages.{live_atoms}
+use Rattle.hp_world.specs.Undoing.{front}
+use Rattle.hp_world.specs.declared.store.Change.TheVariants.{Added}
+use Rattle.hp_world.proofs.AtomLemmas.{absent_from, present_from, among_absent, live_pushed}
+use Rattle.hp_world.proofs.MoveLemmas.{moved, front_pushed}
+use Rattle.hp_world.proofs.store.Store.add.Goals as goal
+
+pub push-requires-clause-absent : goal.push-requires-clause-absent
+push-requires-clause-absent c =
+    absent_from _ c.args.atom c.args.self.now.places.places c.if-is_none.ensures c.place_of.ensures
+
+pub returns-then-is_none-clause-atoms : goal.returns-then-is_none-clause-atoms
+returns-then-is_none-clause-atoms c =
+    let ps : List (Option ℕ) = c.args.self.now.places.places in
+    let a = c.args.atom in
+    let gone : IsAbsent a ps = absent_from _ a ps c.if-is_none.ensures c.place_of.ensures in
+    ap (λ (r : Row). live_atoms r.places) c.push.ensures ∙ live_pushed ps a
+    ∙ sym (ap (λ b. cond b (live_atoms ps) (live_atoms ps ++ a ∷ [])) (among_absent a ps gone))
+
+pub returns-then-is_none-clause-places : goal.returns-then-is_none-clause-places
+returns-then-is_none-clause-places c =
+    let places = ap (λ (r : Row). length r.places) c.push.ensures in
+    omega (arith, places, length_push c.args.self.now.places.places (Some c.args.atom))
+
+pub returns-then-is_none-clause-moves : goal.returns-then-is_none-clause-moves
+returns-then-is_none-clause-moves c =
+    let ps : List (Option ℕ) = c.args.self.now.places.places in
+    let back = ap (λ (r : Row). front r.places) c.push.ensures ∙ front_pushed ps (Some c.args.atom) in
+    moved _ _ Added c.requires.sound c.push_reserved.ensures.items (cc) tt c.push_reserved.ensures.len
+    c.push_reserved.ensures.capacity refl (ap (λ (r : Row). r.room) c.push.ensures)
+    (ap (λ (r : Row). r.width) c.push.ensures)
+
+pub returns-else-is_none-clause-atoms : goal.returns-else-is_none-clause-atoms
+returns-else-is_none-clause-atoms c =
+    let ps : List (Option ℕ) = c.args.self.now.places.places in
+    let here = present_from _ c.args.atom ps c.if-is_none.ensures c.place_of.ensures in
+    sym (ap (λ b. cond b (live_atoms ps) (live_atoms ps ++ c.args.atom ∷ [])) here)

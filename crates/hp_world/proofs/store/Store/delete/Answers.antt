@@ -1,0 +1,44 @@
+use Rattle.std.proofs.Common.{List, Option, ℕ, Some, None, length, set, ap, ◌∙◌, refl, sym, subst}
+use Rattle.std.proofs.lemmas.List.{set-set, set-get_or, length-set}
+use Rattle.hp_world.specs.Indexed.{Row}
+use Rattle.hp_world.specs.Stages.{live_atoms}
+use Rattle.hp_world.specs.Undoing.{IsVacant}
+use Rattle.hp_world.specs.declared.store.Change.TheVariants.{Deleted}
+use Rattle.hp_world.proofs.AtomLemmas.{without_absent, live_cleared}
+use Rattle.hp_world.proofs.MoveLemmas.{moved, vacated}
+use Rattle.hp_world.proofs.store.Store.delete.Goals as goal
+
+pub clear-requires : goal.clear-requires
+clear-requires c = c.in-Some.ensures.stands
+
+pub returns-in-Some-clause-atoms : goal.returns-in-Some-clause-atoms
+returns-in-Some-clause-atoms c =
+    ap (λ (r : Row). live_atoms r.places) c.clear.ensures.cleared
+    ∙ live_cleared c.args.atom c.args.self.now.places.places c.in-Some.place c.in-Some.ensures
+
+pub returns-in-Some-clause-places : goal.returns-in-Some-clause-places
+returns-in-Some-clause-places c =
+    ap (λ (r : Row). length r.places) c.clear.ensures.cleared
+    ∙ length-set c.args.self.now.places.places c.in-Some.place None
+
+pub returns-in-Some-clause-moves : goal.returns-in-Some-clause-moves
+returns-in-Some-clause-moves c =
+    let ps : List (Option ℕ) = c.args.self.now.places.places in
+    let i = c.in-Some.place in
+    let a = c.args.atom in
+    let stands = c.in-Some.ensures.stands in
+    let places = ap (λ (r : Row). r.places) c.clear.ensures.cleared in
+    let back =
+    ap (λ (xs : List (Option ℕ)). set xs i (Some a)) places ∙ set-set ps i None (Some a)
+    ∙ ap (λ (x : Option ℕ). set ps i x) (sym stands) ∙ set-get_or ps i None in
+    let width = ap (λ (r : Row). r.width) c.clear.ensures.cleared in
+    let vacant = vacated c.args.self.now.places.width ps i a c.in-Some.ensures c.clear.ensures.within in
+    let fits =
+    subst (λ w. IsVacant w c.clear.new.self.places i a) (sym width)
+    (subst (λ (xs : List (Option ℕ)). IsVacant c.args.self.now.places.width xs i a) (sym places) vacant) in
+    moved _ _ (Deleted i a) c.requires.sound c.push_reserved.ensures.items (cc)
+    fits c.push_reserved.ensures.len c.push_reserved.ensures.capacity refl
+    (ap (λ (r : Row). r.room) c.clear.ensures.cleared) width
+
+pub returns-in_default-clause-atoms : goal.returns-in_default-clause-atoms
+returns-in_default-clause-atoms c = sym (without_absent c.args.atom c.args.self.now.places.places c.in_default.ensures)

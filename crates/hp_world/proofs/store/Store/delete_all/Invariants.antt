@@ -1,0 +1,14 @@
+use Rattle.std.proofs.Common.{◌≡◌, drop, length}
+use Rattle.hp_world.specs.Deleting.{deleted}
+use Rattle.hp_world.specs.Stages.{live_atoms}
+use Rattle.hp_world.specs.Undoing.{Moves}
+use Rattle.hp_world.proofs.store.Store.delete_all.Given as goal
+
+abbrev pub invariant-loop-atom : goal.invariant-loop-atom
+invariant-loop-atom l = record {
+  atoms : deleted (live_atoms l.self.places.places) (drop l.atom-index l.atoms)
+      ≡ deleted (live_atoms l.initial.self.places.places) l.atoms;
+  guards : l.self.guards ≡ l.initial.self.guards;
+  places : length l.self.places.places ≡ length l.initial.self.places.places;
+  moves : Moves l.atom-index l.initial.self l.self;
+}

@@ -1,0 +1,78 @@
+-- The histories of stores, and when what is on a trail can be undone.
+use Rattle.std.specs.Prelude.{◌≡◌, ℕ, ◌+◌, ◌-◌, ◌<◌, ◌≤◌, List, length, take, Option, Some, None, slice_index_or, slice_set, vec_len, vec_capacity}
+use Rattle.std.specs.List.{insert}
+use Rattle.hp_world.specs.declared.store.Change.{Change}
+use Rattle.hp_world.specs.declared.store.Change.TheVariants.{Deleted, Added, Cancelled, Protected}
+use Rattle.hp_world.specs.declared.store.Store.{Store}
+use Rattle.hp_world.specs.Histories.{History, KeepsPasts, undone_to}
+use Rattle.hp_world.specs.Indexed.{IsAbsent}
+use Rattle.hp_world.specs.Stages.{Stage, AllBelow}
+use Rattle.hp_world.specs.Trails.{pasts, IsUndoable}
+
+-- all but the last
+abbrev pub front : {A : Type 0} → List A → List A
+front xs = take (length xs - 1) xs
+
+-- what stood before a change
+abbrev pub undone : Change → Stage → Stage
+undone (Deleted i a) s = record { places = slice_set s.places i (Some a); guards = s.guards }
+undone Added s = record { places = front s.places; guards = s.guards }
+undone (Cancelled i a) s = record { places = s.places; guards = insert s.guards i a }
+undone Protected s = record { places = s.places; guards = front s.guards }
+
+-- the place is empty, the atom stands nowhere, and a table of this width has an entry for it
+pub record IsVacant (width : ℕ) (places : List (Option ℕ)) (i a : ℕ) : Type 0 where
+  pub place : i < length places
+  pub empty : slice_index_or places i None ≡ None
+  pub absent : IsAbsent a places
+  pub within : a < width
+
+-- the change can be undone in a table of this width and in this room for protections
+abbrev pub Fits : ℕ → ℕ → Change → Stage → Type 0
+Fits width room (Deleted i a) s = IsVacant width s.places i a
+Fits width room Added s = Unit {0}
+Fits width room (Cancelled i a) s = (i ≤ length s.guards) × (length s.guards < room)
+Fits width room Protected s = Unit {0}
+
+-- nothing is asked of what stood at a time
+abbrev pub IsAny : Stage → Type 0
+IsAny s = Unit {0}
+
+-- the history that a trail makes of what stands
+abbrev pub history : List Change → Stage → History
+history trail s = record { past = pasts undone trail s; now = s }
+
+-- what stands in a store
+abbrev pub stage_of : Store → Stage
+stage_of s = record { places = s.places.places; guards = s.guards.items }
+
+-- what stood before in a store, and what stands
+abbrev pub history_of : Store → History
+history_of s = history s.trail.items (stage_of s)
+
+-- each change on the trail can be undone where it is, in the table and the room that there are
+abbrev pub IsSound : Store → Type 0
+IsSound s = IsUndoable undone (Fits s.places.width (vec_capacity s.guards)) IsAny s.trail.items (stage_of s)
+
+-- at most n changes were made, each on the trail, in the table and the room that there were
+pub record Moves (n : ℕ) (old new : Store) : Type 0 where
+  pub keeps : KeepsPasts (history_of old) (history_of new)
+  pub sound : IsSound new
+  pub count : vec_len new.trail ≤ vec_len old.trail + n
+  pub trail_room : vec_capacity new.trail ≡ vec_capacity old.trail
+  pub guards_room : vec_capacity new.guards ≡ vec_capacity old.guards
+  pub places_room : new.places.room ≡ old.places.room
+  pub width : new.places.width ≡ old.places.width
+
+-- the last change was undone
+pub record Undoes (old new : Store) : Type 0 where
+  pub sound : IsSound new
+  pub fewer : vec_len new.trail + 1 ≡ vec_len old.trail
+  pub back : (m : ℕ) → m < vec_len old.trail → undone_to m (history_of new) ≡ undone_to m (history_of old)
+
+-- there is room for so many changes and protections more, and for these atoms
+pub record HasRoom (changes : ℕ) (atoms : List ℕ) (protections : ℕ) (s : Store) : Type 0 where
+  pub trail : vec_len s.trail + changes ≤ vec_capacity s.trail
+  pub guards : vec_len s.guards + protections ≤ vec_capacity s.guards
+  pub places : length s.places.places + length atoms ≤ s.places.room
+  pub table : AllBelow s.places.width atoms

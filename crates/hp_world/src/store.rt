@@ -1,0 +1,360 @@
+//! Places, protections and the trail of what changed them.
+ghost use Rattle.std.specs.Prelude.{◌≡◌, ◌≢◌, ℕ, ◌↔◌, ◌+◌, ◌<◌, List, Option, Some, MatchOption, IfOk, IsTrue, length, slice_get, slice_index};
+ghost use Rattle.hp_world.specs.Deleting.{IsFirstAt};
+ghost use Rattle.hp_world.specs.Named.{IsNamedAt};
+
+use crate::places::Places;
+use hp_cells::{Cell, Cells, View};
+use std::alloc::{AllocError, Global};
+
+/// What is noted of one change, so that it can be undone.
+#[derive(Clone, Copy)]
+pub enum Change {
+    Deleted(usize, Cell),
+    Added,
+    Cancelled(usize, Cell),
+    Protected,
+}
+
+/// What applying changes comes to.
+#[derive(Clone, Copy, Debug, PartialEq, Eq)]
+pub enum Applied {
+    Done,
+    /// The first atom to delete that is protected.
+    Guarded(Cell),
+}
+
+/// Places, protections and the trail of what changed them.
+#[derive(Drop)]
+pub struct Store {
+    places: Places,
+    guards: Vec<Cell>,
+    trail: Vec<Change>,
+}
+
+impl Store {
+    ghost use Rattle.std.specs.Prelude.{◌≡◌, ◌+◌, ◌<◌, ◌≤◌, [], ◌∷◌, ◌++◌, Some, IfOk, OnOk, OnErr, length, slice_get, vec_len, vec_capacity};
+    ghost use Rattle.hp_syntax.specs.Applying as plain;
+    ghost use Rattle.hp_syntax.specs.Applying.{is_among, without_first, cancelled, with_added};
+    ghost use Rattle.hp_world.specs.Answers.{Applies};
+    ghost use Rattle.hp_world.specs.Deleting.{without, deleted};
+    ghost use Rattle.hp_world.specs.Histories.{mark_of, undone_to};
+    ghost use Rattle.hp_world.specs.Named.{IsNextNamed};
+    ghost use Rattle.hp_world.specs.Stages.{live_atoms, same_cell, AllBelow, StageBelow};
+    ghost use Rattle.hp_world.specs.Undoing.{IsSound, Moves, Undoes, HasRoom, history_of, stage_of};
+
+    /// No places and no protections.
+    pub fn new(alloc: Global) -> Store
+        ensures sound { IsSound result }
+        ensures empty { history_of result ≡ record { past = []; now = record { places = []; guards = [] } } }
+    {
+        Store {
+            places: Places::new(alloc),
+            guards: Vec::new(alloc),
+            trail: Vec::new(alloc),
+        }
+    }
+
+    /// The same places and protections, with an empty trail.
+    pub fn copy(&self) -> Result<Store, AllocError>
+        ensures sound { IfOk result (λ s. IsSound s) }
+        ensures same { IfOk result (λ s. history_of s ≡ record { past = []; now = stage_of self.now }) }
+    {
+        let alloc = *self.guards.allocator();
+        Ok(Store {
+            places: self.places.copy()?,
+            guards: Vec::from_slice(alloc, &self.guards)?,
+            trail: Vec::new(alloc),
+        })
+    }
+
+    /// The number of places.
+    pub fn places(&self) -> usize
+        ensures { result ≡ length (stage_of self.now).places }
+    {
+        self.places.len()
+    }
+
+    /// What stands at a place.
+    pub fn at(&self, place: usize) -> Option<Cell>
+        requires { place < length (stage_of self.now).places }
+        ensures { slice_get (stage_of self.now).places place ≡ Some result }
+    {
+        self.places.at(place)
+    }
+
+    /// The number of atoms.
+    pub fn live(&self) -> usize
+        ensures { result ≡ length (live_atoms (stage_of self.now).places) }
+    {
+        self.places.live()
+    }
+
+    /// The least place from one on whose atom has this name.
+    pub fn next_of(&self, cells: &Cells, name: Cell, from: usize) -> Option<usize>
+        requires atoms { StageBelow (length cells.now) (stage_of self.now) }
+        requires name { name < length cells.now }
+        ensures { IsNextNamed cells.now name (stage_of self.now).places from result }
+    {
+        for place in from..self.places.len() {
+            if is_named(self.places.at(place), name, cells) {
+                return Some(place);
+            }
+        }
+        None
+    }
+
+    /// The protections.
+    pub fn guards(&self) -> &[Cell]
+        ensures { result.now ≡ (stage_of self.now).guards }
+    {
+        &self.guards
+    }
+
+    /// The number of changes on the trail.
+    pub fn mark(&self) -> usize
+        ensures { result ≡ mark_of (history_of self.now) }
+    {
+        self.trail.len()
+    }
+
+    /// Applies changes, unless an atom to delete is still protected after the cancelling. All memory is taken first, so
+    /// that nothing fails once something is changed.
+    pub fn apply(
+        &mut self,
+        unguard: &[Cell],
+        del: &[Cell],
+        add: &[Cell],
+        guard: &[Cell],
+    ) -> Result<Applied, AllocError>
+        requires sound { IsSound self.old }
+        ensures sound { IsSound self.new }
+        ensures ok { IfOk result (λ a. Applies a
+            (record { unguard = unguard.now; delete = del.now; add = add.now; guard = guard.now })
+            (history_of self.old) (history_of self.new)) }
+        ensures err { OnErr result (history_of self.new ≡ history_of self.old) }
+    {
+        let changes = most_changes(unguard, del, add, guard)?;
+        self.reserve(changes, add, guard.len())?;
+        let before = self.mark();
+        self.cancel_all(unguard);
+        if let Some(atom) = self.first_guarded(del) {
+            self.undo_to(before);
+            return Ok(Applied::Guarded(atom));
+        }
+        self.delete_all(del);
+        self.add_all(add);
+        self.protect_all(guard);
+        Ok(Applied::Done)
+    }
+
+    // Takes all memory that changes need. An error may leave more room than there was, and changes nothing else.
+    fn reserve(&mut self, changes: usize, atoms: &[Cell], guards: usize) -> Result<(), AllocError>
+        requires sound { IsSound self.old }
+        ensures sound { IsSound self.new }
+        ensures same { history_of self.new ≡ history_of self.old }
+        ensures room { OnOk result (HasRoom changes atoms.now guards self.new) }
+    {
+        self.trail.reserve(changes)?;
+        self.guards.reserve(guards)?;
+        self.places.reserve(atoms)
+    }
+
+    fn cancel(&mut self, atom: Cell)
+        requires sound { IsSound self.old }
+        requires room { vec_len self.old.trail < vec_capacity self.old.trail }
+        ensures guards { self.new.guards.items ≡ without_first same_cell atom self.old.guards.items }
+        ensures places { self.new.places ≡ self.old.places }
+        ensures fewer { vec_len self.new.guards ≤ vec_len self.old.guards }
+        ensures moves { Moves 1 self.old self.new }
+    {
+        if let Some(index) = first_place(&self.guards, atom) {
+            self.guards.remove(index);
+            self.trail.push_reserved(Change::Cancelled(index, atom));
+        }
+    }
+
+    fn delete(&mut self, atom: Cell)
+        requires sound { IsSound self.old }
+        requires room { vec_len self.old.trail < vec_capacity self.old.trail }
+        ensures atoms { live_atoms self.new.places.places ≡ without atom (live_atoms self.old.places.places) }
+        ensures guards { self.new.guards ≡ self.old.guards }
+        ensures places { length self.new.places.places ≡ length self.old.places.places }
+        ensures moves { Moves 1 self.old self.new }
+    {
+        if let Some(place) = self.places.place_of(atom) {
+            self.places.clear(place, atom);
+            self.trail.push_reserved(Change::Deleted(place, atom));
+        }
+    }
+
+    fn add(&mut self, atom: Cell)
+        requires sound { IsSound self.old }
+        requires room { vec_len self.old.trail < vec_capacity self.old.trail }
+        requires place { length self.old.places.places < self.old.places.room }
+        requires within { atom < self.old.places.width }
+        ensures atoms { live_atoms self.new.places.places
+            ≡ with_added same_cell (live_atoms self.old.places.places) (atom ∷ []) }
+        ensures guards { self.new.guards ≡ self.old.guards }
+        ensures places { length self.new.places.places ≤ length self.old.places.places + 1 }
+        ensures moves { Moves 1 self.old self.new }
+    {
+        if self.places.place_of(atom).is_none() {
+            self.places.push(atom);
+            self.trail.push_reserved(Change::Added);
+        }
+    }
+
+    fn protect(&mut self, atom: Cell)
+        requires sound { IsSound self.old }
+        requires room { vec_len self.old.trail < vec_capacity self.old.trail }
+        requires guard { vec_len self.old.guards < vec_capacity self.old.guards }
+        ensures guards { self.new.guards.items ≡ self.old.guards.items ++ atom ∷ [] }
+        ensures more { vec_len self.new.guards ≡ vec_len self.old.guards + 1 }
+        ensures places { self.new.places ≡ self.old.places }
+        ensures moves { Moves 1 self.old self.new }
+    {
+        self.guards.push_reserved(atom);
+        self.trail.push_reserved(Change::Protected);
+    }
+
+    fn cancel_all(&mut self, atoms: &[Cell])
+        requires sound { IsSound self.old }
+        requires room { vec_len self.old.trail + length atoms.now ≤ vec_capacity self.old.trail }
+        ensures guards { self.new.guards.items ≡ cancelled same_cell self.old.guards.items atoms.now }
+        ensures places { self.new.places ≡ self.old.places }
+        ensures fewer { vec_len self.new.guards ≤ vec_len self.old.guards }
+        ensures moves { Moves (length atoms.now) self.old self.new }
+    {
+        for atom in atoms {
+            self.cancel(*atom);
+        }
+    }
+
+    fn delete_all(&mut self, atoms: &[Cell])
+        requires sound { IsSound self.old }
+        requires room { vec_len self.old.trail + length atoms.now ≤ vec_capacity self.old.trail }
+        ensures atoms { live_atoms self.new.places.places
+            ≡ deleted (live_atoms self.old.places.places) atoms.now }
+        ensures guards { self.new.guards ≡ self.old.guards }
+        ensures places { length self.new.places.places ≡ length self.old.places.places }
+        ensures moves { Moves (length atoms.now) self.old self.new }
+    {
+        for atom in atoms {
+            self.delete(*atom);
+        }
+    }
+
+    fn add_all(&mut self, atoms: &[Cell])
+        requires sound { IsSound self.old }
+        requires room { vec_len self.old.trail + length atoms.now ≤ vec_capacity self.old.trail }
+        requires places { length self.old.places.places + length atoms.now ≤ self.old.places.room }
+        requires table { AllBelow self.old.places.width atoms.now }
+        ensures atoms { live_atoms self.new.places.places
+            ≡ with_added same_cell (live_atoms self.old.places.places) atoms.now }
+        ensures guards { self.new.guards ≡ self.old.guards }
+        ensures moves { Moves (length atoms.now) self.old self.new }
+    {
+        for atom in atoms {
+            self.add(*atom);
+        }
+    }
+
+    fn protect_all(&mut self, atoms: &[Cell])
+        requires sound { IsSound self.old }
+        requires room { vec_len self.old.trail + length atoms.now ≤ vec_capacity self.old.trail }
+        requires guards { vec_len self.old.guards + length atoms.now ≤ vec_capacity self.old.guards }
+        ensures guards { self.new.guards.items ≡ self.old.guards.items ++ atoms.now }
+        ensures places { self.new.places ≡ self.old.places }
+        ensures moves { Moves (length atoms.now) self.old self.new }
+    {
+        for atom in atoms {
+            self.protect(*atom);
+        }
+    }
+
+    fn is_guarded(&self, atom: Cell) -> bool
+        ensures { result ≡ is_among same_cell atom self.now.guards.items }
+    {
+        self.guards.contains(&atom)
+    }
+
+    fn first_guarded(&self, atoms: &[Cell]) -> Option<Cell>
+        ensures { result ≡ plain.first_guarded same_cell self.now.guards.items atoms.now }
+    {
+        for atom in atoms {
+            if self.is_guarded(*atom) {
+                return Some(*atom);
+            }
+        }
+        None
+    }
+
+    /// Undoes all changes but so many of the first. It takes no memory.
+    pub fn undo_to(&mut self, mark: usize)
+        requires sound { IsSound self.old }
+        requires mark { mark ≤ mark_of (history_of self.old) }
+        ensures sound { IsSound self.new }
+        ensures back { history_of self.new ≡ undone_to mark (history_of self.old) }
+    {
+        while self.trail.len() > mark {
+            self.undo_last();
+        }
+    }
+
+    fn undo_last(&mut self)
+        requires sound { IsSound self.old }
+        requires some { 0 < vec_len self.old.trail }
+        ensures { Undoes self.old self.new }
+    {
+        match self.trail.take_last() {
+            Change::Deleted(place, atom) => self.places.put_back(place, atom),
+            Change::Added => self.places.pop(),
+            Change::Cancelled(index, atom) => self.guards.insert(index, atom).unwrap(),
+            Change::Protected => {
+                let _ = self.guards.pop();
+            }
+        }
+    }
+}
+
+// The first place of an atom among others.
+fn first_place(atoms: &[Cell], atom: Cell) -> Option<usize>
+    ensures { MatchOption result ((k : ℕ) → k < length atoms.now → slice_index atoms.now k ≢ atom)
+        (IsFirstAt atom atoms.now) }
+{
+    atoms.iter().position(|other| *other == atom)
+}
+
+// Whether an atom stands at a place, and has this name.
+fn is_named(atom: Option<Cell>, name: Cell, cells: &Cells) -> bool
+    requires { (a : ℕ) → atom ≡ Some a → a < length cells.now }
+    ensures { (places : List (Option ℕ)) (i : ℕ) → slice_get places i ≡ Some atom
+        → IsTrue result ↔ IsNamedAt cells.now name places i }
+{
+    match atom {
+        Some(cell) => match cells.get(cell) {
+            View::Cons(head, _) => head == name,
+            _ => false,
+        },
+        None => false,
+    }
+}
+
+// How many changes are noted at most.
+fn most_changes(
+    unguard: &[Cell],
+    del: &[Cell],
+    add: &[Cell],
+    guard: &[Cell],
+) -> Result<usize, AllocError>
+    ensures { IfOk result (λ n. n
+        ≡ length unguard.now + length del.now + length add.now + length guard.now) }
+{
+    unguard
+        .len()
+        .checked_add(del.len())
+        .and_then(|n| n.checked_add(add.len()))
+        .and_then(|n| n.checked_add(guard.len()))
+        .ok_or(AllocError)
+}
