@@ -1,1 +1,3 @@
 pub mod Answered
+pub mod Twins
+pub mod Moves

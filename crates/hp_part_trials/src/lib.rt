@@ -6,3 +6,5 @@
 mod answers;
 #[cfg(test)]
 mod values;
+#[cfg(test)]
+mod walks;

@@ -1,0 +1,13 @@
+use Rattle.hp_effect.proofs.ApplyLemmas.{comes_to_terms}
+use Rattle.hp_effect.proofs.changes.Changes.apply_to.Goals as goal
+
+pub returns-clause-below : goal.returns-clause-below
+returns-clause-below c = λ n s d. c.apply.ensures.below n s
+    (rw (c.as_slice.ensures.value, c.as_slice-2.ensures.value, c.as_slice-3.ensures.value, c.as_slice-4.ensures.value)
+    (rw (← c.self.view_is) at d))
+
+pub returns-clause-terms : goal.returns-clause-terms
+returns-clause-terms c =
+    rw (← c.self.view_is) (comes_to_terms c.apply.result _ c.args.world.now c.apply.new.self
+    (rw (c.as_slice.ensures.value, c.as_slice-2.ensures.value, c.as_slice-3.ensures.value, c.as_slice-4.ensures.value)
+    at c.apply.ensures.ok))

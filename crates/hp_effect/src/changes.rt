@@ -1,0 +1,130 @@
+//! The atoms that an operator unguards, deletes, adds and guards.
+ghost use Rattle.std.specs.Prelude.{◌≡◌, ℕ, [], IfOk, OnErr, List, length};
+ghost use Rattle.hp_syntax.specs.Terms.{Term};
+ghost use Rattle.hp_syntax.specs.Changes.{apply};
+ghost use Rattle.hp_syntax.specs.Values as plain;
+ghost use Rattle.hp_syntax.specs.Views.{atom_of};
+ghost use Rattle.hp_cells.specs.Cells.{AreCells};
+ghost use Rattle.hp_eval.specs.Growth.{Grows};
+ghost use Rattle.hp_eval.specs.Slotted.{AreBelow, bindings_of};
+ghost use Rattle.hp_world.specs.Answers.{Applies};
+ghost use Rattle.hp_world.specs.Stages.{state_of, guards_of, changes_of, StageBelow, ChangesBelow};
+ghost use Rattle.hp_effect.specs.Puts.{Puts, Pushes, list_of, IsApplied};
+
+use hp_cells::{Cell, Cells};
+use hp_eval::{EvalStop, Slots, atom_value};
+use hp_syntax::AtomPat;
+use hp_world::{Applied, World};
+use std::alloc::{AllocError, Global};
+use std::marker::Model;
+
+/// What is done with an atom.
+#[derive(Clone, Copy, Debug, PartialEq, Eq)]
+pub enum Part {
+    Unguard,
+    Delete,
+    Add,
+    Guard,
+}
+
+/// Four lists of atoms, each in the order in which they were put there.
+#[derive(Drop)]
+pub struct Changes {
+    alloc: Global,
+    unguard: Vec<Cell>,
+    delete: Vec<Cell>,
+    add: Vec<Cell>,
+    guard: Vec<Cell>,
+}
+
+impl Model for Changes {
+    ghost use Rattle.std.specs.Prelude.{ℕ};
+    ghost use Rattle.hp_syntax.specs.Applying.{ChangesOf};
+
+    ghost Value = { ChangesOf ℕ };
+
+    ghost view = { λ c. record {
+      unguard = c.unguard.items;
+      delete = c.delete.items;
+      add = c.add.items;
+      guard = c.guard.items;
+    } };
+}
+
+impl Changes {
+    /// No changes.
+    pub fn new(alloc: Global) -> Changes
+        ensures { result ≡ record { unguard = []; delete = []; add = []; guard = [] } }
+    {
+        Changes {
+            alloc,
+            unguard: Vec::new(alloc),
+            delete: Vec::new(alloc),
+            add: Vec::new(alloc),
+            guard: Vec::new(alloc),
+        }
+    }
+
+    /// Puts the value of an atom behind the others of a list. A stop leaves the lists as they were.
+    pub fn put(
+        &mut self,
+        part: Part,
+        atom: &AtomPat,
+        slots: &Slots,
+        cells: &mut Cells,
+    ) -> Result<(), EvalStop>
+        requires slots { AreBelow (length cells.old) slots.now }
+        ensures puts { Puts part result (plain.atom_value (atom_of atom.now) (bindings_of cells.old slots.now))
+            cells.new self.old self.new }
+        ensures below { ChangesBelow (length cells.old) self.old → ChangesBelow (length cells.new) self.new }
+        ensures cells { Grows cells.old cells.new }
+    {
+        let cell = atom_value(self.alloc, atom, slots, cells)?;
+        self.push(part, cell)?;
+        Ok(())
+    }
+
+    // Puts a cell behind the others of a list.
+    fn push(&mut self, part: Part, cell: Cell) -> Result<(), AllocError>
+        ensures { Pushes part result cell self.old self.new }
+    {
+        match part {
+            Part::Unguard => self.unguard.push(cell)?,
+            Part::Delete => self.delete.push(cell)?,
+            Part::Add => self.add.push(cell)?,
+            Part::Guard => self.guard.push(cell)?,
+        }
+        Ok(())
+    }
+
+    /// One of the lists.
+    pub fn list(&self, part: Part) -> &[Cell]
+        ensures { result.now ≡ list_of part self.now }
+    {
+        match part {
+            Part::Unguard => self.unguard.as_slice(),
+            Part::Delete => self.delete.as_slice(),
+            Part::Add => self.add.as_slice(),
+            Part::Guard => self.guard.as_slice(),
+        }
+    }
+
+    /// Applies the four lists to a world. Where an atom to delete is protected once the protections to cancel are, or
+    /// memory is wanting, the world stays as it was.
+    pub fn apply_to(&self, world: &mut World) -> Result<Applied, AllocError>
+        ensures ok { IfOk result (λ a. Applies a self.now world.old world.new) }
+        ensures terms { IfOk result (λ a. (terms : List Term) → AreCells terms
+            → StageBelow (length terms) world.old.now → ChangesBelow (length terms) self.now
+            → IsApplied a terms world.new.now (apply (state_of terms world.old.now) (guards_of terms world.old.now)
+            (changes_of terms self.now))) }
+        ensures below { (n : ℕ) → StageBelow n world.old.now → ChangesBelow n self.now → StageBelow n world.new.now }
+        ensures err { OnErr result (world.new ≡ world.old) }
+    {
+        world.apply(
+            self.unguard.as_slice(),
+            self.delete.as_slice(),
+            self.add.as_slice(),
+            self.guard.as_slice(),
+        )
+    }
+}

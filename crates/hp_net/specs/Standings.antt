@@ -1,0 +1,85 @@
+-- Where a walk of a tree stands, and where each call takes it.
+use Rattle.std.specs.Prelude.{◌≡◌, ℕ, ◌-◌, ◌^◌, min, Bool, true, false, cond, List, [], ◌∷◌, map, Option, Some, None}
+use Rattle.hp_syntax.specs.Syntax.{Rule}
+use Rattle.hp_syntax.specs.Walk.{Node, Visit, Did, Plan, CutHere, FaultHere, node_at, begins, skip}
+use Rattle.hp_net.specs.declared.walk.Step.{Step}
+use Rattle.hp_net.specs.declared.walk.Step.TheVariants as steps
+
+-- a tree: the rules and how deep axioms may call one another, and the root
+pub record Tree : Type 0 where
+  pub rules : List Rule
+  pub nest : ℕ
+  pub root : Node
+
+-- the path of the node reached, the visits that are left, and whether the last call answered a Did
+pub record Standing : Type 0 where
+  pub path : List ℕ
+  pub rest : List Visit
+  pub at_did : Bool
+
+abbrev pub standing : List ℕ → List Visit → Bool → Standing
+standing p vs did = record { path = p; rest = vs; at_did = did }
+
+abbrev pub node_reached : Tree → Standing → Option Node
+node_reached t s = node_at t.rules t.nest t.root s.path
+
+-- ---- answers
+
+abbrev pub step_of : Visit → Step
+step_of v = elim v.sight [ Did ↦ steps.Did | Plan ↦ steps.Plan | CutHere ↦ steps.Cut | FaultHere f ↦ steps.Fault f ]
+
+abbrev pub is_did : Visit → Bool
+is_did v = elim v.sight [ Did ↦ true | Plan ↦ false | CutHere ↦ false | FaultHere f ↦ false ]
+
+-- the next visit, where it is at or below the node of a path
+abbrev pub next_below : List ℕ → List Visit → Option Visit
+next_below p [] = None
+next_below p (v ∷ vs) = cond (begins p v.path) (Some v) None
+
+-- the next visit, wherever it is
+abbrev pub next_of : List Visit → Option Visit
+next_of [] = None
+next_of (v ∷ vs) = Some v
+
+abbrev pub step_or_end : Option Visit → Step
+step_or_end None = steps.End
+step_or_end (Some v) = step_of v
+
+-- ---- where a call leads
+
+abbrev pub without_next : List Visit → List Visit
+without_next [] = []
+without_next (v ∷ vs) = vs
+
+-- after a fault nothing is left
+abbrev pub left_after : Visit → List Visit → List Visit
+left_after v vs = elim v.sight [ Did ↦ vs | Plan ↦ vs | CutHere ↦ vs | FaultHere f ↦ [] ]
+
+-- a visit is the next, and it is made; where there is none, the walk stands at a path
+abbrev pub arrived : List ℕ → Option Visit → List Visit → Standing
+arrived p None vs = standing p vs false
+arrived p (Some v) vs = standing v.path (left_after v (without_next vs)) (is_did v)
+
+-- to the next visit at or below the node reached
+abbrev pub stepped : Standing → Standing
+stepped s = arrived s.path (next_below s.path s.rest) s.rest
+
+-- to the next visit wherever it is, or to the root
+abbrev pub gone_on : Standing → Standing
+gone_on s = arrived [] (next_of s.rest) s.rest
+
+abbrev pub parent : List ℕ → List ℕ
+parent [] = []
+parent (i ∷ []) = []
+parent (i ∷ j ∷ p) = i ∷ parent (j ∷ p)
+
+abbrev pub gone_back : Standing → Standing
+gone_back s = standing (parent s.path) s.rest false
+
+-- without what lies at or below the node reached
+abbrev pub pruned : Standing → Standing
+pruned s = standing s.path (skip s.path s.rest) false
+
+-- the numbers of a path, each as it is told
+abbrev pub told : List ℕ → List ℕ
+told p = map (λ i. min i (2 ^ 64 - 1)) p
