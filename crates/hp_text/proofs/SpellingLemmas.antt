@@ -1,6 +1,6 @@
 -- The numbers that tokens spell, as the standard library reads them.
-use Rattle.std.proofs.Common.{◌≡◌, ℕ, ◌+◌, ◌<◌, ◌^◌, Bool, true, false, cond, List, [], ◌∷◌, length, drop, ℤ, pos, neg_ℤ, refl, arith, w64}
-use Rattle.std.specs.Prelude.{◌==◌, nat_lt, Option, Result, Ok, Err, IfNone}
+use Rattle.std.proofs.Common.{◌≡◌, ℕ, ◌+◌, ◌<◌, ◌≤◌, ◌^◌, Bool, true, false, cond, List, [], ◌∷◌, length, drop, ℤ, pos, neg_ℤ, refl, arith, w64}
+use Rattle.std.specs.Prelude.{◌==◌, nat_lt, Option, None, Result, Ok, Err, IfNone}
 use Rattle.std.specs.Result.{result_ok}
 use Rattle.std.specs.List.{list_all}
 use Rattle.std.specs.Char.{digit_value}
@@ -8,13 +8,17 @@ use Rattle.std.specs.Str.{IsAscii, IsUtf8}
 use Rattle.std.specs.Int.RustNames.{FitsSigned}
 use Rattle.std.specs.Str.Parse.{AllDigits, IsNumeral, ParsesSigned, digits_value, starts_with_minus, without_leading_sign, signed_digits_value}
 use Rattle.std.proofs.lemmas.Bool.{and_parts, false_from_ne_true}
+use Rattle.std.proofs.Math.Nat.{le_trans, pow-le-pow_right}
+use Rattle.std.proofs.lemmas.Int.Digits.{digits_value-lt}
+use Rattle.std.proofs.lemmas.Bool.{lt-ltb}
 use borrow.Author.Tests.{ltb-true}
 use Rattle.std.proofs.lemmas.Bool.Decides.{nat_tests}
 use Rattle.std.proofs.lemmas.Fmt.{IsAscii-from_digits}
 use Rattle.std.proofs.lemmas.Int.{ints}
 use Rattle.std.proofs.lemmas.Str.{IsUtf8-from_ascii}
 use Rattle.std.proofs.lemmas.Str.Ascii.{IsAscii-cons, IsAscii-nil}
-use Rattle.hp_syntax.specs.Text.{is_digit, is_whole, is_in_range}
+use Rattle.hp_syntax.specs.Refusal.{numeral_refusal}
+use Rattle.hp_syntax.specs.Text.{AName, ANumber, NoNumber, OutOfRange, is_digit, is_numeral, is_whole, is_in_range, spelling_of}
 
 -- a digit has a value below ten
 digit_below_ten : (b : ℕ) → is_digit b ≡ true → digit_value b < 10
@@ -70,3 +74,48 @@ out_of_range token digits (Err f) o same h p e =
     let not_both : IsNumeral 10 (without_leading_sign token) × FitsSigned w64 (signed_digits_value 10 token)
     → ⊥ = rw same at p in
     rw e (false_from_ne_true (is_in_range token) (λ k. not_both (whole_numeral token h, fits_from_range token k)))
+
+-- what is left out of bytes makes them no longer
+dropped_length : (s t : Bool) (b : ℕ) (bs : List ℕ)
+    → length (cond s (drop 1 (b ∷ bs)) (drop (cond t 1 0) (b ∷ bs))) ≤ length (b ∷ bs)
+dropped_length true t b bs = omega arith
+dropped_length false true b bs = omega arith
+dropped_length false false b bs = omega arith
+
+-- without its sign a token is no longer
+unsigned_length : (token : List ℕ) → length (without_leading_sign token) ≤ length token
+unsigned_length [] = omega arith
+unsigned_length (b ∷ bs) = dropped_length (b == 45) (b == 43) b bs
+
+-- so few digits are in range, whatever their sign
+small_fits : (minus : Bool) (n : ℕ) → n < 10 ^ 18 → nat_lt n (cond minus (2 ^ 63 + 1) (2 ^ 63)) ≡ true
+small_fits true n h = let l : n < 2 ^ 63 + 1 = omega arith in lt-ltb _ _ l
+small_fits false n h = let l : n < 2 ^ 63 = omega arith in lt-ltb _ _ l
+
+-- a sign and so few digits are in range
+pub small_in_range : (token : List ℕ) → is_whole token ≡ true → length token ≤ 18 → is_in_range token ≡ true
+small_in_range token h short =
+    let ds = without_leading_sign token in
+    let digits : digits_value 10 ds < 10 ^ length ds = digits_value-lt 10 ds (whole_numeral token h).1 in
+    let fewer : length ds ≤ 18 = le_trans (unsigned_length token) short in
+    let most : 10 ^ length ds ≤ 10 ^ 18 = pow-le-pow_right (omega arith) fewer in
+    small_fits (starts_with_minus token) (digits_value 10 ds) (omega arith)
+
+-- what begins as no numeral is not refused
+pub no_numeral_passes : (token : List ℕ) (from : ℕ) → is_numeral token ≡ false
+    → numeral_refusal (spelling_of token) from ≡ None
+unfolding spelling_of
+no_numeral_passes token from h = rw h refl
+
+-- a whole number in range is not refused
+pub whole_number_passes : (token : List ℕ) (from : ℕ) → is_whole token ≡ true → is_in_range token ≡ true
+    → numeral_refusal (spelling_of token) from ≡ None
+unfolding spelling_of
+whole_number_passes token from whole fits =
+    let read : cond (is_whole token) (cond (is_in_range token) (ANumber (signed_digits_value 10 token)) OutOfRange)
+    NoNumber ≡ ANumber (signed_digits_value 10 token) = rw (whole, fits) refl in
+    elim (is_numeral token) as (λ b. numeral_refusal (cond b (cond (is_whole token) (cond (is_in_range token)
+    (ANumber (signed_digits_value 10 token)) OutOfRange) NoNumber) AName) from ≡ None) [
+      | true ↦ rw read refl
+      | false ↦ refl
+    ]

@@ -6,10 +6,11 @@ ghost use Rattle.hp_syntax.specs.Refusal.{IsClear, refusal_at};
 ghost use Rattle.hp_syntax.specs.Text.{Blank, Opening, Closing, NameByte, End, IsToken, kind_at, spelling_of};
 ghost use Rattle.hp_text.specs.Refusals.{plain_refusal, TellsFirst};
 ghost use Rattle.hp_text.specs.Scan.{IsScanned};
+ghost use Rattle.hp_text.specs.Spellings.{plain_spelling};
 
 use crate::byte::is_name_byte;
 use crate::gap::{skip_gap, token_end};
-use crate::spelling::{Spelling, spelling_of};
+use crate::spelling::{Spelling, is_numeral, is_small_number, spelling_of};
 use arrayvec::ArrayVec;
 use hp_syntax::TextKind;
 use hp_syntax::limits::{DEEPEST_NESTING, LARGEST_TEXT, LONGEST_TOKEN};
@@ -39,15 +40,27 @@ fn refused(kind: TextKind, offset: usize) -> Option<FirstRefusal>
     })
 }
 
-fn numeral_refusal(token: &[u8], from: usize) -> Option<FirstRefusal>
+fn spelling_refusal(spelling: Spelling, from: usize) -> Option<FirstRefusal>
     requires { from < 2 ^ 32 }
-    ensures { plain_refusal result ≡ text.numeral_refusal (spelling_of token.now) from }
+    ensures { plain_refusal result ≡ text.numeral_refusal (plain_spelling spelling) from }
 {
-    match spelling_of(token) {
+    match spelling {
         Spelling::Name | Spelling::Number(_) => None,
         Spelling::NoNumber => refused(TextKind::BadNumber, from),
         Spelling::OutOfRange => refused(TextKind::NumberRange, from),
     }
+}
+
+// Most numerals are known to be in range with no number computed.
+#[inline(always)]
+fn numeral_refusal(token: &[u8], from: usize) -> Option<FirstRefusal>
+    requires { from < 2 ^ 32 }
+    ensures { plain_refusal result ≡ text.numeral_refusal (spelling_of token.now) from }
+{
+    if !is_numeral(token) || is_small_number(token) {
+        return None;
+    }
+    spelling_refusal(spelling_of(token), from)
 }
 
 // What is refused first in a token, of which only what stands before `end` is looked at. A numeral

@@ -1,12 +1,15 @@
 //! What a token spells.
 
 ghost use Rattle.std.specs.List.{list_all};
-ghost use Rattle.std.specs.Prelude.{◌≡◌, true, false, IfSome, IfNone};
+ghost use Rattle.std.specs.Prelude.{◌≡◌, true, false, IfSome, IfNone, IsTrue};
 ghost use Rattle.std.specs.Str.Parse.{without_leading_sign, signed_digits_value};
 ghost use Rattle.hp_syntax.specs.Text as text;
 ghost use Rattle.hp_text.specs.Spellings.{plain_spelling};
 
 use std::str;
+
+/// Numbers of so few bytes are in range.
+const SMALL: usize = 18;
 
 /// What a token spells: a name, a number, or no number though it begins like one.
 #[derive(Clone, Copy, Debug, PartialEq, Eq)]
@@ -31,7 +34,7 @@ fn begins_unsigned(bytes: &[u8]) -> bool
 
 // No digit, point or sign comes behind the digit nine, which most names are told by.
 #[inline(always)]
-fn is_numeral(token: &[u8]) -> bool
+pub fn is_numeral(token: &[u8]) -> bool
     ensures { result ≡ text.is_numeral token.now }
 {
     match token {
@@ -62,6 +65,14 @@ fn is_whole(token: &[u8]) -> bool
 {
     let digits = without_sign(token);
     !digits.is_empty() && are_digits(digits)
+}
+
+/// Whether a token is a sign and digits so short that no such number is out of range.
+pub fn is_small_number(token: &[u8]) -> bool
+    ensures whole { IsTrue result → text.is_whole token.now ≡ true }
+    ensures range { IsTrue result → text.is_in_range token.now ≡ true }
+{
+    token.len() <= SMALL && is_whole(token)
 }
 
 // The number of a sign and digits, unless it is out of range.
