@@ -1,5 +1,5 @@
 -- The numbers that tokens spell, as the standard library reads them.
-use Rattle.std.proofs.Common.{◌≡◌, ℕ, ◌+◌, ◌<◌, ◌≤◌, ◌^◌, Bool, true, false, cond, List, [], ◌∷◌, length, drop, ℤ, pos, neg_ℤ, refl, arith, w64}
+use Rattle.std.proofs.Common.{◌≡◌, ℕ, ◌+◌, ◌<◌, ◌≤◌, ◌^◌, Bool, true, false, cond, List, [], ◌∷◌, length, drop, take, ℤ, pos, neg_ℤ, refl, ap, ◌∙◌, arith, w64}
 use Rattle.std.specs.Prelude.{◌==◌, nat_lt, Option, None, Result, Ok, Err, IfNone}
 use Rattle.std.specs.Result.{result_ok}
 use Rattle.std.specs.List.{list_all}
@@ -10,6 +10,7 @@ use Rattle.std.specs.Str.Parse.{AllDigits, IsNumeral, ParsesSigned, digits_value
 use Rattle.std.proofs.lemmas.Bool.{and_parts, false_from_ne_true}
 use Rattle.std.proofs.Math.Nat.{le_trans, pow-le-pow_right}
 use Rattle.std.proofs.lemmas.Int.Digits.{digits_value-lt}
+use Rattle.std.proofs.lemmas.Str.Parse.{digits_value-take-le}
 use Rattle.std.proofs.lemmas.Bool.{lt-ltb}
 use borrow.Author.Tests.{ltb-true}
 use Rattle.std.proofs.lemmas.Bool.Decides.{nat_tests}
@@ -25,7 +26,7 @@ digit_below_ten : (b : ℕ) → is_digit b ≡ true → digit_value b < 10
 digit_below_ten b h = grind (arith, nat_tests)
 
 -- digits are digits in the radix ten
-digits_told : (ds : List ℕ) → list_all is_digit ds ≡ true → AllDigits 10 ds
+pub digits_told : (ds : List ℕ) → list_all is_digit ds ≡ true → AllDigits 10 ds
 digits_told [] h = tt
 digits_told (d ∷ ds) h =
     let p = and_parts (is_digit d) (list_all is_digit ds) h in (digit_below_ten d p.0, digits_told ds p.1)
@@ -119,3 +120,44 @@ whole_number_passes token from whole fits =
       | true ↦ rw read refl
       | false ↦ refl
     ]
+
+-- the number of so few digits is small
+pub small_value : (ds : List ℕ) → AllDigits 10 ds → length ds ≤ 18 → digits_value 10 ds < 10 ^ 18
+small_value ds digits short =
+    let whole : digits_value 10 ds < 10 ^ length ds = digits_value-lt 10 ds digits in
+    let most : 10 ^ length ds ≤ 10 ^ 18 = pow-le-pow_right (omega arith) short in
+    omega arith
+
+-- and so is that of the first of them
+pub small_so_far : (ds : List ℕ) (i : ℕ) → AllDigits 10 ds → length ds ≤ 18 → digits_value 10 (take i ds) < 10 ^ 18
+small_so_far ds i digits short =
+    let whole = small_value ds digits short in
+    let part : digits_value 10 (take i ds) ≤ digits_value 10 ds = digits_value-take-le 10 ds i (omega arith) in
+    omega arith
+
+-- a small number fits 64 bits
+pub small_number_fits : (n : ℕ) → n < 10 ^ 18 → FitsSigned w64 (pos n)
+small_number_fits n h = let l : n < 2 ^ 63 = omega arith in omega (arith, ints)
+
+-- a digit is no sign
+digit_no_sign : (b : ℕ) → is_digit b ≡ true → (b == 45 ≡ false) × (b == 43 ≡ false)
+digit_no_sign b h = (grind (arith, nat_tests), grind (arith, nat_tests))
+
+-- digits have no sign
+pub no_sign : (token : List ℕ) → list_all is_digit token ≡ true
+    → (starts_with_minus token ≡ false) × (without_leading_sign token ≡ token)
+no_sign [] h = (refl, refl)
+no_sign (b ∷ bs) h =
+    let p = and_parts (is_digit b) (list_all is_digit bs) h in
+    let n = digit_no_sign b p.0 in
+    (n.0, rw (n.0, n.1) refl)
+
+-- the number of digits is what they spell
+pub digits_spell : (token : List ℕ) → list_all is_digit token ≡ true
+    → signed_digits_value 10 token ≡ pos (digits_value 10 token)
+digits_spell token h =
+    let n = no_sign token h in
+    let same : signed_digits_value 10 token
+    ≡ cond (starts_with_minus token) (neg_ℤ (pos (digits_value 10 token))) (pos (digits_value 10 token)) =
+    ap (λ ds. cond (starts_with_minus token) (neg_ℤ (pos (digits_value 10 ds))) (pos (digits_value 10 ds))) n.1 in
+    same ∙ ap (λ b. cond b (neg_ℤ (pos (digits_value 10 token))) (pos (digits_value 10 token))) n.0

@@ -1,8 +1,8 @@
 //! What a token spells.
 
 ghost use Rattle.std.specs.List.{list_all};
-ghost use Rattle.std.specs.Prelude.{◌≡◌, true, false, IfSome, IfNone, IsTrue};
-ghost use Rattle.std.specs.Str.Parse.{without_leading_sign, signed_digits_value};
+ghost use Rattle.std.specs.Prelude.{◌≡◌, ◌≤◌, length, true, false, IfSome, IfNone, IsTrue};
+ghost use Rattle.std.specs.Str.Parse.{AllDigits, digits_value, without_leading_sign, signed_digits_value};
 ghost use Rattle.hp_syntax.specs.Text as text;
 ghost use Rattle.hp_text.specs.Spellings.{plain_spelling};
 
@@ -75,12 +75,28 @@ pub fn is_small_number(token: &[u8]) -> bool
     token.len() <= SMALL && is_whole(token)
 }
 
+// The number of digits that are few.
+fn digits_number(digits: &[u8]) -> u64
+    requires digits { AllDigits 10 digits.now }
+    requires few { length digits.now ≤ SMALL }
+    ensures { result ≡ digits_value 10 digits.now }
+{
+    let mut number = 0u64;
+    for digit in digits {
+        number = number * 10 + u64::from(*digit - b'0');
+    }
+    number
+}
+
 // The number of a sign and digits, unless it is out of range.
 fn number(token: &[u8]) -> Option<i64>
     requires { text.is_whole token.now ≡ true }
     ensures some { IfSome result (λ n. (text.is_in_range token.now ≡ true) × (n ≡ signed_digits_value 10 token.now)) }
     ensures none { IfNone result (text.is_in_range token.now ≡ false) }
 {
+    if token.len() <= SMALL && are_digits(token) {
+        return Some(digits_number(token) as i64);
+    }
     match str::from_utf8(token) {
         Ok(digits) => digits.parse().ok(),
         Err(_) => unreachable!(),
