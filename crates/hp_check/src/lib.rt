@@ -22,7 +22,7 @@ use crate::survey::unserved;
 use crate::watch::Watch;
 use hp_syntax::{Domain, Name, Problem, Span};
 pub use hp_syntax::{CheckFault, CheckKind};
-use std::alloc::Global;
+use std::alloc::{AllocError, Global};
 
 /// A task of which no rule of the domain has the name.
 #[derive(Drop)]
@@ -56,6 +56,30 @@ pub fn check_domain(domain: &Domain) -> Option<CheckFault>
     watch.first
 }
 
+/// The first fault that the checks of a domain and a problem of it find. It takes no memory.
+pub fn first_fault(domain: &Domain, problem: &Problem) -> Option<CheckFault>
+    ensures { result ≡ first_of (domain_faults (domain_of domain.now)
+        ++ problem_faults (domain_of domain.now) (problem_of problem.now)) }
+{
+    let mut watch = Watch::new();
+    domain_part(&mut watch, domain);
+    problem_part(&mut watch, domain, problem);
+    watch.first
+}
+
+/// The tasks of a domain and a problem of it that no rule serves.
+pub fn unserved_tasks(
+    alloc: Global,
+    domain: &Domain,
+    problem: &Problem,
+) -> Result<Notes, AllocError>
+    ensures { IfOk result (λ notes. map note_of notes.list.items
+        ≡ plain.notes (domain_of domain.now) (problem_of problem.now)) }
+{
+    let list = unserved(alloc, domain, problem)?;
+    Ok(Notes { list })
+}
+
 /// Checks a domain and a problem of it, and notes the tasks that no rule serves.
 pub fn check(alloc: Global, domain: &Domain, problem: &Problem) -> Result<Notes, CheckRefusal>
     ensures accepted { IsOk result → first_of (domain_faults (domain_of domain.now)
@@ -65,14 +89,11 @@ pub fn check(alloc: Global, domain: &Domain, problem: &Problem) -> Result<Notes,
     ensures refused { IfErr result (Stops (first_of (domain_faults (domain_of domain.now)
         ++ problem_faults (domain_of domain.now) (problem_of problem.now)))) }
 {
-    let mut watch = Watch::new();
-    domain_part(&mut watch, domain);
-    problem_part(&mut watch, domain, problem);
-    if let Some(fault) = watch.first {
+    if let Some(fault) = first_fault(domain, problem) {
         return Err(CheckRefusal::Fault(fault));
     }
-    match unserved(alloc, domain, problem) {
-        Ok(list) => Ok(Notes { list }),
+    match unserved_tasks(alloc, domain, problem) {
+        Ok(notes) => Ok(notes),
         Err(_) => Err(CheckRefusal::NoMemory),
     }
 }
@@ -81,7 +102,6 @@ pub fn check(alloc: Global, domain: &Domain, problem: &Problem) -> Result<Notes,
 mod tests {
     use super::*;
     use hp_syntax::{AtomPat, Expr, ExprKind, Operator, Pat, PatKind, Pre, Rule};
-    use std::alloc::AllocError;
     use std::test::Fail;
 
     const RULE: Span = Span { from: 14, to: 52 };

@@ -15,9 +15,7 @@ use std::alloc::{AllocError, Global};
 fn add_name(names: &mut IndexSet<Name>, alloc: Global, name: &Name) -> Result<(), AllocError>
     ensures { OnOk result (SameNames names.new.keys (names.old.keys ++ name.now ∷ [])) }
 {
-    if !names.contains(name) {
-        names.insert(name.copy(alloc)?)?;
-    }
+    names.insert_full(name.copy(alloc)?)?;
     Ok(())
 }
 
