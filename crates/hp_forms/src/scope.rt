@@ -30,7 +30,7 @@ pub struct Scope {
 fn place_among(names: &[Name], name: &Name) -> Option<usize>
     ensures { result ≡ position (bytes_eq name.now) names.now }
 {
-    names.iter().position(|other| name == other)
+    names.iter().position(|other| is(name, other.bytes()))
 }
 
 impl Scope {

@@ -1,9 +1,7 @@
 //! What is done with a domain and a problem that are read: the checks first, and then the job.
 
-ghost use Rattle.std.specs.Prelude.{◌≡◌, ◌≢◌, ◌≤◌, ◌<◌, ℕ, List, None, map};
-ghost use Rattle.hp_check.specs.NoteViews.{note_of};
+ghost use Rattle.std.specs.Prelude.{◌≡◌, ◌≢◌, ◌≤◌, ◌<◌, ℕ, List, None};
 ghost use Rattle.hp_out.specs.Writing.{sink_run};
-ghost use Rattle.hp_syntax.specs.Notes as plain;
 ghost use Rattle.hp_syntax.specs.Views.{domain_of, problem_of};
 ghost use Rattle.hp_top.specs.SmallLowering.{lower_domain, lower_problem};
 ghost use Rattle.hp_top.specs.Command.{make_command};
@@ -21,7 +19,7 @@ use crate::small_laws::{lowered_domains_are_well_formed, walks_meet_no_fault};
 use crate::status::Status;
 use crate::telling::Halt;
 use crate::words::{Asked, Job};
-use hp_check::{CheckRefusal, Note, check};
+use hp_check::{first_fault, unserved_tasks};
 use hp_io::Sink;
 use hp_out::Refusal;
 use std::alloc::Global;
@@ -51,16 +49,18 @@ fn serve_plan<K: Sink>(alloc: Global, loaded: Loaded, asked: Asked, out: &mut K)
     plan(alloc, &domain, &problem, asked, out)
 }
 
-/// Writes what is known of an accepted domain and problem.
-fn serve_check<K: Sink>(alloc: Global, loaded: &Loaded, notes: &[Note], out: &mut K) -> Status
-    requires { map note_of notes.now ≡ plain.notes (domain_of loaded.now.domain) (problem_of loaded.now.problem) }
+/// Notes the tasks that no rule serves, and writes what is known of an accepted domain and problem.
+fn serve_check<K: Sink>(alloc: Global, loaded: &Loaded, out: &mut K) -> Status
     ensures tells { Tells (job_answer (job_of Job.Check) (domain_of loaded.now.domain)
         (problem_of loaded.now.problem)) result
         (sink_run (K.faults out.old) (K.faults out.new) (K.bytes out.old) (K.bytes out.new)) }
     ensures faultless { result ≢ Status.RunFault }
     ensures later { K.faults out.old ≤ K.faults out.new }
 {
-    match tell_accepted(alloc, &loaded.domain, &loaded.problem, notes, out) {
+    let Ok(notes) = unserved_tasks(alloc, &loaded.domain, &loaded.problem) else {
+        return Status::NoMemory;
+    };
+    match tell_accepted(alloc, &loaded.domain, &loaded.problem, notes.list.as_slice(), out) {
         Ok(()) => Status::Done,
         Err(Halt::NoMemory) => Status::NoMemory,
         Err(Halt::Failed) => Status::WriteFault,
@@ -91,14 +91,12 @@ pub fn serve_job<K: Sink>(alloc: Global, loaded: Loaded, job: Job, out: &mut K) 
     ensures faultless { result ≢ Status.RunFault }
     ensures later { K.faults out.old ≤ K.faults out.new }
 {
-    let notes = match check(alloc, &loaded.domain, &loaded.problem) {
-        Ok(notes) => notes.list,
-        Err(CheckRefusal::Fault(fault)) => return refuse(out, &Refusal::Check(fault)),
-        Err(CheckRefusal::NoMemory) => return Status::NoMemory,
-    };
+    if let Some(fault) = first_fault(&loaded.domain, &loaded.problem) {
+        return refuse(out, &Refusal::Check(fault));
+    }
     match job {
         Job::Plan(asked) => serve_plan(alloc, loaded, asked, out),
-        Job::Check => serve_check(alloc, &loaded, notes.as_slice(), out),
+        Job::Check => serve_check(alloc, &loaded, out),
         Job::Show => serve_show(alloc, &loaded, out),
     }
 }
