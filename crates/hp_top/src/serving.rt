@@ -60,7 +60,13 @@ fn serve_check<K: Sink>(alloc: Global, loaded: &Loaded, out: &mut K) -> Status
     let Ok(notes) = unserved_tasks(alloc, &loaded.domain, &loaded.problem) else {
         return Status::NoMemory;
     };
-    match tell_accepted(alloc, &loaded.domain, &loaded.problem, notes.list.as_slice(), out) {
+    match tell_accepted(
+        alloc,
+        &loaded.domain,
+        &loaded.problem,
+        notes.list.as_slice(),
+        out,
+    ) {
         Ok(()) => Status::Done,
         Err(Halt::NoMemory) => Status::NoMemory,
         Err(Halt::Failed) => Status::WriteFault,
