@@ -4,7 +4,5 @@
 #![tactic(auto)]
 
 mod first;
-mod sorted;
 
 pub use first::First;
-pub use sorted::Sorted;
