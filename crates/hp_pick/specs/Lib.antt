@@ -1,1 +1,2 @@
 pub mod UpToSat
+pub mod Noted

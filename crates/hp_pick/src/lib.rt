@@ -4,5 +4,6 @@
 #![tactic(auto)]
 
 mod first;
+mod noted;
 
 pub use first::First;
