@@ -53,3 +53,9 @@ HearsOn (Ok true) whole left alone = whole ≡ left
 HearsOn (Ok false) whole left alone = whole ≡ alone
 HearsOn (Err (stops.Fault f)) whole left alone = whole ≡ NoKey f
 HearsOn (Err stops.NoMemory) whole left alone = Unit {0}
+
+-- a whole list is heard: what it gives is the notes alone, or the fault; for want of memory the answer is free
+abbrev pub Hears : List Term → Result Notes EvalStop → Keyed → Type 0
+Hears c (Ok notes) whole = whole ≡ with_notes c notes (Keys [] false)
+Hears c (Err (stops.Fault f)) whole = whole ≡ NoKey f
+Hears c (Err stops.NoMemory) whole = Unit {0}

@@ -4,6 +4,7 @@
 #![tactic(auto)]
 
 mod first;
+mod hearing;
 mod noted;
 
 pub use first::First;

@@ -1,0 +1,82 @@
+//! A whole list of satisfiers is heard, and put in order.
+ghost use Rattle.std.specs.Prelude.{◌≡◌, ◌<◌, ◌≤◌, true, false, [], List, map, length, IfOk, OnOk, Ok};
+ghost use Rattle.std.specs.List.{All};
+ghost use Rattle.std.specs.List.Sorted.{IsPermutation};
+ghost use Rattle.hp_syntax.specs.Terms.{Term};
+ghost use Rattle.hp_syntax.specs.Views.{key_of, order_of};
+ghost use Rattle.hp_syntax.specs.Preconditions.{keyed, comes_before, sorted};
+ghost use Rattle.hp_eval.specs.Slotted.{undone};
+ghost use Rattle.hp_eval.specs.Growth.{Grows};
+ghost use Rattle.hp_pick.specs.Noted.{IsNoted, entry_of, with_notes, HearsOn, Hears};
+
+use crate::noted::{Noted, Notes, note};
+use hp_cells::Cells;
+use hp_eval::{EvalStop, Sats, Slots};
+use hp_syntax::{SortKey, SortOrder};
+use std::alloc::{AllocError, Global};
+
+// Hears the next event and notes it: true where more may come, false at the end.
+fn hear_next<B, S: Sats<B>>(
+    alloc: Global,
+    inner: &mut S,
+    key: &SortKey,
+    base: &B,
+    cells: &mut Cells,
+    slots: &mut Slots,
+    notes: &mut Notes,
+) -> Result<bool, EvalStop>
+    requires live { S.is_live inner.old ≡ true }
+    requires open { S.is_open inner.old ≡ true }
+    requires base { S.suits inner.old base.now }
+    requires slots { S.fits inner.old slots.old }
+    requires cells { S.kept inner.old ≤ length cells.old }
+    requires noted { All (IsNoted (length cells.old) (undone (S.start inner.old) slots.old)) notes.old.sats.items }
+    ensures step { HearsOn result
+        (with_notes cells.old notes.old (keyed (key_of key.now) (S.rest inner.old base.now cells.old slots.old)))
+        (with_notes cells.new notes.new (keyed (key_of key.now) (S.rest inner.new base.now cells.new slots.new)))
+        (with_notes cells.new notes.new (keyed (key_of key.now) [])) }
+    ensures fewer { result ≡ Ok true → length (S.rest inner.new base.now cells.new slots.new)
+        < length (S.rest inner.old base.now cells.old slots.old) }
+    ensures noted { All (IsNoted (length cells.new) (undone (S.start inner.new) slots.new)) notes.new.sats.items }
+    ensures base { S.suits inner.new base.now }
+    ensures slots { S.fits inner.new slots.new }
+    ensures undone { undone (S.start inner.new) slots.new ≡ undone (S.start inner.old) slots.old }
+    ensures start { S.start inner.new ≡ S.start inner.old }
+    ensures kept { (S.kept inner.old ≤ S.kept inner.new) × (S.kept inner.new ≤ length cells.new) }
+    ensures cells { Grows cells.old cells.new }
+    ensures live { OnOk result (S.is_live inner.new ≡ true) }
+    ensures open { S.is_open inner.new ≡ true }
+{
+    let event = inner.next(base, cells, slots)?;
+    note(alloc, event, key, cells, slots, notes)
+}
+
+// Hears all events, or those before a fault.
+fn hear<B, S: Sats<B>>(
+    alloc: Global,
+    inner: &mut S,
+    key: &SortKey,
+    base: &B,
+    cells: &mut Cells,
+    slots: &mut Slots,
+) -> Result<Notes, EvalStop>
+    requires live { S.is_live inner.old ≡ true }
+    requires open { S.is_open inner.old ≡ true }
+    requires base { S.suits inner.old base.now }
+    requires slots { S.fits inner.old slots.old }
+    requires cells { S.kept inner.old ≤ length cells.old }
+    ensures heard { Hears cells.new result
+        (keyed (key_of key.now) (S.rest inner.old base.now cells.old slots.old)) }
+    ensures noted { IfOk result (λ notes.
+        All (IsNoted (length cells.new) (undone (S.start inner.new) slots.new)) notes.sats.items) }
+    ensures slots { S.fits inner.new slots.new }
+    ensures undone { undone (S.start inner.new) slots.new ≡ undone (S.start inner.old) slots.old }
+    ensures start { S.start inner.new ≡ S.start inner.old }
+    ensures kept { (S.kept inner.old ≤ S.kept inner.new) × (S.kept inner.new ≤ length cells.new) }
+    ensures cells { Grows cells.old cells.new }
+    ensures open { S.is_open inner.new ≡ true }
+{
+    let mut notes = Notes::new(alloc);
+    while hear_next(alloc, inner, key, base, cells, slots, &mut notes)? {}
+    Ok(notes)
+}
