@@ -1,2 +1,4 @@
 pub mod NotedLemmas
 pub mod HearingLemmas
+pub mod StableLemmas
+pub mod OrderLemmas

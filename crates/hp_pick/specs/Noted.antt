@@ -7,11 +7,13 @@ use Rattle.hp_syntax.specs.Syntax.{Key}
 use Rattle.hp_syntax.specs.Terms.{Term}
 use Rattle.hp_syntax.specs.Calls.{fault_at}
 use Rattle.hp_syntax.specs.Values.{Bindings, bound}
+use Rattle.hp_syntax.specs.Events.{Sat, Cut, Fault}
 use Rattle.hp_syntax.specs.Preconditions.{Keyed, Keys, NoKey, keyed_by}
 use Rattle.hp_eval.specs.declared.event.EvalStop.{EvalStop}
 use Rattle.hp_eval.specs.declared.event.EvalStop.TheVariants as stops
 use Rattle.hp_eval.specs.CallRows.{number_of}
 use Rattle.hp_eval.specs.Slotted.{Slotted, slotted, AreBelow, named}
+use Rattle.hp_eval.specs.Events.{Happening}
 use Rattle.hp_pick.specs.declared.noted.Noted.{Noted}
 use Rattle.hp_pick.specs.declared.noted.Notes.{Notes}
 
@@ -23,6 +25,10 @@ number_at s (Some t) = number_of s t
 -- a satisfier as it is sorted: its number, and what its cells name
 abbrev pub entry_of : List Term → Noted → ℤ × Bindings
 entry_of c n = (n.number, map (named c) n.values.items)
+
+-- satisfiers in their order, and a Cut behind them where there was one
+abbrev pub noted_events : List Term → List Noted → Bool → List Happening
+noted_events c ns cut = map (λ n. Sat (entry_of c n).1) ns ++ cond cut (Cut ∷ []) []
 
 -- values keep what variables stood for before
 pub record Extends (values : List (Option ℕ)) (start : Slotted) : Type 0 where
@@ -59,3 +65,9 @@ abbrev pub Hears : List Term → Result Notes EvalStop → Keyed → Type 0
 Hears c (Ok notes) whole = whole ≡ with_notes c notes (Keys [] false)
 Hears c (Err (stops.Fault f)) whole = whole ≡ NoKey f
 Hears c (Err stops.NoMemory) whole = Unit {0}
+
+-- a whole list is heard and put in order: its events are the satisfiers and a Cut behind them, or the fault
+abbrev pub HearsInOrder : List Term → Result Notes EvalStop → List Happening → Type 0
+HearsInOrder c (Ok notes) whole = whole ≡ noted_events c notes.sats.items notes.cut
+HearsInOrder c (Err (stops.Fault f)) whole = whole ≡ Fault f ∷ []
+HearsInOrder c (Err stops.NoMemory) whole = Unit {0}

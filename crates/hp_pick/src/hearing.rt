@@ -7,7 +7,7 @@ ghost use Rattle.hp_syntax.specs.Views.{key_of, order_of};
 ghost use Rattle.hp_syntax.specs.Preconditions.{keyed, comes_before, sorted};
 ghost use Rattle.hp_eval.specs.Slotted.{undone};
 ghost use Rattle.hp_eval.specs.Growth.{Grows};
-ghost use Rattle.hp_pick.specs.Noted.{IsNoted, entry_of, with_notes, HearsOn, Hears};
+ghost use Rattle.hp_pick.specs.Noted.{IsNoted, entry_of, with_notes, HearsOn, Hears, HearsInOrder};
 
 use crate::noted::{Noted, Notes, note};
 use hp_cells::Cells;
@@ -79,4 +79,16 @@ fn hear<B, S: Sats<B>>(
     let mut notes = Notes::new(alloc);
     while hear_next(alloc, inner, key, base, cells, slots, &mut notes)? {}
     Ok(notes)
+}
+
+// Puts satisfiers into the order of their numbers. Equal ones keep their order. An error leaves them as they are.
+fn sort(sats: &mut Vec<Noted>, order: &SortOrder) -> Result<(), AllocError>
+    ensures sorted { OnOk result ((c : List Term) → map (entry_of c) sats.new.items
+        ≡ sorted (comes_before (order_of order.now)) (map (entry_of c) sats.old.items)) }
+    ensures permutation { IsPermutation sats.old.items sats.new.items }
+{
+    match order {
+        SortOrder::Down => sats.sort_by(|m, n| n.number.cmp(&m.number)),
+        SortOrder::Up | SortOrder::Unknown(_, _) => sats.sort_by(|m, n| m.number.cmp(&n.number)),
+    }
 }
