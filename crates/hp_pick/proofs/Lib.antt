@@ -2,3 +2,5 @@ pub mod NotedLemmas
 pub mod HearingLemmas
 pub mod StableLemmas
 pub mod OrderLemmas
+pub mod FillLemmas
+pub mod HeardLemmas

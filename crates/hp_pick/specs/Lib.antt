@@ -1,2 +1,3 @@
 pub mod UpToSat
 pub mod Noted
+pub mod Heard

@@ -28,7 +28,7 @@ entry_of c n = (n.number, map (named c) n.values.items)
 
 -- satisfiers in their order, and a Cut behind them where there was one
 abbrev pub noted_events : List Term → List Noted → Bool → List Happening
-noted_events c ns cut = map (λ n. Sat (entry_of c n).1) ns ++ cond cut (Cut ∷ []) []
+noted_events c ns cut = map (λ x. Sat x.1) (map (entry_of c) ns) ++ cond cut (Cut ∷ []) []
 
 -- values keep what variables stood for before
 pub record Extends (values : List (Option ℕ)) (start : Slotted) : Type 0 where

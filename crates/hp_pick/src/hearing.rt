@@ -4,7 +4,7 @@ ghost use Rattle.std.specs.List.{All};
 ghost use Rattle.std.specs.List.Sorted.{IsPermutation};
 ghost use Rattle.hp_syntax.specs.Terms.{Term};
 ghost use Rattle.hp_syntax.specs.Views.{key_of, order_of};
-ghost use Rattle.hp_syntax.specs.Preconditions.{keyed, comes_before, sorted};
+ghost use Rattle.hp_syntax.specs.Preconditions.{keyed, comes_before, sorted, sorted_events};
 ghost use Rattle.hp_eval.specs.Slotted.{undone};
 ghost use Rattle.hp_eval.specs.Growth.{Grows};
 ghost use Rattle.hp_pick.specs.Noted.{IsNoted, entry_of, with_notes, HearsOn, Hears, HearsInOrder};
@@ -91,4 +91,32 @@ fn sort(sats: &mut Vec<Noted>, order: &SortOrder) -> Result<(), AllocError>
         SortOrder::Down => sats.sort_by(|m, n| n.number.cmp(&m.number)),
         SortOrder::Up | SortOrder::Unknown(_, _) => sats.sort_by(|m, n| m.number.cmp(&n.number)),
     }
+}
+
+/// Hears all events and closes, and puts the satisfiers in their order.
+pub(crate) fn hear_in_order<B, S: Sats<B>>(
+    alloc: Global,
+    inner: &mut S,
+    key: &SortKey,
+    base: &B,
+    cells: &mut Cells,
+    slots: &mut Slots,
+) -> Result<Notes, EvalStop>
+    requires live { S.is_live inner.old ≡ true }
+    requires open { S.is_open inner.old ≡ true }
+    requires base { S.suits inner.old base.now }
+    requires slots { S.fits inner.old slots.old }
+    requires cells { S.kept inner.old ≤ length cells.old }
+    ensures heard { HearsInOrder cells.new result (sorted_events (key_of key.now).order
+        (keyed (key_of key.now) (S.rest inner.old base.now cells.old slots.old))) }
+    ensures noted { IfOk result (λ notes. All (IsNoted (length cells.new) slots.new) notes.sats.items) }
+    ensures slots { slots.new ≡ undone (S.start inner.old) slots.old }
+    ensures kept { S.kept inner.old ≤ length cells.new }
+    ensures cells { Grows cells.old cells.new }
+{
+    let heard = hear(alloc, inner, key, base, cells, slots);
+    inner.close(slots);
+    let mut notes = heard?;
+    sort(&mut notes.sats, &key.order)?;
+    Ok(notes)
 }

@@ -4,6 +4,7 @@
 #![tactic(auto)]
 
 mod first;
+mod heard;
 mod hearing;
 mod noted;
 
