@@ -7,8 +7,9 @@ use Rattle.hp_syntax.specs.Terms.{Term}
 use Rattle.hp_syntax.specs.Preconditions.{Keyed, Keys, NoKey}
 use Rattle.hp_eval.specs.declared.event.EvalStop.{EvalStop}
 use Rattle.hp_eval.specs.declared.event.EvalStop.TheVariants as stops
-use Rattle.hp_eval.specs.Slotted.{Slotted, slotted, Binds, undone}
+use Rattle.hp_eval.specs.Slotted.{Slotted, slotted, AreBelow, Binds, undone}
 use Rattle.hp_eval.specs.Growth.{Grows}
+use Rattle.hp_eval.proofs.SlotLemmas.{below_undone}
 use Rattle.hp_eval.proofs.GrowthLemmas.{grows_length, bindings_stay, below_grows}
 use Rattle.hp_pick.specs.declared.noted.Noted.{Noted}
 use Rattle.hp_pick.specs.declared.noted.Notes.{Notes}
@@ -58,3 +59,8 @@ hears_same (Ok true) v w k l alone p q h = sym p ∙ (h ∙ q)
 hears_same (Ok false) v w k l alone p q h = sym p ∙ h
 hears_same (Err (stops.Fault f)) v w k l alone p q h = sym p ∙ h
 hears_same (Err stops.NoMemory) v w k l alone p q h = tt
+
+-- cells stay below a greater count when bindings are undone
+pub below_undone_more : (m n mark : ℕ) (e f : Slotted) → AreBelow m e → m ≤ n → f ≡ undone mark e → AreBelow n f
+below_undone_more m n mark e f below h q =
+    subst (AreBelow n) (sym q) (λ v cell k. omega (arith, below_undone m mark e below v cell k))

@@ -1,5 +1,5 @@
 -- A list that was heard, and what is left to be given of it.
-use Rattle.std.specs.Prelude.{◌≡◌, ℕ, ◌≤◌, List, length, drop, Option, Some, None}
+use Rattle.std.specs.Prelude.{◌≡◌, ℕ, ◌≤◌, Bool, List, length, drop, Option, Some, None}
 use Rattle.std.specs.List.{All}
 use Rattle.hp_syntax.specs.Syntax.{Key}
 use Rattle.hp_syntax.specs.Terms.{Term}
@@ -18,3 +18,32 @@ pub record FitsHeard (mark : ℕ) (h : Heard) (e : Slotted) : Type 0 where
   pub above : mark ≤ length e.trail
   pub below : AreBelow h.kept e
   pub noted : All (IsNoted h.kept (undone mark e)) h.notes.sats.items
+
+-- ---- before a list is heard and behind that
+
+-- all of the list in its order, or what is left of it
+abbrev pub rest_in_order : Key → List Happening → List Term → Option Heard → List Happening
+rest_in_order k xs c None = sorted_events k.order (keyed k xs)
+rest_in_order k xs c (Some h) = left_of c h
+
+-- the base suits the list, which is asked no more once it was heard
+abbrev pub SuitsEither : Type 0 → Option Heard → Type 0
+SuitsEither suits None = suits
+SuitsEither suits (Some h) = Unit {0}
+
+-- the slots fit the list, whose start is the mark, or what was heard
+abbrev pub FitsEither : Type 0 → ℕ → ℕ → Option Heard → Slotted → Type 0
+FitsEither fits start mark None e = (mark ≡ start) × fits
+FitsEither fits start mark (Some h) e = FitsHeard mark h e
+
+abbrev pub kept_of : ℕ → Option Heard → ℕ
+kept_of kept None = kept
+kept_of kept (Some h) = h.kept
+
+abbrev pub live_of : Bool → Option Heard → Bool
+live_of live None = live
+live_of live (Some h) = h.live
+
+abbrev pub open_of : Bool → Option Heard → Bool
+open_of «open» None = «open»
+open_of «open» (Some h) = h.open

@@ -1,15 +1,16 @@
 //! What was heard is given again.
-ghost use Rattle.std.specs.Prelude.{◌≡◌, ◌<◌, ◌^◌, None, Some, List, length, slice_get, slice_set};
+ghost use Rattle.std.specs.Prelude.{◌≡◌, ◌<◌, ◌^◌, true, false, None, Some, List, IfOk, OnOk, OnErr, length, slice_get, slice_set};
 ghost use Rattle.std.specs.List.{All};
 ghost use Rattle.hp_syntax.specs.Terms.{Term};
 ghost use Rattle.hp_eval.specs.Slotted.{AreBelow, Binds, undone, bindings_of};
-ghost use Rattle.hp_eval.specs.Events.{event_of, left_after, AreOfFirst};
-ghost use Rattle.hp_pick.specs.Noted.{Extends, IsNoted};
+ghost use Rattle.hp_eval.specs.Events.{Happening, event_of, left_after, AreOfFirst};
+ghost use Rattle.hp_pick.specs.Noted.{Extends, IsNoted, HearsInOrder};
 ghost use Rattle.hp_pick.specs.Heard.{left_of, FitsHeard};
 
 use crate::noted::Notes;
 use hp_cells::Cell;
-use hp_eval::{Event, Slots};
+use hp_eval::{EvalStop, Event, Slots};
+use std::alloc::{AllocError, Global};
 
 /// A list that was heard: the satisfiers in their order, of which so many were given, and whether a Cut is to come
 /// behind them.
@@ -52,6 +53,54 @@ fn fill_all(values: &[Option<Cell>], slots: &mut Slots)
 }
 
 impl Heard {
+    /// What is given first of what was found of a list, and what is left then; a fault leaves nothing. The slots are as
+    /// at the start, and so many cells stand.
+    pub(crate) fn start(
+        alloc: Global,
+        found: Result<Notes, EvalStop>,
+        kept: usize,
+        slots: &mut Slots,
+    ) -> (Heard, Result<Event, AllocError>)
+        requires below { AreBelow kept slots.old }
+        requires noted { IfOk found (λ notes. All (IsNoted kept slots.old) notes.sats.items) }
+        ensures event { (c : List Term) (xs : List Happening) → HearsInOrder c found xs
+            → IfOk result.1 (λ x. x ≡ event_of xs) }
+        ensures rest { (c : List Term) (xs : List Happening) → HearsInOrder c found xs
+            → OnOk result.1 (left_of c result.0 ≡ left_after xs) }
+        ensures sat { (c : List Term) (xs : List Happening) → HearsInOrder c found xs
+            → OnOk result.1 (AreOfFirst xs (bindings_of c slots.new)) }
+        ensures above { Binds slots.old slots.new }
+        ensures undone { OnErr result.1 (slots.new ≡ slots.old) }
+        ensures fits { FitsHeard (length slots.old.trail) result.0 slots.new }
+        ensures kept { result.0.kept ≡ kept }
+        ensures live { OnOk result.1 (result.0.live ≡ true) }
+        ensures dead { OnErr result.1 (result.0.live ≡ false) }
+        ensures open { result.0.open ≡ true }
+    {
+        match found {
+            Ok(notes) => {
+                let mut heard = Heard::new(notes, kept, true);
+                let event = heard.give(slots.mark(), slots);
+                (heard, Ok(event))
+            }
+            Err(EvalStop::Fault(fault)) => (Heard::new(Notes::new(alloc), kept, true), Ok(Event::Fault(fault))),
+            Err(EvalStop::NoMemory) => (Heard::new(Notes::new(alloc), kept, false), Err(AllocError)),
+        }
+    }
+
+    // What was noted of a list, of which nothing was given.
+    fn new(notes: Notes, kept: usize, live: bool) -> Heard
+        ensures { result ≡ record { notes = notes; given = 0; kept = kept; live = live; «open» = true } }
+    {
+        Heard {
+            notes,
+            given: 0,
+            kept,
+            live,
+            open: true,
+        }
+    }
+
     /// The next of what was heard, a Sat with its bindings above those of a mark.
     pub(crate) fn give(&mut self, mark: usize, slots: &mut Slots) -> Event
         requires fits { FitsHeard mark self.old slots.old }

@@ -5,7 +5,7 @@ ghost use Rattle.std.specs.List.Sorted.{IsPermutation};
 ghost use Rattle.hp_syntax.specs.Terms.{Term};
 ghost use Rattle.hp_syntax.specs.Views.{key_of, order_of};
 ghost use Rattle.hp_syntax.specs.Preconditions.{keyed, comes_before, sorted, sorted_events};
-ghost use Rattle.hp_eval.specs.Slotted.{undone};
+ghost use Rattle.hp_eval.specs.Slotted.{AreBelow, undone};
 ghost use Rattle.hp_eval.specs.Growth.{Grows};
 ghost use Rattle.hp_pick.specs.Noted.{IsNoted, entry_of, with_notes, HearsOn, Hears, HearsInOrder};
 
@@ -81,6 +81,33 @@ fn hear<B, S: Sats<B>>(
     Ok(notes)
 }
 
+// Hears all events, or those before a fault, and closes.
+fn hear_whole<B, S: Sats<B>>(
+    alloc: Global,
+    inner: &mut S,
+    key: &SortKey,
+    base: &B,
+    cells: &mut Cells,
+    slots: &mut Slots,
+) -> Result<Notes, EvalStop>
+    requires live { S.is_live inner.old ≡ true }
+    requires open { S.is_open inner.old ≡ true }
+    requires base { S.suits inner.old base.now }
+    requires slots { S.fits inner.old slots.old }
+    requires cells { S.kept inner.old ≤ length cells.old }
+    ensures heard { Hears cells.new result
+        (keyed (key_of key.now) (S.rest inner.old base.now cells.old slots.old)) }
+    ensures noted { IfOk result (λ notes. All (IsNoted (length cells.new) slots.new) notes.sats.items) }
+    ensures below { AreBelow (length cells.new) slots.new }
+    ensures slots { slots.new ≡ undone (S.start inner.old) slots.old }
+    ensures kept { S.kept inner.old ≤ length cells.new }
+    ensures cells { Grows cells.old cells.new }
+{
+    let heard = hear(alloc, inner, key, base, cells, slots);
+    inner.close(slots);
+    heard
+}
+
 // Puts satisfiers into the order of their numbers. Equal ones keep their order. An error leaves them as they are.
 fn sort(sats: &mut Vec<Noted>, order: &SortOrder) -> Result<(), AllocError>
     ensures sorted { OnOk result ((c : List Term) → map (entry_of c) sats.new.items
@@ -110,13 +137,12 @@ pub(crate) fn hear_in_order<B, S: Sats<B>>(
     ensures heard { HearsInOrder cells.new result (sorted_events (key_of key.now).order
         (keyed (key_of key.now) (S.rest inner.old base.now cells.old slots.old))) }
     ensures noted { IfOk result (λ notes. All (IsNoted (length cells.new) slots.new) notes.sats.items) }
+    ensures below { AreBelow (length cells.new) slots.new }
     ensures slots { slots.new ≡ undone (S.start inner.old) slots.old }
     ensures kept { S.kept inner.old ≤ length cells.new }
     ensures cells { Grows cells.old cells.new }
 {
-    let heard = hear(alloc, inner, key, base, cells, slots);
-    inner.close(slots);
-    let mut notes = heard?;
+    let mut notes = hear_whole(alloc, inner, key, base, cells, slots)?;
     sort(&mut notes.sats, &key.order)?;
     Ok(notes)
 }

@@ -7,5 +7,7 @@ mod first;
 mod heard;
 mod hearing;
 mod noted;
+mod sorted;
 
 pub use first::First;
+pub use sorted::Sorted;
