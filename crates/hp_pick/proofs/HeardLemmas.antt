@@ -1,10 +1,9 @@
 -- What was heard stays fit to be given while it is given.
-use Rattle.std.proofs.Common.{◌≡◌, ℕ, ◌≤◌, length, take, sym, ◌∙◌, ap, ap₂, subst, arith}
+use Rattle.std.proofs.Common.{◌≡◌, ℕ, ◌≤◌, length, sym, subst, arith}
 use Rattle.std.specs.List.{All}
 use Rattle.std.proofs.lemmas.List.{length-take-le}
 use Rattle.hp_eval.specs.Slotted.{Slotted, AreBelow, Binds, undone}
 use Rattle.hp_pick.specs.declared.heard.Heard.{Heard}
-use Rattle.hp_pick.specs.declared.noted.Notes.{Notes}
 use Rattle.hp_pick.specs.Noted.{IsNoted}
 use Rattle.hp_pick.specs.Heard.{FitsHeard}
 use Rattle.hp_pick.proofs.HearingLemmas.{undone_above}
@@ -22,5 +21,6 @@ fits_above mark old new e f fits b below same kept = record {
   noted =
       subst (λ n. All (IsNoted n (undone mark f)) new.notes.sats.items) (sym kept)
       (subst (λ v. All (IsNoted old.kept (undone mark f)) v.items) (sym same)
-      (subst (λ s. All (IsNoted old.kept s) old.notes.sats.items) (sym (undone_above mark e f fits.above b)) fits.noted));
+      (subst (λ s. All (IsNoted old.kept s) old.notes.sats.items) (sym (undone_above mark e f fits.above b))
+      fits.noted));
 }

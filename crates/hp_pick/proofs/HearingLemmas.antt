@@ -1,5 +1,5 @@
 -- Notes while cells grow and further events are heard.
-use Rattle.std.proofs.Common.{◌≡◌, ℕ, ◌<◌, ◌≤◌, Bool, true, false, List, [], ◌∷◌, ◌++◌, ◌||◌, map, length, take, Result, Ok, Err, refl, sym, ◌∙◌, ap, ap₂, subst, arith}
+use Rattle.std.proofs.Common.{◌≡◌, ℕ, ◌≤◌, Bool, true, false, List, [], ◌∷◌, ◌++◌, ◌||◌, map, length, Result, Ok, Err, refl, sym, ◌∙◌, ap, ap₂, subst, arith}
 use Rattle.std.specs.List.{All}
 use Rattle.std.proofs.lemmas.List.{length-take-le}
 use Rattle.std.proofs.lemmas.List.Elements.{All-head, All-tail, All-weaker}
@@ -10,7 +10,7 @@ use Rattle.hp_eval.specs.declared.event.EvalStop.TheVariants as stops
 use Rattle.hp_eval.specs.Slotted.{Slotted, slotted, AreBelow, Binds, undone}
 use Rattle.hp_eval.specs.Growth.{Grows}
 use Rattle.hp_eval.proofs.SlotLemmas.{below_undone}
-use Rattle.hp_eval.proofs.GrowthLemmas.{grows_length, bindings_stay, below_grows}
+use Rattle.hp_eval.proofs.GrowthLemmas.{bindings_stay, below_grows}
 use Rattle.hp_pick.specs.declared.noted.Noted.{Noted}
 use Rattle.hp_pick.specs.declared.noted.Notes.{Notes}
 use Rattle.hp_pick.specs.Noted.{IsNoted, entry_of, with_notes, HearsOn}
@@ -53,9 +53,9 @@ with_no_notes c notes (NoKey f) h q = refl
 with_no_notes c notes (Keys xs cut) h q = ap₂ (λ ns b. Keys (map (entry_of c) ns ++ xs) (b || cut)) h q
 
 -- an event is heard of what equals the whole, and what equals the remainder is left
-pub hears_same : (r : Result Bool EvalStop) (v w k l alone : Keyed) → v ≡ w → k ≡ l → HearsOn r v k alone
+pub hears_same : (r : Result Bool EvalStop) (v w k l alone : Keyed) → v ≡ w → l ≡ k → HearsOn r v k alone
     → HearsOn r w l alone
-hears_same (Ok true) v w k l alone p q h = sym p ∙ (h ∙ q)
+hears_same (Ok true) v w k l alone p q h = sym p ∙ (h ∙ sym q)
 hears_same (Ok false) v w k l alone p q h = sym p ∙ h
 hears_same (Err (stops.Fault f)) v w k l alone p q h = sym p ∙ h
 hears_same (Err stops.NoMemory) v w k l alone p q h = tt

@@ -1,5 +1,5 @@
 -- The orders of numbers, and noted satisfiers in them.
-use Rattle.std.proofs.Common.{◌≡◌, ℤ, Bool, true, false, cond, List, [], ◌∷◌, map, refl, sym, ◌∙◌, ap, subst}
+use Rattle.std.proofs.Common.{◌≡◌, ℤ, Bool, true, false, cond, List, [], ◌∷◌, map, refl, ◌∙◌, ap, subst}
 use Rattle.std.specs.Prelude.{int_lt}
 use Rattle.std.specs.Borrow.{Bor}
 use Rattle.std.specs.Cmp.{IsStrictWeakOrder}

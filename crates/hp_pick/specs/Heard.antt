@@ -36,14 +36,17 @@ abbrev pub FitsEither : Type 0 → ℕ → ℕ → Option Heard → Slotted → 
 FitsEither fits start mark None e = (mark ≡ start) × fits
 FitsEither fits start mark (Some h) e = FitsHeard mark h e
 
+-- how many cells are kept for the list, or stood when it was heard
 abbrev pub kept_of : ℕ → Option Heard → ℕ
 kept_of kept None = kept
 kept_of kept (Some h) = h.kept
 
+-- no call of the list has failed, or none since it was heard
 abbrev pub live_of : Bool → Option Heard → Bool
-live_of live None = live
-live_of live (Some h) = h.live
+live_of is_live None = is_live
+live_of is_live (Some h) = h.is_live
 
+-- the list isn't closed, or what was heard isn't
 abbrev pub open_of : Bool → Option Heard → Bool
-open_of «open» None = «open»
-open_of «open» (Some h) = h.open
+open_of is_open None = is_open
+open_of is_open (Some h) = h.is_open

@@ -18,8 +18,8 @@ use Rattle.hp_eval.proofs.SlotLemmas.{bindings_some}
 use Rattle.hp_eval.proofs.ValueSteps.{bound_named}
 use Rattle.hp_pick.specs.declared.noted.Noted.{Noted}
 use Rattle.hp_pick.specs.declared.heard.Heard.{Heard}
-use Rattle.hp_pick.specs.Noted.{IsNoted, entry_of, noted_events}
-use Rattle.hp_pick.specs.Heard.{left_of, FitsHeard, rest_in_order, SuitsEither, FitsEither, kept_of}
+use Rattle.hp_pick.specs.Noted.{IsNoted, entry_of}
+use Rattle.hp_pick.specs.Heard.{rest_in_order, SuitsEither, FitsEither, kept_of}
 
 -- ---- events in order keep bindings that the list keeps
 

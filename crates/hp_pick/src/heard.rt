@@ -20,8 +20,8 @@ pub(crate) struct Heard {
     pub(crate) given: usize,
     // How many cells stood when the list was heard.
     pub(crate) kept: usize,
-    pub(crate) live: bool,
-    pub(crate) open: bool,
+    pub(crate) is_live: bool,
+    pub(crate) is_open: bool,
 }
 
 // Binds a variable to what it is to stand for, if it isn't bound.
@@ -73,9 +73,9 @@ impl Heard {
         ensures undone { OnErr result.1 (slots.new ≡ slots.old) }
         ensures fits { FitsHeard (length slots.old.trail) result.0 slots.new }
         ensures kept { result.0.kept ≡ kept }
-        ensures live { OnOk result.1 (result.0.live ≡ true) }
-        ensures dead { OnErr result.1 (result.0.live ≡ false) }
-        ensures open { result.0.open ≡ true }
+        ensures live { OnOk result.1 (result.0.is_live ≡ true) }
+        ensures dead { OnErr result.1 (result.0.is_live ≡ false) }
+        ensures open { result.0.is_open ≡ true }
     {
         match found {
             Ok(notes) => {
@@ -83,21 +83,27 @@ impl Heard {
                 let event = heard.give(slots.mark(), slots);
                 (heard, Ok(event))
             }
-            Err(EvalStop::Fault(fault)) => (Heard::new(Notes::new(alloc), kept, true), Ok(Event::Fault(fault))),
-            Err(EvalStop::NoMemory) => (Heard::new(Notes::new(alloc), kept, false), Err(AllocError)),
+            Err(EvalStop::Fault(fault)) => (
+                Heard::new(Notes::new(alloc), kept, true),
+                Ok(Event::Fault(fault)),
+            ),
+            Err(EvalStop::NoMemory) => (
+                Heard::new(Notes::new(alloc), kept, false),
+                Err(AllocError),
+            ),
         }
     }
 
     // What was noted of a list, of which nothing was given.
-    fn new(notes: Notes, kept: usize, live: bool) -> Heard
-        ensures { result ≡ record { notes = notes; given = 0; kept = kept; live = live; «open» = true } }
+    fn new(notes: Notes, kept: usize, is_live: bool) -> Heard
+        ensures { result ≡ record { notes = notes; given = 0; kept = kept; is_live = is_live; is_open = true } }
     {
         Heard {
             notes,
             given: 0,
             kept,
-            live,
-            open: true,
+            is_live,
+            is_open: true,
         }
     }
 
@@ -110,8 +116,8 @@ impl Heard {
         ensures above { Binds (undone mark slots.old) slots.new }
         ensures fits { FitsHeard mark self.new slots.new }
         ensures kept { self.new.kept ≡ self.old.kept }
-        ensures live { self.new.live ≡ self.old.live }
-        ensures open { self.new.open ≡ self.old.open }
+        ensures live { self.new.is_live ≡ self.old.is_live }
+        ensures open { self.new.is_open ≡ self.old.is_open }
     {
         slots.undo_to(mark);
         self.give_next(slots)
@@ -127,8 +133,8 @@ impl Heard {
         ensures below { AreBelow self.old.kept slots.old → AreBelow self.old.kept slots.new }
         ensures sats { self.new.notes.sats ≡ self.old.notes.sats }
         ensures kept { self.new.kept ≡ self.old.kept }
-        ensures live { self.new.live ≡ self.old.live }
-        ensures open { self.new.open ≡ self.old.open }
+        ensures live { self.new.is_live ≡ self.old.is_live }
+        ensures open { self.new.is_open ≡ self.old.is_open }
     {
         if self.given < self.notes.sats.len() {
             fill_all(self.notes.sats[self.given].values.as_slice(), slots);

@@ -75,11 +75,11 @@ fn values_of(alloc: Global, slots: &Slots) -> Result<Vec<Option<Cell>>, AllocErr
     ensures copy { IfOk result (λ values. values.items ≡ slots.now.values) }
     ensures few { IfOk result (λ values. length values.items < 2 ^ 32) }
 {
-    // Variables are named by 32 bits.
+    // Variables are named by 32 bits; of more there is no copy.
     let Ok(vars) = u32::try_from(slots.vars()) else {
         return Err(AllocError);
     };
-    let mut values = Vec::new(alloc);
+    let mut values = Vec::with_capacity(alloc, vars as usize)?;
     for v in 0..vars {
         values.push(slots.get(v))?;
     }

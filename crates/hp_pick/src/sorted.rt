@@ -74,7 +74,12 @@ impl<B, S: Sats<B>> Sats<B> for Sorted<S> {
 
     ghost is_open = { λ s. open_of (S.is_open s.inner) s.heard };
 
-    fn next(&mut self, base: &B, cells: &mut Cells, slots: &mut Slots) -> Result<Event, AllocError> {
+    fn next(
+        &mut self,
+        base: &B,
+        cells: &mut Cells,
+        slots: &mut Slots,
+    ) -> Result<Event, AllocError> {
         if let Some(heard) = &mut self.heard {
             return Ok(heard.give(self.mark, slots));
         }
@@ -88,7 +93,7 @@ impl<B, S: Sats<B>> Sats<B> for Sorted<S> {
         match &mut self.heard {
             Some(heard) => {
                 slots.undo_to(self.mark);
-                heard.open = false;
+                heard.is_open = false;
             }
             None => self.inner.close(slots),
         }
@@ -96,7 +101,7 @@ impl<B, S: Sats<B>> Sats<B> for Sorted<S> {
 
     fn live(&self) -> bool {
         match &self.heard {
-            Some(heard) => heard.live,
+            Some(heard) => heard.is_live,
             None => self.inner.live(),
         }
     }

@@ -10,8 +10,8 @@ use Rattle.hp_pick.proofs.hearing.hear.Given as goal
 abbrev pub invariant-loop-notes : goal.invariant-loop-notes
 invariant-loop-notes g l = record {
   heard : with_notes l.cells l.notes
-  (keyed (key_of l.key) (g.S.Sats.rest l.inner l.base l.cells l.slots))
-  ≡ keyed (key_of l.key) (g.S.Sats.rest l.initial.inner l.base l.initial.cells l.initial.slots);
+      (keyed (key_of l.key) (g.S.Sats.rest l.inner l.base l.cells l.slots))
+      ≡ keyed (key_of l.key) (g.S.Sats.rest l.initial.inner l.base l.initial.cells l.initial.slots);
   noted : All (IsNoted (length l.cells) (undone (g.S.Sats.start l.inner) l.slots)) l.notes.sats.items;
   live : g.S.Sats.is_live l.inner ≡ true;
   still_open : g.S.Sats.is_open l.inner ≡ true;

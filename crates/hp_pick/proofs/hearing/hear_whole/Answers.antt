@@ -1,4 +1,4 @@
-use Rattle.std.proofs.Common.{◌≡◌, IfOk, length, sym, subst}
+use Rattle.std.proofs.Common.{IfOk, length, sym, subst}
 use Rattle.std.specs.List.{All}
 use Rattle.hp_pick.specs.Noted.{IsNoted}
 use Rattle.hp_pick.proofs.HearingLemmas.{below_undone_more}

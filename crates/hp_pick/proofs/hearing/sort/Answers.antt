@@ -1,4 +1,4 @@
-use Rattle.std.proofs.Common.{◌≡◌, ℤ, Bool, List, map, rules, sym, ap, ◌∙◌, inl, inr}
+use Rattle.std.proofs.Common.{◌≡◌, map, rules, sym, ap, ◌∙◌, inl, inr}
 use Rattle.std.proofs.lemmas.Result.{on_ok_weaker}
 use Rattle.hp_syntax.specs.Syntax.{Down, Up}
 use Rattle.hp_syntax.specs.Views.{order_of}

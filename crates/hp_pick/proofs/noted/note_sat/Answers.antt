@@ -1,4 +1,4 @@
-use Rattle.std.proofs.Common.{◌≡◌, ◌∷◌, ◌++◌, ap, sym, ◌∙◌, subst, length}
+use Rattle.std.proofs.Common.{sym, subst, length}
 use Rattle.std.specs.List.{All}
 use Rattle.hp_pick.specs.Noted.{IsNoted}
 use Rattle.hp_pick.proofs.NotedLemmas.{noted_more}

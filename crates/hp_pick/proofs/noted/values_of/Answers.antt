@@ -1,4 +1,4 @@
-use Rattle.std.proofs.Common.{◌≡◌, [], ◌∷◌, ◌++◌, ap₂, ◌∙◌, arith}
+use Rattle.std.proofs.Common.{[], ◌∷◌, ◌++◌, ap₂, ◌∙◌, arith}
 use Rattle.hp_pick.proofs.NotedLemmas.{copied_more}
 use Rattle.hp_pick.proofs.noted.values_of.Goals as goal
 

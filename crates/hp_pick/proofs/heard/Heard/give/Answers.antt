@@ -1,5 +1,5 @@
-use Rattle.std.proofs.Common.{◌≡◌, subst, sym}
-use Rattle.hp_eval.specs.Slotted.{Binds, AreBelow, undone}
+use Rattle.std.proofs.Common.{subst, sym}
+use Rattle.hp_eval.specs.Slotted.{Binds, AreBelow}
 use Rattle.hp_eval.proofs.SlotLemmas.{below_undone}
 use Rattle.hp_pick.proofs.HeardLemmas.{fits_above}
 use Rattle.hp_pick.proofs.heard.Heard.give.Goals as goal
