@@ -27,6 +27,7 @@ is_lt-int_cmp m n = by (int_lt m n) (int_lt n m)
     by false false = refl
 
 module _ {X : Type 0} (key : X → ℤ) where
+  -- the order by which keys rise is an order
   rises : IsStrictWeakOrder (λ x y. int_lt (key x) (key y))
   rises = subst IsStrictWeakOrder (λ i x y. is_lt-int_cmp (key x) (key y) i) (ranks_by int_cmp_total key)
 
@@ -37,6 +38,7 @@ module _ {X : Type 0} (key : X → ℤ) where
   orders (Unknown name span) = rises
 
 module _ (before : ℤ → ℤ → Bool) (c : List Term) where
+  -- entries stand as the satisfiers do, with one put in
   map-inserted : (n : Noted) (ns : List Noted)
       → map (entry_of c) (inserted (λ x y. before x.number y.number) n ns)
       ≡ put_in before (entry_of c n) (map (entry_of c) ns)
@@ -52,6 +54,7 @@ module _ (before : ℤ → ℤ → Bool) (c : List Term) where
       by true rest = ap (λ es. entry_of c m ∷ es) rest
       by false rest = refl
 
+  -- entries stand as the satisfiers do, when each is put in
   map-in_order : (ns : List Noted)
       → map (entry_of c) (in_order (λ x y. before x.number y.number) ns) ≡ sorted before (map (entry_of c) ns)
   map-in_order [] = refl

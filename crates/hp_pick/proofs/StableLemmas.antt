@@ -12,6 +12,7 @@ module _ {X : Type 0} (lt : X → X → Bool) where
   inserted x [] = x ∷ []
   inserted x (y ∷ ys) = cond (lt y x) (y ∷ inserted x ys) (x ∷ y ∷ ys)
 
+  -- each element put in among the later ones
   abbrev pub in_order : List X → List X
   in_order [] = []
   in_order (x ∷ xs) = inserted x (in_order xs)
@@ -26,10 +27,12 @@ module _ {X : Type 0} (lt : X → X → Bool) where
   Ascends [] = Unit {0}
   Ascends (x ∷ xs) = NoneBefore x xs × Ascends xs
 
+  -- none of a list comes before an element where none at a place does
   none_before : (x : X) (ys : List X) → ((k : ℕ) → k < length ys → lt (get_or ys k x) x ≡ false) → NoneBefore x ys
   none_before x [] h = tt
   none_before x (y ∷ ys) h = (h 0 (omega arith), none_before x ys (λ k l. h (suc k) (omega arith)))
 
+  -- a list ascends where no element at a place comes before one at an earlier place
   ascends_from : (xs : List X)
       → ((i j : ℕ) (d : X) → i ≤ j → j < length xs → lt (get_or xs j d) (get_or xs i d) ≡ false) → Ascends xs
   ascends_from [] h = tt
@@ -46,6 +49,7 @@ module _ {X : Type 0} (lt : X → X → Bool) where
     none_before_earlier x y [] h n = tt
     none_before_earlier x y (z ∷ zs) h n = (o.chain z y x n.0 h, none_before_earlier x y zs h n.1)
 
+    -- where neither an element nor one of a list comes before another, none of the list with the element does
     none_before_inserted : (x y : X) (ys : List X) → lt y x ≡ false → NoneBefore x ys → NoneBefore x (inserted y ys)
     none_before_inserted x y [] h n = (h, tt)
     none_before_inserted x y (z ∷ zs) h n = by (lt z y) (none_before_inserted x y zs h n.1)
@@ -54,6 +58,7 @@ module _ {X : Type 0} (lt : X → X → Bool) where
         by true rest = (n.0, rest)
         by false rest = (h, n)
 
+    -- a list that ascends ascends with an element put in
     ascends_inserted : (x : X) (ys : List X) → Ascends ys → Ascends (inserted x ys)
     ascends_inserted x [] a = (tt, tt)
     ascends_inserted x (y ∷ ys) a = by (lt y x) refl (ascends_inserted x ys a.1)
@@ -62,12 +67,14 @@ module _ {X : Type 0} (lt : X → X → Bool) where
         by true h rest = (none_before_inserted y x ys (o.one_way y x h) a.0, rest)
         by false h rest = ((h, none_before_earlier x y ys h a.0), a)
 
+    -- what insertion makes ascends
     ascends_in_order : (xs : List X) → Ascends (in_order xs)
     ascends_in_order [] = tt
     ascends_in_order (x ∷ xs) = ascends_inserted x (in_order xs) (ascends_in_order xs)
 
     -- ---- insertion keeps ties in their order
 
+    -- of two elements that tie neither comes before the other
     tied : (x y : X) → ties lt x y ≡ true → (lt x y ≡ false) × (lt y x ≡ false)
     tied x y = by (lt x y) (lt y x)
       where
@@ -76,6 +83,7 @@ module _ {X : Type 0} (lt : X → X → Bool) where
         by true b h = absurd (false≢true h)
         by false true h = absurd (false≢true h)
 
+    -- two elements of which neither comes before the other tie
     tie : (x y : X) → lt x y ≡ false → lt y x ≡ false → ties lt x y ≡ true
     tie x y h k = ap₂ (λ a b. not a && not b) h k
 
@@ -91,6 +99,7 @@ module _ {X : Type 0} (lt : X → X → Bool) where
     flipped x y zs false true n = refl
     flipped x y zs false false n = refl
 
+    -- what ties with an element stands among a list with an element put in as in the list behind that element
     filter-inserted : (t x : X) (ys : List X)
         → filter (ties lt t) (inserted x ys) ≡ filter (ties lt t) (x ∷ ys)
     filter-inserted t x [] = refl
@@ -103,6 +112,7 @@ module _ {X : Type 0} (lt : X → X → Bool) where
             ∙ flipped x y (filter (ties lt t) ys) (ties lt t x) (ties lt t y) (apart t x y h)
         by false h rest = refl
 
+    -- insertion keeps ties in their order
     stable_in_order : (xs : List X) → IsStableBy lt xs (in_order xs)
     stable_in_order [] t = refl
     stable_in_order (x ∷ xs) t =
@@ -132,6 +142,7 @@ module _ {X : Type 0} (lt : X → X → Bool) where
     kept_first : (x : X) (xs : List X) → filter (ties lt x) (x ∷ xs) ≡ x ∷ filter (ties lt x) xs
     kept_first x xs = ap (λ b. cond b (x ∷ filter (ties lt x) xs) (filter (ties lt x) xs)) (self_tie x)
 
+    -- where none of a list comes before an element, none of the list behind it does
     none_before_itself : (x : X) (xs : List X) → NoneBefore x xs → NoneBefore x (x ∷ xs)
     none_before_itself x xs n = ((tied x x (self_tie x)).0, n)
 

@@ -29,14 +29,17 @@ module _ (e : Bindings) where
   KeysKeep (NoKey f) = Unit {0}
   KeysKeep (Keys xs cut) = All (λ x. Keeps e (Sat x.1)) xs
 
+  -- a satisfier with a number keeps them where it does, before others that do
   with_keeps : (n : ℤ) (b : Bindings) (k : Keyed) → Keeps e (Sat b) → KeysKeep k → KeysKeep (keyed_with n b k)
   with_keeps n b (NoKey f) h all = tt
   with_keeps n b (Keys xs cut) h all = All-cons (λ x. Keeps e (Sat x.1)) (n, b) xs h all
 
+  -- a Cut changes no satisfier
   cut_keeps : (k : Keyed) → KeysKeep k → KeysKeep (cut_with k)
   cut_keeps (NoKey f) all = tt
   cut_keeps (Keys xs cut) all = all
 
+  -- a satisfier of which the number is asked keeps them where it does, before others that do
   by_keeps : (s : Span) (t : Option Term) (b : Bindings) (k : Keyed) → Keeps e (Sat b) → KeysKeep k
       → KeysKeep (keyed_by s t b k)
   by_keeps s None b k h all = tt
@@ -44,6 +47,7 @@ module _ (e : Bindings) where
   by_keeps s (Some (Symbol name)) b k h all = tt
   by_keeps s (Some (Listed ts)) b k h all = tt
 
+  -- the satisfiers of a list keep what each event of it keeps
   keyed_keeps : (k : Key) (xs : List Happening) → All (Keeps e) xs → KeysKeep (keyed k xs)
   keyed_keeps k [] all = All-nil (λ x. Keeps e (Sat x.1))
   keyed_keeps k (Sat b ∷ xs) all =
@@ -53,6 +57,7 @@ module _ (e : Bindings) where
   keyed_keeps k (Fault f ∷ xs) all = tt
 
   module _ (before : ℤ → ℤ → Bool) where
+    -- satisfiers keep them with one put in that does
     put_in_keeps : (x : ℤ × Bindings) (ys : List (ℤ × Bindings)) → Keeps e (Sat x.1)
         → All (λ y. Keeps e (Sat y.1)) ys → All (λ y. Keeps e (Sat y.1)) (put_in before x ys)
     put_in_keeps x [] h all = All-cons (λ y. Keeps e (Sat y.1)) x [] h all
@@ -65,6 +70,7 @@ module _ (e : Bindings) where
             All-cons (λ z. Keeps e (Sat z.1)) y (put_in before x ys) (All-head (λ z. Keeps e (Sat z.1)) y ys all) rest
         by false rest = All-cons (λ z. Keeps e (Sat z.1)) x (y ∷ ys) h all
 
+    -- satisfiers that are sorted keep what they kept
     sorted_keeps : (xs : List (ℤ × Bindings)) → All (λ x. Keeps e (Sat x.1)) xs
         → All (λ x. Keeps e (Sat x.1)) (sorted before xs)
     sorted_keeps [] all = all
@@ -72,6 +78,7 @@ module _ (e : Bindings) where
         put_in_keeps x (sorted before xs) (All-head (λ y. Keeps e (Sat y.1)) x xs all)
         (sorted_keeps xs (All-tail (λ y. Keeps e (Sat y.1)) x xs all))
 
+  -- a Cut keeps any bindings
   cut_behind : (cut : Bool) → All (Keeps e) (cond cut (Cut ∷ []) [])
   cut_behind true = All-cons (Keeps e) Cut [] tt (All-nil (Keeps e))
   cut_behind false = All-nil (Keeps e)
@@ -83,6 +90,7 @@ module _ (e : Bindings) where
       All-append (Keeps e) (map (λ x. Sat x.1) xs) (cond cut (Cut ∷ []) [])
       (All-map (Keeps e) (λ x. Sat x.1) xs all) (cut_behind cut)
 
+  -- the events of a list in order keep what its satisfiers keep
   sorted_events_keep : (order : Order) (k : Keyed) → KeysKeep k → All (Keeps e) (sorted_events order k)
   sorted_events_keep order (NoKey f) all = All-cons (Keeps e) (Fault f) [] tt (All-nil (Keeps e))
   sorted_events_keep order (Keys xs cut) all =
@@ -90,7 +98,7 @@ module _ (e : Bindings) where
 
 -- ---- what was noted
 
--- noted values keep the bindings of the start
+-- a noted satisfier keeps the bindings of the start
 noted_keeps : (c : List Term) (kept : ℕ) (start : Slotted) (n : Noted) → IsNoted kept start n
     → Keeps (bindings_of c start) (Sat (entry_of c n).1)
 noted_keeps c kept start n h v t k = by (flat (slice_get start.values v)) refl (sym (bound_named c start v) ∙ k)
@@ -102,6 +110,7 @@ noted_keeps c kept start n h v t k = by (flat (slice_get start.values v)) refl (
         ap flat_option (bindings_some c (slotted n.values.items []) v cell t
         (h.extends.keeps v cell (place_bound start v cell p)) (sym (ap (named c) p) ∙ q))
 
+-- what was noted keeps the bindings of the start
 entries_keep : (c : List Term) (kept : ℕ) (start : Slotted) (ns : List Noted) → All (IsNoted kept start) ns
     → All (λ x. Keeps (bindings_of c start) (Sat x.1)) (map (entry_of c) ns)
 entries_keep c kept start ns all =
