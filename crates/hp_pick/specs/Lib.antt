@@ -1,0 +1,4 @@
+pub mod UpToSat
+pub mod Noted
+pub mod Heard
+pub mod SortedLaws

@@ -1,4 +1,7 @@
 //! The first satisfier alone.
+ghost use Rattle.std.specs.Prelude.{◌≡◌};
+ghost use Rattle.hp_pick.specs.UpToSat.{is_sat};
+
 use hp_cells::Cells;
 use hp_eval::{Event, Sats, Slots};
 use std::alloc::AllocError;
@@ -37,9 +40,22 @@ impl<S> First<S> {
     }
 }
 
+// Whether an event is a Sat.
+fn is_sat(event: Event) -> bool
+    ensures { result ≡ is_sat event }
+{
+    match event {
+        Event::Sat => true,
+        Event::Cut | Event::Fault(_) | Event::End => false,
+    }
+}
+
 impl<B, S: Sats<B>> Sats<B> for First<S> {
     ghost use Rattle.std.specs.Prelude.{cond, []};
     ghost use Rattle.hp_syntax.specs.Preconditions.{up_to_sat};
+    ghost use Rattle.hp_eval.specs.Slotted.{bindings_of, undone};
+    ghost use Rattle.hp_eval.specs.Events.{Keeps};
+    ghost use Rattle.hp_pick.specs.UpToSat.{first_same, first_extend};
 
     ghost rest = { λ s b c e. cond s.ended [] (up_to_sat (S.rest s.inner b c e)) };
 
@@ -55,8 +71,18 @@ impl<B, S: Sats<B>> Sats<B> for First<S> {
 
     ghost is_open = { λ s. S.is_open s.inner };
 
-    fn next(&mut self, base: &B, cells: &mut Cells, slots: &mut Slots) -> Result<Event, AllocError> {
-        todo
+    fn next(
+        &mut self,
+        base: &B,
+        cells: &mut Cells,
+        slots: &mut Slots,
+    ) -> Result<Event, AllocError> {
+        if self.ended {
+            return Ok(Event::End);
+        }
+        let event = self.inner.next(base, cells, slots)?;
+        self.ended = is_sat(event);
+        Ok(event)
     }
 
     fn close(&mut self, slots: &mut Slots) {
@@ -67,9 +93,10 @@ impl<B, S: Sats<B>> Sats<B> for First<S> {
         self.inner.live()
     }
 
-    ghost fits_hold = { ? };
+    ghost fits_hold = { λ s e h. S.fits_hold s.inner e h };
 
-    ghost same_cells = { ? };
+    ghost same_cells = { λ s b c d e u h k. first_same s.ended (S.same_cells s.inner b c d e u h k) };
 
-    ghost sats_extend = { ? };
+    ghost sats_extend = { λ s b c e u h. first_extend (Keeps (bindings_of c (undone (S.start s.inner) e))) s.ended
+        (S.rest s.inner b c e) (S.sats_extend s.inner b c e u h) };
 }

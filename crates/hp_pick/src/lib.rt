@@ -4,6 +4,9 @@
 #![tactic(auto)]
 
 mod first;
+mod heard;
+mod hearing;
+mod noted;
 mod sorted;
 
 pub use first::First;

@@ -1,5 +1,7 @@
 //! All satisfiers in the order of a variable.
-use hp_cells::{Cell, Cells};
+use crate::heard::Heard;
+use crate::hearing::hear_in_order;
+use hp_cells::Cells;
 use hp_eval::{Event, Sats, Slots};
 use hp_syntax::SortKey;
 use std::alloc::{AllocError, Global};
@@ -9,7 +11,13 @@ use std::alloc::{AllocError, Global};
 /// such fault alone.
 #[derive(Drop)]
 pub struct Sorted<S> {
-    // The helper's: inner, key, mark (how many bindings stood at the start), what was heard, the allocator, failed.
+    alloc: Global,
+    inner: S,
+    key: SortKey,
+    // How many bindings stood at the start.
+    mark: usize,
+    // What was heard; the inner list is closed then.
+    heard: Option<Heard>,
 }
 
 impl<S> Sorted<S> {
@@ -35,6 +43,76 @@ impl<S> Sorted<S> {
         ensures live { ⟦<Sorted<S> as Sats<B>>⟧.is_live result ≡ S.is_live inner }
         ensures open { ⟦<Sorted<S> as Sats<B>>⟧.is_open result ≡ S.is_open inner }
     {
-        todo
+        Sorted {
+            alloc,
+            inner,
+            key,
+            mark: slots.mark(),
+            heard: None,
+        }
     }
+}
+
+impl<B, S: Sats<B>> Sats<B> for Sorted<S> {
+    ghost use Rattle.hp_syntax.specs.Views.{key_of};
+    ghost use Rattle.hp_eval.specs.Slotted.{bindings_of, undone};
+    ghost use Rattle.hp_eval.specs.Events.{Keeps};
+    ghost use Rattle.hp_pick.specs.Heard.{rest_in_order, SuitsEither, FitsEither, kept_of, live_of, open_of};
+    ghost use Rattle.hp_pick.specs.SortedLaws.{either_hold, either_same, either_extend};
+
+    ghost rest = { λ s b c e. rest_in_order (key_of s.key) (S.rest s.inner b c e) c s.heard };
+
+    ghost suits = { λ s b. SuitsEither (S.suits s.inner b) s.heard };
+
+    ghost fits = { λ s e. FitsEither (S.fits s.inner e) (S.start s.inner) s.mark s.heard e };
+
+    ghost start = { λ s. s.mark };
+
+    ghost kept = { λ s. kept_of (S.kept s.inner) s.heard };
+
+    ghost is_live = { λ s. live_of (S.is_live s.inner) s.heard };
+
+    ghost is_open = { λ s. open_of (S.is_open s.inner) s.heard };
+
+    fn next(
+        &mut self,
+        base: &B,
+        cells: &mut Cells,
+        slots: &mut Slots,
+    ) -> Result<Event, AllocError> {
+        if let Some(heard) = &mut self.heard {
+            return Ok(heard.give(self.mark, slots));
+        }
+        let found = hear_in_order(self.alloc, &mut self.inner, &self.key, base, cells, slots);
+        let (heard, given) = Heard::start(self.alloc, found, cells.len(), slots);
+        self.heard = Some(heard);
+        given
+    }
+
+    fn close(&mut self, slots: &mut Slots) {
+        match &mut self.heard {
+            Some(heard) => {
+                slots.undo_to(self.mark);
+                heard.is_open = false;
+            }
+            None => self.inner.close(slots),
+        }
+    }
+
+    fn live(&self) -> bool {
+        match &self.heard {
+            Some(heard) => heard.is_live,
+            None => self.inner.live(),
+        }
+    }
+
+    ghost fits_hold = { λ s e h. either_hold (S.fits s.inner e) (S.start s.inner) s.mark (S.kept s.inner) s.heard e
+        (S.fits_hold s.inner e) h };
+
+    ghost same_cells = { λ s b c d e u h k. either_same (key_of s.key) (S.suits s.inner b) (S.fits s.inner e)
+        (S.start s.inner) s.mark (S.kept s.inner) s.heard e c d (S.rest s.inner b c e) (S.rest s.inner b d e)
+        (S.same_cells s.inner b c d e) u h k };
+
+    ghost sats_extend = { λ s b c e u h. either_extend (key_of s.key) (S.suits s.inner b) (S.fits s.inner e)
+        (S.start s.inner) s.mark s.heard e c (S.rest s.inner b c e) (S.sats_extend s.inner b c e) u h };
 }

@@ -1,0 +1,66 @@
+-- Notes while cells grow and further events are heard.
+use Rattle.std.proofs.Common.{◌≡◌, ℕ, ◌≤◌, Bool, true, false, List, [], ◌∷◌, ◌++◌, ◌||◌, map, length, Result, Ok, Err, refl, sym, ◌∙◌, ap, ap₂, subst, arith}
+use Rattle.std.specs.List.{All}
+use Rattle.std.proofs.lemmas.List.{length-take-le}
+use Rattle.std.proofs.lemmas.List.Elements.{All-head, All-tail, All-weaker}
+use Rattle.hp_syntax.specs.Terms.{Term}
+use Rattle.hp_syntax.specs.Preconditions.{Keyed, Keys, NoKey}
+use Rattle.hp_eval.specs.declared.event.EvalStop.{EvalStop}
+use Rattle.hp_eval.specs.declared.event.EvalStop.TheVariants as stops
+use Rattle.hp_eval.specs.Slotted.{Slotted, slotted, AreBelow, Binds, undone}
+use Rattle.hp_eval.specs.Growth.{Grows}
+use Rattle.hp_eval.proofs.SlotLemmas.{below_undone}
+use Rattle.hp_eval.proofs.GrowthLemmas.{bindings_stay, below_grows}
+use Rattle.hp_pick.specs.declared.noted.Noted.{Noted}
+use Rattle.hp_pick.specs.declared.noted.Notes.{Notes}
+use Rattle.hp_pick.specs.Noted.{IsNoted, entry_of, with_notes, HearsOn}
+
+-- bindings that stand above those of a mark are undone to these
+pub undone_above : (n : ℕ) (e f : Slotted) → n ≤ length e.trail → Binds (undone n e) f → undone n f ≡ undone n e
+undone_above n e f h b = ap (λ m. undone m f) (sym (length-take-le n e.trail h)) ∙ b.undoes
+
+module _ (c d : List Term) (g : Grows c d) (start : Slotted) where
+  -- what is noted stays so while cells are added
+  pub noted_grown : (ns : List Noted) → All (IsNoted (length c) start) ns → All (IsNoted (length d) start) ns
+  noted_grown ns h =
+      All-weaker (IsNoted (length c) start) (IsNoted (length d) start)
+      (λ n p. record {
+        extends = p.extends;
+        below = below_grows c d g (slotted n.values.items []) p.below;
+        few = p.few;
+      })
+      ns h
+
+  -- what noted cells name stays while cells are added
+  entries_stay : (ns : List Noted) → All (IsNoted (length c) start) ns → map (entry_of d) ns ≡ map (entry_of c) ns
+  entries_stay [] h = refl
+  entries_stay (n ∷ ns) h =
+      let p = All-head (IsNoted (length c) start) n ns h in
+      ap₂ (λ e es. (n.number, e) ∷ es) (bindings_stay c d g (slotted n.values.items []) p.below)
+      (entries_stay ns (All-tail (IsNoted (length c) start) n ns h))
+
+  -- notes give the same over cells that were added to
+  pub with_notes_grown : (notes : Notes) (k : Keyed) → All (IsNoted (length c) start) notes.sats.items
+      → with_notes d notes k ≡ with_notes c notes k
+  with_notes_grown notes (NoKey f) h = refl
+  with_notes_grown notes (Keys xs cut) h =
+      ap (λ es. Keys (es ++ xs) (notes.cut || cut)) (entries_stay notes.sats.items h)
+
+-- with no notes a list gives what it gives
+pub with_no_notes : (c : List Term) (notes : Notes) (k : Keyed) → notes.sats.items ≡ [] → notes.cut ≡ false
+    → with_notes c notes k ≡ k
+with_no_notes c notes (NoKey f) h q = refl
+with_no_notes c notes (Keys xs cut) h q = ap₂ (λ ns b. Keys (map (entry_of c) ns ++ xs) (b || cut)) h q
+
+-- an event is heard of what equals the whole, and what equals the remainder is left
+pub hears_same : (r : Result Bool EvalStop) (v w k l alone : Keyed) → v ≡ w → l ≡ k → HearsOn r v k alone
+    → HearsOn r w l alone
+hears_same (Ok true) v w k l alone p q h = sym p ∙ (h ∙ sym q)
+hears_same (Ok false) v w k l alone p q h = sym p ∙ h
+hears_same (Err (stops.Fault f)) v w k l alone p q h = sym p ∙ h
+hears_same (Err stops.NoMemory) v w k l alone p q h = tt
+
+-- cells stay below a greater count when bindings are undone
+pub below_undone_more : (m n mark : ℕ) (e f : Slotted) → AreBelow m e → m ≤ n → f ≡ undone mark e → AreBelow n f
+below_undone_more m n mark e f below h q =
+    subst (AreBelow n) (sym q) (λ v cell k. omega (arith, below_undone m mark e below v cell k))

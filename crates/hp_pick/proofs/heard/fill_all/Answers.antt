@@ -1,0 +1,21 @@
+use Rattle.std.proofs.Common.{Some, sym, ap, ◌∙◌, arith}
+use Rattle.std.specs.Prelude.{slice_set}
+use Rattle.std.proofs.lemmas.Option.{slice_get-get_or}
+use Rattle.hp_eval.proofs.SlotLemmas.{binds_through}
+use Rattle.hp_pick.proofs.FillLemmas.{filled_more}
+use Rattle.hp_pick.proofs.heard.fill_all.Goals as goal
+
+pub loop-v-preserved : goal.loop-v-preserved
+loop-v-preserved c =
+    let values = c.args.values.now in
+    let slots = c.args.slots.now in
+    let v = c.loop-v.v in
+    let value = c.index-values-v.result in
+    record {
+      filled =
+          c.fill.ensures.value
+          ∙ (ap (λ vs. slice_set vs v value) c.loop-v.invariant.filled
+          ∙ filled_more v values slots.values value c.requires.keeps.as_many
+          (slice_get-get_or values v value (omega arith) ∙ ap Some (sym c.index-values-v.is)));
+      above = binds_through slots c.loop-v.slots c.fill.new.slots c.loop-v.invariant.above c.fill.ensures.above;
+    }

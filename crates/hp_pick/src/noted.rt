@@ -1,0 +1,142 @@
+//! What is noted of satisfiers while their whole list is heard.
+ghost use Rattle.std.specs.Prelude.{◌≡◌, ℕ, ◌<◌, ◌^◌, ◌∷◌, [], ◌++◌, false, true, List, IfOk, Ok, length, slice_get};
+ghost use Rattle.std.specs.List.{All};
+ghost use Rattle.hp_syntax.specs.Views.{key_of};
+ghost use Rattle.hp_syntax.specs.Values.{bound};
+ghost use Rattle.hp_syntax.specs.Preconditions.{keyed};
+ghost use Rattle.hp_eval.specs.Slotted.{Slotted, Binds, AreBelow, bindings_of, flat};
+ghost use Rattle.hp_eval.specs.Events.{Happening, event_of, left_after, AreOfFirst};
+ghost use Rattle.hp_pick.specs.Noted.{IsNoted, number_at, with_notes, AddsSat, HearsOn};
+
+use hp_cells::{Cell, Cells, View};
+use hp_eval::{EvalStop, Event, Slots};
+use hp_syntax::{FaultKind, RunFault, SortKey};
+use std::alloc::{AllocError, Global};
+
+/// A satisfier: the number by which it is sorted, and what each variable then stands for.
+#[derive(Drop)]
+pub(crate) struct Noted {
+    pub(crate) number: i64,
+    pub(crate) values: Vec<Option<Cell>>,
+}
+
+/// The satisfiers of a list, and whether a Cut stood in it.
+#[derive(Drop)]
+pub(crate) struct Notes {
+    pub(crate) sats: Vec<Noted>,
+    pub(crate) cut: bool,
+}
+
+impl Notes {
+    pub(crate) fn new(alloc: Global) -> Notes
+        ensures sats { result.sats.items ≡ [] }
+        ensures cut { result.cut ≡ false }
+    {
+        Notes {
+            sats: Vec::new(alloc),
+            cut: false,
+        }
+    }
+}
+
+// What a variable stands for; one beyond the variables stands for nothing.
+fn cell_of(v: u32, slots: &Slots) -> Option<Cell>
+    ensures { result ≡ flat (slice_get slots.now.values v) }
+{
+    if (v as usize) < slots.vars() {
+        slots.get(v)
+    } else {
+        None
+    }
+}
+
+// The number that the variable of a key stands for.
+fn number_of(key: &SortKey, cells: &Cells, slots: &Slots) -> Result<i64, RunFault>
+    requires below { AreBelow (length cells.now) slots.now }
+    ensures { result ≡ number_at key.now.span (bound (bindings_of cells.now slots.now) key.now.var) }
+{
+    let Some(cell) = cell_of(key.var, slots) else {
+        return Err(RunFault {
+            kind: FaultKind::NotGround,
+            span: key.span,
+        });
+    };
+    match cells.get(cell) {
+        View::Num(n) => Ok(n),
+        View::Nil | View::Sym(_) | View::Cons(_, _) => Err(RunFault {
+            kind: FaultKind::NotNumber,
+            span: key.span,
+        }),
+    }
+}
+
+// A copy of what each variable stands for.
+fn values_of(alloc: Global, slots: &Slots) -> Result<Vec<Option<Cell>>, AllocError>
+    ensures copy { IfOk result (λ values. values.items ≡ slots.now.values) }
+    ensures few { IfOk result (λ values. length values.items < 2 ^ 32) }
+{
+    // Variables are named by 32 bits; of more there is no copy.
+    let Ok(vars) = u32::try_from(slots.vars()) else {
+        return Err(AllocError);
+    };
+    let mut values = Vec::with_capacity(alloc, vars as usize)?;
+    for v in 0..vars {
+        values.push(slots.get(v))?;
+    }
+    Ok(values)
+}
+
+// Notes a Sat whose bindings are in the slots.
+fn note_sat(
+    alloc: Global,
+    key: &SortKey,
+    cells: &Cells,
+    slots: &Slots,
+    notes: &mut Notes,
+) -> Result<(), EvalStop>
+    requires below { AreBelow (length cells.now) slots.now }
+    ensures adds { AddsSat (key_of key.now) cells.now result (bindings_of cells.now slots.now) notes.old notes.new }
+    ensures noted { (start : Slotted) → Binds start slots.now
+        → All (IsNoted (length cells.now) start) notes.old.sats.items
+        → All (IsNoted (length cells.now) start) notes.new.sats.items }
+{
+    let number = number_of(key, cells, slots)?;
+    let values = values_of(alloc, slots)?;
+    notes.sats.push(Noted { number, values })?;
+    Ok(())
+}
+
+/// Notes the first event of a list, whose bindings are in the slots if it is a Sat: true where more may come, false at
+/// the end.
+pub(crate) fn note(
+    alloc: Global,
+    event: Event,
+    key: &SortKey,
+    cells: &Cells,
+    slots: &Slots,
+    notes: &mut Notes,
+) -> Result<bool, EvalStop>
+    requires below { AreBelow (length cells.now) slots.now }
+    ensures step { (xs : List Happening) → event ≡ event_of xs → AreOfFirst xs (bindings_of cells.now slots.now)
+        → HearsOn result (with_notes cells.now notes.old (keyed (key_of key.now) xs))
+        (with_notes cells.now notes.new (keyed (key_of key.now) (left_after xs)))
+        (with_notes cells.now notes.new (keyed (key_of key.now) [])) }
+    ensures fewer { (xs : List Happening) → event ≡ event_of xs → result ≡ Ok true
+        → length (left_after xs) < length xs }
+    ensures noted { (start : Slotted) → Binds start slots.now
+        → All (IsNoted (length cells.now) start) notes.old.sats.items
+        → All (IsNoted (length cells.now) start) notes.new.sats.items }
+{
+    match event {
+        Event::Sat => {
+            note_sat(alloc, key, cells, slots, notes)?;
+            Ok(true)
+        }
+        Event::Cut => {
+            notes.cut = true;
+            Ok(true)
+        }
+        Event::Fault(fault) => Err(EvalStop::Fault(fault)),
+        Event::End => Ok(false),
+    }
+}
