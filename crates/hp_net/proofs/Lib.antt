@@ -1,1 +1,5 @@
+pub mod EditLemmas
+pub mod FormLemmas
+pub mod OutlineLemmas
 pub mod PushLemmas
+pub mod SpotLemmas

@@ -170,6 +170,23 @@ reads_list order ns count added two r = record {
 
 -- ---- a list that is closed
 
+removed_behind : (es : List Entry) (e : Entry) (others : List Entry) (at : ℕ) → length es ≡ at
+    → remove (es ++ e ∷ others) at ≡ es ++ others
+removed_behind es e others at l = ap₂ ◌++◌ (take_at es (e ∷ others) at l) (ap (λ n. drop (suc n) (es ++ e ∷ others)) (sym l) ∙ from es)
+  where
+    from : (xs : List Entry) → drop (suc (length xs)) (xs ++ e ∷ others) ≡ others
+    from [] = refl
+    from (x ∷ xs) = from xs
+
+-- a list that is closed behind entries goes, or has its number of parts
+pub closed_behind : (es : List Entry) (e : Entry) (others : List Entry) (at : ℕ) (order : Order) (count : ℕ)
+    → length es ≡ at
+    → closed at order count (es ++ e ∷ others)
+    ≡ es ++ cond (nat_lt count 2) others (entries.List order count ∷ others)
+closed_behind es e others at order count l =
+    ⊎_elim (λ c. rw c (removed_behind es e others at l))
+    (λ c. rw c (set_at es e others (entries.List order count) at l)) (cases_Bool (nat_lt count 2))
+
 module _ (order : Order) (ts : List TaskTree) (count : ℕ) (added : List Entry)
     (r : Reads (all_kept ts) count added) where
   -- what stays of the list, by the number of its parts
@@ -201,23 +218,11 @@ module _ (order : Order) (ts : List TaskTree) (count : ℕ) (added : List Entry)
   pub adds_closed : (old : List Entry) → Adds (kept_list order ts) (cond (nat_lt count 2) count 1) old
       (closed (length old) order count (old ++ entries.List order 0 ∷ added))
   adds_closed old =
-      ⊎_elim
-      (λ e. rw e (record {
-        added = added;
-        is =
-            ap₂ ◌++◌ (take_at old (entries.List order 0 ∷ added) (length old) refl)
-            (removed_behind old (entries.List order 0) added);
-        reads = few e;
-      }))
-      (λ e. rw e (record {
-        added = entries.List order count ∷ added;
-        is = set_at old (entries.List order 0) added (entries.List order count) (length old) refl;
-        reads = many e;
-      })) (cases_Bool (nat_lt count 2))
-    where
-      removed_behind : (xs : List Entry) (y : Entry) (ys : List Entry) → drop (suc (length xs)) (xs ++ y ∷ ys) ≡ ys
-      removed_behind [] y ys = refl
-      removed_behind (x ∷ xs) y ys = removed_behind xs y ys
+      record {
+        added = cond (nat_lt count 2) added (entries.List order count ∷ added);
+        is = closed_behind old (entries.List order 0) added (length old) order count refl;
+        reads = ⊎_elim (λ e. rw e (few e)) (λ e. rw e (many e)) (cases_Bool (nat_lt count 2));
+      }
 
 -- what stays of one tree is one network or none
 pub length-kept : (t : TaskTree) (terms : List Term) → length (kept t terms) ≤ 1

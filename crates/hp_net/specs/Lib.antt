@@ -1,2 +1,4 @@
+pub mod Edits
 pub mod Outlines
 pub mod Pushed
+pub mod Reading

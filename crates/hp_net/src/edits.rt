@@ -1,28 +1,28 @@
 //! Changes of the entries of a network.
+ghost use Rattle.std.specs.Prelude.{◌≡◌, ◌+◌, ◌-◌, ◌<◌, ◌≤◌, ◌^◌, Bool, cond, nat_lt, IfOk, MatchOption, None, Some, length, slice_get, vec_len};
+ghost use Rattle.hp_net.specs.Edits.{HasTask, HasParts, IsPart, IsAlone, IsTakenOut, further_of, fewer_by, replaced};
+
 use crate::entry::Entry;
 use crate::push::close_list;
 use hp_cells::Cell;
 use std::alloc::{AllocError, Global};
 
-// The cell of the task that is this entry.
+/// The cell of the task that is this entry.
 pub(crate) fn task_at(entries: &[Entry], at: usize) -> Cell
+    requires { HasTask entries.now at }
+    ensures { (immediate : Bool) × (slice_get entries.now at ≡ Some (Entry.Task result immediate)) }
 {
-    match entries[at] {
+    let entry = entries[at];
+    match entry {
         Entry::Task(cell, _) => cell,
         Entry::List(_, _) => unreachable!(),
     }
 }
 
-// How many networks stand before a task, one entry further left; none where that entry is the list that it is of.
-fn further(entry: Entry, before: usize) -> Option<usize>
-{
-    match entry {
-        Entry::Task(_, _) => Some(before + 1),
-        Entry::List(_, parts) => past_list(parts, before),
-    }
-}
-
+// How many networks stand before a task, from a list on that isn't its own.
 fn past_list(parts: usize, before: usize) -> Option<usize>
+    requires { before + 1 < 2 ^ 64 }
+    ensures { result ≡ cond (nat_lt before parts) None (Some (before + 1 - parts)) }
 {
     if before < parts {
         None
@@ -31,8 +31,21 @@ fn past_list(parts: usize, before: usize) -> Option<usize>
     }
 }
 
+// How many networks stand before a task, from this entry on; none where that entry is the list that it is a part of.
+fn further(entry: Entry, before: usize) -> Option<usize>
+    requires { before + 1 < 2 ^ 64 }
+    ensures { result ≡ further_of entry before }
+{
+    match entry {
+        Entry::Task(_, _) => Some(before + 1),
+        Entry::List(_, parts) => past_list(parts, before),
+    }
+}
+
 // The list that a task is a part of.
 fn list_of(entries: &[Entry], task: usize) -> Option<usize>
+    requires { task < length entries.now }
+    ensures { MatchOption result (IsAlone entries.now task) (IsPart entries.now task) }
 {
     let mut place = task;
     let mut before = 0;
@@ -46,8 +59,10 @@ fn list_of(entries: &[Entry], task: usize) -> Option<usize>
     None
 }
 
-// One part of a list goes, which is no longer there.
-fn take_part(entries: &mut Vec<Entry>, list: usize)
+// One part of a list is no longer there.
+fn lessen(entries: &mut Vec<Entry>, list: usize)
+    requires { HasParts entries.old.items list }
+    ensures { entries.new.items ≡ fewer_by (slice_get entries.old.items list) list entries.old.items }
 {
     match entries[list] {
         Entry::Task(_, _) => {}
@@ -57,25 +72,29 @@ fn take_part(entries: &mut Vec<Entry>, list: usize)
     }
 }
 
-// Takes a task out of its list, or the whole network where it is that task.
+/// Takes a task out of its list, or the whole network where it is that task.
 pub(crate) fn take_out(entries: &mut Vec<Entry>, task: usize)
+    requires { task < vec_len entries.old }
+    ensures { IsTakenOut task entries.old.items entries.new.items }
 {
     match list_of(entries.as_slice(), task) {
         None => entries.clear(),
         Some(list) => {
             entries.remove(task);
-            take_part(entries, list);
+            lessen(entries, list);
         }
     }
 }
 
-// The entries with others in the place of one.
+/// The entries with others in the place of one.
 pub(crate) fn with_subtasks(
     alloc: Global,
     entries: &[Entry],
     task: usize,
     subtasks: &[Entry],
 ) -> Result<Vec<Entry>, AllocError>
+    requires { task < length entries.now }
+    ensures { IfOk result (λ v. v.items ≡ replaced task subtasks.now entries.now) }
 {
     let mut all = Vec::with_capacity(alloc, entries.len() - 1 + subtasks.len())?;
     all.extend_from_slice(&entries[..task])?;

@@ -1,4 +1,10 @@
 //! The tasks of a network that may be done first.
+ghost use Rattle.std.specs.Prelude.{◌≡◌, ◌+◌, ◌<◌, ◌≤◌, ◌^◌, ◌∷◌, [], Bool, List, true, IfOk, OnOk, length, drop, slice_get};
+ghost use Rattle.std.specs.List.{All};
+ghost use Rattle.hp_net.specs.Edits.{HasTask};
+ghost use Rattle.hp_net.specs.Outlines.{AreFull, forest};
+ghost use Rattle.hp_net.specs.Reading.{are_read, level_read, parts_read, marks, left_of, IsFullEntry, Enters, Passes, Visits, entry_immediate, immediate_ids};
+
 use crate::entry::{Entry, Order};
 use crate::net::TaskId;
 use std::alloc::{AllocError, Global};
@@ -12,6 +18,8 @@ struct Level {
 
 // What is to be done with the parts of a list.
 fn level_of(order: Order, parts: usize) -> Level
+    requires { 0 < parts }
+    ensures { (bs : List Bool) → level_read result bs ≡ parts_read true order parts bs }
 {
     match order {
         Order::Ordered => Level {
@@ -27,6 +35,9 @@ fn level_of(order: Order, parts: usize) -> Level
 
 // How many networks are left to be passed over behind an entry.
 fn left_behind(entry: Entry, left: usize) -> usize
+    requires some { 0 < left }
+    requires fits { left_of entry left < 2 ^ 64 }
+    ensures { result ≡ left_of entry left }
 {
     match entry {
         Entry::Task(_, _) => left - 1,
@@ -36,6 +47,10 @@ fn left_behind(entry: Entry, left: usize) -> usize
 
 // The place behind so many networks.
 fn behind(entries: &[Entry], start: usize, count: usize) -> usize
+    requires full { AreFull entries.now }
+    requires within { start ≤ length entries.now }
+    requires enough { count ≤ length (forest [] (drop start entries.now)) }
+    ensures { Passes entries.now start count result }
 {
     let mut place = start;
     let mut left = count;
@@ -46,13 +61,15 @@ fn behind(entries: &[Entry], start: usize, count: usize) -> usize
     place
 }
 
-// A task is found; of a list the parts are read first.
+// A task is found; of a list the parts are read next.
 fn read_entry(
     entry: Entry,
     place: usize,
     levels: &mut Vec<Level>,
     found: &mut Vec<TaskId>,
 ) -> Result<(), AllocError>
+    requires { IsFullEntry entry }
+    ensures { OnOk result (Enters entry place levels.old.items levels.new.items found.old.items found.new.items) }
 {
     match entry {
         Entry::Task(_, _) => found.push(TaskId::new(place))?,
@@ -69,6 +86,12 @@ fn visit(
     levels: &mut Vec<Level>,
     found: &mut Vec<TaskId>,
 ) -> Result<usize, AllocError>
+    requires full { AreFull entries.now }
+    requires within { place ≤ length entries.now }
+    requires enough { length (level_read level (are_read levels.old.items))
+        ≤ length (forest [] (drop place entries.now)) }
+    ensures { IfOk result (λ next. Visits entries.now place next level levels.old.items levels.new.items
+        found.old.items found.new.items) }
 {
     if level.read == 0 {
         return Ok(behind(entries, place, level.pass));
@@ -81,18 +104,22 @@ fn visit(
     Ok(place + 1)
 }
 
-// The first tasks of the network that begins at a place, from left to right.
+/// The first tasks of the network that begins at a place, from left to right.
 pub(crate) fn first_tasks(
     alloc: Global,
     entries: &[Entry],
     start: usize,
 ) -> Result<Vec<TaskId>, AllocError>
+    requires { AreFull entries.now }
+    ensures marks { IfOk result (λ v. v.items ≡ marks (drop start entries.now) (true ∷ []) start) }
+    ensures tasks { IfOk result (λ v. All (HasTask entries.now) v.items) }
 {
     let mut found = Vec::new(alloc);
-    let mut levels = Vec::new(alloc);
-    if start < entries.len() {
-        levels.push(Level { read: 1, pass: 0 })?;
+    if start >= entries.len() {
+        return Ok(found);
     }
+    let mut levels = Vec::new(alloc);
+    levels.push(Level { read: 1, pass: 0 })?;
     let mut place = start;
     while let Some(level) = levels.pop() {
         place = visit(entries, place, level, &mut levels, &mut found)?;
@@ -102,6 +129,7 @@ pub(crate) fn first_tasks(
 
 // Whether this entry is an immediate task.
 fn is_immediate(entries: &[Entry], id: TaskId) -> bool
+    ensures { result ≡ entry_immediate (slice_get entries.now id) }
 {
     match entries.get(id.entry()) {
         None => false,
@@ -110,8 +138,9 @@ fn is_immediate(entries: &[Entry], id: TaskId) -> bool
     }
 }
 
-// Where one of the tasks is immediate, leaves only those that are.
+/// Where one of the tasks is immediate, leaves only those that are.
 pub(crate) fn keep_immediate(entries: &[Entry], found: &mut Vec<TaskId>)
+    ensures { found.new.items ≡ immediate_ids entries.now found.old.items }
 {
     if found.iter().any(|id| is_immediate(entries, *id)) {
         found.retain(|id| is_immediate(entries, *id));

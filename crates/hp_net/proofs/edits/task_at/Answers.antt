@@ -1,0 +1,7 @@
+use Rattle.std.proofs.Common.{◌<◌, length, rules, arith}
+use Rattle.std.proofs.lemmas.Grind.{common_steps}
+use Rattle.std.proofs.lemmas.Option.{slice_get_within, gets}
+use Rattle.hp_net.proofs.edits.task_at.Goals as goal
+
+pub bounds-entries-at : goal.bounds-entries-at
+bounds-entries-at c = slice_get_within c.args.entries.now c.args.at _ c.requires.2
