@@ -6,9 +6,9 @@ use Rattle.std.specs.Option.{option_and_then}
 use Rattle.std.proofs.lemmas.Bool.{cases_Bool, cases_lt, cond_both}
 use Rattle.std.proofs.lemmas.Bool.Decides.{nat_tests}
 use Rattle.std.proofs.lemmas.List.{drop_at, length-drop, length-take-le, nil_from_length, set_at, take-append-drop, take_at}
-use Rattle.std.proofs.lemmas.List.Elements.{All-append, All-drop, All-nil, All-take}
+use Rattle.std.proofs.lemmas.List.Elements.{All-append, All-drop, All-get_or, All-nil, All-take}
 use Rattle.std.proofs.lemmas.List.Edits.{length-remove, remove-append_left}
-use Rattle.std.proofs.lemmas.Option.{same_Some, slice_get_within}
+use Rattle.std.proofs.lemmas.Option.{get_or_from_slice_get, same_Some, slice_get_within}
 use Rattle.hp_syntax.specs.Networks as plain
 use Rattle.hp_syntax.specs.Networks.{Network, Empty, Place, And, as_list, is_empty, normal, part_at, with_part, with_nth_part, finish, expand}
 use Rattle.hp_syntax.specs.Terms.{Term}
@@ -245,6 +245,22 @@ unfolding network_in
 part_at-place terms es i p h =
     sym (first_part p (forest terms es) (spot_within terms i es zero p h))
     ∙ (ap (part_of (forest terms es)) (sym h) ∙ part_of-spot terms i es (entry_within i es (zero ∷ p) h))
+
+-- at a task's place stands the task
+pub task_at-place : (terms : List Term) (es : List Entry) (i cell : ℕ) (immediate : Bool) (p : Place)
+    → slice_get es i ≡ Some (Task cell immediate) → place_of es i ≡ Some p
+    → part_at (network_in terms es) p ≡ Some (plain.Task (term_at terms cell) immediate)
+task_at-place terms es i cell immediate p is h =
+    part_at-place terms es i p (spot_from_place es i p h)
+    ∙ ap (λ xs. Some (first_network (forest terms xs))) (drop-from es i (Task cell immediate) is)
+
+-- a task's cell is below what all cells are below
+pub cell_below : (k : ℕ) (es : List Entry) (i cell : ℕ) (immediate : Bool)
+    → slice_get es i ≡ Some (Task cell immediate) → All (EntryBelow k) es → cell < k
+cell_below k es i cell immediate is h =
+    let w = slice_get_within es i (Task cell immediate) is in
+    subst (EntryBelow k) (get_or_from_slice_get es i (Task cell immediate) (Task cell immediate) is)
+    (All-get_or (EntryBelow k) es i (Task cell immediate) w h)
 
 -- entries whose first network from an entry on is another are the network with that one at the entry's place
 pub network-replaced : (terms : List Term) (es tail : List Entry) (i : ℕ) (p : Place) (x : Network)

@@ -4,7 +4,7 @@ use Rattle.std.specs.Prelude.{slice_get}
 use Rattle.std.proofs.lemmas.List.{append-nil}
 use Rattle.std.proofs.lemmas.Bool.Decides.{nat_tests}
 use Rattle.hp_syntax.specs.Networks as plain
-use Rattle.hp_syntax.specs.Networks.{Network, Empty, normal, is_empty}
+use Rattle.hp_syntax.specs.Networks.{Network, Empty, Place, normal, is_empty, with_part, finish, expand}
 use Rattle.hp_syntax.specs.Terms.{Term}
 use Rattle.hp_eval.specs.declared.tasks.TaskTree.{TaskTree}
 use Rattle.hp_eval.specs.GoalViews.{as_networks, network_of}
@@ -78,6 +78,21 @@ outline_of_added t count es a = record {
       omega arith;
   focus = tt;
 }
+
+-- a network of which nothing is shown is empty
+nothing_shown : (n : Network) → length (shown n) ≡ 0 → is_empty n ≡ true
+nothing_shown Empty h = refl
+nothing_shown (plain.Task t i) h = absurd (omega arith)
+nothing_shown (plain.Ordered ns) h = absurd (omega arith)
+nothing_shown (plain.Unordered ns) h = absurd (omega arith)
+
+-- with a tree that added nothing a task is done
+pub expand_none : (t : TaskTree) (count : ℕ) (old new : List Entry) → Adds (kept t) count old new → count ≡ 0
+    → (terms : List Term) (net : Network) (p : Place) → expand net p (normal (network_of terms t)) ≡ finish net p
+unfolding kept expand
+expand_none t count old new a z terms net p =
+    let sub = normal (network_of terms t) in
+    ap (λ b. cond b (finish net p) (with_part net p sub, Some p)) (nothing_shown sub (a.reads.count terms ∙ z))
 
 -- ---- the whole network
 

@@ -330,6 +330,14 @@ drop-from [] j e h = absurd cc
 drop-from (d ∷ es) zero e h = ap (λ x. x ∷ es) (same_Some d e h)
 drop-from (d ∷ es) (suc j) e h = drop-from es j e h
 
+-- the first entry of those from it on is the first network
+pub spot_first : (i : ℕ) (es : List Entry) → i < length es → spot (i - i) (drop i es) ≡ Some (zero ∷ [])
+spot_first i es l = let z : i - i ≡ 0 = omega arith in rw z (first (drop i es) (let n = length-drop i es in omega arith))
+  where
+    first : (xs : List Entry) → 0 < length xs → spot zero xs ≡ Some (zero ∷ [])
+    first [] l = absurd (omega arith)
+    first (x ∷ xs) l = refl
+
 -- ---- places
 
 place_parts : (s : Option (List ℕ)) (p : Place) → option_and_then below_root s ≡ Some p → s ≡ Some (zero ∷ p)
