@@ -1,0 +1,1 @@
+-- The tasks that are found are the first ones.
