@@ -2,7 +2,7 @@
 use Rattle.std.proofs.Common.{◌≡◌, ℕ, ◌+◌, ◌-◌, ◌*◌, ◌<◌, ◌≤◌, zero, suc, Bool, true, false, cond, List, [], ◌∷◌, ◌++◌, length, drop, refl, sym, ap, ap₂, subst, ◌∙◌, arith, append_assoc, length-append, length-drop, add-one}
 use Rattle.std.specs.Prelude.{Some, slice_get}
 use Rattle.std.specs.List.{All}
-use Rattle.std.proofs.lemmas.List.{append-nil, length_push}
+use Rattle.std.proofs.lemmas.List.{append-nil, length_push, nil_from_length}
 use Rattle.std.proofs.lemmas.List.Elements.{All-push}
 use Rattle.std.proofs.lemmas.Option.{slice_get_within}
 use Rattle.hp_net.specs.declared.entry.Order.{Order}
@@ -37,6 +37,18 @@ read_onto-push (k ∷ ls) l bs = read_onto-push ls l (level_read k bs)
 pub are_read-push : (ls : List Level) (l : Level) → are_read (ls ++ l ∷ []) ≡ level_read l (are_read ls)
 unfolding are_read
 are_read-push ls l = read_onto-push ls l []
+
+-- the first level reads one network
+pub read_first : (old new : List Level) → old ≡ [] → new ≡ old ++ record { read = 1; pass = 0 } ∷ []
+    → are_read new ≡ true ∷ []
+unfolding are_read
+read_first old new e h =
+    ap are_read (h ∙ ap (λ ls. ls ++ record { read = 1; pass = 0 } ∷ []) e)
+
+-- where no level is left nothing is read
+pub read_none : (ls : List Level) → length ls ≡ 0 → are_read ls ≡ []
+unfolding are_read
+read_none ls h = ap are_read (nil_from_length ls h)
 
 -- a level is told of so many networks
 pub length-level_read : (l : Level) (bs : List Bool) → length (level_read l bs) ≡ l.read + (l.pass + length bs)
