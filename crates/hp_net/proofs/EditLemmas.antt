@@ -1,11 +1,11 @@
 -- Entries of which a task goes, or that have subtasks in its place.
-use Rattle.std.proofs.Common.{◌≡◌, ◌⊎◌, ℕ, ◌+◌, ◌-◌, ◌<◌, ◌≤◌, zero, suc, Bool, true, false, cond, nat_lt, List, [], ◌∷◌, ◌++◌, length, take, drop, set, Option, Some, None, option_map, refl, sym, ap, ap₂, subst, ◌∙◌, arith, ⊎_elim, append_assoc, length-append}
+use Rattle.std.proofs.Common.{◌≡◌, ℕ, ◌+◌, ◌-◌, ◌<◌, ◌≤◌, zero, suc, Bool, false, cond, nat_lt, List, [], ◌∷◌, ◌++◌, length, take, drop, Option, Some, None, option_map, refl, sym, ap, ap₂, subst, ◌∙◌, arith, ⊎_elim, length-append}
 use Rattle.std.specs.Prelude.{slice_get}
 use Rattle.std.specs.List.{All, remove}
 use Rattle.std.specs.Option.{option_and_then}
-use Rattle.std.proofs.lemmas.Bool.{cases_Bool, cases_lt, cond_both}
+use Rattle.std.proofs.lemmas.Bool.{cases_Bool}
 use Rattle.std.proofs.lemmas.Bool.Decides.{nat_tests}
-use Rattle.std.proofs.lemmas.List.{drop_at, length-drop, length-take-le, nil_from_length, set_at, take-append-drop, take_at}
+use Rattle.std.proofs.lemmas.List.{drop_at, length-take-le, take-append-drop, take_at}
 use Rattle.std.proofs.lemmas.List.Elements.{All-append, All-drop, All-get_or, All-nil, All-take}
 use Rattle.std.proofs.lemmas.List.Edits.{length-remove, remove-append_left}
 use Rattle.std.proofs.lemmas.Option.{get_or_from_slice_get, same_Some, slice_get_within}
@@ -19,8 +19,8 @@ use Rattle.hp_net.specs.declared.entry.Order.{Order}
 use Rattle.hp_net.specs.declared.entry.Entry.{Entry}
 use Rattle.hp_net.specs.declared.entry.Entry.TheVariants.{Task, List as Parts}
 use Rattle.hp_net.specs.Edits.{HasTask, IsPart, IsAlone, IsTakenOut, fewer_by, replaced, without_part}
-use Rattle.hp_net.specs.Outlines.{forest, listed, first_network, network_in, AreFull, behind_task, behind_list, spot, below_root, place_of, Outline, IsOutline, EntryBelow}
-use Rattle.hp_net.specs.Pushed.{shown, kept, Adds, closed}
+use Rattle.hp_net.specs.Outlines.{forest, listed, first_network, network_in, AreFull, behind_task, behind_list, spot, below_root, place_of, IsOutline, EntryBelow}
+use Rattle.hp_net.specs.Pushed.{shown, kept, Adds}
 use Rattle.hp_net.proofs.FormLemmas.{forest_in_form, taken_in_form, normal-with_part, with_part_below, normal_parts-without, normal-listed, removed_in_form, some_as_list}
 use Rattle.hp_net.proofs.OutlineLemmas.{length-forest, full_behind}
 use Rattle.hp_net.proofs.PushLemmas.{below_closed, below_removed, closed_behind}
@@ -311,7 +311,7 @@ module _ (es : List Entry) (task list : ℕ) (f : AreFull es) (t : HasTask es ta
     t.0,
     t.1,
     slice_get-drop (suc list) number es
-    ∙ (ap (slice_get es) (let e = place_is in omega arith) ∙ t.2),
+        ∙ (ap (slice_get es) (let e = place_is in omega arith) ∙ t.2),
   )
 
   full_there : AreFull (Parts p.order p.parts ∷ others)

@@ -1,5 +1,5 @@
 -- The networks of full entries are in normal form, and stay so.
-use Rattle.std.proofs.Common.{◌≡◌, ℕ, ◌+◌, ◌-◌, ◌<◌, ◌≤◌, zero, suc, Bool, true, false, cond, List, [], ◌∷◌, ◌++◌, length, take, drop, Some, refl, sym, ap, subst, ◌∙◌, arith}
+use Rattle.std.proofs.Common.{◌≡◌, ℕ, ◌<◌, ◌≤◌, zero, suc, true, false, cond, List, [], ◌∷◌, ◌++◌, length, take, drop, Some, refl, sym, ap, ◌∙◌, arith}
 use Rattle.std.specs.List.{remove}
 use Rattle.hp_syntax.specs.Networks as plain
 use Rattle.hp_syntax.specs.Networks.{Network, Networks, Empty, Place, NoNetwork, And, is_empty, unless_empty, as_list, normal, normal_parts, part_at, nth_part_at, with_part, with_nth_part}
@@ -47,7 +47,7 @@ forest_in_form terms (Parts order n ∷ es) f =
     let enough = f.1 in (
       some_listed order (as_networks (take n (forest terms es))),
       list_in_form order (as_networks (take n (forest terms es))) (more_taken n (forest terms es) two (omega arith))
-      (form_taken n (forest terms es) h),
+          (form_taken n (forest terms es) h),
       form_dropped n (forest terms es) h,
     )
 

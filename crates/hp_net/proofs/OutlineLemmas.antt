@@ -1,6 +1,5 @@
 -- The networks that entries are.
-use Rattle.std.proofs.Common.{◌≡◌, ℕ, ◌+◌, ◌-◌, ◌<◌, ◌≤◌, zero, suc, Bool, true, false, cond, nat_eq, List, [], ◌∷◌, ◌++◌, length, take, drop, Option, Some, None, refl, sym, ap, ap₂, subst, ◌∙◌, arith, length-append, length-drop}
-use Rattle.std.specs.Prelude.{slice_get}
+use Rattle.std.proofs.Common.{◌≡◌, ℕ, ◌-◌, ◌≤◌, zero, suc, true, false, cond, nat_eq, List, [], ◌∷◌, length, take, drop, Some, None, refl, sym, ap, subst, ◌∙◌, arith, length-drop}
 use Rattle.std.proofs.lemmas.List.{append-nil}
 use Rattle.std.proofs.lemmas.Bool.Decides.{nat_tests}
 use Rattle.hp_syntax.specs.Networks as plain
@@ -12,7 +11,7 @@ use Rattle.hp_net.specs.declared.entry.Order.{Order}
 use Rattle.hp_net.specs.declared.entry.Order.TheVariants.{Ordered, Unordered}
 use Rattle.hp_net.specs.declared.entry.Entry.{Entry}
 use Rattle.hp_net.specs.declared.entry.Entry.TheVariants.{Task, List as Parts}
-use Rattle.hp_net.specs.Outlines.{forest, listed, first_network, network_in, AreFull, Outline, IsOutline}
+use Rattle.hp_net.specs.Outlines.{forest, listed, first_network, network_in, AreFull, IsOutline}
 use Rattle.hp_net.specs.Pushed.{shown, kept, Adds}
 use Rattle.hp_net.proofs.PushLemmas.{length-kept}
 

@@ -1,5 +1,5 @@
 -- The list that a task is a part of, looked for from right to left.
-use Rattle.std.proofs.Common.{◌≡◌, ℕ, ◌+◌, ◌-◌, ◌<◌, ◌≤◌, zero, suc, true, false, nat_lt, List, [], ◌∷◌, drop, Option, Some, None, option_map, refl, sym, ap, ap₂, ◌∙◌, arith, ⊎_elim}
+use Rattle.std.proofs.Common.{◌≡◌, ℕ, ◌+◌, ◌-◌, ◌<◌, ◌≤◌, suc, nat_lt, List, [], ◌∷◌, drop, Some, None, option_map, refl, ap, ap₂, ◌∙◌, arith, ⊎_elim}
 use Rattle.std.specs.Prelude.{slice_get}
 use Rattle.std.proofs.lemmas.Bool.{cases_Bool}
 use Rattle.std.proofs.lemmas.Bool.Decides.{nat_tests}
@@ -31,7 +31,7 @@ module _ (es : List Entry) (task place before : ℕ) (e : Entry) (earlier : plac
       let c = same_Some (before + 1 - n) count g in
       let l : n ≤ before = grind (arith, nat_tests) in (
         ap (option_map (behind_list n)) there
-        ∙ (ap Some (behind_list-past n before [] l) ∙ ap (λ k. Some (k ∷ [])) (omega arith)),
+            ∙ (ap Some (behind_list-past n before [] l) ∙ ap (λ k. Some (k ∷ [])) (omega arith)),
         omega arith,
       )) (cases_Bool (nat_lt before n))
 

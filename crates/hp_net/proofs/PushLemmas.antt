@@ -101,7 +101,7 @@ listed_kept : (order : Order) (ns : List Network) → AreSome ns
     ≡ cond (nat_lt (length ns) 2) ns (listed order (as_networks ns) ∷ [])
 listed_kept order [] h = refl
 listed_kept order (n ∷ []) h = ap (λ b. cond b [] (n ∷ [])) h.0
-listed_kept order (n ∷ m ∷ ns) h = 
+listed_kept order (n ∷ m ∷ ns) h =
     listed_some order (And n (And m (as_networks ns)))
     ∙ ap (λ b. cond b (n ∷ m ∷ ns) (listed order (And n (And m (as_networks ns))) ∷ []))
     (let e : nat_lt (suc (suc (length ns))) 2 ≡ false = grind (arith, nat_tests) in sym e)
@@ -162,8 +162,8 @@ reads_list order ns count added two r = record {
   full = λ rest h. (
     two,
     (let e = ap length (r.forest [] rest) ∙ length-append (ns []) (forest [] rest) in
-    let c = r.count [] in
-    omega arith),
+        let c = r.count [] in
+        omega arith),
     r.full rest h,
   );
 }

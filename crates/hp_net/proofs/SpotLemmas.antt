@@ -1,5 +1,5 @@
 -- Where the networks of entries stand, and entries with another network in the place of one.
-use Rattle.std.proofs.Common.{◌≡◌, ℕ, ◌+◌, ◌-◌, ◌<◌, ◌≤◌, zero, suc, Bool, true, false, cond, nat_lt, List, [], ◌∷◌, ◌++◌, length, take, drop, Option, Some, None, option_map, refl, sym, ap, ap₂, subst, ◌∙◌, arith, ⊎_elim, append_assoc}
+use Rattle.std.proofs.Common.{◌≡◌, ℕ, ◌+◌, ◌-◌, ◌<◌, ◌≤◌, zero, suc, true, false, nat_lt, List, [], ◌∷◌, ◌++◌, length, take, drop, Option, Some, None, option_map, refl, sym, ap, ap₂, subst, ◌∙◌, arith, ⊎_elim}
 use Rattle.std.specs.Prelude.{slice_get}
 use Rattle.std.specs.Option.{option_and_then}
 use Rattle.std.proofs.lemmas.Bool.{cases_Bool, cases_lt}
@@ -229,13 +229,13 @@ full-replaced j [] tail x l h f t = absurd (omega arith)
 full-replaced zero (e ∷ es) tail x l h f t = t
 full-replaced (suc j) (Task cell immediate ∷ es) tail x l h f t = full-replaced j es tail x (omega arith) h f t
 full-replaced (suc j) (Parts order n ∷ es) tail x l h f t = (
-    f.0,
-    (let e = ap length (forest-replaced [] j es tail x (omega arith) h) in
-    let c = length-put_at (spot j es) x (forest [] es) in
-    let g = f.1 in
-    omega arith),
-    full-replaced j es tail x (omega arith) h f.2 t,
-  )
+  f.0,
+  (let e = ap length (forest-replaced [] j es tail x (omega arith) h) in
+      let c = length-put_at (spot j es) x (forest [] es) in
+      let g = f.1 in
+      omega arith),
+  full-replaced j es tail x (omega arith) h f.2 t,
+)
 
 -- an entry keeps its spot as others come in place of it and of those behind it
 pub spot-replaced : (j : ℕ) (es : List Entry) (e : Entry) (tail : List Entry) → j < length es
@@ -350,3 +350,8 @@ place_parts (Some (suc k ∷ q)) p h = absurd cc
 pub spot_from_place : (es : List Entry) (i : ℕ) (p : Place) → place_of es i ≡ Some p → spot i es ≡ Some (zero ∷ p)
 unfolding place_of
 spot_from_place es i p h = place_parts (spot i es) p h
+
+-- an entry whose spot is in the first network has a place there
+pub place_from_spot : (es : List Entry) (i : ℕ) (p : Place) → spot i es ≡ Some (zero ∷ p) → place_of es i ≡ Some p
+unfolding place_of
+place_from_spot es i p h = ap (option_and_then below_root) h

@@ -1,5 +1,5 @@
 -- Changes of the entries of a network.
-use Rattle.std.specs.Prelude.{◌≡◌, ◌⊎◌, ℕ, suc, ◌+◌, ◌-◌, ◌<◌, ◌≤◌, nat_lt, Bool, cond, List, [], ◌∷◌, ◌++◌, take, drop, Option, Some, None, slice_get}
+use Rattle.std.specs.Prelude.{◌≡◌, ◌⊎◌, ℕ, suc, ◌+◌, ◌-◌, ◌<◌, nat_lt, Bool, cond, List, [], ◌∷◌, ◌++◌, take, drop, Option, Some, None, slice_get}
 use Rattle.std.specs.List.{remove}
 use Rattle.hp_net.specs.declared.entry.Order.{Order}
 use Rattle.hp_net.specs.declared.entry.Entry.{Entry}

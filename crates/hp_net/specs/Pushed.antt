@@ -1,6 +1,6 @@
 -- The normal form of a tree of tasks as entries.
-use Rattle.std.specs.Prelude.{◌≡◌, ℕ, ◌-◌, nat_lt, cond, List, [], ◌∷◌, ◌++◌, length, slice_set}
-use Rattle.std.specs.List.{All, remove}
+use Rattle.std.specs.Prelude.{◌≡◌, ℕ, nat_lt, cond, List, [], ◌∷◌, ◌++◌, length, slice_set}
+use Rattle.std.specs.List.{remove}
 use Rattle.hp_syntax.specs.Terms.{Term}
 use Rattle.hp_syntax.specs.Networks as plain
 use Rattle.hp_syntax.specs.Networks.{Network}

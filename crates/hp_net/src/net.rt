@@ -144,7 +144,12 @@ impl Net {
         if count == 0 {
             return self.finish(id);
         }
-        self.entries = with_subtasks(self.alloc, self.entries.as_slice(), id.entry, subtasks.as_slice())?;
+        self.entries = with_subtasks(
+            self.alloc,
+            self.entries.as_slice(),
+            id.entry,
+            subtasks.as_slice(),
+        )?;
         self.focus = Some(id.entry);
         Ok(())
     }

@@ -26,7 +26,11 @@ pub(crate) fn close_list(entries: &mut Vec<Entry>, at: usize, order: Order, coun
 
 // The normal form of a list with these parts, and how many networks it is: one, or none where it is empty.
 #[cycle(push)]
-fn push_list(entries: &mut Vec<Entry>, order: Order, parts: &[TaskTree]) -> Result<usize, AllocError>
+fn push_list(
+    entries: &mut Vec<Entry>,
+    order: Order,
+    parts: &[TaskTree],
+) -> Result<usize, AllocError>
     ensures adds { IfOk result (λ count. Adds (kept_list order parts.now) count entries.old.items entries.new.items) }
     ensures below { OnOk result ((k : ℕ) → TreesBelow k parts.now → All (EntryBelow k) entries.old.items
         → All (EntryBelow k) entries.new.items) }

@@ -1,4 +1,4 @@
-use Rattle.std.proofs.Common.{◌≡◌, ℕ, suc, ◌-◌, ◌<◌, ◌≤◌, length, drop, List, [], ◌∷◌, Some, refl, ap, subst, sym, ◌∙◌, arith}
+use Rattle.std.proofs.Common.{◌≡◌, ℕ, suc, ◌-◌, ◌<◌, length, drop, List, [], ◌∷◌, Some, refl, ap, subst, sym, ◌∙◌, arith}
 use Rattle.std.proofs.lemmas.Option.{slice_get_read}
 use Rattle.hp_net.specs.declared.entry.Entry.{Entry}
 use Rattle.hp_net.specs.Outlines.{spot}
@@ -53,10 +53,9 @@ pub returns : goal.returns
 returns c =
     let es = c.args.entries.now in
     let start : c.loop-place.place ≡ 0 = omega arith in
-    let all : c.args.task ≡ c.args.task - 0 = omega arith in
-    (
+    let all : c.args.task ≡ c.args.task - 0 = omega arith in (
       c.loop-place.before,
       ap (λ k. spot k es) all
-      ∙ subst (λ k. spot (c.args.task - k) (drop k es) ≡ Some (c.loop-place.before ∷ [])) start
-      c.loop-place.invariant.there,
+          ∙ subst (λ k. spot (c.args.task - k) (drop k es) ≡ Some (c.loop-place.before ∷ [])) start
+          c.loop-place.invariant.there,
     )

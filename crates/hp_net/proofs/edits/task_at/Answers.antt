@@ -1,6 +1,4 @@
-use Rattle.std.proofs.Common.{◌<◌, length, rules, arith}
-use Rattle.std.proofs.lemmas.Grind.{common_steps}
-use Rattle.std.proofs.lemmas.Option.{slice_get_within, gets}
+use Rattle.std.proofs.lemmas.Option.{slice_get_within}
 use Rattle.hp_net.proofs.edits.task_at.Goals as goal
 
 pub bounds-entries-at : goal.bounds-entries-at

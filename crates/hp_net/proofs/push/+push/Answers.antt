@@ -1,4 +1,4 @@
-use Rattle.std.proofs.Common.{rules, List, ◌≡◌, ℕ, ◌+◌, ◌<◌, length, ◌++◌, ◌∷◌, [], take, get_or, refl, sym, ap, subst, ◌∙◌, arith, length-append}
+use Rattle.std.proofs.Common.{rules, List, ◌≡◌, ◌+◌, length, ◌++◌, ◌∷◌, [], take, refl, sym, ap, subst, ◌∙◌, arith, length-append}
 use Rattle.std.specs.List.{All}
 use Rattle.std.proofs.lemmas.List.{take_all, take_more}
 use Rattle.std.proofs.lemmas.List.Elements.{All-push}
@@ -6,9 +6,9 @@ use Rattle.std.proofs.lemmas.Result.{IfOk-weaker, on_ok_weaker}
 use Rattle.hp_eval.specs.GoalViews.{TreeBelow, TreesBelow}
 use Rattle.hp_syntax.specs.Terms.{Term}
 use Rattle.hp_net.specs.declared.entry.Order.TheVariants.{Ordered, Unordered}
-use Rattle.hp_net.specs.declared.entry.Entry.TheVariants.{Task, List as Parts}
+use Rattle.hp_net.specs.declared.entry.Entry.TheVariants.{List as Parts}
 use Rattle.hp_net.specs.Outlines.{EntryBelow}
-use Rattle.hp_net.specs.Pushed.{kept, kept_list, all_kept, closed, Adds}
+use Rattle.hp_net.specs.Pushed.{kept, kept_list, closed, Adds}
 use Rattle.hp_net.proofs.PushLemmas.{kept-ordered, kept-unordered, one_or_none, adds_none, adds_same, adds_task, adds_tree, adds_list, below_closed, task_below, ordered_below, unordered_below, part_below}
 use Rattle.hp_net.proofs.push.+push.Goals as goal
 

@@ -1,6 +1,3 @@
-use Rattle.std.proofs.Common.{sym, ap, ◌∙◌, arith}
-use Rattle.std.proofs.lemmas.List.{append-nil, length_push}
-use Rattle.hp_net.specs.Reading.{are_read}
 use Rattle.hp_net.proofs.ReadingLemmas.{enters_list}
 use Rattle.hp_net.proofs.reading.read_entry.Goals as goal
 

@@ -1,4 +1,4 @@
-use Rattle.std.proofs.Common.{None, ap, subst, sym, ◌∙◌}
+use Rattle.std.proofs.Common.{None, ap, subst}
 use Rattle.hp_net.specs.Pushed.{kept, Adds}
 use Rattle.hp_net.proofs.OutlineLemmas.{network_of_added, outline_of_added}
 use Rattle.hp_net.proofs.net.Net.new.Goals as goal

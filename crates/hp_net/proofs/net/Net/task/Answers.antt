@@ -8,8 +8,7 @@ pub returns-clause-task : goal.returns-clause-task
 returns-clause-task c = λ terms p h.
     let is : slice_get c.args.self.now.entries c.args.id ≡ Some (Task c.task_at.result c.task_at.ensures.0)
     = ap₂ slice_get (sym (c.as_slice.ensures.value ∙ ap (λ o. o.entries) c.self.view_is)) (sym c.id.view_is)
-    ∙ c.task_at.ensures.1 in
-    (
+    ∙ c.task_at.ensures.1 in (
       c.task_at.ensures.0,
       task_at-place terms c.args.self.now.entries c.args.id c.task_at.result c.task_at.ensures.0 p is h,
     )
