@@ -5,10 +5,10 @@ use Rattle.std.specs.List.{All, remove}
 use Rattle.std.specs.Option.{option_and_then}
 use Rattle.std.proofs.lemmas.Bool.{cases_Bool}
 use Rattle.std.proofs.lemmas.Bool.Decides.{nat_tests}
-use Rattle.std.proofs.lemmas.List.{drop_at, length-take-le, take-append-drop, take_at}
+use Rattle.std.proofs.lemmas.List.{drop_at, get_or_at, length-take-le, take-append-drop, take_at}
 use Rattle.std.proofs.lemmas.List.Elements.{All-append, All-drop, All-get_or, All-nil, All-take}
 use Rattle.std.proofs.lemmas.List.Edits.{length-remove, remove-append_left}
-use Rattle.std.proofs.lemmas.Option.{get_or_from_slice_get, same_Some, slice_get_within}
+use Rattle.std.proofs.lemmas.Option.{get_or_from_slice_get, same_Some, slice_get-get_or, slice_get_within}
 use Rattle.hp_syntax.specs.Networks as plain
 use Rattle.hp_syntax.specs.Networks.{Network, Empty, Place, And, as_list, is_empty, normal, part_at, with_part, with_nth_part, finish, expand}
 use Rattle.hp_syntax.specs.Terms.{Term}
@@ -21,14 +21,14 @@ use Rattle.hp_net.specs.declared.entry.Entry.TheVariants.{Task, List as Parts}
 use Rattle.hp_net.specs.Edits.{HasTask, IsPart, IsAlone, IsTakenOut, fewer_by, replaced, without_part}
 use Rattle.hp_net.specs.Outlines.{forest, listed, first_network, network_in, AreFull, behind_task, behind_list, spot, below_root, place_of, IsOutline, EntryBelow}
 use Rattle.hp_net.specs.Pushed.{shown, kept, Adds}
-use Rattle.hp_net.proofs.FormLemmas.{forest_in_form, taken_in_form, normal-with_part, with_part_below, normal_parts-without, normal-listed, removed_in_form, some_as_list}
+use Rattle.hp_net.proofs.FormLemmas.{forest_in_form, taken_in_form, normal-with_part, with_part_below, normal_parts-without, removed_in_form, some_as_list}
 use Rattle.hp_net.proofs.OutlineLemmas.{length-forest, full_behind}
-use Rattle.hp_net.proofs.PushLemmas.{below_closed, below_removed, closed_behind}
+use Rattle.hp_net.proofs.PushLemmas.{below_closed, below_removed, closed_behind, normal-listed}
 use Rattle.hp_net.proofs.SpotLemmas.{IsSpot, is_spot, behind_list-within, drop-from, entry_within, forest-replaced, full-replaced, length-put_at, part_of, part_of-spot, put, put_at, spot-below, spot-replaced, spot_from_place, spot_within, with_part-listed}
 
 -- ---- a task that is a part of no list
 
--- the networks without one are those before it and those behind it
+-- without a later network the first ones are the same
 take-remove : (ns : List Network) (n k : ℕ) → n ≤ k → take n (remove ns k) ≡ take n ns
 take-remove ns zero k l = refl
 take-remove [] (suc n) zero l = absurd (omega arith)
@@ -36,6 +36,7 @@ take-remove [] (suc n) (suc k) l = refl
 take-remove (m ∷ ns) (suc n) zero l = absurd (omega arith)
 take-remove (m ∷ ns) (suc n) (suc k) l = ap (λ x. m ∷ x) (take-remove ns n k (omega arith))
 
+-- behind the first so many networks one has so many numbers less
 drop-remove : (ns : List Network) (n k : ℕ) → n ≤ k → drop n (remove ns k) ≡ remove (drop n ns) (k - n)
 drop-remove ns zero k l = ap (remove ns) (omega arith)
 drop-remove [] (suc n) zero l = absurd (omega arith)
@@ -53,6 +54,7 @@ drop-remove (m ∷ ns) (suc n) (suc k) l =
 abbrev Number : Option (List ℕ) → ℕ → Type 0
 Number s k = s ≡ Some (k ∷ [])
 
+-- a number behind a task is the next of the one that it was
 behind_task_parts : (s : Option (List ℕ)) (k : ℕ) → Number (option_map behind_task s) k
     → (j : ℕ) × (k ≡ suc j) × Number s j
 behind_task_parts None k h = absurd cc
@@ -62,6 +64,7 @@ behind_task_parts (Some (j ∷ p)) k h =
     let f : p ≡ [] = cc in
     (j, sym e, ap (λ q. Some (j ∷ q)) f)
 
+-- a number behind a list is that of a network that is no part of it, less by the parts but one
 behind_list_parts : (n : ℕ) (s : Option (List ℕ)) (k : ℕ) → Number (option_map (behind_list n) s) k
     → (j : ℕ) × (n ≤ j) × (k ≡ suc (j - n)) × Number s j
 behind_list_parts n None k h = absurd cc
@@ -124,17 +127,21 @@ list_without terms order n es k = as_list (listed order) (as_networks (remove (t
 
 module _ (order : Order) (n : ℕ) (es : List Entry) (i k : ℕ) (t : HasTask es i) (s : spot i es ≡ Some (k ∷ []))
     (w : k < n) (f : AreFull (Parts order n ∷ es)) where
+  -- the list has all its parts
   enough : (terms : List Term) → n ≤ length (forest terms es)
   enough terms = let e = length-forest terms [] es in let g = f.1 in omega arith
 
+  -- the parts that are left
   abbrev left : List Term → List Network
   left terms = remove (take n (forest terms es)) k
 
+  -- one part goes
   length-left : (terms : List Term) → length (left terms) + 1 ≡ n
   length-left terms =
       let e = length-take-le n (forest terms es) (enough terms) in
       length-remove (take n (forest terms es)) k (omega arith) ∙ e
 
+  -- the networks behind the list are the parts that are left, and those that are no parts
   left_behind : (terms : List Term) → forest terms (remove es i) ≡ left terms ++ drop n (forest terms es)
   left_behind terms =
       let e = length-take-le n (forest terms es) (enough terms) in
@@ -142,12 +149,14 @@ module _ (order : Order) (n : ℕ) (es : List Entry) (i k : ℕ) (t : HasTask es
       ∙ (ap (λ ns. remove ns k) (sym (take-append-drop n (forest terms es)))
       ∙ remove-append_left (take n (forest terms es)) (drop n (forest terms es)) k (omega arith))
 
+  -- one network is the list of it, in normal form
   one_left : (ns rest : List Network) → length ns ≡ 1
       → ns ++ rest ≡ as_list (listed order) (as_networks ns) ∷ rest
   one_left [] rest l = absurd (omega arith)
   one_left (m ∷ []) rest l = refl
   one_left (m ∷ o ∷ ns) rest l = absurd (omega arith)
 
+  -- two networks or more stay a list
   some_left : (ns : List Network) → 2 ≤ length ns
       → listed order (as_networks ns) ≡ as_list (listed order) (as_networks ns)
   some_left [] l = absurd (omega arith)
@@ -188,18 +197,20 @@ module _ (order : Order) (n : ℕ) (es : List Entry) (i k : ℕ) (t : HasTask es
 
 -- ---- a task that goes, by the whole entries
 
+-- what stands behind some entries stands so many further in all of them
 slice_get-drop : (n i : ℕ) (es : List Entry) → slice_get (drop n es) i ≡ slice_get es (n + i)
 slice_get-drop zero i es = ap (slice_get es) (omega arith)
 slice_get-drop (suc n) i [] = refl
 slice_get-drop (suc n) i (e ∷ es) = let m : suc n + i ≡ suc (n + i) = omega arith in rw m (slice_get-drop n i es)
 
+-- behind some entries stands the next one
 slice_get_at : (es : List Entry) (e : Entry) (others : List Entry) (at : ℕ) → length es ≡ at
     → slice_get (es ++ e ∷ others) at ≡ Some e
-slice_get_at [] e others zero l = refl
-slice_get_at [] e others (suc at) l = absurd (omega arith)
-slice_get_at (d ∷ es) e others zero l = absurd (omega arith)
-slice_get_at (d ∷ es) e others (suc at) l = slice_get_at es e others at (omega arith)
+slice_get_at es e others at l =
+    let n = length-append es (e ∷ others) in
+    slice_get-get_or (es ++ e ∷ others) at e (omega arith) ∙ ap Some (get_or_at es e others e at l)
 
+-- an entry behind another goes from those behind that one
 remove_behind : (es : List Entry) (j i : ℕ) (e : Entry) → slice_get es j ≡ Some e
     → remove es (suc (j + i)) ≡ take j es ++ e ∷ remove (drop (suc j) es) i
 remove_behind [] j i e h = absurd cc
@@ -223,17 +234,20 @@ without_part-is es j i order n h =
 
 -- ---- the first network
 
+-- another network in the first one is the first one with it
 first-put : (p : Place) (x : Network) (ns : List Network) → 0 < length ns
     → first_network (put 0 p x ns) ≡ with_part (first_network ns) p x
 first-put p x [] l = absurd (omega arith)
 first-put p x (n ∷ ns) l = refl
 
+-- a part of the first network is one of the first of the networks
 first_part : (p : Place) (ns : List Network) → 0 < length ns
     → part_of ns (Some (zero ∷ p)) ≡ part_at (first_network ns) p
 unfolding part_at
 first_part p [] l = absurd (omega arith)
 first_part p (n ∷ ns) l = refl
 
+-- the first of networks in normal form is in normal form
 first_in_form : (ns : List Network) → 0 < length ns → AreInForm (as_networks ns) → IsInForm (first_network ns)
 first_in_form [] l h = absurd (omega arith)
 first_in_form (n ∷ ns) l h = h.1
@@ -273,6 +287,7 @@ network-replaced terms es tail i p x h e =
     ∙ ap (λ s. put_at s x (forest terms es)) h)
     ∙ first-put p x (forest terms es) (spot_within terms i es zero p h)
 
+-- a spot that is a longer one without its last number is in the same network
 spot_parts : (s : Option (List ℕ)) (k : ℕ) (q : Place) → IsSpot s
     → Some (zero ∷ q) ≡ option_map (λ p. p ++ k ∷ []) s
     → (p : Place) × (s ≡ Some (zero ∷ p)) × (q ≡ p ++ k ∷ [])
@@ -283,6 +298,7 @@ spot_parts (Some (j ∷ p)) k q h e =
     let b : q ≡ p ++ k ∷ [] = cc in
     (p, ap (λ m. Some (m ∷ p)) (sym a), b)
 
+-- the network that full entries are is in normal form
 whole_in_form : (terms : List Term) (es : List Entry) → AreFull es → 0 < length (forest terms es)
     → IsInForm (network_in terms es)
 unfolding network_in
@@ -291,21 +307,27 @@ whole_in_form terms es f l = first_in_form (forest terms es) l (forest_in_form t
 -- ---- a task that is a part of a list goes
 
 module _ (es : List Entry) (task list : ℕ) (f : AreFull es) (t : HasTask es task) (p : IsPart es task list) where
+  -- the number of the task among the entries behind its list
   abbrev number : ℕ
   number = task - suc list
 
+  -- the entries behind the list
   abbrev others : List Entry
   others = drop (suc list) es
 
+  -- what is left of the entries from the list on
   abbrev tail : List Entry
   tail = tail_without p.order p.parts others number
 
+  -- the task stands behind the list
   place_is : task ≡ suc (list + number)
   place_is = let e = p.earlier in omega arith
 
+  -- from the list on stand the list and those behind it
   from_list : drop list es ≡ Parts p.order p.parts ∷ others
   from_list = drop-from es list (Parts p.order p.parts) p.is
 
+  -- the task is one of the entries behind the list
   task_there : HasTask others number
   task_there = (
     t.0,
@@ -314,12 +336,15 @@ module _ (es : List Entry) (task list : ℕ) (f : AreFull es) (t : HasTask es ta
         ∙ (ap (slice_get es) (let e = place_is in omega arith) ∙ t.2),
   )
 
+  -- the lists from the list on are full
   full_there : AreFull (Parts p.order p.parts ∷ others)
   full_there = subst AreFull from_list (full_behind list es f)
 
+  -- the list is one of the entries
   in_list : list < length es
   in_list = slice_get_within es list (Parts p.order p.parts) p.is
 
+  -- from the list on stands what is left of it, before the same networks as before
   forest_there : (terms : List Term) → forest terms tail
       ≡ list_without terms p.order p.parts others p.before ∷ drop 1 (forest terms (drop list es))
   forest_there terms =
@@ -349,12 +374,15 @@ module _ (es : List Entry) (task list : ℕ) (f : AreFull es) (t : HasTask es ta
       ∙ ap Some (behind_list-within p.parts p.before [] p.within)))
 
   module _ (terms : List Term) where
+    -- the parts of the list
     abbrev parts : List Network
     parts = take p.parts (forest terms others)
 
+    -- the parts are in normal form
     parts_form : AreInForm (as_networks parts)
     parts_form = taken_in_form p.parts (forest terms others) (forest_in_form terms others full_there.2)
 
+    -- the list has as many parts as it says
     parts_many : length parts ≡ p.parts
     parts_many =
         length-take-le p.parts (forest terms others)
@@ -369,6 +397,7 @@ module _ (es : List Entry) (task list : ℕ) (f : AreFull es) (t : HasTask es ta
         ∙ ap (as_list (listed p.order))
         (normal_parts-without parts p.before parts_form (let e = parts_many in let w = p.within in omega arith)))
 
+    -- what is left of the list is not empty
     list_stays : is_empty (list_without terms p.order p.parts others p.before) ≡ false
     list_stays =
         some_as_list p.order (remove parts p.before) (removed_in_form parts p.before parts_form)
@@ -382,7 +411,8 @@ module _ (es : List Entry) (task list : ℕ) (f : AreFull es) (t : HasTask es ta
     left_network : (q : Place) → place_of es task ≡ Some q
         → network_in terms (take list es ++ tail) ≡ normal (with_part (network_in terms es) q Empty)
     left_network q h =
-        let s = spot_parts (spot list es) p.before q (is_spot list es) (sym (spot_from_place es task q h) ∙ spot_there) in
+        let s =
+        spot_parts (spot list es) p.before q (is_spot list es) (sym (spot_from_place es task q h) ∙ spot_there) in
         let net = network_in terms es in
         let m = listed p.order (as_networks parts) in
         let y = with_part m (p.before ∷ []) Empty in
@@ -391,7 +421,9 @@ module _ (es : List Entry) (task list : ℕ) (f : AreFull es) (t : HasTask es ta
         network-replaced terms es tail list s.0 (list_without terms p.order p.parts others p.before) s.1
         (forest_there terms)
         ∙ (ap (with_part net s.0) (sym normal-list)
-        ∙ (sym (normal-with_part net s.0 y (whole_in_form terms es f (spot_within terms list es zero s.0 s.1)) (ap is_empty normal-list ∙ list_stays))
+        ∙ (sym
+        (normal-with_part net s.0 y (whole_in_form terms es f (spot_within terms list es zero s.0 s.1))
+        (ap is_empty normal-list ∙ list_stays))
         ∙ (ap normal (sym (with_part_below net s.0 (p.before ∷ []) m Empty there))
         ∙ ap (λ r. normal (with_part net r Empty)) (sym s.2))))
 
@@ -403,6 +435,7 @@ no_outline = record { full = tt; one = omega arith; focus = tt }
 
 module _ (es new : List Entry) (focus : Option ℕ) (task : ℕ) (o : IsOutline (record { entries = es; focus = focus }))
     (t : HasTask es task) (taken : IsTakenOut task es new) where
+  -- what is left are the entries before the list, and what is left of those from it on
   left_is : (list : ℕ) (p : IsPart es task list) → new ≡ without_part task list es
       → new ≡ take list es ++ tail es task list o.full t p
   left_is list p e =
@@ -443,6 +476,7 @@ module _ (es new : List Entry) (focus : Option ℕ) (task : ℕ) (o : IsOutline 
       ap (network_in terms) (left_is a.0 a.1 a.2)
       ∙ left_network es task a.0 o.full t a.1 terms q h) taken)
 
+  -- each cell stays below a count with one part less
   below_fewer : (k : ℕ) (e : Option Entry) (list : ℕ) (xs : List Entry) → All (EntryBelow k) xs
       → All (EntryBelow k) (fewer_by e list xs)
   below_fewer k None list xs h = h
@@ -462,26 +496,33 @@ module _ (es new : List Entry) (focus : Option ℕ) (task : ℕ) (o : IsOutline 
 module _ (es sub : List Entry) (focus : Option ℕ) (task : ℕ) (tree : TaskTree) (count : ℕ)
     (o : IsOutline (record { entries = es; focus = focus })) (t : HasTask es task) (some : 0 < count)
     (a : Adds (kept tree) count [] sub) where
+  -- the network of the subtasks
   abbrev subtasks : List Term → Network
   subtasks terms = normal (network_of terms tree)
 
+  -- the entries from the task on, with the subtasks in its place
   abbrev behind_it : List Entry
   behind_it = sub ++ drop (suc task) es
 
+  -- a network of which something is shown is not empty
   shown_some : (n : Network) → 0 < length (shown n) → (is_empty n ≡ false) × (shown n ≡ n ∷ [])
   shown_some n l =
       ⊎_elim (λ e. absurd (let g = rw e at l in omega arith)) (λ e. (e, rw e refl)) (cases_Bool (is_empty n))
 
+  -- the network of the subtasks is not empty
   subtasks_some : (terms : List Term) → (is_empty (subtasks terms) ≡ false) × (kept tree terms ≡ subtasks terms ∷ [])
   unfolding kept
   subtasks_some terms = let c = a.reads.count terms in shown_some (subtasks terms) (omega arith)
 
+  -- from the task on stand the task and those behind it
   from_task : drop task es ≡ Task t.0 t.1 ∷ drop (suc task) es
   from_task = drop-from es task (Task t.0 t.1) t.2
 
+  -- the task is one of the entries
   within : task < length es
   within = slice_get_within es task (Task t.0 t.1) t.2
 
+  -- from the task on stand the subtasks, before the same networks as before
   forest_behind : (terms : List Term) → forest terms behind_it ≡ subtasks terms ∷ drop 1 (forest terms (drop task es))
   forest_behind terms =
       ap (λ xs. forest terms (xs ++ drop (suc task) es)) a.is
@@ -489,11 +530,13 @@ module _ (es sub : List Entry) (focus : Option ℕ) (task : ℕ) (tree : TaskTre
       ∙ (ap (λ ns. ns ++ forest terms (drop (suc task) es)) (subtasks_some terms).1
       ∙ ap (λ xs. subtasks terms ∷ drop 1 (forest terms xs)) (sym from_task)))
 
+  -- the lists from the task on are full
   full_behind_it : AreFull behind_it
   full_behind_it =
       subst (λ xs. AreFull (xs ++ drop (suc task) es)) (sym a.is)
       (a.reads.full (drop (suc task) es) (full_behind (suc task) es o.full))
 
+  -- what stands in place of the task has its spot
   same_spot : (tail : List Entry) (n : Network) (ns : List Network) → forest [] tail ≡ n ∷ ns
       → (0 < length tail) × (spot task (take task es ++ tail) ≡ spot task es)
   same_spot [] n ns h = absurd cc

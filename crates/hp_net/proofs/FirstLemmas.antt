@@ -6,6 +6,7 @@ use Rattle.std.specs.Option.{option_and_then}
 use Rattle.std.proofs.lemmas.Bool.{cases_Bool, cond_both}
 use Rattle.std.proofs.lemmas.List.{append-nil, append_assoc, length-take-le, map-append}
 use Rattle.std.proofs.lemmas.List.Elements.{All-filter, All-head, All-tail}
+use Rattle.std.proofs.lemmas.Simd.{map-map}
 use Rattle.hp_syntax.specs.Networks.{Network, Place, firsts, firsts_from, part_at, is_immediate, immediate_first, firsts_below, candidates}
 use Rattle.hp_syntax.specs.Terms.{Term}
 use Rattle.hp_eval.specs.GoalViews.{as_networks}
@@ -36,11 +37,7 @@ marks-suc (Task cell immediate ∷ es) (true ∷ bs) b = ap (λ xs. suc b ∷ xs
 marks-suc (Task cell immediate ∷ es) (false ∷ bs) b = marks-suc es bs (suc b)
 marks-suc (Parts order n ∷ es) (read ∷ bs) b = marks-suc es (parts_read read order n bs) (suc b)
 
--- a function of what a function gives is that of both in turn
-map-map : {A B C : Type 0} (g : B → C) (f : A → B) (xs : List A) → map g (map f xs) ≡ map (λ x. g (f x)) xs
-map-map g f [] = refl
-map-map g f (x ∷ xs) = ap (λ ys. g (f x) ∷ ys) (map-map g f xs)
-
+-- a function of what is there is there
 map-Some : {A B : Type 0} (f : A → B) (xs : List A) → map (option_map f) (map Some xs) ≡ map Some (map f xs)
 map-Some f [] = refl
 map-Some f (x ∷ xs) = ap (λ ys. Some (f x) ∷ ys) (map-Some f xs)
@@ -64,6 +61,7 @@ each_past n k (p ∷ ps) =
     ∙ ap (λ j. suc j ∷ p) (let e : n + k - n ≡ k = omega arith in e))
     (each_past n k ps)
 
+-- paths that begin with the number of a part are below its list
 each_within : (n k : ℕ) (ps : List Place) → k < n
     → map (behind_list n) (map (λ p. k ∷ p) ps) ≡ map (λ p. zero ∷ p) (map (λ p. k ∷ p) ps)
 each_within n k [] l = refl
@@ -187,6 +185,7 @@ first_spots terms es f = spots-marks terms es (true ∷ []) f ∙ ap (map Some) 
 
 -- ---- places of the first tasks
 
+-- numbers from an entry on are those from the first on, and its own
 marks-from : (es : List Entry) (bs : List Bool) (j : ℕ) → marks es bs j ≡ map (λ i. j + i) (marks es bs 0)
 marks-from es bs zero = same (marks es bs 0)
   where
@@ -194,12 +193,14 @@ marks-from es bs zero = same (marks es bs 0)
     same [] = refl
     same (x ∷ xs) = ap₂ ◌∷◌ (let e : x ≡ 0 + x = omega arith in e) (same xs)
 marks-from es bs (suc j) =
-    marks-suc es bs j ∙ (ap (map suc) (marks-from es bs j) ∙ (map-map suc (λ i. j + i) (marks es bs 0) ∙ next (marks es bs 0)))
+    marks-suc es bs j
+    ∙ (ap (map suc) (marks-from es bs j) ∙ (map-map suc (λ i. j + i) (marks es bs 0) ∙ next (marks es bs 0)))
   where
     next : (xs : List ℕ) → map (λ i. suc (j + i)) xs ≡ map (λ i. suc j + i) xs
     next [] = refl
     next (x ∷ xs) = ap₂ ◌∷◌ (let e : suc (j + x) ≡ suc j + x = omega arith in e) (next xs)
 
+-- below an entry's place stands what stands in its network
 place_below : (es : List Entry) (j i : ℕ) (p q : Place) → spot j es ≡ Some (zero ∷ p)
     → spot i (drop j es) ≡ Some (zero ∷ q) → place_of es (j + i) ≡ Some (p ++ q)
 unfolding place_of
@@ -218,6 +219,7 @@ places-below es j p h (i ∷ is) (q ∷ qs) e =
     let b : map (λ i. spot i (drop j es)) is ≡ map Some (map (λ q. zero ∷ q) qs) = cc in
     ap₂ ◌∷◌ (place_below es j i p q h a) (places-below es j p h is qs b)
 
+-- spots in the first network are places
 places-whole : (es : List Entry) (is : List ℕ) (qs : List Place)
     → map (λ i. spot i es) is ≡ map Some (map (λ q. zero ∷ q) qs) → map (place_of es) is ≡ map Some qs
 unfolding place_of
@@ -243,9 +245,11 @@ place_there es i one l = cases (spot i es) refl
 -- ---- immediate tasks
 
 module _ (terms : List Term) (es : List Entry) where
+  -- whether an entry is an immediate task
   abbrev entry_is : ℕ → Bool
   entry_is i = entry_immediate (slice_get es i)
 
+  -- whether an immediate task stands at a place
   abbrev place_is : Place → Bool
   place_is p = is_immediate (part_at (network_in terms es) p)
 
@@ -254,6 +258,7 @@ module _ (terms : List Term) (es : List Entry) where
   immediate_there i p t h =
       ap entry_immediate t.2 ∙ sym (ap is_immediate (task_at-place terms es i t.0 t.1 p t.2 h))
 
+  -- immediate tasks are those at whose places immediate tasks stand
   immediate_same : (is : List ℕ) (ps : List Place) → All (HasTask es) is → map (place_of es) is ≡ map Some ps
       → (list_any entry_is is ≡ list_any place_is ps)
       × (map (place_of es) (filter entry_is is) ≡ map Some (filter place_is ps))

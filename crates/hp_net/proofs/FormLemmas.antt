@@ -15,16 +15,19 @@ use Rattle.hp_net.proofs.OutlineLemmas.{length-forest, some_listed}
 
 -- ---- parts in normal form
 
-form_taken : (n : ℕ) (ns : List Network) → AreInForm (as_networks ns) → AreInForm (as_networks (take n ns))
-form_taken zero ns h = tt
-form_taken (suc n) [] h = tt
-form_taken (suc n) (m ∷ ns) h = (h.0, h.1, form_taken n ns h.2)
+-- the first parts of networks in normal form are in normal form
+pub taken_in_form : (n : ℕ) (ns : List Network) → AreInForm (as_networks ns) → AreInForm (as_networks (take n ns))
+taken_in_form zero ns h = tt
+taken_in_form (suc n) [] h = tt
+taken_in_form (suc n) (m ∷ ns) h = (h.0, h.1, taken_in_form n ns h.2)
 
+-- the last parts of networks in normal form are in normal form
 form_dropped : (n : ℕ) (ns : List Network) → AreInForm (as_networks ns) → AreInForm (as_networks (drop n ns))
 form_dropped zero ns h = h
 form_dropped (suc n) [] h = tt
 form_dropped (suc n) (m ∷ ns) h = form_dropped n ns h.2
 
+-- the first two or more of two networks or more are more than one
 more_taken : (n : ℕ) (ns : List Network) → 2 ≤ n → 2 ≤ length ns → has_more (as_networks (take n ns)) ≡ true
 more_taken zero ns l m = absurd (omega arith)
 more_taken (suc zero) ns l m = absurd (omega arith)
@@ -32,6 +35,7 @@ more_taken (suc (suc n)) [] l m = absurd (omega arith)
 more_taken (suc (suc n)) (a ∷ []) l m = absurd (omega arith)
 more_taken (suc (suc n)) (a ∷ b ∷ ns) l m = refl
 
+-- a list of more parts than one, in normal form, is in normal form
 list_in_form : (order : Order) (ns : Networks) → has_more ns ≡ true → AreInForm ns → IsInForm (listed order ns)
 list_in_form Ordered ns m h = (m, h)
 list_in_form Unordered ns m h = (m, h)
@@ -47,13 +51,9 @@ forest_in_form terms (Parts order n ∷ es) f =
     let enough = f.1 in (
       some_listed order (as_networks (take n (forest terms es))),
       list_in_form order (as_networks (take n (forest terms es))) (more_taken n (forest terms es) two (omega arith))
-          (form_taken n (forest terms es) h),
+          (taken_in_form n (forest terms es) h),
       form_dropped n (forest terms es) h,
     )
-
--- the first parts of networks in normal form are in normal form
-pub taken_in_form : (n : ℕ) (ns : List Network) → AreInForm (as_networks ns) → AreInForm (as_networks (take n ns))
-taken_in_form n ns h = form_taken n ns h
 
 -- ---- a part in place of another
 
@@ -69,6 +69,7 @@ mutual
   normal_below (plain.Ordered ns) (i ∷ p) y = ap (as_list plain.Ordered) (normal_parts_below ns i p y)
   normal_below (plain.Unordered ns) (i ∷ p) y = ap (as_list plain.Unordered) (normal_parts_below ns i p y)
 
+  -- the same holds of parts
   normal_parts_below : (ns : Networks) (i : ℕ) (p : Place) (y : Network)
       → normal_parts (with_nth_part ns i p y) ≡ normal_parts (with_nth_part ns i p (normal y))
   normal_parts_below NoNetwork i p y = refl
@@ -94,6 +95,7 @@ mutual
   with_part_below (plain.Ordered ns) (i ∷ p) q m y e = ap plain.Ordered (with_nth_part_below ns i p q m y e)
   with_part_below (plain.Unordered ns) (i ∷ p) q m y e = ap plain.Unordered (with_nth_part_below ns i p q m y e)
 
+  -- the same holds of parts
   with_nth_part_below : (ns : Networks) (i : ℕ) (p q : Place) (m y : Network) → nth_part_at ns i p ≡ Some m
       → with_nth_part ns i (p ++ q) y ≡ with_nth_part ns i p (with_part m q y)
   with_nth_part_below NoNetwork i p q m y e = absurd cc
@@ -112,13 +114,6 @@ normal_parts-without (n ∷ ns) (suc k) h l =
     ap (unless_empty (normal n)) (normal_parts-without ns k h.2 (omega arith))
     ∙ (ap (λ m. unless_empty m (as_networks (remove ns k))) (normal_from_form n h.1)
     ∙ ap (λ b. cond b (as_networks (remove ns k)) (And n (as_networks (remove ns k)))) h.0)
-
--- the normal form of a list is that of its parts' normal form
-pub normal-listed : (order : Order) (ns : Networks)
-    → normal (listed order ns) ≡ as_list (listed order) (normal_parts ns)
-unfolding normal
-normal-listed Ordered ns = refl
-normal-listed Unordered ns = refl
 
 -- parts of which one goes stay in normal form
 pub removed_in_form : (ns : List Network) (k : ℕ) → AreInForm (as_networks ns)

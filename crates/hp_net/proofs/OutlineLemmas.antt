@@ -100,6 +100,7 @@ pub some_listed : (order : Order) (ns : plain.Networks) → is_empty (listed ord
 some_listed Ordered ns = refl
 some_listed Unordered ns = refl
 
+-- what comes after a number is not zero
 no_zero : (n : ℕ) → nat_eq (suc n) 0 ≡ false
 no_zero n = grind (arith, nat_tests)
 

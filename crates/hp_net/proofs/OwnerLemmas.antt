@@ -11,12 +11,15 @@ use Rattle.hp_net.specs.Outlines.{behind_list, behind_task, spot}
 use Rattle.hp_net.proofs.SpotLemmas.{behind_list-past, drop-from}
 
 module _ (es : List Entry) (task place before : ℕ) (e : Entry) (earlier : place < task)
-    (is : slice_get es place ≡ Some e) (there : spot (task - suc place) (drop (suc place) es) ≡ Some (before ∷ [])) where
+    (is : slice_get es place ≡ Some e)
+    (there : spot (task - suc place) (drop (suc place) es) ≡ Some (before ∷ [])) where
+  -- the task's spot from this entry on is that from the next one on, behind this one
   spot_from : spot (task - place) (drop place es) ≡ spot (suc (task - suc place)) (e ∷ drop (suc place) es)
   spot_from =
       let n : task - place ≡ suc (task - suc place) = omega arith in
       ap₂ spot n (drop-from es place e is)
 
+  -- the networks before the task are those behind this entry that are no parts of it, and its own
   past_one : (f : Entry) → e ≡ f → (count : ℕ) → further_of f before ≡ Some count
       → (spot (suc (task - suc place)) (f ∷ drop (suc place) es) ≡ Some (count ∷ [])) × (count ≤ before + 1)
   past_one (Task cell immediate) s count h =
@@ -40,6 +43,7 @@ module _ (es : List Entry) (task place before : ℕ) (e : Entry) (earlier : plac
       → (spot (task - place) (drop place es) ≡ Some (count ∷ [])) × (count ≤ before + 1)
   past count h = let p = past_one e refl count h in (spot_from ∙ p.0, p.1)
 
+  -- an entry that ends the search is a list with the task as a part
   found_one : (f : Entry) → e ≡ f → further_of f before ≡ None → IsPart es task place
   found_one (Task cell immediate) s h = absurd cc
   found_one (Parts order n) s h =

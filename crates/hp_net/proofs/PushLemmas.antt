@@ -59,8 +59,8 @@ normal_parts-kept (t ∷ ts) terms =
     ap (unless_empty (normal (network_of terms t))) (normal_parts-kept ts terms)
     ∙ sym (shown_before (normal (network_of terms t)) (all_kept ts terms))
 
--- the normal form of a list is that of the parts of its normal form
-normal-listed : (order : Order) (ns : Networks) → normal (listed order ns) ≡ as_list (listed order) (normal_parts ns)
+-- the normal form of a list is the list of its parts' normal form
+pub normal-listed : (order : Order) (ns : Networks) → normal (listed order ns) ≡ as_list (listed order) (normal_parts ns)
 unfolding normal
 normal-listed Ordered ns = refl
 normal-listed Unordered ns = refl
@@ -170,9 +170,11 @@ reads_list order ns count added two r = record {
 
 -- ---- a list that is closed
 
+-- behind some entries the next one goes
 removed_behind : (es : List Entry) (e : Entry) (others : List Entry) (at : ℕ) → length es ≡ at
     → remove (es ++ e ∷ others) at ≡ es ++ others
-removed_behind es e others at l = ap₂ ◌++◌ (take_at es (e ∷ others) at l) (ap (λ n. drop (suc n) (es ++ e ∷ others)) (sym l) ∙ from es)
+removed_behind es e others at l =
+    ap₂ ◌++◌ (take_at es (e ∷ others) at l) (ap (λ n. drop (suc n) (es ++ e ∷ others)) (sym l) ∙ from es)
   where
     from : (xs : List Entry) → drop (suc (length xs)) (xs ++ e ∷ others) ≡ others
     from [] = refl
@@ -227,7 +229,9 @@ module _ (order : Order) (ts : List TaskTree) (count : ℕ) (added : List Entry)
 -- what stays of one tree is one network or none
 pub length-kept : (t : TaskTree) (terms : List Term) → length (kept t terms) ≤ 1
 unfolding kept
-length-kept t terms = cond_both (is_empty (normal (network_of terms t))) [] (normal (network_of terms t) ∷ []) (λ ns. length ns ≤ 1) (λ e. omega arith) (λ e. omega arith)
+length-kept t terms =
+    let n = normal (network_of terms t) in
+    cond_both (is_empty n) [] (n ∷ []) (λ ns. length ns ≤ 1) (λ e. omega arith) (λ e. omega arith)
 
 -- one tree adds one network or none
 pub one_or_none : (t : TaskTree) (count : ℕ) (old new : List Entry) → Adds (kept t) count old new → count ≤ 1
@@ -275,10 +279,11 @@ pub adds_list : (order : Order) (ts us : List TaskTree) (count result : ℕ) (ol
 adds_list order ts us count result old opened closing new e f a n r =
     let before : closing ≡ old ++ entries.List order 0 ∷ a.added =
     a.is ∙ ap (λ es. es ++ a.added) f ∙ append_assoc old (entries.List order 0 ∷ []) a.added in
-    let reads = reads_same (all_kept us) (all_kept ts) count a.added (λ terms. ap (λ xs. all_kept xs terms) (sym e)) a.reads in
+    let reads =
+    reads_same (all_kept us) (all_kept ts) count a.added (λ terms. ap (λ xs. all_kept xs terms) (sym e)) a.reads in
+    let end = closed (length old) order count (old ++ entries.List order 0 ∷ a.added) in
     subst (λ es. Adds (kept_list order ts) result old es) (sym (n ∙ ap (closed (length old) order count) before))
-    (subst (λ k. Adds (kept_list order ts) k old (closed (length old) order count (old ++ entries.List order 0 ∷ a.added)))
-    (sym r) (adds_closed order ts count a.added reads old))
+    (subst (λ k. Adds (kept_list order ts) k old end) (sym r) (adds_closed order ts count a.added reads old))
 
 -- ---- cells
 

@@ -18,16 +18,19 @@ use Rattle.hp_net.proofs.SpotLemmas.{drop-from}
 
 -- ---- which networks are read
 
+-- so many are so many more
 length-so_many : (n : ℕ) (b : Bool) (bs : List Bool) → length (so_many n b bs) ≡ n + length bs
 length-so_many zero b bs = omega arith
 length-so_many (suc n) b bs = let h = length-so_many n b bs in omega arith
 
+-- so many before so many are as many as both
 so_many-add : (n m : ℕ) (b : Bool) (bs : List Bool) → so_many n b (so_many m b bs) ≡ so_many (n + m) b bs
 so_many-add zero m b bs = ap (λ k. so_many k b bs) (let e : m ≡ 0 + m = omega arith in e)
 so_many-add (suc n) m b bs =
     let e : suc n + m ≡ suc (n + m) = omega arith in
     rw e (ap (λ cs. b ∷ cs) (so_many-add n m b bs))
 
+-- the last level comes first, before any others
 read_onto-push : (ls : List Level) (l : Level) (bs : List Bool)
     → read_onto (ls ++ l ∷ []) bs ≡ level_read l (read_onto ls bs)
 read_onto-push [] l bs = refl
@@ -57,6 +60,7 @@ length-level_read l bs =
     let k = length-so_many l.pass false bs in
     omega arith
 
+-- of each part of a list that is read it is told whether it is read
 length-parts_read : (order : Order) (n : ℕ) (bs : List Bool) → 2 ≤ n
     → length (parts_read true order n bs) ≡ n + length bs
 length-parts_read Ordered n bs l = let h = length-so_many (n - 1) false bs in omega arith
@@ -84,13 +88,16 @@ marks-none (e ∷ es) b = refl
 pub full_entry : (es : List Entry) (i : ℕ) (e : Entry) → slice_get es i ≡ Some e → AreFull es → IsFullEntry e
 full_entry es i (Task cell immediate) h f = tt
 full_entry es i (Parts order n) h f =
-    let g : AreFull (Parts order n ∷ drop (suc i) es) = subst AreFull (drop-from es i (Parts order n) h) (full_behind i es f) in g.0
+    let g : AreFull (Parts order n ∷ drop (suc i) es)
+    = subst AreFull (drop-from es i (Parts order n) h) (full_behind i es f) in
+    g.0
 
 -- an entry before networks, and how many there are
 abbrev CountsTo : Entry → List Entry → Type 0
 CountsTo (Task cell immediate) es = length (forest [] (Task cell immediate ∷ es)) ≡ length (forest [] es) + 1
 CountsTo (Parts order n) es = length (forest [] (Parts order n ∷ es)) + n ≡ length (forest [] es) + 1
 
+-- an entry of full lists before networks is one more, without its parts
 counts_to : (e : Entry) (es : List Entry) → AreFull (e ∷ es) → CountsTo e es
 counts_to (Task cell immediate) es f = omega arith
 counts_to (Parts order n) es f =
@@ -98,6 +105,7 @@ counts_to (Parts order n) es f =
     let enough = f.1 in
     omega arith
 
+-- where an entry is passed over its parts are, too
 passed_over : (e : Entry) (es : List Entry) (left : ℕ) (bs : List Bool) (b : ℕ)
     → marks (e ∷ es) (so_many (suc left) false bs) b ≡ marks es (so_many (left_of e (suc left)) false bs) (suc b)
 passed_over (Task cell immediate) es left bs b =
@@ -116,15 +124,19 @@ pub record StepsOver (es : List Entry) (place left : ℕ) (e : Entry) : Type 0 w
   pub few : left_of e left ≤ length es
 
 module _ (es : List Entry) (place : ℕ) (e : Entry) (is : slice_get es place ≡ Some e) (f : AreFull es) where
+  -- from the place on stand this entry and those behind it
   from_here : drop place es ≡ e ∷ drop (suc place) es
   from_here = drop-from es place e is
 
+  -- the lists from the place on are full
   full_here : AreFull (e ∷ drop (suc place) es)
   full_here = subst AreFull from_here (full_behind place es f)
 
+  -- this entry is one network more, without its parts
   counted : (d : Entry) → e ≡ d → CountsTo d (drop (suc place) es)
   counted d h = counts_to d (drop (suc place) es) (subst (λ x. AreFull (x ∷ drop (suc place) es)) h full_here)
 
+  -- by the kind of the entry so many networks are left to be passed over, and as many are there
   steps_for : (left : ℕ) (d : Entry) → e ≡ d → suc left ≤ length (forest [] (e ∷ drop (suc place) es))
       → (suc left + length (forest [] (drop (suc place) es))
       ≡ left_of d (suc left) + length (forest [] (e ∷ drop (suc place) es)))
@@ -162,11 +174,13 @@ module _ (es : List Entry) (place : ℕ) (e : Entry) (is : slice_get es place �
         few = omega arith;
       }
 
+  -- of an entry that is read come its own task, and then what is found behind it
   read_here : (d : Entry) (xs : List Entry) (bs : List Bool) (b : ℕ)
       → marks (d ∷ xs) (true ∷ bs) b ≡ task_found d b ++ marks xs (read_behind d bs) (suc b)
   read_here (Task cell immediate) xs bs b = refl
   read_here (Parts order n) xs bs b = refl
 
+  -- as many networks as are read or passed over are there
   counts_for : (d : Entry) → e ≡ d → (bs : List Bool)
       → suc (length bs) ≤ length (forest [] (e ∷ drop (suc place) es))
       → length (read_behind d bs) ≤ length (forest [] (drop (suc place) es))
@@ -181,6 +195,7 @@ module _ (es : List Entry) (place : ℕ) (e : Entry) (is : slice_get es place �
       let r = length-parts_read order m bs two in
       omega arith
 
+  -- what is found are tasks
   found_for : (d : Entry) → e ≡ d → (found : List ℕ) → All (HasTask es) found
       → All (HasTask es) (found ++ task_found d place)
   found_for (Task cell immediate) h found a =

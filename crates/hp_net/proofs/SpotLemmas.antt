@@ -24,11 +24,13 @@ IsSpot None = Unit {0}
 IsSpot (Some []) = ⊥
 IsSpot (Some (k ∷ p)) = Unit {0}
 
+-- behind a task a path stays one that is not empty
 spot_behind_task : (s : Option (List ℕ)) → IsSpot s → IsSpot (option_map behind_task s)
 spot_behind_task None h = tt
 spot_behind_task (Some []) h = absurd h
 spot_behind_task (Some (k ∷ p)) h = tt
 
+-- behind a list a path stays one that is not empty
 spot_behind_list : (n : ℕ) (s : Option (List ℕ)) → IsSpot s → IsSpot (option_map (behind_list n) s)
 spot_behind_list n None h = tt
 spot_behind_list n (Some []) h = absurd h
@@ -42,20 +44,23 @@ is_spot zero (e ∷ es) = tt
 is_spot (suc i) (Task cell immediate ∷ es) = spot_behind_task (spot i es) (is_spot i es)
 is_spot (suc i) (Parts order n ∷ es) = spot_behind_list n (spot i es) (is_spot i es)
 
--- behind the first entry of a list are its parts, and the networks behind it
+-- a network that is a part of a list is below it
 pub behind_list-within : (n k : ℕ) (p : List ℕ) → k < n → behind_list n (k ∷ p) ≡ zero ∷ k ∷ p
 behind_list-within n k p l = let e : nat_lt k n ≡ true = grind (arith, nat_tests) in rw e refl
 
+-- a network that is no part of a list has a number behind it, less by its parts
 pub behind_list-past : (n k : ℕ) (p : List ℕ) → n ≤ k → behind_list n (k ∷ p) ≡ suc (k - n) ∷ p
 behind_list-past n k p l = let e : nat_lt k n ≡ false = grind (arith, nat_tests) in rw e refl
 
 -- ---- the part at a spot
 
+-- the part of networks at a spot
 abbrev pub part_of : List Network → Option (List ℕ) → Option Network
 part_of ns None = None
 part_of ns (Some []) = None
 part_of ns (Some (k ∷ p)) = nth_part_at (as_networks ns) k p
 
+-- a part of one of the first networks is a part of all of them
 nth_part_at-take : (ns : List Network) (n k : ℕ) (p : Place) → k < n
     → nth_part_at (as_networks (take n ns)) k p ≡ nth_part_at (as_networks ns) k p
 unfolding part_at
@@ -64,6 +69,7 @@ nth_part_at-take [] (suc n) k p l = refl
 nth_part_at-take (m ∷ ns) (suc n) zero p l = refl
 nth_part_at-take (m ∷ ns) (suc n) (suc k) p l = nth_part_at-take ns n k p (omega arith)
 
+-- a part of a network behind some is a part of all of them, of a number greater by those
 nth_part_at-drop : (ns : List Network) (n k : ℕ) (p : Place) → n ≤ k
     → nth_part_at (as_networks (drop n ns)) (k - n) p ≡ nth_part_at (as_networks ns) k p
 unfolding part_at
@@ -81,6 +87,7 @@ unfolding part_at
 part_at-listed Ordered ns k p = refl
 part_at-listed Unordered ns k p = refl
 
+-- a part of networks is one of them behind a task
 part_of_task : (t : Network) (ns : List Network) (s : Option (List ℕ)) (x : Network)
     → part_of ns s ≡ Some x → part_of (t ∷ ns) (option_map behind_task s) ≡ Some x
 unfolding part_at
@@ -88,6 +95,7 @@ part_of_task t ns None x h = absurd cc
 part_of_task t ns (Some []) x h = absurd cc
 part_of_task t ns (Some (k ∷ p)) x h = h
 
+-- a part of networks is one of them as they are a list and those behind it
 part_of_list : (order : Order) (n : ℕ) (ns : List Network) (s : Option (List ℕ)) (x : Network)
     → part_of ns s ≡ Some x
     → part_of (listed order (as_networks (take n ns)) ∷ drop n ns) (option_map (behind_list n) s) ≡ Some x
@@ -116,16 +124,19 @@ part_of-spot terms (suc i) (Parts order n ∷ es) l =
 
 -- ---- another network at a spot
 
+-- networks with another part of the one of this number, at this place
 abbrev pub put : ℕ → Place → Network → List Network → List Network
 put k p x [] = []
 put zero p x (n ∷ ns) = with_part n p x ∷ ns
 put (suc k) p x (n ∷ ns) = n ∷ put k p x ns
 
+-- networks with another part at a spot
 abbrev pub put_at : Option (List ℕ) → Network → List Network → List Network
 put_at None x ns = ns
 put_at (Some []) x ns = ns
 put_at (Some (k ∷ p)) x ns = put k p x ns
 
+-- another part changes no number of networks
 length-put : (k : ℕ) (p : Place) (x : Network) (ns : List Network) → length (put k p x ns) ≡ length ns
 length-put k p x [] = refl
 length-put zero p x (n ∷ ns) = refl
@@ -137,12 +148,14 @@ length-put_at None x ns = refl
 length-put_at (Some []) x ns = refl
 length-put_at (Some (k ∷ p)) x ns = length-put k p x ns
 
+-- the first networks with another part are those of all with it
 take-put : (n k : ℕ) (p : Place) (x : Network) (ns : List Network) → take n (put k p x ns) ≡ put k p x (take n ns)
 take-put zero k p x ns = refl
 take-put (suc n) k p x [] = refl
 take-put (suc n) zero p x (m ∷ ns) = refl
 take-put (suc n) (suc k) p x (m ∷ ns) = ap (λ l. m ∷ l) (take-put n k p x ns)
 
+-- another part in the first networks changes none behind them
 drop-put_within : (n k : ℕ) (p : Place) (x : Network) (ns : List Network) → k < n
     → drop n (put k p x ns) ≡ drop n ns
 drop-put_within zero k p x ns l = absurd (omega arith)
@@ -150,6 +163,7 @@ drop-put_within (suc n) k p x [] l = refl
 drop-put_within (suc n) zero p x (m ∷ ns) l = refl
 drop-put_within (suc n) (suc k) p x (m ∷ ns) l = drop-put_within n k p x ns (omega arith)
 
+-- another part behind the first networks is one of those behind them, of a number less by the first
 drop-put_past : (n k : ℕ) (p : Place) (x : Network) (ns : List Network) → n ≤ k
     → drop n (put k p x ns) ≡ put (k - n) p x (drop n ns)
 drop-put_past zero k p x ns l = ap (λ j. put j p x ns) (omega arith)
@@ -159,6 +173,7 @@ drop-put_past (suc n) (suc k) p x (m ∷ ns) l =
     let e : suc k - suc n ≡ k - n = omega arith in
     rw e (drop-put_past n k p x ns (omega arith))
 
+-- networks with another part are as a list the list with it
 as_networks-put : (k : ℕ) (p : Place) (x : Network) (ns : List Network)
     → as_networks (put k p x ns) ≡ with_nth_part (as_networks ns) k p x
 unfolding with_part
@@ -173,12 +188,14 @@ unfolding with_part
 with_part-listed Ordered ns k p x = refl
 with_part-listed Unordered ns k p x = refl
 
+-- behind a task another part is the same one
 put_task : (t : Network) (ns : List Network) (s : Option (List ℕ)) (x : Network)
     → t ∷ put_at s x ns ≡ put_at (option_map behind_task s) x (t ∷ ns)
 put_task t ns None x = refl
 put_task t ns (Some []) x = refl
 put_task t ns (Some (k ∷ p)) x = refl
 
+-- as networks are a list and those behind it another part is the same one
 put_list : (order : Order) (n : ℕ) (ns : List Network) (s : Option (List ℕ)) (x : Network)
     → listed order (as_networks (take n (put_at s x ns))) ∷ drop n (put_at s x ns)
     ≡ put_at (option_map (behind_list n) s) x (listed order (as_networks (take n ns)) ∷ drop n ns)
@@ -249,12 +266,14 @@ spot-replaced (suc j) (Parts order n ∷ es) e tail l =
 
 -- ---- a spot below another
 
+-- behind a task a path goes on as it does before it
 below_task : (s : Option (List ℕ)) (q : List ℕ) → IsSpot s
     → option_map behind_task (option_map (λ p. p ++ q) s) ≡ option_map (λ p. p ++ q) (option_map behind_task s)
 below_task None q h = refl
 below_task (Some []) q h = absurd h
 below_task (Some (k ∷ p)) q h = refl
 
+-- behind a list a path goes on as it does before it
 below_list : (n : ℕ) (s : Option (List ℕ)) (q : List ℕ) → IsSpot s
     → option_map (behind_list n) (option_map (λ p. p ++ q) s)
     ≡ option_map (λ p. p ++ q) (option_map (behind_list n) s)
@@ -283,11 +302,13 @@ IsWithinFirst m None = Unit {0}
 IsWithinFirst m (Some []) = Unit {0}
 IsWithinFirst m (Some (k ∷ p)) = k < m
 
+-- behind a task a spot is within one network more
 within_task : (m : ℕ) (s : Option (List ℕ)) → IsWithinFirst m s → IsWithinFirst (suc m) (option_map behind_task s)
 within_task m None h = tt
 within_task m (Some []) h = tt
 within_task m (Some (k ∷ p)) h = omega arith
 
+-- behind a list a spot is within the networks that are no parts of it, and the list
 within_list : (n m : ℕ) (s : Option (List ℕ)) → IsWithinFirst m s
     → IsWithinFirst (suc (m - n)) (option_map (behind_list n) s)
 within_list n m None h = tt
@@ -296,6 +317,7 @@ within_list n m (Some (k ∷ p)) h =
     ⊎_elim (λ e. rw e (omega arith))
     (λ e. let l : n ≤ k = grind (arith, nat_tests) in rw e (omega arith)) (cases_Bool (nat_lt k n))
 
+-- the spot of an entry is within the networks
 within_first : (terms : List Term) (i : ℕ) (es : List Entry) → IsWithinFirst (length (forest terms es)) (spot i es)
 within_first terms i [] = tt
 within_first terms zero (Task cell immediate ∷ es) = omega arith
@@ -332,7 +354,9 @@ drop-from (d ∷ es) (suc j) e h = drop-from es j e h
 
 -- the first entry of those from it on is the first network
 pub spot_first : (i : ℕ) (es : List Entry) → i < length es → spot (i - i) (drop i es) ≡ Some (zero ∷ [])
-spot_first i es l = let z : i - i ≡ 0 = omega arith in rw z (first (drop i es) (let n = length-drop i es in omega arith))
+spot_first i es l =
+    let z : i - i ≡ 0 = omega arith in
+    rw z (first (drop i es) (let n = length-drop i es in omega arith))
   where
     first : (xs : List Entry) → 0 < length xs → spot zero xs ≡ Some (zero ∷ [])
     first [] l = absurd (omega arith)
@@ -340,6 +364,7 @@ spot_first i es l = let z : i - i ≡ 0 = omega arith in rw z (first (drop i es)
 
 -- ---- places
 
+-- a spot that has a place is in the first network
 place_parts : (s : Option (List ℕ)) (p : Place) → option_and_then below_root s ≡ Some p → s ≡ Some (zero ∷ p)
 place_parts None p h = absurd cc
 place_parts (Some []) p h = absurd cc

@@ -36,6 +36,7 @@ abbrev pub read_onto : List Level → List Bool → List Bool
 read_onto [] bs = bs
 read_onto (l ∷ ls) bs = read_onto ls (level_read l bs)
 
+-- which networks are read, where no more are behind those of the levels
 unfoldable pub are_read : List Level → List Bool
 are_read ls = read_onto ls []
 
@@ -64,6 +65,7 @@ pub record Visits (es : List Entry) (place next : ℕ) (level : Level) (old new 
 
 -- ---- immediate tasks
 
+-- whether there is an entry, and it is an immediate task
 abbrev pub entry_immediate : Option Entry → Bool
 entry_immediate None = false
 entry_immediate (Some (Task cell immediate)) = immediate

@@ -11,7 +11,9 @@ use Rattle.hp_net.proofs.reading.first_tasks.Goals as goal
 pub loop-level-init : goal.loop-level-init
 loop-level-init c =
     let es = c.args.entries.now in
-    let is = read_first c.new-levels.result.items c.push.new.self.items c.new-levels.ensures.items c.in_ok-push.ensures.items in
+    let is =
+    read_first c.new-levels.result.items c.push.new.self.items c.new-levels.ensures.items
+    c.in_ok-push.ensures.items in
     record {
       so_far =
           ap₂ (λ xs bs. xs ++ marks (drop c.args.start es) bs c.args.start) c.new-found.ensures.items is;

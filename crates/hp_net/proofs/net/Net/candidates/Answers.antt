@@ -1,4 +1,4 @@
-use Rattle.std.proofs.Common.{◌≡◌, List, [], ◌∷◌, true, ℕ, drop, map, Some, sym, ap, ap₂, subst, ◌∙◌}
+use Rattle.std.proofs.Common.{◌≡◌, [], ◌∷◌, true, ℕ, drop, map, Some, sym, ap, ap₂, subst, ◌∙◌}
 use Rattle.std.specs.List.{All}
 use Rattle.std.specs.Option.{option_and_then, unwrap_or}
 use Rattle.hp_syntax.specs.Networks as plain
@@ -25,7 +25,8 @@ returns-clause-places c = λ terms.
     let is = c.keep_immediate.ensures ∙ ap (λ xs. immediate_ids xs found) c.as_slice-2.ensures.value in
     let marked : found ≡ marks (drop (unwrap_or c.self.inside.focus 0) es) (true ∷ []) (unwrap_or c.self.inside.focus 0)
     = c.in_ok-found.ensures.marks
-    ∙ ap₂ (λ (xs : List _) (n : ℕ). marks (drop n xs) (true ∷ []) n) c.as_slice.ensures.value c.unwrap_or-start.ensures in
+    ∙ ap₂ (λ xs (n : ℕ). marks (drop n xs) (true ∷ []) n) c.as_slice.ensures.value
+    c.unwrap_or-start.ensures in
     subst
     (λ (o : Outline). map (place_of o.entries) c.keep_immediate.new.found.items
     ≡ map Some (plain.candidates (network_in terms o.entries) (option_and_then (place_of o.entries) o.focus)))

@@ -64,7 +64,9 @@ returns-clause-net c = λ terms p h.
     ap (λ xs. (network_in terms xs, place_of xs i)) is
     ∙ (expand_expanded es c.push_tree.new.entries.items c.self.inside.focus i c.args.tree.now c.in_ok-count.count
     c.self.invariant t (omega (arith, c.if-count-eq0.false)) a terms p there
-    ∙ ap (λ (o : Outline). plain.expand (network_in terms o.entries) p (plain.normal (network_of terms c.args.tree.now)))
+    ∙ ap
+    (λ (o : Outline).
+    plain.expand (network_in terms o.entries) p (plain.normal (network_of terms c.args.tree.now)))
     c.self.view_is)
 
 pub returns-clause-below : goal.returns-clause-below
