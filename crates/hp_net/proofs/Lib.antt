@@ -1,0 +1,10 @@
+pub mod EditLemmas
+pub mod FirstLemmas
+pub mod FormLemmas
+pub mod OutlineLemmas
+pub mod OwnerLemmas
+pub mod PushLemmas
+pub mod ReadingLemmas
+pub mod SpotLemmas
+pub mod RunLemmas
+pub mod StandingLemmas

@@ -1,5 +1,5 @@
 //! A task network with its focus.
-ghost use Rattle.std.specs.Prelude.{◌≡◌, ℕ, ◌<◌, ◌×◌, Bool, List, map, None, Some, IfOk, OnOk, OnErr};
+ghost use Rattle.std.specs.Prelude.{◌≡◌, ℕ, ◌<◌, Bool, List, map, None, Some, IfOk, OnOk, OnErr};
 ghost use Rattle.std.specs.List.{All};
 ghost use Rattle.hp_syntax.specs.Terms.{Term};
 ghost use Rattle.hp_syntax.specs.Networks as plain;
@@ -7,7 +7,10 @@ ghost use Rattle.hp_syntax.specs.Networks.{Place};
 ghost use Rattle.hp_eval.specs.GoalViews.{term_at, network_of, TreeBelow};
 ghost use Rattle.hp_net.specs.Outlines.{focused, place_of, NamesTask, EntryBelow};
 
+use crate::edits::{take_out, task_at, with_subtasks};
 use crate::entry::Entry;
+use crate::push::push_tree;
+use crate::reading::{first_tasks, keep_immediate};
 use hp_cells::Cell;
 use hp_eval::TaskTree;
 use std::alloc::{AllocError, Global};
@@ -25,6 +28,24 @@ impl Model for TaskId {
     ghost Value = { ℕ };
 
     ghost view = { λ a. a.entry };
+
+    ghost inverse = { λ n. record { entry = n } };
+}
+
+impl TaskId {
+    // The task that is the entry of this number.
+    pub(crate) fn new(entry: usize) -> TaskId
+        ensures { result ≡ entry }
+    {
+        TaskId { entry }
+    }
+
+    // The number of the entry.
+    pub(crate) fn entry(self) -> usize
+        ensures { result ≡ self }
+    {
+        self.entry
+    }
 }
 
 /// A task network in normal form: no part is empty, and no list has one part. The focus is on the subtasks of the
@@ -54,7 +75,13 @@ impl Net {
             → focused terms n ≡ (plain.normal (network_of terms tree.now), None)) }
         ensures below { IfOk result (λ n. (k : ℕ) → TreeBelow k tree.now → All (EntryBelow k) n.entries) }
     {
-        todo
+        let mut entries = Vec::new(alloc);
+        push_tree(&mut entries, tree)?;
+        Ok(Net {
+            entries,
+            focus: None,
+            alloc,
+        })
     }
 
     /// Whether nothing is left to do.
@@ -71,7 +98,10 @@ impl Net {
         ensures places { IfOk result (λ v. (terms : List Term) → map (place_of self.now.entries) v.items
             ≡ map Some (plain.candidates (focused terms self.now).0 (focused terms self.now).1)) }
     {
-        todo
+        let start = self.focus.unwrap_or(0);
+        let mut found = first_tasks(alloc, self.entries.as_slice(), start)?;
+        keep_immediate(self.entries.as_slice(), &mut found);
+        Ok(found)
     }
 
     /// The task that an id names.
@@ -82,7 +112,7 @@ impl Net {
             ≡ Some (plain.Task (term_at terms result) immediate)) }
         ensures below { (k : ℕ) → All (EntryBelow k) self.now.entries → result < k }
     {
-        todo
+        task_at(self.entries.as_slice(), id.entry)
     }
 
     /// Takes a task out, and the focus away. An error leaves the network as it was.
@@ -93,7 +123,9 @@ impl Net {
         ensures below { (k : ℕ) → All (EntryBelow k) self.old.entries → All (EntryBelow k) self.new.entries }
         ensures err { OnErr result (self.new ≡ self.old) }
     {
-        todo
+        take_out(&mut self.entries, id.entry);
+        self.focus = None;
+        Ok(())
     }
 
     /// Puts subtasks in the place of a task, with the focus on them; without subtasks the task is done. An error leaves
@@ -107,13 +139,30 @@ impl Net {
             → All (EntryBelow k) self.new.entries }
         ensures err { OnErr result (self.new ≡ self.old) }
     {
-        todo
+        let mut subtasks = Vec::new(self.alloc);
+        let count = push_tree(&mut subtasks, tree)?;
+        if count == 0 {
+            return self.finish(id);
+        }
+        self.entries = with_subtasks(
+            self.alloc,
+            self.entries.as_slice(),
+            id.entry,
+            subtasks.as_slice(),
+        )?;
+        self.focus = Some(id.entry);
+        Ok(())
     }
 
     /// An equal network with the same focus.
     pub fn copy(&self) -> Result<Net, AllocError>
         ensures { IfOk result (λ n. n ≡ self.now) }
     {
-        todo
+        let entries = Vec::from_slice(self.alloc, self.entries.as_slice())?;
+        Ok(Net {
+            entries,
+            focus: self.focus,
+            alloc: self.alloc,
+        })
     }
 }

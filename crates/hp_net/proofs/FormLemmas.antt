@@ -1,0 +1,131 @@
+-- The networks of full entries are in normal form, and stay so.
+use Rattle.std.proofs.Common.{◌≡◌, ℕ, ◌<◌, ◌≤◌, zero, suc, true, false, cond, List, [], ◌∷◌, ◌++◌, length, take, drop, Some, refl, sym, ap, ◌∙◌, arith}
+use Rattle.std.specs.List.{remove}
+use Rattle.hp_syntax.specs.Networks as plain
+use Rattle.hp_syntax.specs.Networks.{Network, Networks, Empty, Place, NoNetwork, And, is_empty, unless_empty, as_list, normal, normal_parts, part_at, nth_part_at, with_part, with_nth_part}
+use Rattle.hp_syntax.specs.Terms.{Term}
+use Rattle.hp_laws.proofs.NetworkLemmas.{IsInForm, AreInForm, has_more, normal_in_form, normal-normal, normal_from_form, normal_parts_from_form, with_part_in_form}
+use Rattle.hp_eval.specs.GoalViews.{as_networks}
+use Rattle.hp_net.specs.declared.entry.Order.{Order}
+use Rattle.hp_net.specs.declared.entry.Order.TheVariants.{Ordered, Unordered}
+use Rattle.hp_net.specs.declared.entry.Entry.{Entry}
+use Rattle.hp_net.specs.declared.entry.Entry.TheVariants.{Task, List as Parts}
+use Rattle.hp_net.specs.Outlines.{forest, listed, AreFull}
+use Rattle.hp_net.proofs.OutlineLemmas.{length-forest, some_listed}
+
+-- ---- parts in normal form
+
+-- the first parts of networks in normal form are in normal form
+pub taken_in_form : (n : ℕ) (ns : List Network) → AreInForm (as_networks ns) → AreInForm (as_networks (take n ns))
+taken_in_form zero ns h = tt
+taken_in_form (suc n) [] h = tt
+taken_in_form (suc n) (m ∷ ns) h = (h.0, h.1, taken_in_form n ns h.2)
+
+-- the last parts of networks in normal form are in normal form
+form_dropped : (n : ℕ) (ns : List Network) → AreInForm (as_networks ns) → AreInForm (as_networks (drop n ns))
+form_dropped zero ns h = h
+form_dropped (suc n) [] h = tt
+form_dropped (suc n) (m ∷ ns) h = form_dropped n ns h.2
+
+-- the first two or more of two networks or more are more than one
+more_taken : (n : ℕ) (ns : List Network) → 2 ≤ n → 2 ≤ length ns → has_more (as_networks (take n ns)) ≡ true
+more_taken zero ns l m = absurd (omega arith)
+more_taken (suc zero) ns l m = absurd (omega arith)
+more_taken (suc (suc n)) [] l m = absurd (omega arith)
+more_taken (suc (suc n)) (a ∷ []) l m = absurd (omega arith)
+more_taken (suc (suc n)) (a ∷ b ∷ ns) l m = refl
+
+-- a list of more parts than one, in normal form, is in normal form
+list_in_form : (order : Order) (ns : Networks) → has_more ns ≡ true → AreInForm ns → IsInForm (listed order ns)
+list_in_form Ordered ns m h = (m, h)
+list_in_form Unordered ns m h = (m, h)
+
+-- the networks of full entries are in normal form
+pub forest_in_form : (terms : List Term) (es : List Entry) → AreFull es → AreInForm (as_networks (forest terms es))
+forest_in_form terms [] f = tt
+forest_in_form terms (Task cell immediate ∷ es) f = (refl, tt, forest_in_form terms es f)
+forest_in_form terms (Parts order n ∷ es) f =
+    let h = forest_in_form terms es f.2 in
+    let l = length-forest terms [] es in
+    let two = f.0 in
+    let enough = f.1 in (
+      some_listed order (as_networks (take n (forest terms es))),
+      list_in_form order (as_networks (take n (forest terms es))) (more_taken n (forest terms es) two (omega arith))
+          (taken_in_form n (forest terms es) h),
+      form_dropped n (forest terms es) h,
+    )
+
+-- ---- a part in place of another
+
+-- the normal form with another part is that with the part's normal form
+mutual
+  unfolding normal with_part
+
+  normal_below : (net : Network) (p : Place) (y : Network)
+      → normal (with_part net p y) ≡ normal (with_part net p (normal y))
+  normal_below net [] y = sym (normal-normal y)
+  normal_below Empty (i ∷ p) y = refl
+  normal_below (plain.Task t j) (i ∷ p) y = refl
+  normal_below (plain.Ordered ns) (i ∷ p) y = ap (as_list plain.Ordered) (normal_parts_below ns i p y)
+  normal_below (plain.Unordered ns) (i ∷ p) y = ap (as_list plain.Unordered) (normal_parts_below ns i p y)
+
+  -- the same holds of parts
+  normal_parts_below : (ns : Networks) (i : ℕ) (p : Place) (y : Network)
+      → normal_parts (with_nth_part ns i p y) ≡ normal_parts (with_nth_part ns i p (normal y))
+  normal_parts_below NoNetwork i p y = refl
+  normal_parts_below (And n ns) zero p y = ap (λ m. unless_empty m (normal_parts ns)) (normal_below n p y)
+  normal_parts_below (And n ns) (suc i) p y = ap (unless_empty (normal n)) (normal_parts_below ns i p y)
+
+-- a network in normal form is so with a part's normal form that isn't empty
+pub normal-with_part : (net : Network) (p : Place) (y : Network) → IsInForm net → is_empty (normal y) ≡ false
+    → normal (with_part net p y) ≡ with_part net p (normal y)
+normal-with_part net p y h e =
+    normal_below net p y
+    ∙ normal_from_form (with_part net p (normal y)) (with_part_in_form net p (normal y) h (normal_in_form y) e)
+
+-- a part of a part is changed in the part
+mutual
+  unfolding part_at with_part
+
+  pub with_part_below : (net : Network) (p q : Place) (m y : Network) → part_at net p ≡ Some m
+      → with_part net (p ++ q) y ≡ with_part net p (with_part m q y)
+  with_part_below net [] q m y e = let f : net ≡ m = cc in ap (λ n. with_part n q y) f
+  with_part_below Empty (i ∷ p) q m y e = absurd cc
+  with_part_below (plain.Task t j) (i ∷ p) q m y e = absurd cc
+  with_part_below (plain.Ordered ns) (i ∷ p) q m y e = ap plain.Ordered (with_nth_part_below ns i p q m y e)
+  with_part_below (plain.Unordered ns) (i ∷ p) q m y e = ap plain.Unordered (with_nth_part_below ns i p q m y e)
+
+  -- the same holds of parts
+  with_nth_part_below : (ns : Networks) (i : ℕ) (p q : Place) (m y : Network) → nth_part_at ns i p ≡ Some m
+      → with_nth_part ns i (p ++ q) y ≡ with_nth_part ns i p (with_part m q y)
+  with_nth_part_below NoNetwork i p q m y e = absurd cc
+  with_nth_part_below (And n ns) zero p q m y e = ap (λ x. And x ns) (with_part_below n p q m y e)
+  with_nth_part_below (And n ns) (suc i) p q m y e = ap (And n) (with_nth_part_below ns i p q m y e)
+
+-- ---- a part that goes
+
+-- the normal form of parts of which one is empty has the others
+pub normal_parts-without : (ns : List Network) (k : ℕ) → AreInForm (as_networks ns) → k < length ns
+    → normal_parts (with_nth_part (as_networks ns) k [] Empty) ≡ as_networks (remove ns k)
+unfolding normal with_part
+normal_parts-without [] k h l = absurd (omega arith)
+normal_parts-without (n ∷ ns) zero h l = normal_parts_from_form (as_networks ns) h.2
+normal_parts-without (n ∷ ns) (suc k) h l =
+    ap (unless_empty (normal n)) (normal_parts-without ns k h.2 (omega arith))
+    ∙ (ap (λ m. unless_empty m (as_networks (remove ns k))) (normal_from_form n h.1)
+    ∙ ap (λ b. cond b (as_networks (remove ns k)) (And n (as_networks (remove ns k)))) h.0)
+
+-- parts of which one goes stay in normal form
+pub removed_in_form : (ns : List Network) (k : ℕ) → AreInForm (as_networks ns)
+    → AreInForm (as_networks (remove ns k))
+removed_in_form [] zero h = tt
+removed_in_form [] (suc k) h = tt
+removed_in_form (n ∷ ns) zero h = h.2
+removed_in_form (n ∷ ns) (suc k) h = (h.0, h.1, removed_in_form ns k h.2)
+
+-- a list with a part is not empty once it has no empty part
+pub some_as_list : (order : Order) (ns : List Network) → AreInForm (as_networks ns) → 0 < length ns
+    → is_empty (as_list (listed order) (as_networks ns)) ≡ false
+some_as_list order [] h l = absurd (omega arith)
+some_as_list order (n ∷ []) h l = h.0
+some_as_list order (n ∷ m ∷ ns) h l = some_listed order (And n (And m (as_networks ns)))

@@ -1,0 +1,382 @@
+-- Where the networks of entries stand, and entries with another network in the place of one.
+use Rattle.std.proofs.Common.{◌≡◌, ℕ, ◌+◌, ◌-◌, ◌<◌, ◌≤◌, zero, suc, true, false, nat_lt, List, [], ◌∷◌, ◌++◌, length, take, drop, Option, Some, None, option_map, refl, sym, ap, ap₂, subst, ◌∙◌, arith, ⊎_elim}
+use Rattle.std.specs.Prelude.{slice_get}
+use Rattle.std.specs.Option.{option_and_then}
+use Rattle.std.proofs.lemmas.Bool.{cases_Bool, cases_lt}
+use Rattle.std.proofs.lemmas.Bool.Decides.{nat_tests}
+use Rattle.std.proofs.lemmas.List.{length-drop}
+use Rattle.std.proofs.lemmas.Option.{same_Some}
+use Rattle.hp_syntax.specs.Networks as plain
+use Rattle.hp_syntax.specs.Networks.{Network, Networks, Place, NoNetwork, And, part_at, nth_part_at, with_part, with_nth_part}
+use Rattle.hp_syntax.specs.Terms.{Term}
+use Rattle.hp_eval.specs.GoalViews.{term_at, as_networks}
+use Rattle.hp_net.specs.declared.entry.Order.{Order}
+use Rattle.hp_net.specs.declared.entry.Order.TheVariants.{Ordered, Unordered}
+use Rattle.hp_net.specs.declared.entry.Entry.{Entry}
+use Rattle.hp_net.specs.declared.entry.Entry.TheVariants.{Task, List as Parts}
+use Rattle.hp_net.specs.Outlines.{forest, listed, first_network, AreFull, behind_task, behind_list, spot, below_root, place_of}
+
+-- ---- spots
+
+-- a spot is a path that is not empty
+abbrev pub IsSpot : Option (List ℕ) → Type 0
+IsSpot None = Unit {0}
+IsSpot (Some []) = ⊥
+IsSpot (Some (k ∷ p)) = Unit {0}
+
+-- behind a task a path stays one that is not empty
+spot_behind_task : (s : Option (List ℕ)) → IsSpot s → IsSpot (option_map behind_task s)
+spot_behind_task None h = tt
+spot_behind_task (Some []) h = absurd h
+spot_behind_task (Some (k ∷ p)) h = tt
+
+-- behind a list a path stays one that is not empty
+spot_behind_list : (n : ℕ) (s : Option (List ℕ)) → IsSpot s → IsSpot (option_map (behind_list n) s)
+spot_behind_list n None h = tt
+spot_behind_list n (Some []) h = absurd h
+spot_behind_list n (Some (k ∷ p)) h =
+    ⊎_elim (λ e. rw e tt) (λ e. rw e tt) (cases_Bool (nat_lt k n))
+
+-- the spot of an entry is a path that is not empty
+pub is_spot : (i : ℕ) (es : List Entry) → IsSpot (spot i es)
+is_spot i [] = tt
+is_spot zero (e ∷ es) = tt
+is_spot (suc i) (Task cell immediate ∷ es) = spot_behind_task (spot i es) (is_spot i es)
+is_spot (suc i) (Parts order n ∷ es) = spot_behind_list n (spot i es) (is_spot i es)
+
+-- a network that is a part of a list is below it
+pub behind_list-within : (n k : ℕ) (p : List ℕ) → k < n → behind_list n (k ∷ p) ≡ zero ∷ k ∷ p
+behind_list-within n k p l = let e : nat_lt k n ≡ true = grind (arith, nat_tests) in rw e refl
+
+-- a network that is no part of a list has a number behind it, less by its parts
+pub behind_list-past : (n k : ℕ) (p : List ℕ) → n ≤ k → behind_list n (k ∷ p) ≡ suc (k - n) ∷ p
+behind_list-past n k p l = let e : nat_lt k n ≡ false = grind (arith, nat_tests) in rw e refl
+
+-- ---- the part at a spot
+
+-- the part of networks at a spot
+abbrev pub part_of : List Network → Option (List ℕ) → Option Network
+part_of ns None = None
+part_of ns (Some []) = None
+part_of ns (Some (k ∷ p)) = nth_part_at (as_networks ns) k p
+
+-- a part of one of the first networks is a part of all of them
+nth_part_at-take : (ns : List Network) (n k : ℕ) (p : Place) → k < n
+    → nth_part_at (as_networks (take n ns)) k p ≡ nth_part_at (as_networks ns) k p
+unfolding part_at
+nth_part_at-take ns zero k p l = absurd (omega arith)
+nth_part_at-take [] (suc n) k p l = refl
+nth_part_at-take (m ∷ ns) (suc n) zero p l = refl
+nth_part_at-take (m ∷ ns) (suc n) (suc k) p l = nth_part_at-take ns n k p (omega arith)
+
+-- a part of a network behind some is a part of all of them, of a number greater by those
+nth_part_at-drop : (ns : List Network) (n k : ℕ) (p : Place) → n ≤ k
+    → nth_part_at (as_networks (drop n ns)) (k - n) p ≡ nth_part_at (as_networks ns) k p
+unfolding part_at
+nth_part_at-drop ns zero k p l = ap (λ j. nth_part_at (as_networks ns) j p) (omega arith)
+nth_part_at-drop [] (suc n) k p l = refl
+nth_part_at-drop (m ∷ ns) (suc n) zero p l = absurd (omega arith)
+nth_part_at-drop (m ∷ ns) (suc n) (suc k) p l =
+    let e : suc k - suc n ≡ k - n = omega arith in
+    rw e (nth_part_at-drop ns n k p (omega arith))
+
+-- a part of a list is a part of its parts
+pub part_at-listed : (order : Order) (ns : Networks) (k : ℕ) (p : Place)
+    → part_at (listed order ns) (k ∷ p) ≡ nth_part_at ns k p
+unfolding part_at
+part_at-listed Ordered ns k p = refl
+part_at-listed Unordered ns k p = refl
+
+-- a part of networks is one of them behind a task
+part_of_task : (t : Network) (ns : List Network) (s : Option (List ℕ)) (x : Network)
+    → part_of ns s ≡ Some x → part_of (t ∷ ns) (option_map behind_task s) ≡ Some x
+unfolding part_at
+part_of_task t ns None x h = absurd cc
+part_of_task t ns (Some []) x h = absurd cc
+part_of_task t ns (Some (k ∷ p)) x h = h
+
+-- a part of networks is one of them as they are a list and those behind it
+part_of_list : (order : Order) (n : ℕ) (ns : List Network) (s : Option (List ℕ)) (x : Network)
+    → part_of ns s ≡ Some x
+    → part_of (listed order (as_networks (take n ns)) ∷ drop n ns) (option_map (behind_list n) s) ≡ Some x
+unfolding part_at
+part_of_list order n ns None x h = absurd cc
+part_of_list order n ns (Some []) x h = absurd cc
+part_of_list order n ns (Some (k ∷ p)) x h =
+    ⊎_elim
+    (λ e. rw e
+    (part_at-listed order (as_networks (take n ns)) k p ∙ (nth_part_at-take ns n k p (grind (arith, nat_tests)) ∙ h)))
+    (λ e. rw e (nth_part_at-drop ns n k p (grind (arith, nat_tests)) ∙ h))
+    (cases_Bool (nat_lt k n))
+
+-- at an entry's spot stands the first network that it begins
+pub part_of-spot : (terms : List Term) (i : ℕ) (es : List Entry) → i < length es
+    → part_of (forest terms es) (spot i es) ≡ Some (first_network (forest terms (drop i es)))
+unfolding part_at
+part_of-spot terms i [] l = absurd (omega arith)
+part_of-spot terms zero (Task cell immediate ∷ es) l = refl
+part_of-spot terms zero (Parts order n ∷ es) l = refl
+part_of-spot terms (suc i) (Task cell immediate ∷ es) l =
+    part_of_task (plain.Task (term_at terms cell) immediate) (forest terms es) (spot i es) _
+    (part_of-spot terms i es (omega arith))
+part_of-spot terms (suc i) (Parts order n ∷ es) l =
+    part_of_list order n (forest terms es) (spot i es) _ (part_of-spot terms i es (omega arith))
+
+-- ---- another network at a spot
+
+-- networks with another part of the one of this number, at this place
+abbrev pub put : ℕ → Place → Network → List Network → List Network
+put k p x [] = []
+put zero p x (n ∷ ns) = with_part n p x ∷ ns
+put (suc k) p x (n ∷ ns) = n ∷ put k p x ns
+
+-- networks with another part at a spot
+abbrev pub put_at : Option (List ℕ) → Network → List Network → List Network
+put_at None x ns = ns
+put_at (Some []) x ns = ns
+put_at (Some (k ∷ p)) x ns = put k p x ns
+
+-- another part changes no number of networks
+length-put : (k : ℕ) (p : Place) (x : Network) (ns : List Network) → length (put k p x ns) ≡ length ns
+length-put k p x [] = refl
+length-put zero p x (n ∷ ns) = refl
+length-put (suc k) p x (n ∷ ns) = ap suc (length-put k p x ns)
+
+-- putting a network at a spot changes no number of networks
+pub length-put_at : (s : Option (List ℕ)) (x : Network) (ns : List Network) → length (put_at s x ns) ≡ length ns
+length-put_at None x ns = refl
+length-put_at (Some []) x ns = refl
+length-put_at (Some (k ∷ p)) x ns = length-put k p x ns
+
+-- the first networks with another part are those of all with it
+take-put : (n k : ℕ) (p : Place) (x : Network) (ns : List Network) → take n (put k p x ns) ≡ put k p x (take n ns)
+take-put zero k p x ns = refl
+take-put (suc n) k p x [] = refl
+take-put (suc n) zero p x (m ∷ ns) = refl
+take-put (suc n) (suc k) p x (m ∷ ns) = ap (λ l. m ∷ l) (take-put n k p x ns)
+
+-- another part in the first networks changes none behind them
+drop-put_within : (n k : ℕ) (p : Place) (x : Network) (ns : List Network) → k < n
+    → drop n (put k p x ns) ≡ drop n ns
+drop-put_within zero k p x ns l = absurd (omega arith)
+drop-put_within (suc n) k p x [] l = refl
+drop-put_within (suc n) zero p x (m ∷ ns) l = refl
+drop-put_within (suc n) (suc k) p x (m ∷ ns) l = drop-put_within n k p x ns (omega arith)
+
+-- another part behind the first networks is one of those behind them, of a number less by the first
+drop-put_past : (n k : ℕ) (p : Place) (x : Network) (ns : List Network) → n ≤ k
+    → drop n (put k p x ns) ≡ put (k - n) p x (drop n ns)
+drop-put_past zero k p x ns l = ap (λ j. put j p x ns) (omega arith)
+drop-put_past (suc n) k p x [] l = refl
+drop-put_past (suc n) zero p x (m ∷ ns) l = absurd (omega arith)
+drop-put_past (suc n) (suc k) p x (m ∷ ns) l =
+    let e : suc k - suc n ≡ k - n = omega arith in
+    rw e (drop-put_past n k p x ns (omega arith))
+
+-- networks with another part are as a list the list with it
+as_networks-put : (k : ℕ) (p : Place) (x : Network) (ns : List Network)
+    → as_networks (put k p x ns) ≡ with_nth_part (as_networks ns) k p x
+unfolding with_part
+as_networks-put k p x [] = refl
+as_networks-put zero p x (n ∷ ns) = refl
+as_networks-put (suc k) p x (n ∷ ns) = ap (And n) (as_networks-put k p x ns)
+
+-- a list with another part
+pub with_part-listed : (order : Order) (ns : Networks) (k : ℕ) (p : Place) (x : Network)
+    → with_part (listed order ns) (k ∷ p) x ≡ listed order (with_nth_part ns k p x)
+unfolding with_part
+with_part-listed Ordered ns k p x = refl
+with_part-listed Unordered ns k p x = refl
+
+-- behind a task another part is the same one
+put_task : (t : Network) (ns : List Network) (s : Option (List ℕ)) (x : Network)
+    → t ∷ put_at s x ns ≡ put_at (option_map behind_task s) x (t ∷ ns)
+put_task t ns None x = refl
+put_task t ns (Some []) x = refl
+put_task t ns (Some (k ∷ p)) x = refl
+
+-- as networks are a list and those behind it another part is the same one
+put_list : (order : Order) (n : ℕ) (ns : List Network) (s : Option (List ℕ)) (x : Network)
+    → listed order (as_networks (take n (put_at s x ns))) ∷ drop n (put_at s x ns)
+    ≡ put_at (option_map (behind_list n) s) x (listed order (as_networks (take n ns)) ∷ drop n ns)
+put_list order n ns None x = refl
+put_list order n ns (Some []) x = refl
+put_list order n ns (Some (k ∷ p)) x =
+    ⊎_elim
+    (λ e. rw e
+    (ap₂ (λ l m. l ∷ m)
+    (ap (λ l. listed order (as_networks l)) (take-put n k p x ns)
+    ∙ (ap (listed order) (as_networks-put k p x (take n ns))
+    ∙ sym (with_part-listed order (as_networks (take n ns)) k p x)))
+    (drop-put_within n k p x ns (grind (arith, nat_tests)))))
+    (λ e. rw e
+    (ap₂ (λ l m. listed order (as_networks l) ∷ m) (before e)
+    (drop-put_past n k p x ns (grind (arith, nat_tests)))))
+    (cases_Bool (nat_lt k n))
+  where
+    unchanged : (n k : ℕ) (ns : List Network) → n ≤ k → take n (put k p x ns) ≡ take n ns
+    unchanged zero k ns l = refl
+    unchanged (suc n) k [] l = refl
+    unchanged (suc n) zero (m ∷ ns) l = absurd (omega arith)
+    unchanged (suc n) (suc k) (m ∷ ns) l = ap (λ l. m ∷ l) (unchanged n k ns (omega arith))
+
+    before : nat_lt k n ≡ false → take n (put k p x ns) ≡ take n ns
+    before e = unchanged n k ns (grind (arith, nat_tests))
+
+-- other entries from an entry on, whose first network stands in place of the entry's, are those with that network at
+-- the entry's spot
+pub forest-replaced : (terms : List Term) (j : ℕ) (es tail : List Entry) (x : Network) → j < length es
+    → forest terms tail ≡ x ∷ drop 1 (forest terms (drop j es))
+    → forest terms (take j es ++ tail) ≡ put_at (spot j es) x (forest terms es)
+unfolding with_part
+forest-replaced terms j [] tail x l h = absurd (omega arith)
+forest-replaced terms zero (Task cell immediate ∷ es) tail x l h = h
+forest-replaced terms zero (Parts order n ∷ es) tail x l h = h
+forest-replaced terms (suc j) (Task cell immediate ∷ es) tail x l h =
+    ap (λ ns. plain.Task (term_at terms cell) immediate ∷ ns) (forest-replaced terms j es tail x (omega arith) h)
+    ∙ put_task (plain.Task (term_at terms cell) immediate) (forest terms es) (spot j es) x
+forest-replaced terms (suc j) (Parts order n ∷ es) tail x l h =
+    ap (λ ns. listed order (as_networks (take n ns)) ∷ drop n ns) (forest-replaced terms j es tail x (omega arith) h)
+    ∙ put_list order n (forest terms es) (spot j es) x
+
+-- the lists of such entries are full
+pub full-replaced : (j : ℕ) (es tail : List Entry) (x : Network) → j < length es
+    → forest [] tail ≡ x ∷ drop 1 (forest [] (drop j es)) → AreFull es → AreFull tail → AreFull (take j es ++ tail)
+full-replaced j [] tail x l h f t = absurd (omega arith)
+full-replaced zero (e ∷ es) tail x l h f t = t
+full-replaced (suc j) (Task cell immediate ∷ es) tail x l h f t = full-replaced j es tail x (omega arith) h f t
+full-replaced (suc j) (Parts order n ∷ es) tail x l h f t = (
+  f.0,
+  (let e = ap length (forest-replaced [] j es tail x (omega arith) h) in
+      let c = length-put_at (spot j es) x (forest [] es) in
+      let g = f.1 in
+      omega arith),
+  full-replaced j es tail x (omega arith) h f.2 t,
+)
+
+-- an entry keeps its spot as others come in place of it and of those behind it
+pub spot-replaced : (j : ℕ) (es : List Entry) (e : Entry) (tail : List Entry) → j < length es
+    → spot j (take j es ++ e ∷ tail) ≡ spot j es
+spot-replaced j [] e tail l = absurd (omega arith)
+spot-replaced zero (d ∷ es) e tail l = refl
+spot-replaced (suc j) (Task cell immediate ∷ es) e tail l =
+    ap (option_map behind_task) (spot-replaced j es e tail (omega arith))
+spot-replaced (suc j) (Parts order n ∷ es) e tail l =
+    ap (option_map (behind_list n)) (spot-replaced j es e tail (omega arith))
+
+-- ---- a spot below another
+
+-- behind a task a path goes on as it does before it
+below_task : (s : Option (List ℕ)) (q : List ℕ) → IsSpot s
+    → option_map behind_task (option_map (λ p. p ++ q) s) ≡ option_map (λ p. p ++ q) (option_map behind_task s)
+below_task None q h = refl
+below_task (Some []) q h = absurd h
+below_task (Some (k ∷ p)) q h = refl
+
+-- behind a list a path goes on as it does before it
+below_list : (n : ℕ) (s : Option (List ℕ)) (q : List ℕ) → IsSpot s
+    → option_map (behind_list n) (option_map (λ p. p ++ q) s)
+    ≡ option_map (λ p. p ++ q) (option_map (behind_list n) s)
+below_list n None q h = refl
+below_list n (Some []) q h = absurd h
+below_list n (Some (k ∷ p)) q h =
+    ⊎_elim (λ e. rw e refl) (λ e. rw e refl) (cases_Bool (nat_lt k n))
+
+-- the spot of an entry of the first network that another begins is below its spot
+pub spot-below : (j i : ℕ) (es : List Entry) (q : List ℕ) → spot i (drop j es) ≡ Some (zero ∷ q)
+    → spot (j + i) es ≡ option_map (λ p. p ++ q) (spot j es)
+spot-below j i [] q h = refl
+spot-below zero i (e ∷ es) q h = let n : 0 + i ≡ i = omega arith in rw n h
+spot-below (suc j) i (Task cell immediate ∷ es) q h =
+    let n : suc j + i ≡ suc (j + i) = omega arith in
+    rw n (ap (option_map behind_task) (spot-below j i es q h) ∙ below_task (spot j es) q (is_spot j es))
+spot-below (suc j) i (Parts order n ∷ es) q h =
+    let m : suc j + i ≡ suc (j + i) = omega arith in
+    rw m (ap (option_map (behind_list n)) (spot-below j i es q h) ∙ below_list n (spot j es) q (is_spot j es))
+
+-- ---- how far spots reach
+
+-- a spot is within so many networks
+abbrev IsWithinFirst : ℕ → Option (List ℕ) → Type 0
+IsWithinFirst m None = Unit {0}
+IsWithinFirst m (Some []) = Unit {0}
+IsWithinFirst m (Some (k ∷ p)) = k < m
+
+-- behind a task a spot is within one network more
+within_task : (m : ℕ) (s : Option (List ℕ)) → IsWithinFirst m s → IsWithinFirst (suc m) (option_map behind_task s)
+within_task m None h = tt
+within_task m (Some []) h = tt
+within_task m (Some (k ∷ p)) h = omega arith
+
+-- behind a list a spot is within the networks that are no parts of it, and the list
+within_list : (n m : ℕ) (s : Option (List ℕ)) → IsWithinFirst m s
+    → IsWithinFirst (suc (m - n)) (option_map (behind_list n) s)
+within_list n m None h = tt
+within_list n m (Some []) h = tt
+within_list n m (Some (k ∷ p)) h =
+    ⊎_elim (λ e. rw e (omega arith))
+    (λ e. let l : n ≤ k = grind (arith, nat_tests) in rw e (omega arith)) (cases_Bool (nat_lt k n))
+
+-- the spot of an entry is within the networks
+within_first : (terms : List Term) (i : ℕ) (es : List Entry) → IsWithinFirst (length (forest terms es)) (spot i es)
+within_first terms i [] = tt
+within_first terms zero (Task cell immediate ∷ es) = omega arith
+within_first terms zero (Parts order n ∷ es) = omega arith
+within_first terms (suc i) (Task cell immediate ∷ es) =
+    within_task (length (forest terms es)) (spot i es) (within_first terms i es)
+within_first terms (suc i) (Parts order n ∷ es) =
+    let e = length-drop n (forest terms es) in
+    subst (λ m. IsWithinFirst (suc m) (option_map (behind_list n) (spot i es))) (sym e)
+    (within_list n (length (forest terms es)) (spot i es) (within_first terms i es))
+
+-- a spot is of one of the networks
+pub spot_within : (terms : List Term) (i : ℕ) (es : List Entry) (k : ℕ) (p : Place) → spot i es ≡ Some (k ∷ p)
+    → k < length (forest terms es)
+spot_within terms i es k p h = subst (IsWithinFirst (length (forest terms es))) h (within_first terms i es)
+
+-- past the entries there is no spot
+spot_past : (i : ℕ) (es : List Entry) → length es ≤ i → spot i es ≡ None
+spot_past i [] l = refl
+spot_past zero (e ∷ es) l = absurd (omega arith)
+spot_past (suc i) (Task cell immediate ∷ es) l = ap (option_map behind_task) (spot_past i es (omega arith))
+spot_past (suc i) (Parts order n ∷ es) l = ap (option_map (behind_list n)) (spot_past i es (omega arith))
+
+-- an entry that has a spot is one of the entries
+pub entry_within : (i : ℕ) (es : List Entry) (s : List ℕ) → spot i es ≡ Some s → i < length es
+entry_within i es s h =
+    ⊎_elim (λ l. l) (λ l. absurd (let e = spot_past i es l in cc)) (cases_lt i (length es))
+
+-- what stands from an entry on begins with it
+pub drop-from : (es : List Entry) (j : ℕ) (e : Entry) → slice_get es j ≡ Some e → drop j es ≡ e ∷ drop (suc j) es
+drop-from [] j e h = absurd cc
+drop-from (d ∷ es) zero e h = ap (λ x. x ∷ es) (same_Some d e h)
+drop-from (d ∷ es) (suc j) e h = drop-from es j e h
+
+-- the first entry of those from it on is the first network
+pub spot_first : (i : ℕ) (es : List Entry) → i < length es → spot (i - i) (drop i es) ≡ Some (zero ∷ [])
+spot_first i es l =
+    let z : i - i ≡ 0 = omega arith in
+    rw z (first (drop i es) (let n = length-drop i es in omega arith))
+  where
+    first : (xs : List Entry) → 0 < length xs → spot zero xs ≡ Some (zero ∷ [])
+    first [] l = absurd (omega arith)
+    first (x ∷ xs) l = refl
+
+-- ---- places
+
+-- a spot that has a place is in the first network
+place_parts : (s : Option (List ℕ)) (p : Place) → option_and_then below_root s ≡ Some p → s ≡ Some (zero ∷ p)
+place_parts None p h = absurd cc
+place_parts (Some []) p h = absurd cc
+place_parts (Some (zero ∷ q)) p h = ap (λ r. Some (zero ∷ r)) (same_Some q p h)
+place_parts (Some (suc k ∷ q)) p h = absurd cc
+
+-- an entry's place is its spot below the first network
+pub spot_from_place : (es : List Entry) (i : ℕ) (p : Place) → place_of es i ≡ Some p → spot i es ≡ Some (zero ∷ p)
+unfolding place_of
+spot_from_place es i p h = place_parts (spot i es) p h
+
+-- an entry whose spot is in the first network has a place there
+pub place_from_spot : (es : List Entry) (i : ℕ) (p : Place) → spot i es ≡ Some (zero ∷ p) → place_of es i ≡ Some p
+unfolding place_of
+place_from_spot es i p h = ap (option_and_then below_root) h
