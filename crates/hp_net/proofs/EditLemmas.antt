@@ -19,7 +19,7 @@ use Rattle.hp_net.specs.declared.entry.Order.{Order}
 use Rattle.hp_net.specs.declared.entry.Entry.{Entry}
 use Rattle.hp_net.specs.declared.entry.Entry.TheVariants.{Task, List as Parts}
 use Rattle.hp_net.specs.Edits.{HasTask, IsPart, IsAlone, IsTakenOut, fewer_by, replaced, without_part}
-use Rattle.hp_net.specs.Outlines.{forest, listed, first_network, network_in, AreFull, behind_task, behind_list, spot, below_root, place_of, IsOutline, EntryBelow}
+use Rattle.hp_net.specs.Outlines.{forest, listed, first_network, network_in, AreFull, behind_task, behind_list, spot, below_root, place_of, Outline, IsOutline, NamesTask, EntryBelow}
 use Rattle.hp_net.specs.Pushed.{shown, kept, Adds}
 use Rattle.hp_net.proofs.FormLemmas.{forest_in_form, taken_in_form, normal-with_part, with_part_below, normal_parts-without, removed_in_form, some_as_list}
 use Rattle.hp_net.proofs.OutlineLemmas.{length-forest, full_behind}
@@ -426,6 +426,17 @@ module _ (es : List Entry) (task list : ℕ) (f : AreFull es) (t : HasTask es ta
         (ap is_empty normal-list ∙ list_stays))
         ∙ (ap normal (sym (with_part_below net s.0 (p.before ∷ []) m Empty there))
         ∙ ap (λ r. normal (with_part net r Empty)) (sym s.2))))
+
+-- ---- ids
+
+-- an id names a task in equal outlines
+pub task_named : (o b : Outline) (i id : ℕ) → o ≡ b → i ≡ id → NamesTask b id → HasTask o.entries i
+task_named o b i id e f t = subst (HasTask o.entries) (sym f) (subst (λ a. NamesTask a id) (sym e) t)
+
+-- the task has the same place in them
+pub place_named : (o b : Outline) (i id : ℕ) (p : Place) → o ≡ b → i ≡ id → place_of b.entries id ≡ Some p
+    → place_of o.entries i ≡ Some p
+place_named o b i id p e f h = ap (place_of o.entries) f ∙ (ap (λ a. place_of a.entries id) e ∙ h)
 
 -- ---- a task goes
 

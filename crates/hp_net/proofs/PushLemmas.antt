@@ -60,7 +60,8 @@ normal_parts-kept (t ∷ ts) terms =
     ∙ sym (shown_before (normal (network_of terms t)) (all_kept ts terms))
 
 -- the normal form of a list is the list of its parts' normal form
-pub normal-listed : (order : Order) (ns : Networks) → normal (listed order ns) ≡ as_list (listed order) (normal_parts ns)
+pub normal-listed : (order : Order) (ns : Networks)
+    → normal (listed order ns) ≡ as_list (listed order) (normal_parts ns)
 unfolding normal
 normal-listed Ordered ns = refl
 normal-listed Unordered ns = refl

@@ -17,6 +17,7 @@ pub record Outline : Type 0 where
 
 -- ---- the network
 
+-- the list of networks, in order or not
 abbrev pub listed : Order → Networks → Network
 listed Ordered ns = plain.Ordered ns
 listed Unordered ns = plain.Unordered ns
@@ -28,6 +29,7 @@ forest terms (Task cell immediate ∷ es) = plain.Task (term_at terms cell) imme
 forest terms (Parts order n ∷ es) =
     listed order (as_networks (take n (forest terms es))) ∷ drop n (forest terms es)
 
+-- the first network, or the empty one where there is none
 abbrev pub first_network : List Network → Network
 first_network [] = Empty
 first_network (n ∷ ns) = n
@@ -55,6 +57,7 @@ spot zero (e ∷ es) = Some (zero ∷ [])
 spot (suc i) (Task cell immediate ∷ es) = option_map behind_task (spot i es)
 spot (suc i) (Parts order n ∷ es) = option_map (behind_list n) (spot i es)
 
+-- the place in the first network, if the path leads there
 abbrev pub below_root : List ℕ → Option Place
 below_root (zero ∷ p) = Some p
 below_root (suc k ∷ p) = None
@@ -76,6 +79,7 @@ AreFull [] = Unit {0}
 AreFull (Task cell immediate ∷ es) = AreFull es
 AreFull (Parts order n ∷ es) = (2 ≤ n) × (n ≤ length (forest [] es)) × AreFull es
 
+-- the number, if there is one, is below a count
 abbrev pub IsWithin : Option ℕ → ℕ → Type 0
 IsWithin None n = Unit {0}
 IsWithin (Some i) n = i < n

@@ -28,10 +28,11 @@ marks (e ∷ es) [] b = []
 marks (Task cell immediate ∷ es) (read ∷ bs) b = cond read (b ∷ marks es bs (suc b)) (marks es bs (suc b))
 marks (Parts order n ∷ es) (read ∷ bs) b = marks es (parts_read read order n bs) (suc b)
 
--- which networks are read, by levels of which the last comes first
+-- which networks are read by one level, before others
 abbrev pub level_read : Level → List Bool → List Bool
 level_read l bs = so_many l.read true (so_many l.pass false bs)
 
+-- which networks are read by levels, of which the last comes first, before others
 abbrev pub read_onto : List Level → List Bool → List Bool
 read_onto [] bs = bs
 read_onto (l ∷ ls) bs = read_onto ls (level_read l bs)

@@ -1,14 +1,14 @@
-use Rattle.std.proofs.Common.{◌≡◌, ◌<◌, Some, [], length, sym, ap, ap₂, subst, ◌∙◌, arith}
+use Rattle.std.proofs.Common.{◌<◌, Some, [], length, sym, ap, ap₂, subst, ◌∙◌, arith}
 use Rattle.std.specs.List.{All}
 use Rattle.std.proofs.lemmas.List.Elements.{All-nil}
 use Rattle.std.proofs.lemmas.Option.{slice_get_within}
 use Rattle.std.proofs.lemmas.Result.{on_ok_weaker}
 use Rattle.hp_syntax.specs.Networks as plain
 use Rattle.hp_eval.specs.GoalViews.{network_of}
-use Rattle.hp_net.specs.Edits.{HasTask, replaced}
+use Rattle.hp_net.specs.Edits.{replaced}
 use Rattle.hp_net.specs.Outlines.{Outline, IsOutline, network_in, place_of, EntryBelow}
 use Rattle.hp_net.specs.Pushed.{kept, Adds}
-use Rattle.hp_net.proofs.EditLemmas.{outline_expanded, expand_expanded, below_expanded}
+use Rattle.hp_net.proofs.EditLemmas.{task_named, place_named, outline_expanded, expand_expanded, below_expanded}
 use Rattle.hp_net.proofs.OutlineLemmas.{expand_none}
 use Rattle.hp_net.proofs.net.Net.expand.Goals as goal
 
@@ -27,9 +27,7 @@ returns-then-count-eq0-clause-below c = λ k h b. c.finish.ensures.below k h
 pub with_subtasks-requires : goal.with_subtasks-requires
 with_subtasks-requires c =
     let es = c.self.inside.entries.items in
-    let t : HasTask es c.id.inside.entry
-    = subst (HasTask es) (sym c.id.view_is)
-    (subst (λ (o : Outline). HasTask o.entries c.args.id) (sym c.self.view_is) c.requires) in
+    let t = task_named _ _ _ _ c.self.view_is c.id.view_is c.requires in
     subst (λ xs. c.id.inside.entry < length xs) (sym c.as_slice.ensures.value)
     (slice_get_within es c.id.inside.entry _ t.2)
 
@@ -37,9 +35,7 @@ pub invariant_of-self : goal.invariant_of-self
 invariant_of-self c =
     let es = c.self.inside.entries.items in
     let i = c.id.inside.entry in
-    let t : HasTask es i
-    = subst (HasTask es) (sym c.id.view_is)
-    (subst (λ (o : Outline). HasTask o.entries c.args.id) (sym c.self.view_is) c.requires) in
+    let t = task_named _ _ _ _ c.self.view_is c.id.view_is c.requires in
     let a : Adds (kept c.args.tree.now) c.in_ok-count.count [] c.push_tree.new.entries.items
     = subst (λ old. Adds (kept c.args.tree.now) c.in_ok-count.count old c.push_tree.new.entries.items)
     c.new-subtasks.ensures.items c.in_ok-count.ensures.adds in
@@ -52,15 +48,12 @@ pub returns-clause-net : goal.returns-clause-net
 returns-clause-net c = λ terms p h.
     let es = c.self.inside.entries.items in
     let i = c.id.inside.entry in
-    let t : HasTask es i
-    = subst (HasTask es) (sym c.id.view_is)
-    (subst (λ (o : Outline). HasTask o.entries c.args.id) (sym c.self.view_is) c.requires) in
+    let t = task_named _ _ _ _ c.self.view_is c.id.view_is c.requires in
     let a : Adds (kept c.args.tree.now) c.in_ok-count.count [] c.push_tree.new.entries.items
     = subst (λ old. Adds (kept c.args.tree.now) c.in_ok-count.count old c.push_tree.new.entries.items)
     c.new-subtasks.ensures.items c.in_ok-count.ensures.adds in
     let is = c.in_ok-self-inside.ensures ∙ ap₂ (replaced i) c.as_slice-2.ensures.value c.as_slice.ensures.value in
-    let there : place_of es i ≡ Some p
-    = ap (place_of es) c.id.view_is ∙ (ap (λ (o : Outline). place_of o.entries c.args.id) c.self.view_is ∙ h) in
+    let there = place_named _ _ _ _ p c.self.view_is c.id.view_is h in
     ap (λ xs. (network_in terms xs, place_of xs i)) is
     ∙ (expand_expanded es c.push_tree.new.entries.items c.self.inside.focus i c.args.tree.now c.in_ok-count.count
     c.self.invariant t (omega (arith, c.if-count-eq0.false)) a terms p there
@@ -73,9 +66,7 @@ pub returns-clause-below : goal.returns-clause-below
 returns-clause-below c = λ k h b.
     let es = c.self.inside.entries.items in
     let i = c.id.inside.entry in
-    let t : HasTask es i
-    = subst (HasTask es) (sym c.id.view_is)
-    (subst (λ (o : Outline). HasTask o.entries c.args.id) (sym c.self.view_is) c.requires) in
+    let t = task_named _ _ _ _ c.self.view_is c.id.view_is c.requires in
     let a : Adds (kept c.args.tree.now) c.in_ok-count.count [] c.push_tree.new.entries.items
     = subst (λ old. Adds (kept c.args.tree.now) c.in_ok-count.count old c.push_tree.new.entries.items)
     c.new-subtasks.ensures.items c.in_ok-count.ensures.adds in
