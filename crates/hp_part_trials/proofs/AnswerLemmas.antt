@@ -1,56 +1,67 @@
 -- Slots that a list of answers leaves, one answer after another.
-use Rattle.std.proofs.Common.{◌≡◌, ℕ, ◌≤◌, List, [], ◌∷◌, length, take, Some, None, sym, ◌∙◌, ap, subst}
+use Rattle.std.proofs.Common.{◌≡◌, ℕ, ◌≤◌, List, [], ◌∷◌, length, take, Some, None, Option, refl, sym, ◌∙◌, ap, subst}
 use Rattle.std.specs.Prelude.{slice_get}
 use Rattle.std.proofs.lemmas.List.{length-take-le}
 use Rattle.hp_syntax.specs.Terms.{Term}
-use Rattle.hp_eval.specs.declared.event.Event.{Event}
-use Rattle.hp_eval.specs.declared.event.Event.TheVariants as events
 use Rattle.hp_eval.specs.Slotted.{Slotted, Binds, AreBelow, with_bound, undone, bindings_of}
 use Rattle.hp_eval.specs.Events.{event_of, AreOfFirst}
-use Rattle.hp_part_trials.specs.Answered.{answered, told, AreTold}
-use Rattle.hp_eval.proofs.SlotLemmas.{binds_self, binds_bound}
+use Rattle.hp_eval.proofs.SlotLemmas.{binds_self, binds_bound, below_bound}
+use Rattle.hp_part_trials.specs.declared.answers.Answer.{Answer}
+use Rattle.hp_part_trials.specs.declared.answers.Answer.TheVariants.{Sat, Cut, Fault}
+use Rattle.hp_part_trials.specs.Answered.{answered, first_of, event_told, told, AnswersBelow, AreTold}
+
+-- the first event is that of the first answer
+pub first_event : (c : List Term) (s : Slotted) (v : ℕ) (xs : List Answer)
+    → event_told (first_of xs) ≡ event_of (answered c s v xs)
+first_event c s v [] = refl
+first_event c s v (Sat cell ∷ xs) = refl
+first_event c s v (Cut ∷ xs) = refl
+first_event c s v (Fault f ∷ xs) = refl
 
 -- a Sat leaves its bindings, where it is the first answer
-pub first_bindings : (c : List Term) (s : Slotted) (v cell : ℕ) (xs : List Event) (x : Event)
-    → x ≡ event_of (answered (bindings_of c (with_bound v cell s)) xs)
-    → AreOfFirst (answered (bindings_of c (with_bound v cell s)) xs) (bindings_of c (told x v cell s))
-first_bindings c s v cell [] x h = tt
-first_bindings c s v cell (events.Sat ∷ xs) x h = ap (λ y. bindings_of c (told y v cell s)) h
-first_bindings c s v cell (events.Cut ∷ xs) x h = tt
-first_bindings c s v cell (events.Fault f ∷ xs) x h = tt
-first_bindings c s v cell (events.End ∷ xs) x h = tt
+pub first_bindings : (c : List Term) (s : Slotted) (v : ℕ) (xs : List Answer)
+    → AreOfFirst (answered c s v xs) (bindings_of c (told (first_of xs) v s))
+first_bindings c s v [] = tt
+first_bindings c s v (Sat cell ∷ xs) = refl
+first_bindings c s v (Cut ∷ xs) = tt
+first_bindings c s v (Fault f ∷ xs) = tt
 
-module _ (v cell mark kept : ℕ) (e : Slotted) (f : AreTold v cell mark kept e) where
-  as_many : length (take mark e.trail) ≡ mark
-  as_many = length-take-le mark e.trail f.above
+module _ (v mark kept : ℕ) (e : Slotted) where
+  as_many : mark ≤ length e.trail → length (take mark e.trail) ≡ mark
+  as_many h = length-take-le mark e.trail h
 
   -- what an answer tells stands above the bindings of the mark
-  pub told_above : (x : Event) → Binds (undone mark e) (told x v cell (undone mark e))
-  told_above events.Sat = binds_bound (undone mark e) v cell f.unbound
-  told_above events.Cut = binds_self (undone mark e)
-  told_above (events.Fault k) = binds_self (undone mark e)
-  told_above events.End = binds_self (undone mark e)
+  pub told_above : (o : Option Answer) → slice_get (undone mark e).values v ≡ Some None
+      → Binds (undone mark e) (told o v (undone mark e))
+  told_above None h = binds_self (undone mark e)
+  told_above (Some (Sat cell)) h = binds_bound (undone mark e) v cell h
+  told_above (Some Cut) h = binds_self (undone mark e)
+  told_above (Some (Fault f)) h = binds_self (undone mark e)
 
   -- below what an answer tells are the bindings of the mark
-  pub told_undone : (x : Event) → undone mark (told x v cell (undone mark e)) ≡ undone mark e
-  told_undone x =
-      ap (λ n. undone n (told x v cell (undone mark e))) (sym as_many) ∙ (told_above x).undoes
+  pub told_undone : (o : Option Answer) → mark ≤ length e.trail → slice_get (undone mark e).values v ≡ Some None
+      → undone mark (told o v (undone mark e)) ≡ undone mark e
+  told_undone o k h =
+      ap (λ n. undone n (told o v (undone mark e))) (sym (as_many k)) ∙ (told_above o h).undoes
 
-  told_below : (x : Event) → AreBelow kept (told x v cell (undone mark e))
-  told_below events.Sat = f.own
-  told_below events.Cut = f.start
-  told_below (events.Fault k) = f.start
-  told_below events.End = f.start
+  pub told_below : (xs : List Answer) → AnswersBelow kept xs → AreBelow kept (undone mark e)
+      → AreBelow kept (told (first_of xs) v (undone mark e))
+  told_below [] own start = start
+  told_below (Sat cell ∷ xs) own start = below_bound kept (undone mark e) v cell start own.0
+  told_below (Cut ∷ xs) own start = start
+  told_below (Fault f ∷ xs) own start = start
 
   -- an answer leaves the slots so that the next can follow
-  pub told_fits : (x : Event) → AreTold v cell mark kept (told x v cell (undone mark e))
-  told_fits x =
-      let q = sym (told_undone x) in
-      let l = (told_above x).later in
+  pub told_fits : (xs ys : List Answer) → AreTold v mark kept xs e → AnswersBelow kept ys
+      → AreTold v mark kept ys (told (first_of xs) v (undone mark e))
+  told_fits xs ys f own =
+      let o = first_of xs in
+      let q = sym (told_undone o f.above f.unbound) in
+      let l = (told_above o f.unbound).later in
       record {
-        above = subst (λ n. n ≤ length (told x v cell (undone mark e)).trail) as_many l;
+        above = subst (λ n. n ≤ length (told o v (undone mark e)).trail) (as_many f.above) l;
         unbound = subst (λ s. slice_get s.values v ≡ Some None) q f.unbound;
         start = subst (AreBelow kept) q f.start;
-        own = subst (λ s. AreBelow kept (with_bound v cell s)) q f.own;
-        below = told_below x;
+        own = own;
+        below = told_below xs f.own f.start;
       }

@@ -1,7 +1,7 @@
--- The events of a list of answers, each Sat with the same bindings, and the slots that a Sat leaves.
-use Rattle.std.specs.Prelude.{◌≡◌, ℕ, zero, suc, ◌≤◌, List, [], ◌∷◌, length, map, Option, Some, None, slice_get, slice_set}
+-- The events of a list of answers, each Sat with one binding more than the start's, and the slots that they leave.
+use Rattle.std.specs.Prelude.{◌≡◌, ℕ, zero, suc, ◌<◌, ◌≤◌, List, [], ◌∷◌, length, map, take, Option, Some, None, slice_get, slice_set}
 use Rattle.std.specs.List.{All}
-use Rattle.std.proofs.Common.{ap, sym}
+use Rattle.std.proofs.Common.{refl, ap, ap₂, sym}
 use Rattle.std.proofs.lemmas.List.Elements.{All-nil, All-cons}
 use Rattle.std.proofs.lemmas.Option.{none-some}
 use Rattle.hp_syntax.specs.Terms.{Term}
@@ -10,38 +10,50 @@ use Rattle.hp_syntax.specs.Events as plain
 use Rattle.hp_eval.specs.declared.event.Event.{Event}
 use Rattle.hp_eval.specs.declared.event.Event.TheVariants as events
 use Rattle.hp_eval.specs.Slotted.{Slotted, AreBelow, with_bound, undone, named, bindings_of}
+use Rattle.hp_eval.specs.SlotLaws.{bindings_agree}
 use Rattle.hp_eval.specs.Events.{Happening, Keeps}
+use Rattle.hp_eval.proofs.SlotLemmas.{below_bound}
+use Rattle.hp_part_trials.specs.declared.answers.Answer.{Answer}
+use Rattle.hp_part_trials.specs.declared.answers.Answer.TheVariants.{Sat, Cut, Fault}
 
-abbrev pub answered : Bindings → List Event → List Happening
-answered b [] = []
-answered b (events.Sat ∷ xs) = plain.Sat b ∷ answered b xs
-answered b (events.Cut ∷ xs) = plain.Cut ∷ answered b xs
-answered b (events.Fault f ∷ xs) = plain.Fault f ∷ []
-answered b (events.End ∷ xs) = []
+-- the events of answers: a Sat binds the variable to its cell above the start's bindings
+abbrev pub answered : List Term → Slotted → ℕ → List Answer → List Happening
+answered c s v [] = []
+answered c s v (Sat cell ∷ xs) = plain.Sat (bindings_of c (with_bound v cell s)) ∷ answered c s v xs
+answered c s v (Cut ∷ xs) = plain.Cut ∷ answered c s v xs
+answered c s v (Fault f ∷ xs) = plain.Fault f ∷ []
 
--- with a Sat a variable is bound to a cell
-abbrev pub told : Event → ℕ → ℕ → Slotted → Slotted
-told events.Sat v cell s = with_bound v cell s
-told events.Cut v cell s = s
-told (events.Fault f) v cell s = s
-told events.End v cell s = s
+abbrev pub first_of : List Answer → Option Answer
+first_of [] = None
+first_of (x ∷ xs) = Some x
+
+abbrev pub event_told : Option Answer → Event
+event_told None = events.End
+event_told (Some (Sat cell)) = events.Sat
+event_told (Some Cut) = events.Cut
+event_told (Some (Fault f)) = events.Fault f
+
+-- with a Sat the variable is bound to its cell
+abbrev pub told : Option Answer → ℕ → Slotted → Slotted
+told None v s = s
+told (Some (Sat cell)) v s = with_bound v cell s
+told (Some Cut) v s = s
+told (Some (Fault f)) v s = s
+
+-- each Sat binds a cell below a count
+abbrev pub AnswersBelow : ℕ → List Answer → Type 0
+AnswersBelow n [] = Unit {0}
+AnswersBelow n (Sat cell ∷ xs) = (cell < n) × AnswersBelow n xs
+AnswersBelow n (Cut ∷ xs) = AnswersBelow n xs
+AnswersBelow n (Fault f ∷ xs) = AnswersBelow n xs
 
 -- the slots hold the bindings of a mark, under which a variable isn't bound, and all cells are below a count
-pub record AreTold (v cell mark kept : ℕ) (e : Slotted) : Type 0 where
+pub record AreTold (v mark kept : ℕ) (xs : List Answer) (e : Slotted) : Type 0 where
   pub above : mark ≤ length e.trail
   pub unbound : slice_get (undone mark e).values v ≡ Some None
   pub start : AreBelow kept (undone mark e)
-  pub own : AreBelow kept (with_bound v cell (undone mark e))
+  pub own : AnswersBelow kept xs
   pub below : AreBelow kept e
-
--- each Sat keeps what its bindings keep
-pub answers_keep : (e b : Bindings) (xs : List Event) → Keeps e (plain.Sat b) → All (Keeps e) (answered b xs)
-answers_keep e b [] k = All-nil (Keeps e)
-answers_keep e b (events.Sat ∷ xs) k =
-    All-cons (Keeps e) (plain.Sat b) (answered b xs) k (answers_keep e b xs k)
-answers_keep e b (events.Cut ∷ xs) k = All-cons (Keeps e) plain.Cut (answered b xs) tt (answers_keep e b xs k)
-answers_keep e b (events.Fault f ∷ xs) k = All-cons (Keeps e) (plain.Fault f) [] tt (All-nil (Keeps e))
-answers_keep e b (events.End ∷ xs) k = All-nil (Keeps e)
 
 -- a variable that is bound keeps the others
 value_kept : (c : List Term) (vs : List (Option ℕ)) (v cell w : ℕ) (t : Term) → slice_get vs v ≡ Some None
@@ -53,7 +65,24 @@ value_kept c (o ∷ vs) zero cell (suc w) t h k = k
 value_kept c (o ∷ vs) (suc v) cell zero t h k = k
 value_kept c (o ∷ vs) (suc v) cell (suc w) t h k = value_kept c vs v cell w t h k
 
--- the bindings with a further variable keep those before
-pub bound_keeps : (c : List Term) (s : Slotted) (v cell : ℕ) → slice_get s.values v ≡ Some None
-    → Keeps (bindings_of c s) (plain.Sat (bindings_of c (with_bound v cell s)))
-bound_keeps c s v cell h = λ w t k. value_kept c s.values v cell w t h k
+-- each Sat keeps what the start's bindings bind
+pub answers_keep : (c : List Term) (s : Slotted) (v : ℕ) (xs : List Answer) → slice_get s.values v ≡ Some None
+    → All (Keeps (bindings_of c s)) (answered c s v xs)
+answers_keep c s v [] h = All-nil (Keeps (bindings_of c s))
+answers_keep c s v (Sat cell ∷ xs) h =
+    All-cons (Keeps (bindings_of c s)) (plain.Sat (bindings_of c (with_bound v cell s))) (answered c s v xs)
+    (λ w t k. value_kept c s.values v cell w t h k) (answers_keep c s v xs h)
+answers_keep c s v (Cut ∷ xs) h =
+    All-cons (Keeps (bindings_of c s)) plain.Cut (answered c s v xs) tt (answers_keep c s v xs h)
+answers_keep c s v (Fault f ∷ xs) h =
+    All-cons (Keeps (bindings_of c s)) (plain.Fault f) [] tt (All-nil (Keeps (bindings_of c s)))
+
+-- answers are the same events over terms that agree below a count
+pub answers_agree : (n : ℕ) (c d : List Term) (s : Slotted) (v : ℕ) (xs : List Answer) → AreBelow n s
+    → AnswersBelow n xs → take n c ≡ take n d → answered c s v xs ≡ answered d s v xs
+answers_agree n c d s v [] below own h = refl
+answers_agree n c d s v (Sat cell ∷ xs) below own h =
+    ap₂ (λ b ys. plain.Sat b ∷ ys) (bindings_agree n c d (with_bound v cell s) (below_bound n s v cell below own.0) h)
+    (answers_agree n c d s v xs below own.1 h)
+answers_agree n c d s v (Cut ∷ xs) below own h = ap (λ ys. plain.Cut ∷ ys) (answers_agree n c d s v xs below own h)
+answers_agree n c d s v (Fault f ∷ xs) below own h = refl

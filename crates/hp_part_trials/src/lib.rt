@@ -5,6 +5,10 @@
 #[cfg(test)]
 mod answers;
 #[cfg(test)]
+mod networks;
+#[cfg(test)]
 mod values;
 #[cfg(test)]
 mod walks;
+#[cfg(test)]
+mod worlds;
