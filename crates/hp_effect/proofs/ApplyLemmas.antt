@@ -1,5 +1,5 @@
 -- What applying changes to the terms that cells name comes to.
-use Rattle.std.specs.Prelude.{◌≡◌, ℕ, List, length, Result, Ok, Err, IfOk}
+use Rattle.std.specs.Prelude.{ℕ, List, length, Result, Ok, Err, IfOk}
 use Rattle.std.specs.declared.alloc.AllocError.{AllocError}
 use Rattle.std.proofs.Common.{ap, subst}
 use Rattle.hp_syntax.specs.Terms.{Term}

@@ -1,8 +1,8 @@
 -- What lists of calls visit.
-use Rattle.std.proofs.Common.{◌≡◌, ℕ, Bool, true, false, cond, List, [], ◌∷◌, ◌++◌, ◌⊎◌, inl, inr, Option, Some, None, refl, ap, sym, ◌∙◌, subst}
+use Rattle.std.proofs.Common.{◌≡◌, ℕ, true, false, cond, List, [], ◌∷◌, ◌++◌, ◌⊎◌, inl, inr, Option, Some, None, refl, sym, ◌∙◌, subst}
 use Rattle.hp_syntax.specs.Walk.{Sight, Visit, Did, Plan, CutHere, FaultHere, begins, skip, heard_visits}
-use Rattle.hp_net.specs.Standings.{Standing, standing, next_below, next_of, arrived, left_after, is_did, parent}
-use Rattle.hp_net.specs.Runs.{Call, Step, Back, Next, Prune, after_call, visit_of, MayRun, after_calls, visited, with_visit, is_fault, LeavesOut, Nothing, Visits, Faults, Prunes}
+use Rattle.hp_net.specs.Standings.{Standing, standing, next_below, next_of, arrived, left_after, is_did}
+use Rattle.hp_net.specs.Runs.{Call, Step, Back, Next, Prune, after_call, MayRun, after_calls, visited, with_visit, LeavesOut, Nothing, Visits, Faults, Prunes}
 
 -- the visits come from a place, whether what lies below the node reached there is pruned or not
 abbrev Comes : Standing → List Visit → Type 0
@@ -39,24 +39,24 @@ visits : (v : Visit) (vs ws : List Visit) → Comes (standing v.path (left_after
     → LeavesOut (v ∷ vs) (v ∷ ws)
 visits v vs ws h =
     let told : (x : Sight) → v.sight ≡ x → LeavesOut (v ∷ vs) (v ∷ ws) =
-        λ x. elim x as (λ y. v.sight ≡ y → LeavesOut (v ∷ vs) (v ∷ ws)) [
-          | FaultHere f ↦ λ e. elim h [
-            | inl k ↦ rw (of_nothing (left_after v vs) ws k (rw e refl)) (Faults v vs (rw e refl))
-            | inr (d, k) ↦ let never : false ≡ true = rw e at d in absurd (cc)
-          ]
-          | Did ↦ λ e. elim h [
-            | inl k ↦ Visits v vs ws (rw e refl) (rw e at k)
-            | inr (d, k) ↦ Prunes v vs ws d (rw e at k)
-          ]
-          | Plan ↦ λ e. elim h [
-            | inl k ↦ Visits v vs ws (rw e refl) (rw e at k)
-            | inr (d, k) ↦ let never : false ≡ true = rw e at d in absurd (cc)
-          ]
-          | CutHere ↦ λ e. elim h [
-            | inl k ↦ Visits v vs ws (rw e refl) (rw e at k)
-            | inr (d, k) ↦ let never : false ≡ true = rw e at d in absurd (cc)
-          ]
-        ] in
+    λ x. elim x as (λ y. v.sight ≡ y → LeavesOut (v ∷ vs) (v ∷ ws)) [
+      | FaultHere f ↦ λ e. elim h [
+        | inl k ↦ rw (of_nothing (left_after v vs) ws k (rw e refl)) (Faults v vs (rw e refl))
+        | inr (d, k) ↦ let never : false ≡ true = rw e at d in absurd (cc)
+      ]
+      | Did ↦ λ e. elim h [
+        | inl k ↦ Visits v vs ws (rw e refl) (rw e at k)
+        | inr (d, k) ↦ Prunes v vs ws d (rw e at k)
+      ]
+      | Plan ↦ λ e. elim h [
+        | inl k ↦ Visits v vs ws (rw e refl) (rw e at k)
+        | inr (d, k) ↦ let never : false ≡ true = rw e at d in absurd (cc)
+      ]
+      | CutHere ↦ λ e. elim h [
+        | inl k ↦ Visits v vs ws (rw e refl) (rw e at k)
+        | inr (d, k) ↦ let never : false ≡ true = rw e at d in absurd (cc)
+      ]
+    ] in
     told v.sight refl
 
 -- a call that made the next visit, or none, and what comes after it

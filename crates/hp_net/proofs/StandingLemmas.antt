@@ -1,8 +1,7 @@
 -- Where a walk stands.
-use Rattle.std.proofs.Common.{◌≡◌, ◌≢◌, ℕ, ◌<◌, Bool, List, [], ◌∷◌, length, arith, refl, ap, sym, Option, Some, None, option_map, map, true, false, cond, ◌==◌, ◌∙◌}
-use Rattle.hp_syntax.specs.Walk.{Visit, begins}
-use Rattle.hp_net.specs.Standings.{Standing, standing, parent, step_of, step_or_end, next_below, next_of, arrived, stepped, gone_on}
-use Rattle.hp_net.specs.declared.walk.Step.{Step}
+use Rattle.std.proofs.Common.{◌≡◌, ◌≢◌, ℕ, ◌<◌, List, [], ◌∷◌, length, arith, refl, ap, Option, Some, None, option_map, map, true, false, ◌==◌, ◌∙◌}
+use Rattle.hp_syntax.specs.Walk.{Visit}
+use Rattle.hp_net.specs.Standings.{parent, step_of}
 
 -- the way to a parent is shorter
 pub parent_shorter : (p : List ℕ) → p ≢ [] → length (parent p) < length p

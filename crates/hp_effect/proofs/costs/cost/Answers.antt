@@ -1,5 +1,4 @@
 use Rattle.std.proofs.Common.{rules, ap, ◌∙◌}
-use Rattle.hp_syntax.specs.Views.{pattern_of}
 use Rattle.hp_eval.specs.Slotted.{bindings_of}
 use Rattle.hp_effect.proofs.CostLemmas.{cost_of_value, went_or}
 use Rattle.hp_effect.proofs.costs.cost.Goals as goal

@@ -1,4 +1,4 @@
-use Rattle.std.proofs.Common.{◌≡◌, ℕ, true, length}
+use Rattle.std.proofs.Common.{◌≡◌, true, length}
 use Rattle.hp_net.proofs.walk.Walk.next.Given as goal
 
 abbrev pub invariant-loop-step : goal.invariant-loop-step
