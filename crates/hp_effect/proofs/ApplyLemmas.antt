@@ -31,6 +31,7 @@ pub comes_to_terms : (r : Result Applied AllocError) (c : ChangesOf ℕ) (old ne
     → ChangesBelow (length terms) c
     → IsApplied a terms new.now (apply (state_of terms old.now) (guards_of terms old.now) (changes_of terms c)))
 comes_to_terms (Ok a) c old new h =
-    λ terms cells stage changes. subst (IsApplied a terms new.now) (applied_to_terms terms old.now c cells stage changes)
+    λ terms cells stage changes.
+    subst (IsApplied a terms new.now) (applied_to_terms terms old.now c cells stage changes)
     (gives_terms terms a (applied same_cell (live_atoms old.now.places) old.now.guards c) old new h)
 comes_to_terms (Err e) c old new h = tt

@@ -11,7 +11,12 @@ Comes s ws = LeavesOut s.rest ws ⊎ ((s.at_did ≡ true) × LeavesOut (skip s.p
 -- a visit with what is heard behind it
 abbrev heard_with : Sight → Visit → List Visit → List Visit
 heard_with x v vs =
-    elim x [ FaultHere f ↦ v ∷ [] | Did ↦ v ∷ heard_visits vs | Plan ↦ v ∷ heard_visits vs | CutHere ↦ v ∷ heard_visits vs ]
+    elim x [
+      | FaultHere f ↦ v ∷ []
+      | Did ↦ v ∷ heard_visits vs
+      | Plan ↦ v ∷ heard_visits vs
+      | CutHere ↦ v ∷ heard_visits vs
+    ]
 
 leaves_with : (v : Visit) (vs : List Visit) → LeavesOut vs (heard_visits vs) → (x : Sight) → v.sight ≡ x
     → LeavesOut (v ∷ vs) (heard_with x v vs)

@@ -205,11 +205,24 @@ fn events_come_one_at_a_time(rt: HostRuntime) -> Result<(), Fail> {
     };
     let mut cells = Cells::new(alloc)?;
     let nine = number(&mut cells, 9)?;
-    let answers = vec![in alloc; Answer::Cut, Answer::Sat(nine), Answer::Fault(fault), Answer::Cut]?;
+    let answers = vec![in alloc;
+        Answer::Cut,
+        Answer::Sat(nine),
+        Answer::Fault(fault),
+        Answer::Cut,
+    ]?;
     let mut sats = answers_of(answers, &cells);
     let mut slots = Slots::new(alloc, 2)?;
     let (met, values) = first_five(&mut sats, &7, &mut cells, &mut slots, 1)?;
-    assert!(rt; met == [Event::Cut, Event::Sat, Event::Fault(fault), Event::End, Event::End]);
+    assert!(rt;
+        met == [
+            Event::Cut,
+            Event::Sat,
+            Event::Fault(fault),
+            Event::End,
+            Event::End
+        ]
+    );
     assert!(rt; values == [None, Some(nine), None, None, None]);
     assert!(rt; sats.live());
     sats.close(&mut slots);
@@ -223,7 +236,12 @@ fn the_first_satisfier_is_the_last(rt: HostRuntime) -> Result<(), Fail> {
     let mut cells = Cells::new(alloc)?;
     let nine = number(&mut cells, 9)?;
     let one = number(&mut cells, 1)?;
-    let answers = vec![in alloc; Answer::Cut, Answer::Sat(nine), Answer::Sat(one), Answer::Cut]?;
+    let answers = vec![in alloc;
+        Answer::Cut,
+        Answer::Sat(nine),
+        Answer::Sat(one),
+        Answer::Cut,
+    ]?;
     let mut slots = Slots::new(alloc, 2)?;
     let mut sats = First::new::<u8>(answers_of(answers, &cells));
     let (met, values) = first_five(&mut sats, &7, &mut cells, &mut slots, 1)?;
@@ -239,8 +257,12 @@ fn satisfiers_are_sorted(rt: HostRuntime) -> Result<(), Fail> {
     let nine = number(&mut cells, 9)?;
     let one = number(&mut cells, 1)?;
     let five = number(&mut cells, 5)?;
-    let answers =
-        vec![in alloc; Answer::Sat(one), Answer::Cut, Answer::Sat(nine), Answer::Sat(five)]?;
+    let answers = vec![in alloc;
+        Answer::Sat(one),
+        Answer::Cut,
+        Answer::Sat(nine),
+        Answer::Sat(five),
+    ]?;
     let mut slots = Slots::new(alloc, 2)?;
     let key = SortKey {
         span: Span { from: 3, to: 5 },

@@ -1,8 +1,8 @@
 //! Values, calls, matching and slots.
 use hp_cells::{Cell, Cells, View};
 use hp_eval::{
-    EvalStop, Goal, Slots, TaskTree, atom_value, call, fill_goal, match_atom, match_goal, start_goal,
-    tasks_value, value,
+    EvalStop, Goal, Slots, TaskTree, atom_value, call, fill_goal, match_atom, match_goal,
+    start_goal, tasks_value, value,
 };
 use hp_syntax::{AtomPat, FaultKind, Name, NetPat, Pat, PatKind, RunFault, Span, TaskPat};
 use std::alloc::{AllocError, Global};

@@ -114,8 +114,8 @@ impl Twins {
 
     // Nothing is visited yet.
     fn new(alloc: Global) -> Result<Twins, AllocError>
-        ensures { IfOk result (λ w. standing_of w.at w.left w.at_did ≡ standing [] (visits twins.rules twins.nest twins.root [])
-            false) }
+        ensures { IfOk result (λ w. standing_of w.at w.left w.at_did
+            ≡ standing [] (visits twins.rules twins.nest twins.root []) false) }
     {
         let mut cells = Cells::new(alloc)?;
         let task = task_cell(alloc, &mut cells)?;
@@ -249,11 +249,7 @@ fn put(step: Option<Step>, steps: &mut Vec<Step>) -> Result<(), AllocError>
 }
 
 // Makes calls, and puts the steps of all visits that they make behind others.
-fn make_all<W: Walk>(
-    walk: &mut W,
-    calls: &[Move],
-    steps: &mut Vec<Step>,
-) -> Result<(), AllocError>
+fn make_all<W: Walk>(walk: &mut W, calls: &[Move], steps: &mut Vec<Step>) -> Result<(), AllocError>
     requires live { W.is_live walk.old ≡ true }
     requires may { MayRun (map call_of calls.now) (W.stands walk.old) }
     ensures steps { OnOk result (steps.new.items ≡ steps.old.items
@@ -274,7 +270,15 @@ fn make_all<W: Walk>(
 #[test]
 fn what_is_pruned_is_left_out(rt: HostRuntime) -> Result<(), Fail> {
     let mut walk = Twins::new(rt.alloc())?;
-    let calls = [Move::Next, Move::Prune, Move::Step, Move::Back, Move::Next, Move::Next, Move::Next];
+    let calls = [
+        Move::Next,
+        Move::Prune,
+        Move::Step,
+        Move::Back,
+        Move::Next,
+        Move::Next,
+        Move::Next,
+    ];
     let mut steps = Vec::new(rt.alloc());
     make_all(&mut walk, &calls, &mut steps)?;
     assert!(rt; steps.as_slice() == [Step::Did, Step::Did, Step::Plan].as_slice());

@@ -12,7 +12,8 @@ returns-clause-rest c =
     let slots = c.args.slots.now in
     rw (c.tell-event.ensures.slots, c.undo_to.ensures, c.left.ensures, c.as_slice-answers.ensures.value)
     (ap (λ s. answered terms s self.var (drop c.place_behind-self.result self.answers.items))
-    (told_undone self.var self.mark self.kept slots (first_of (drop self.place self.answers.items)) fits.above fits.unbound)
+    (told_undone self.var self.mark self.kept slots (first_of (drop self.place self.answers.items)) fits.above
+    fits.unbound)
     ∙ rw c.as_slice-answers.ensures.value at (c.place_behind-self.ensures.rest terms (undone self.mark slots) self.var))
 
 pub returns-clause-slots : goal.returns-clause-slots
@@ -21,8 +22,8 @@ returns-clause-slots c =
     let fits = c.requires.slots in
     let xs = drop self.place self.answers.items in
     rw (c.tell-event.ensures.slots, c.undo_to.ensures, c.left.ensures, c.as_slice-answers.ensures.value)
-    (told_fits self.var self.mark self.kept c.args.slots.now xs (drop c.place_behind-self.result self.answers.items) fits
-    (rw c.as_slice-answers.ensures.value at c.place_behind-self.ensures.below self.kept fits.own))
+    (told_fits self.var self.mark self.kept c.args.slots.now xs (drop c.place_behind-self.result self.answers.items)
+    fits (rw c.as_slice-answers.ensures.value at c.place_behind-self.ensures.below self.kept fits.own))
 
 pub returns-clause-above : goal.returns-clause-above
 returns-clause-above c =

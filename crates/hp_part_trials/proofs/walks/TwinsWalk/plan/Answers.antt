@@ -15,10 +15,12 @@ pub returns-in-First-clause-steps : goal.returns-in-First-clause-steps
 returns-in-First-clause-steps c =
     let self = c.args.self.now in
     at_node self.at self.left self.at_did (λ n. terms_at self.cells c.as_slice.result.now ≡ n.steps)
-    (ap (terms_at self.cells) c.as_slice.ensures.value ∙ self.steps_are ∙ ap (λ a. (node_of a).steps) (sym c.in-First.is))
+    (ap (terms_at self.cells) c.as_slice.ensures.value ∙ self.steps_are
+    ∙ ap (λ a. (node_of a).steps) (sym c.in-First.is))
 
 pub returns-in-Second-clause-steps : goal.returns-in-Second-clause-steps
 returns-in-Second-clause-steps c =
     let self = c.args.self.now in
     at_node self.at self.left self.at_did (λ n. terms_at self.cells c.as_slice-in-Second.result.now ≡ n.steps)
-    (ap (terms_at self.cells) c.as_slice-in-Second.ensures.value ∙ self.steps_are ∙ ap (λ a. (node_of a).steps) (sym c.in-Second.is))
+    (ap (terms_at self.cells) c.as_slice-in-Second.ensures.value ∙ self.steps_are
+    ∙ ap (λ a. (node_of a).steps) (sym c.in-Second.is))
