@@ -1,5 +1,5 @@
 -- What the walk of the small tree stands on.
-use Rattle.std.specs.Prelude.{◌≡◌, ℕ, ◌<◌, Bool, List, [], ◌∷◌, Some, length, slice_get}
+use Rattle.std.specs.Prelude.{◌≡◌, ℕ, ◌<◌, Bool, false, List, [], ◌∷◌, Some, slice_get}
 use Rattle.std.proofs.Common.{refl, ap, sym, subst}
 use Rattle.std.specs.Option.{MatchOption}
 use Rattle.hp_syntax.specs.Terms.{Term}
@@ -14,7 +14,8 @@ use Rattle.hp_syntax.specs.Walk as walk
 use Rattle.hp_syntax.specs.Walk.{Node, visits}
 use Rattle.hp_eval.specs.GoalViews.{term_or_nil}
 use Rattle.hp_world.specs.Stages.{terms_at}
-use Rattle.hp_net.specs.Standings.{node_reached}
+use Rattle.hp_net.specs.Standings.{node_reached, standing}
+use Rattle.hp_net.specs.Runs.{Call, Step, Back, Next, Prune, MayRun}
 use Rattle.hp_part_trials.specs.declared.walks.At.{At}
 use Rattle.hp_part_trials.specs.declared.walks.At.TheVariants.{Root, First, Second}
 use Rattle.hp_part_trials.specs.declared.walks.Left.{Left}
@@ -58,3 +59,10 @@ pub no_guards : (a : At) → [] ≡ (node_of a).guards
 no_guards Root = refl
 no_guards First = refl
 no_guards Second = refl
+
+abbrev pub pruning_calls : List Call
+pruning_calls = Next ∷ Prune ∷ Step ∷ Back ∷ Next ∷ Next ∷ Next ∷ []
+
+-- these calls may be made of the small tree, in this order
+pub may_prune : MayRun pruning_calls (standing [] twin_visits false)
+may_prune = (tt, (refl, (tt, ((λ e. cc, refl), (tt, (tt, (tt, tt)))))))

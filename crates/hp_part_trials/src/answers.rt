@@ -180,9 +180,9 @@ fn number(cells: &mut Cells, n: i64) -> Result<Cell, AllocError>
 // Answers above no bindings, of which each Sat binds the variable 1.
 fn answers_of(answers: Vec<Answer>, cells: &Cells) -> Answers
     requires { AnswersBelow (length cells.now) answers.items }
-    ensures fits { AreTold 1 0 (length cells.now) (drop result.place result.answers.items) (no_bindings 2) }
+    ensures fits { AreTold result.var result.mark result.kept (drop result.place result.answers.items)
+        (no_bindings 2) }
     ensures start { result.mark ≡ 0 }
-    ensures var { result.var ≡ 1 }
     ensures kept { result.kept ≡ length cells.now }
     ensures open { result.is_open ≡ true }
 {

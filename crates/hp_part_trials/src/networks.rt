@@ -9,8 +9,8 @@ use std::test::Fail;
 fn tasks(net: &Net, alloc: Global) -> Result<Vec<Cell>, AllocError> {
     let ids = net.candidates(alloc)?;
     let mut tasks = Vec::new(alloc);
-    for id in &ids {
-        tasks.push(net.task(*id))?;
+    for number in 0..ids.len() {
+        tasks.push(net.task(ids[number]))?;
     }
     Ok(tasks)
 }
