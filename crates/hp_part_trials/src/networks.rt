@@ -1,18 +1,28 @@
 //! Networks whose tasks are done and decomposed.
+ghost use Rattle.std.specs.List.{All};
+ghost use Rattle.hp_net.specs.Outlines.{NamesTask};
+
 use hp_cells::{Cell, Cells};
 use hp_eval::TaskTree;
-use hp_net::Net;
+use hp_net::{Net, TaskId};
 use std::alloc::{AllocError, Global};
 use std::test::Fail;
+
+// The tasks that ids name.
+fn tasks_of(net: &Net, ids: &[TaskId], alloc: Global) -> Result<Vec<Cell>, AllocError>
+    requires { All (NamesTask net.now) ids.now }
+{
+    let mut tasks = Vec::new(alloc);
+    for id in ids {
+        tasks.push(net.task(*id))?;
+    }
+    Ok(tasks)
+}
 
 // The candidates, by their cells.
 fn tasks(net: &Net, alloc: Global) -> Result<Vec<Cell>, AllocError> {
     let ids = net.candidates(alloc)?;
-    let mut tasks = Vec::new(alloc);
-    for number in 0..ids.len() {
-        tasks.push(net.task(ids[number]))?;
-    }
-    Ok(tasks)
+    tasks_of(net, ids.as_slice(), alloc)
 }
 
 // Does the first candidate.
