@@ -1,14 +1,16 @@
-//! Trials of the parts of an engine through their public calls. They stand in a crate of their own, so that the crates
-//! that they try are proved once and not once more with tests.
+//! Trials of the parts of an engine through their public calls, and small types that meet their traits. They stand in a
+//! crate of their own, so that the crates that they try are proved once and not once more with tests.
 #![tactic(auto)]
 
-#[cfg(test)]
-mod answers;
+pub mod answers;
 #[cfg(test)]
 mod networks;
 #[cfg(test)]
-mod values;
+mod picks;
 #[cfg(test)]
-mod walks;
+mod prunes;
+#[cfg(test)]
+mod values;
+pub mod walks;
 #[cfg(test)]
 mod worlds;

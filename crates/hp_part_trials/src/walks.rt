@@ -12,19 +12,18 @@ use hp_net::{Step, Walk};
 use hp_syntax::Name;
 use hp_world::World;
 use std::alloc::{AllocError, Global};
-use std::test::Fail;
 
-// The node that is reached.
+/// The node that is reached.
 #[derive(Clone, Copy, PartialEq, Eq)]
-enum At {
+pub enum At {
     Root,
     First,
     Second,
 }
 
-// How many visits are left.
+/// How many visits are left.
 #[derive(Clone, Copy, PartialEq, Eq)]
-enum Left {
+pub enum Left {
     Four,
     Three,
     Two,
@@ -32,9 +31,9 @@ enum Left {
     Nothing,
 }
 
-// Walks the tree of one task that is done in two ways.
+/// Walks the tree of one task that is done in two ways.
 #[derive(Drop)]
-struct Twins {
+pub struct Twins {
     cells: Cells,
     world: World,
     steps: Vec<Cell>,
@@ -112,8 +111,8 @@ impl Twins {
     ghost use Rattle.hp_net.specs.Standings.{standing};
     ghost use Rattle.hp_part_trials.specs.Twins.{standing_of, twins};
 
-    // Nothing is visited yet.
-    fn new(alloc: Global) -> Result<Twins, AllocError>
+    /// Nothing is visited yet.
+    pub fn new(alloc: Global) -> Result<Twins, AllocError>
         ensures { IfOk result (λ w. standing_of w.at w.left w.at_did
             ≡ standing [] (visits twins.rules twins.nest twins.root []) false) }
     {
@@ -198,9 +197,9 @@ impl Walk for Twins {
     }
 }
 
-// A call that moves a walk.
+/// A call that moves a walk.
 #[derive(Clone, Copy)]
-enum Move {
+pub enum Move {
     Step,
     Back,
     Next,
@@ -248,8 +247,12 @@ fn put(step: Option<Step>, steps: &mut Vec<Step>) -> Result<(), AllocError>
     }
 }
 
-// Makes calls, and puts the steps of all visits that they make behind others.
-fn make_all<W: Walk>(walk: &mut W, calls: &[Move], steps: &mut Vec<Step>) -> Result<(), AllocError>
+/// Makes calls, and puts the steps of all visits that they make behind others.
+pub fn make_all<W: Walk>(
+    walk: &mut W,
+    calls: &[Move],
+    steps: &mut Vec<Step>,
+) -> Result<(), AllocError>
     requires live { W.is_live walk.old ≡ true }
     requires may { MayRun (map call_of calls.now) (W.stands walk.old) }
     ensures steps { OnOk result (steps.new.items ≡ steps.old.items
@@ -265,23 +268,4 @@ fn make_all<W: Walk>(walk: &mut W, calls: &[Move], steps: &mut Vec<Step>) -> Res
             make_all(walk, rest, steps)
         }
     }
-}
-
-#[test]
-fn what_is_pruned_is_left_out(rt: HostRuntime) -> Result<(), Fail> {
-    let mut walk = Twins::new(rt.alloc())?;
-    let calls = [
-        Move::Next,
-        Move::Prune,
-        Move::Step,
-        Move::Back,
-        Move::Next,
-        Move::Next,
-        Move::Next,
-    ];
-    let mut steps = Vec::new(rt.alloc());
-    make_all(&mut walk, &calls, &mut steps)?;
-    assert!(rt; steps.as_slice() == [Step::Did, Step::Did, Step::Plan].as_slice());
-    assert!(rt; walk.live() && walk.path().is_empty() && walk.plan().is_empty());
-    Ok(())
 }
