@@ -1,0 +1,147 @@
+-- What a goal meets by axioms.
+use Rattle.std.proofs.Common.{◌≡◌, ℕ, zero, suc, ◌+◌, ◌<◌, ◌≤◌, Bool, true, false, cond, List, [], ◌∷◌, ◌++◌, length, map, filter, drop, get_or, slice_get, Option, Some, None, option_map, Ok, Bor, refl, sym, ◌∙◌, ap, subst, arith}
+use Rattle.std.specs.Prelude.{flat_map, Contains, bytes_eq}
+use Rattle.std.proofs.lemmas.List.{length-map, drop_all}
+use Rattle.std.proofs.lemmas.List.Elements.{All-contains}
+use Rattle.std.proofs.lemmas.Option.{slice_get-map}
+use Rattle.hp_syntax.specs.Syntax.{Expression, Rule, Axiom, Concludes, Does, Refines}
+use Rattle.hp_syntax.specs.Terms.{Term}
+use Rattle.hp_syntax.specs.Values.{Bindings, unbound}
+use Rattle.hp_syntax.specs.Goals.{Goal, start_goal}
+use Rattle.hp_syntax.specs.Events.{Event, State, through, or_else, state_events, first_list, concluded, started_events, axiom_events, goal_events, axioms_of}
+use Rattle.hp_syntax.specs.Views.{axiom_of, clause_of, expression_of}
+use Rattle.hp_syntax.specs.declared.domain.Clause as public_clause
+use Rattle.hp_syntax.specs.declared.domain.Axiom as public_axiom
+use Rattle.hp_eval.specs.Slotted.{no_bindings, bindings_of}
+use Rattle.hp_eval.proofs.Loops.{left_more}
+use Rattle.hp_plain.specs.Rulebooks.{concluding, axiom_at, AreFew}
+use Rattle.hp_plain.specs.Scenes.{placed_events}
+use Rattle.hp_laws.proofs.JoinLemmas.{contains_first, contains_later}
+use Rattle.hp_plain.proofs.MatchSteps.{left_at}
+
+-- ---- axioms
+
+module _ (branches : Axiom → Bindings → List Event) (q : Goal) (e : Bindings) where
+  -- an axiom of another name meets nothing
+  other_axiom : (x : Axiom) → bytes_eq x.head.name q.name ≡ false → axiom_events branches q e x ≡ []
+  other_axiom x h = rw h refl
+
+  -- what axioms meet, one after another
+  abbrev joined_events : List Axiom → List Event
+  joined_events axioms = flat_map (axiom_events branches q e) axioms
+
+  -- the axioms of the goal's name
+  abbrev with_name : List Axiom → List Axiom
+  with_name axioms = filter (λ x. bytes_eq x.head.name q.name) axioms
+
+  -- axioms of other names meet nothing
+  named_alone : (axioms : List Axiom) → joined_events axioms ≡ joined_events (with_name axioms)
+  named_alone [] = refl
+  named_alone (x ∷ xs) = by (bytes_eq x.head.name q.name) refl (named_alone xs)
+    where
+      by : (b : Bool) → bytes_eq x.head.name q.name ≡ b → joined_events xs ≡ joined_events (with_name xs)
+          → joined_events (x ∷ xs) ≡ joined_events (with_name (x ∷ xs))
+      by true h rest =
+          ap (λ ys. axiom_events branches q e x ++ ys) rest
+          ∙ sym (ap (λ b. joined_events (cond b (x ∷ with_name xs) (with_name xs))) h)
+      by false h rest =
+          ap (λ ys. ys ++ joined_events xs) (other_axiom x h)
+          ∙ (rest ∙ sym (ap (λ b. joined_events (cond b (x ∷ with_name xs) (with_name xs))) h))
+
+  -- a goal meets the atoms of the state, and then the axioms of its name
+  pub goal_begins : (s : State) (rules : List Rule)
+      → goal_events s (axioms_of rules) branches e (Ok q)
+      ≡ state_events s q e ++ flat_map (axiom_events branches q e) (concluding q.name rules)
+  goal_begins s rules = ap (λ xs. state_events s q e ++ xs) (named_alone (axioms_of rules))
+
+  module _ (rules : List Rule) (places : List ℕ) (named : List Axiom)
+      (listed : map (axiom_at rules) places ≡ map Some named) (i : ℕ) where
+    -- at a place that is listed stands an axiom of the name
+    axiom_there : (place : ℕ) → slice_get places i ≡ Some place
+        → option_map Some (slice_get named i) ≡ Some (axiom_at rules place)
+    axiom_there place h =
+        sym (slice_get-map Some named i)
+        ∙ (ap (λ xs. slice_get xs i) (sym listed)
+        ∙ (slice_get-map (axiom_at rules) places i ∙ ap (option_map (axiom_at rules)) h))
+
+    -- the axiom at a place is met before the others that are left
+    pub axioms_left : (place : ℕ) → slice_get places i ≡ Some place
+        → flat_map (axiom_events branches q e) (drop i named)
+        ≡ placed_events branches q e (axiom_at rules place) ++ flat_map (axiom_events branches q e) (drop (i + 1) named)
+    axioms_left place h = by (slice_get named i) refl (axiom_there place h)
+      where
+        by : (o : Option Axiom) → slice_get named i ≡ o → option_map Some o ≡ Some (axiom_at rules place)
+            → flat_map (axiom_events branches q e) (drop i named)
+            ≡ placed_events branches q e (axiom_at rules place)
+            ++ flat_map (axiom_events branches q e) (drop (i + 1) named)
+        by None k m = absurd cc
+        by (Some x) k m =
+            let at : Some x ≡ axiom_at rules place = cc in
+            ap (flat_map (axiom_events branches q e)) (left_at named i x k)
+            ∙ ap (λ o. placed_events branches q e o ++ flat_map (axiom_events branches q e) (drop (i + 1) named)) at
+
+    -- where no place is left, no axiom is
+    pub axioms_end : length places ≤ i → flat_map (axiom_events branches q e) (drop i named) ≡ []
+    axioms_end l =
+        let same : length places ≡ length named =
+        sym (length-map places (axiom_at rules)) ∙ (ap length listed ∙ length-map named Some) in
+        ap (flat_map (axiom_events branches q e)) (drop_all i named (omega (arith, same)))
+
+-- an axiom at a place is one of the axioms
+pub axiom_among : (rules : List Rule) (place : ℕ) (x : Axiom) → axiom_at rules place ≡ Some x
+    → Contains (axioms_of rules) x
+axiom_among [] place x h = absurd cc
+axiom_among (Concludes y ∷ rs) zero x h =
+    let same : y ≡ x = cc in subst (Contains (y ∷ axioms_of rs)) same (contains_first y (axioms_of rs))
+axiom_among (Does o ∷ rs) zero x h = absurd cc
+axiom_among (Refines m ∷ rs) zero x h = absurd cc
+axiom_among (Concludes y ∷ rs) (suc i) x h = contains_later y x (axioms_of rs) (axiom_among rs i x h)
+axiom_among (Does o ∷ rs) (suc i) x h = axiom_among rs i x h
+axiom_among (Refines m ∷ rs) (suc i) x h = axiom_among rs i x h
+
+-- slots of which none is bound are bindings of which none is
+pub none_bound : (terms : List Term) (n : ℕ) → bindings_of terms (no_bindings n) ≡ unbound n
+none_bound terms zero = refl
+none_bound terms (suc n) = ap (λ os. None ∷ os) (none_bound terms n)
+
+-- ---- branches
+
+-- a list that isn't empty is the first that isn't
+pub first_found : {A : Type 0} (xs ys : List A) → 0 < length xs → or_else xs ys ≡ xs
+first_found [] ys l = absurd (omega arith)
+first_found (x ∷ xs) ys l = refl
+
+-- behind an empty list the first that isn't is the first of the others
+pub first_passes : {A : Type 0} (xs ys : List A) → length xs ≡ 0 → or_else xs ys ≡ ys
+first_passes [] ys l = refl
+first_passes (x ∷ xs) ys l = absurd (omega arith)
+
+-- a branch is met before the others that are left
+pub branch_left : (f : Expression → List Event) (clauses : List public_clause.Clause) (i : ℕ) (c : public_clause.Clause)
+    → i < length clauses → c ≡ get_or clauses i c
+    → first_list f (map clause_of (drop i clauses))
+    ≡ or_else (f (expression_of c.body)) (first_list f (map clause_of (drop (i + 1) clauses)))
+branch_left f clauses i c l is = ap (λ cs. first_list f (map clause_of cs)) (left_more clauses i c l is)
+
+-- ---- axioms that start
+
+module _ (branches : Axiom → Bindings → List Event) (q : Goal) (e : Bindings) (x : Axiom) where
+  -- an axiom whose head doesn't start meets nothing
+  pub axiom_unstarted : start_goal x.head q (unbound (length x.vars)) ≡ None → axiom_events branches q e x ≡ []
+  axiom_unstarted h = ap (started_events branches x q e) h
+
+  -- one whose head starts meets what its branches conclude
+  pub axiom_started : (b : Bindings) → start_goal x.head q (unbound (length x.vars)) ≡ Some b
+      → through (branches x b) (concluded x.head q e) ≡ axiom_events branches q e x
+  axiom_started b h = sym (ap (started_events branches x q e) h)
+
+-- what stands for an axiom at a place is that axiom
+pub placed_axiom : (o : Option Axiom) (r : Option (Bor public_axiom.Axiom)) (a : Bor public_axiom.Axiom)
+    → option_map (λ b. axiom_of b.now) r ≡ o → r ≡ Some a → o ≡ Some (axiom_of a.now)
+placed_axiom o r a h is = sym h ∙ ap (option_map (λ b. axiom_of b.now)) is
+
+-- an axiom at a place has few variables where all have
+pub few_at : (rules : List Rule) (place : ℕ) (x : Axiom) → AreFew (axioms_of rules) → axiom_at rules place ≡ Some x
+    → length x.vars ≤ 256
+few_at rules place x few h =
+    All-contains (λ y. length y.vars ≤ 256) (axioms_of rules) x few (axiom_among rules place x h)

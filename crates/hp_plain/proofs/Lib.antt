@@ -1,0 +1,11 @@
+pub mod FoundLemmas
+pub mod MatchSteps
+pub mod ConclusionSteps
+pub mod RulebookLemmas
+pub mod Sizes
+pub mod SearchSteps
+pub mod AxiomSteps
+pub mod SceneGrowth
+pub mod EffectLemmas
+pub mod ListedLemmas
+pub mod PreconditionLemmas

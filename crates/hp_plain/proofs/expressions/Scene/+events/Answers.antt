@@ -1,0 +1,733 @@
+use Rattle.std.proofs.Common.{◌≡◌, ◌+◌, ◌-◌, ◌*◌, ◌<◌, true, false, List, map, ℕ, Option, None, vec_len, ◌++◌, length, drop, get_or, Result, Ok, ap, ap₂, sym, ◌∙◌, subst, arith}
+use Rattle.std.specs.Prelude.{flat_map}
+use Rattle.std.proofs.lemmas.List.{length-map, length-replicate}
+use Rattle.hp_laws.proofs.Listings.{map_has}
+use Rattle.hp_syntax.specs.Syntax.{Expression}
+use Rattle.std.proofs.lemmas.Option.{slice_get-get_or}
+use Rattle.std.proofs.lemmas.Result.{IfOk-weaker}
+use Rattle.hp_syntax.specs.declared.fault.RunFault.{RunFault}
+use Rattle.hp_syntax.specs.Values.{Bindings, unbound}
+use Rattle.hp_syntax.specs.Goals.{Goal, start_goal}
+use Rattle.hp_syntax.specs.Events.{Event, State, in_place, through, sat, goal_events, axiom_events, concluded, first_list}
+use Rattle.hp_syntax.specs.Views.{axiom_of, clause_of, expression_of, expressions_of}
+use Rattle.hp_eval.specs.GoalViews.{goal_of}
+use Rattle.hp_eval.specs.Slotted.{bindings_of}
+use Rattle.hp_eval.proofs.GrowthLemmas.{grows_self, grows_on, bindings_stay, below_grows}
+use Rattle.hp_plain.specs.Founds.{found_event, found_events, Fits, AllFit, Finds}
+use Rattle.hp_plain.specs.Rulebooks.{concluding, axiom_at}
+use Rattle.hp_plain.specs.Scenes.{rules_in, axioms_in, stage_in, state_in, branches_at, placed_events}
+use Rattle.hp_plain.proofs.FoundLemmas.{finds_none, finds_same, upto_more, upto_same, upto_all, sat_replaced, left_replaced, fits_below, event_stays, fits_grow, upto_grow, goal_below_grows, stage_below_grows, state_stays, goal_stays, item_holds, sat_fits}
+use Rattle.hp_plain.proofs.Sizes.{size, sizes, left_to_do, less_to_do_below, branch_size, size_of-atom, size_of-and, size_of-or, size_of-not, size_of-forall, part_size}
+use Rattle.hp_plain.proofs.SearchSteps.{sat_of-atom, sat_of-and, sat_of-or, sat_of-not, sat_of-forall, sat_of-assign, sat_of-call, forall_sat, all_of, all_begin, all_go_on, all_end, any_of, any_left, any_end}
+use Rattle.hp_plain.proofs.AxiomSteps.{goal_begins, axioms_left, axioms_end, placed_axiom, few_at, axiom_among, axiom_unstarted, axiom_started, none_bound, branch_left, first_found, first_passes}
+use Rattle.hp_plain.proofs.SceneGrowth.{turned_sat, turned_stays, sat_stays, placed_stays, turn_gives, finds_vars}
+use Rattle.std.proofs.lemmas.Bool.{eqb-true, eqb-false}
+use Rattle.hp_plain.proofs.MatchSteps.{binds_vars, match_failed, match_made}
+use Rattle.hp_plain.proofs.expressions.Scene.+events.Goals as goal
+
+-- ---- an expression by its kind
+
+pub events-atom_events-requires : goal.events-atom_events-requires
+events-atom_events-requires t c =
+    let one = size_of-atom c.args.expr.now c.in-Atom.atom c.in-Atom.is in
+    (omega (arith, c.decreases, one), (c.requires.few, (c.requires.slots, c.requires.world)))
+
+pub events-all_events-requires : goal.events-all_events-requires
+events-all_events-requires t c =
+    let one = size_of-and c.args.expr.now c.in-And.parts c.in-And.is in
+    let same = ap (λ ps. sizes (expressions_of ps)) c.as_slice.ensures.value in
+    (omega (arith, c.decreases, one, same), (c.requires.few, (c.requires.slots, c.requires.world)))
+
+pub events-any_events-requires : goal.events-any_events-requires
+events-any_events-requires t c =
+    let one = size_of-or c.args.expr.now c.in-Or.parts c.in-Or.is in
+    let same = ap (λ ps. sizes (expressions_of ps)) c.as_slice-in-Or.ensures.value in
+    (omega (arith, c.decreases, one, same), (c.requires.few, (c.requires.slots, c.requires.world)))
+
+pub events-events-requires : goal.events-events-requires
+events-events-requires t c =
+    let one = size_of-not c.args.expr.now c.in-Not.part c.in-Not.is in
+    let same = ap (λ p. size (expression_of p)) c.deref.ensures in
+    (omega (arith, c.decreases, one, same), (c.requires.few, (c.requires.slots, c.requires.world)))
+
+pub events-forall_events-requires : goal.events-forall_events-requires
+events-forall_events-requires t c =
+    let one = size_of-forall c.args.expr.now c.in-Forall.field-0 c.in-Forall.range c.in-Forall.body c.in-Forall.is in
+    let range = ap (λ p. size (expression_of p)) c.deref-in-Forall.ensures in
+    let body = ap (λ p. size (expression_of p)) c.deref-in-Forall-2.ensures in
+    (omega (arith, c.decreases, one, range, body), (c.requires.few, (c.requires.slots, c.requires.world)))
+
+pub events-returns-in-Atom-clause-found : goal.events-returns-in-Atom-clause-found
+events-returns-in-Atom-clause-found t c =
+    let scene = c.args.self.now in
+    let old = c.args.cells.now in
+    IfOk-weaker c.atom_events.result _ _
+    (λ v h. h.stand
+    ∙ sat_of-atom (axioms_in scene) (state_in old scene) c.args.level c.args.expr.now
+    (bindings_of old c.args.slots.now) c.in-Atom.atom c.in-Atom.is)
+    c.atom_events.ensures.finds
+
+pub events-returns-in-And-clause-found : goal.events-returns-in-And-clause-found
+events-returns-in-And-clause-found t c =
+    let scene = c.args.self.now in
+    let old = c.args.cells.now in
+    let e = bindings_of old c.args.slots.now in
+    IfOk-weaker c.all_events.result _ _
+    (λ v h. h.stand
+    ∙ (ap (λ ps. all_of (axioms_in scene) (state_in old scene) c.args.level ps e) c.as_slice.ensures.value
+    ∙ sat_of-and (axioms_in scene) (state_in old scene) c.args.level c.args.expr.now e c.in-And.parts c.in-And.is))
+    c.all_events.ensures.finds
+
+pub events-returns-in-Or-clause-found : goal.events-returns-in-Or-clause-found
+events-returns-in-Or-clause-found t c =
+    let scene = c.args.self.now in
+    let old = c.args.cells.now in
+    let e = bindings_of old c.args.slots.now in
+    IfOk-weaker c.any_events.result _ _
+    (λ v h. h.stand
+    ∙ (ap (λ ps. any_of (axioms_in scene) (state_in old scene) c.args.level ps e) c.as_slice-in-Or.ensures.value
+    ∙ sat_of-or (axioms_in scene) (state_in old scene) c.args.level c.args.expr.now e c.in-Or.parts c.in-Or.is))
+    c.any_events.ensures.finds
+
+pub events-returns-in-Forall-clause-found : goal.events-returns-in-Forall-clause-found
+events-returns-in-Forall-clause-found t c =
+    let scene = c.args.self.now in
+    let old = c.args.cells.now in
+    let e = bindings_of old c.args.slots.now in
+    IfOk-weaker c.forall_events.result _ _
+    (λ v h. h.stand
+    ∙ (ap₂ (forall_sat (axioms_in scene) (state_in old scene) c.args.level e) c.deref-in-Forall.ensures
+    c.deref-in-Forall-2.ensures
+    ∙ sat_of-forall (axioms_in scene) (state_in old scene) c.args.level c.args.expr.now e c.in-Forall.field-0
+    c.in-Forall.range c.in-Forall.body c.in-Forall.is))
+    c.forall_events.ensures.finds
+
+pub events-returns-in-Assign-clause-found : goal.events-returns-in-Assign-clause-found
+events-returns-in-Assign-clause-found t c =
+    let scene = c.args.self.now in
+    let old = c.args.cells.now in
+    IfOk-weaker c.assigned.result _ _
+    (λ v h. h.stand
+    ∙ sat_of-assign (axioms_in scene) (state_in old scene) c.args.level c.args.expr.now
+    (bindings_of old c.args.slots.now) c.in-Assign.v c.in-Assign.value c.in-Assign.is)
+    c.assigned.ensures.found
+
+pub events-returns-in-Call-clause-found : goal.events-returns-in-Call-clause-found
+events-returns-in-Call-clause-found t c =
+    let scene = c.args.self.now in
+    let old = c.args.cells.now in
+    IfOk-weaker c.tested.result _ _
+    (λ v h. h.stand
+    ∙ sat_of-call (axioms_in scene) (state_in old scene) c.args.level c.args.expr.now
+    (bindings_of old c.args.slots.now) c.in-Call.call c.in-Call.is)
+    c.tested.ensures.found
+
+pub events-returns-in_ok-found-in-Not-clause-found : goal.events-returns-in_ok-found-in-Not-clause-found
+events-returns-in_ok-found-in-Not-clause-found t c =
+    let scene = c.args.self.now in
+    let old = c.args.cells.now in
+    let new = c.events.new.cells in
+    let s = c.args.slots.now in
+    let e = bindings_of old s in
+    let got = c.in_ok-found-in-Not.ensures in
+    let met = got.found ∙ ap (λ p. sat (axioms_in scene) (state_in old scene) c.args.level (expression_of p) e)
+    c.deref.ensures in
+    IfOk-weaker c.turn.result _ _
+    (λ v h. (turn_gives new (length s.values) c.in_ok-found-in-Not.found.items v.items true (bindings_of new s) e _ met
+    (bindings_stay old new got.cells s c.requires.slots)
+    (h new (below_grows old new got.cells s c.requires.slots) got.fit)).stand
+    ∙ sat_of-not (axioms_in scene) (state_in old scene) c.args.level c.args.expr.now e c.in-Not.part c.in-Not.is)
+    c.turn.ensures
+
+pub events-returns-in_ok-found-in-Not-clause-fit : goal.events-returns-in_ok-found-in-Not-clause-fit
+events-returns-in_ok-found-in-Not-clause-fit t c =
+    let old = c.args.cells.now in
+    let new = c.events.new.cells in
+    let got = c.in_ok-found-in-Not.ensures in
+    IfOk-weaker c.turn.result _ _
+    (λ v h. (h new (below_grows old new got.cells c.args.slots.now c.requires.slots) got.fit).fit)
+    c.turn.ensures
+
+-- ---- for all satisfiers
+
+pub forall_events-returns-clause-finds : goal.forall_events-returns-clause-finds
+forall_events-returns-clause-finds t c =
+    let scene = c.args.self.now in
+    let axioms = axioms_in scene in
+    let stage = stage_in scene in
+    let level = c.args.level in
+    let old = c.args.cells.now in
+    let mid = c.events.new.cells in
+    let new = c.each_events.new.cells in
+    let s = c.args.slots.now in
+    let e = bindings_of old s in
+    let met = c.in_ok-found.ensures in
+    let got = c.in_ok-refuted.ensures in
+    let grown = grows_on old mid new met.cells got.cells in
+    let refuted = c.in_ok-refuted.refuted.items in
+    let each = finds_vars new c.vars.result (length s.values) refuted _ c.vars.ensures got.finds in
+    let events =
+    each.stand
+    ∙ (ap₂ (λ xs f. through xs f) (ap (found_events mid) c.as_slice.ensures.value ∙ met.found)
+    (turned_stays old mid met.cells stage c.requires.world axioms level c.args.body.now true)) in
+    IfOk-weaker c.turn.result _ _
+    (λ v h. turn_gives new (length s.values) refuted v.items true (bindings_of new s) e _ events
+    (bindings_stay old new grown s c.requires.slots)
+    (h new (below_grows old new grown s c.requires.slots) each.fit))
+    c.turn.ensures
+
+-- ---- all of some parts
+
+pub all_events-loop-part-init : goal.all_events-loop-part-init
+all_events-loop-part-init t c =
+    let scene = c.args.self.now in
+    let old = c.args.cells.now in
+    let s = c.args.slots.now in
+    let found = c.in_ok-found.found.items in
+    let one = c.in_ok-found.ensures old c.requires.slots in
+    record {
+      grows = grows_self old;
+      fit = (finds_vars old (length s.values) c.vars-vars.result found _ (sym c.vars-vars.ensures) one).fit;
+      so_far =
+          all_begin (axioms_in scene) (state_in old scene) c.args.level c.args.parts.now (bindings_of old s)
+          (found_events old found) one.stand;
+    }
+
+pub all_events-each_events-requires : goal.all_events-each_events-requires
+all_events-each_events-requires t c =
+    let old = c.args.cells.now in
+    let mid = c.loop-part.cells in
+    let held = c.loop-part.invariant in
+    let part =
+    part_size c.args.parts.now c.loop-part.part-index c.part-item.result c.loop-part-test.true c.part-item.is in (
+      omega (arith, c.decreases, part),
+      (
+        omega (arith, c.vars-vars.ensures, c.requires.few),
+        (
+          subst (AllFit c.vars-vars.result (length mid)) (sym c.as_slice.ensures.value) held.fit,
+          stage_below_grows old mid held.grows (stage_in c.args.self.now) c.requires.world,
+        ),
+      ),
+    )
+
+pub all_events-loop-part-preserved : goal.all_events-loop-part-preserved
+all_events-loop-part-preserved t c =
+    let scene = c.args.self.now in
+    let axioms = axioms_in scene in
+    let level = c.args.level in
+    let old = c.args.cells.now in
+    let mid = c.loop-part.cells in
+    let new = c.each_events.new.cells in
+    let held = c.loop-part.invariant in
+    let got = c.in_ok-found-2.ensures in
+    let part = c.part-item.result in
+    let before = c.loop-part.found.items in
+    record {
+      grows = grows_on old mid new held.grows got.cells;
+      fit = got.finds.fit;
+      so_far =
+          all_go_on axioms (state_in old scene) level c.args.parts.now c.loop-part.part-index part
+          (found_events mid before) (found_events new c.in_ok-found-2.found.items) _ c.loop-part-test.true
+          c.part-item.is
+          (got.finds.stand
+          ∙ ap₂ (λ xs f. through (found_events mid xs) f) c.as_slice.ensures.value
+          (turned_stays old mid held.grows (stage_in scene) c.requires.world axioms level part false))
+          held.so_far;
+    }
+
+pub all_events-returns-clause-finds : goal.all_events-returns-clause-finds
+all_events-returns-clause-finds t c =
+    let scene = c.args.self.now in
+    let old = c.args.cells.now in
+    let new = c.loop-part.cells in
+    let held = c.loop-part.invariant in
+    let found = c.loop-part.found.items in
+    record {
+      stand =
+          all_end (axioms_in scene) (state_in old scene) c.args.level c.args.parts.now c.loop-part.part-index
+          (found_events new found) _ c.loop-part-test.false held.so_far;
+      fit = subst (λ n. AllFit n (length new) found) c.vars-vars.ensures held.fit;
+    }
+
+-- ---- any of some parts
+
+pub any_events-events-requires : goal.any_events-events-requires
+any_events-events-requires t c =
+    let old = c.args.cells.now in
+    let mid = c.loop-part.cells in
+    let grown = c.loop-part.invariant.grows in
+    let part =
+    part_size c.args.parts.now c.loop-part.part-index c.part-item.result c.loop-part-test.true c.part-item.is in (
+      omega (arith, c.decreases, part),
+      (
+        c.requires.few,
+        (
+          below_grows old mid grown c.args.slots.now c.requires.slots,
+          stage_below_grows old mid grown (stage_in c.args.self.now) c.requires.world,
+        ),
+      ),
+    )
+
+pub any_events-loop-part-preserved : goal.any_events-loop-part-preserved
+any_events-loop-part-preserved t c =
+    let scene = c.args.self.now in
+    let axioms = axioms_in scene in
+    let level = c.args.level in
+    let old = c.args.cells.now in
+    let mid = c.loop-part.cells in
+    let new = c.events.new.cells in
+    let held = c.loop-part.invariant in
+    let got = c.in_ok-more.ensures in
+    let s = c.args.slots.now in
+    let e = bindings_of old s in
+    let state = state_in old scene in
+    let parts = c.args.parts.now in
+    let part = c.part-item.result in
+    let i = c.loop-part.part-index in
+    let vars = length s.values in
+    let before = c.loop-part.found.items in
+    let more = c.in_ok-more.more.items in
+    let whole = any_of axioms state level parts e in
+    let piece = sat axioms state level (expression_of part) e in
+    let left = any_of axioms state level (drop (i + 1) parts) e in
+    let next : Finds new vars more piece = record {
+      stand =
+          got.found
+          ∙ sat_stays old mid held.grows (stage_in scene) c.requires.world s c.requires.slots axioms level
+          (expression_of part);
+      fit = got.fit;
+    } in
+    record {
+      grows = grows_on old mid new held.grows got.cells;
+      found =
+          upto_more new vars before whole piece left more c.append.new.self.items
+          (upto_grow mid new got.cells vars before whole _
+          (upto_same mid vars before whole _ _
+          (any_left axioms state level parts i part e c.loop-part-test.true c.part-item.is) held.found))
+          next c.in_ok-append.ensures.items;
+    }
+
+pub any_events-returns-clause-finds : goal.any_events-returns-clause-finds
+any_events-returns-clause-finds t c =
+    let scene = c.args.self.now in
+    let old = c.args.cells.now in
+    let s = c.args.slots.now in
+    upto_all c.loop-part.cells (length s.values) c.loop-part.found.items _ _
+    (any_end (axioms_in scene) (state_in old scene) c.args.level c.args.parts.now c.loop-part.part-index
+    (bindings_of old s) c.loop-part-test.false)
+    c.loop-part.invariant.found
+
+-- ---- in the place of each Sat
+
+pub each_events-one_events-requires : goal.each_events-one_events-requires
+each_events-one_events-requires t c =
+    let old = c.args.cells.now in
+    let mid = c.loop-x.cells in
+    let grown = c.loop-x.invariant.grows in
+    let x = c.x-item.result in (
+      omega (arith, c.decreases),
+      (
+        c.requires.few,
+        (
+          fits_grow old mid grown c.args.vars x
+              (item_holds (Fits c.args.vars (length old)) c.args.found.now c.loop-x.x-index x c.loop-x-test.true
+              c.x-item.is c.requires.found),
+          stage_below_grows old mid grown (stage_in c.args.self.now) c.requires.world,
+        ),
+      ),
+    )
+
+pub each_events-loop-x-preserved : goal.each_events-loop-x-preserved
+each_events-loop-x-preserved t c =
+    let scene = c.args.self.now in
+    let axioms = axioms_in scene in
+    let level = c.args.level in
+    let old = c.args.cells.now in
+    let mid = c.loop-x.cells in
+    let new = c.one_events.new.cells in
+    let held = c.loop-x.invariant in
+    let got = c.in_ok-more.ensures in
+    let part = c.args.part.now in
+    let x = c.x-item.result in
+    let found = c.args.found.now in
+    let i = c.loop-x.x-index in
+    let vars = c.args.vars in
+    let before = c.loop-x.all.items in
+    let more = c.in_ok-more.more.items in
+    let f = turned_sat axioms (state_in old scene) level part c.args.negate in
+    let whole = through (found_events old found) f in
+    let left = through (found_events old (drop (i + 1) found)) f in
+    let fits = item_holds (Fits vars (length old)) found i x c.loop-x-test.true c.x-item.is c.requires.found in
+    record {
+      grows = grows_on old mid new held.grows got.cells;
+      found =
+          upto_more new vars before whole (in_place f (found_event old x)) left more c.append.new.self.items
+          (upto_grow mid new got.cells vars before whole _
+          (upto_same mid vars before whole _ _ (left_replaced old f found i x c.loop-x-test.true c.x-item.is)
+          held.found))
+          (finds_same new vars more _ _
+          (ap₂ (λ g y. in_place g y)
+          (turned_stays old mid held.grows (stage_in scene) c.requires.world axioms level part c.args.negate)
+          (event_stays old mid held.grows x (fits_below vars (length old) x fits)))
+          got.finds)
+          c.in_ok-append.ensures.items;
+    }
+
+pub one_events-returns-in_ok-more-in-Sat-clause-finds : goal.one_events-returns-in_ok-more-in-Sat-clause-finds
+one_events-returns-in_ok-more-in-Sat-clause-finds t c =
+    let scene = c.args.self.now in
+    let old = c.args.cells.now in
+    let new = c.events.new.cells in
+    let s = c.in-Sat.slots in
+    let x = c.args.found.now in
+    let got = c.in_ok-more-in-Sat.ensures in
+    let fits = sat_fits c.args.vars (length old) x s c.in-Sat.is c.requires.found in
+    let more = c.in_ok-more-in-Sat.more.items in
+    let f = turned_sat (axioms_in scene) (state_in old scene) c.args.level c.args.part.now c.args.negate in
+    IfOk-weaker c.turn.result _ _
+    (λ v h. finds_vars new (length s.values) c.args.vars v.items _ fits.0
+    (finds_same new (length s.values) v.items _ _ (sat_replaced old f x s c.in-Sat.is)
+    (turn_gives new (length s.values) more v.items c.args.negate (bindings_of new s) (bindings_of old s) _ got.found
+    (bindings_stay old new got.cells s fits.1)
+    (h new (below_grows old new got.cells s fits.1) got.fit))))
+    c.turn.ensures
+
+-- ---- atoms
+
+pub atom_events-returns-in-Ok-clause-finds : goal.atom_events-returns-in-Ok-clause-finds
+atom_events-returns-in-Ok-clause-finds t c =
+    let scene = c.args.self.now in
+    let axioms = axioms_in scene in
+    let level = c.args.level in
+    let old = c.args.cells.now in
+    let mid = c.fill_goal.new.cells in
+    let filled = c.in-Ok.ensures in
+    let s = c.args.slots.now in
+    let e = bindings_of old s in
+    let events : State → Bindings → Result Goal RunFault → List Event
+    = λ st b r. goal_events st axioms (branches_at axioms st level) b r in
+    IfOk-weaker c.goal_events.result _ _
+    (λ v h. finds_same c.goal_events.new.cells (length s.values) v.items _ _
+    (ap₂ (λ st b. events st b (Ok (goal_of mid c.in-Ok.goal)))
+    (state_stays old mid filled.cells (stage_in scene) c.requires.world)
+    (bindings_stay old mid filled.cells s c.requires.slots)
+    ∙ ap (events (state_in old scene) e) (sym filled.gives)) h)
+    c.goal_events.ensures.finds
+
+pub goal_events-loop-place-init : goal.goal_events-loop-place-init
+goal_events-loop-place-init t c =
+    let scene = c.args.self.now in
+    let axioms = axioms_in scene in
+    let old = c.args.cells.now in
+    let state = state_in old scene in
+    let branches = branches_at axioms state c.args.level in
+    let q = goal_of old c.args.goal.now in
+    let e = bindings_of old c.args.slots.now in
+    let got = c.in_ok-found.ensures in
+    let left = flat_map (axiom_events branches q e) (concluding q.name (rules_in scene)) in
+    record {
+      grows = grows_self old;
+      found = record {
+        so_far = goal_begins branches q e state (rules_in scene) ∙ ap (λ xs. xs ++ left) (sym got.stand);
+        fit = got.fit;
+      };
+    }
+
+pub goal_events-axiom_events-requires : goal.goal_events-axiom_events-requires
+goal_events-axiom_events-requires t c =
+    let old = c.args.cells.now in
+    let mid = c.loop-place.cells in
+    let grown = c.loop-place.invariant.grows in (
+      omega (arith, c.decreases),
+      (
+        c.requires.few,
+        (
+          below_grows old mid grown c.args.slots.now c.requires.slots,
+          (
+            goal_below_grows old mid grown c.args.goal.now c.requires.goal,
+            stage_below_grows old mid grown (stage_in c.args.self.now) c.requires.world,
+          ),
+        ),
+      ),
+    )
+
+pub goal_events-loop-place-preserved : goal.goal_events-loop-place-preserved
+goal_events-loop-place-preserved t c =
+    let scene = c.args.self.now in
+    let axioms = axioms_in scene in
+    let rules = rules_in scene in
+    let level = c.args.level in
+    let old = c.args.cells.now in
+    let mid = c.loop-place.cells in
+    let new = c.axiom_events.new.cells in
+    let held = c.loop-place.invariant in
+    let got = c.in_ok-more.ensures in
+    let state = state_in old scene in
+    let branches = branches_at axioms state level in
+    let goal' = c.args.goal.now in
+    let q = goal_of old goal' in
+    let s = c.args.slots.now in
+    let e = bindings_of old s in
+    let places = c.axioms-place-items.result.now in
+    let i = c.loop-place.place-index in
+    let place = get_or places i 0 in
+    let vars = length s.values in
+    let before = c.loop-place.found.items in
+    let more = c.in_ok-more.more.items in
+    let named = concluding q.name rules in
+    let whole = goal_events state axioms branches e (Ok q) in
+    let piece = placed_events branches q e (axiom_at rules place) in
+    let left = flat_map (axiom_events branches q e) (drop (i + 1) named) in
+    record {
+      grows = grows_on old mid new held.grows got.cells;
+      found =
+          upto_more new vars before whole piece left more c.append.new.self.items
+          (upto_grow mid new got.cells vars before whole _
+          (upto_same mid vars before whole _ _
+          (axioms_left branches q e rules places named c.axioms-place-items.ensures i place
+          (slice_get-get_or places i 0 c.loop-place-test.true))
+          held.found))
+          (finds_same new vars more _ _
+          (placed_stays old mid held.grows (stage_in scene) c.requires.world s c.requires.slots axioms level goal'
+          c.requires.goal (axiom_at rules place))
+          got.finds)
+          c.in_ok-append.ensures.items;
+    }
+
+pub goal_events-returns-clause-finds : goal.goal_events-returns-clause-finds
+goal_events-returns-clause-finds t c =
+    let scene = c.args.self.now in
+    let old = c.args.cells.now in
+    let q = goal_of old c.args.goal.now in
+    let s = c.args.slots.now in
+    upto_all c.loop-place.cells (length s.values) c.loop-place.found.items _ _
+    (axioms_end (branches_at (axioms_in scene) (state_in old scene) c.args.level) q (bindings_of old s) (rules_in scene)
+    c.axioms-place-items.result.now (concluding q.name (rules_in scene)) c.axioms-place-items.ensures
+    c.loop-place.place-index c.loop-place-test.false)
+    c.loop-place.invariant.found
+
+-- ---- an axiom
+
+pub axiom_events-new-requires-2 : goal.axiom_events-new-requires-2
+axiom_events-new-requires-2 t c =
+    let rules = rules_in c.args.self.now in
+    let x = axiom_of c.in-Some.axiom.now in
+    let there =
+    placed_axiom (axiom_at rules c.args.place) c.axiom.result c.in-Some.axiom c.axiom.ensures c.in-Some.is in
+    let few = few_at rules c.args.place x c.args.self.now.book.now.few there in
+    record { few = omega (arith, few, c.len.ensures, c.in-Some.axiom.now.vars.ok.0) }
+
+pub axiom_events-returns-then-not-branch-clause-finds : goal.axiom_events-returns-then-not-branch-clause-finds
+axiom_events-returns-then-not-branch-clause-finds t c =
+    let scene = c.args.self.now in
+    let old = c.args.cells.now in
+    let new = c.start_goal.new.cells in
+    let a = c.in-Some.axiom.now in
+    let x = axiom_of a in
+    let q = goal_of old c.args.goal.now in
+    let e = bindings_of old c.args.slots.now in
+    let own = c.in_ok-own.own in
+    let branches = branches_at (axioms_in scene) (state_in old scene) c.args.level in
+    let there =
+    placed_axiom (axiom_at (rules_in scene) c.args.place) c.axiom.result c.in-Some.axiom c.axiom.ensures c.in-Some.is in
+    let long : c.len.result ≡ length x.vars = omega (arith, c.len.ensures, a.vars.ok.0) in
+    let begin : bindings_of old own ≡ unbound (length x.vars)
+    = ap (bindings_of old) c.in_ok-own.ensures ∙ (none_bound old c.len.result ∙ ap unbound long) in
+    let m =
+    match_failed c.in_ok-start_goal.field-0 _ new own c.start_goal.new.slots c.if-not-branch.true
+    c.in_ok-start_goal.ensures.started in
+    finds_none new (length c.args.slots.now.values) c.new-then-not-branch.result.items _
+    c.new-then-not-branch.ensures.items
+    (ap (placed_events branches q e) there
+    ∙ axiom_unstarted branches q e x (ap (start_goal x.head q) (sym begin) ∙ m.0))
+
+pub axiom_events-branch_events-requires : goal.axiom_events-branch_events-requires
+axiom_events-branch_events-requires t c =
+    let old = c.args.cells.now in
+    let new = c.start_goal.new.cells in
+    let rules = rules_in c.args.self.now in
+    let x = axiom_of c.in-Some.axiom.now in
+    let there =
+    placed_axiom (axiom_at rules c.args.place) c.axiom.result c.in-Some.axiom c.axiom.ensures c.in-Some.is in
+    let m =
+    match_made c.in_ok-start_goal.field-0 _ new c.in_ok-own.own c.start_goal.new.slots c.if-not-branch.false
+    c.in_ok-start_goal.ensures.started in
+    let vars = binds_vars c.in_ok-own.own c.start_goal.new.slots m.1 in
+    let own = ap (λ s. length s.values) c.in_ok-own.ensures in
+    let long = length-replicate {A = Option ℕ} c.len.result None in
+    let few = few_at rules c.args.place x c.args.self.now.book.now.few there in (
+      omega (arith, c.decreases),
+      (
+        axiom_among rules c.args.place x there,
+        (
+          omega (arith, vars, own, long, few, c.len.ensures, c.in-Some.axiom.now.vars.ok.0),
+          (
+            c.start_goal.ensures.below,
+            stage_below_grows old new c.start_goal.ensures.cells (stage_in c.args.self.now) c.requires.world,
+          ),
+        ),
+      ),
+    )
+
+pub axiom_events-conclusions-requires-clause-slots : goal.axiom_events-conclusions-requires-clause-slots
+axiom_events-conclusions-requires-clause-slots t c =
+    let old = c.args.cells.now in
+    let mid = c.start_goal.new.cells in
+    let new = c.branch_events.new.cells in
+    below_grows old new (grows_on old mid new c.start_goal.ensures.cells c.branch_events.ensures.cells)
+    c.args.slots.now c.requires.slots
+
+pub axiom_events-conclusions-requires-clause-goal : goal.axiom_events-conclusions-requires-clause-goal
+axiom_events-conclusions-requires-clause-goal t c =
+    let old = c.args.cells.now in
+    let mid = c.start_goal.new.cells in
+    let new = c.branch_events.new.cells in
+    goal_below_grows old new (grows_on old mid new c.start_goal.ensures.cells c.branch_events.ensures.cells)
+    c.args.goal.now c.requires.goal
+
+pub axiom_events-returns-clause-finds : goal.axiom_events-returns-clause-finds
+axiom_events-returns-clause-finds t c =
+    let scene = c.args.self.now in
+    let axioms = axioms_in scene in
+    let level = c.args.level in
+    let old = c.args.cells.now in
+    let mid = c.start_goal.new.cells in
+    let new = c.branch_events.new.cells in
+    let grown = grows_on old mid new c.start_goal.ensures.cells c.branch_events.ensures.cells in
+    let a = c.in-Some.axiom.now in
+    let x = axiom_of a in
+    let goal' = c.args.goal.now in
+    let q = goal_of old goal' in
+    let s = c.args.slots.now in
+    let e = bindings_of old s in
+    let own = c.in_ok-own.own in
+    let made = c.start_goal.new.slots in
+    let state = state_in old scene in
+    let branches = branches_at axioms state level in
+    let there =
+    placed_axiom (axiom_at (rules_in scene) c.args.place) c.axiom.result c.in-Some.axiom c.axiom.ensures c.in-Some.is in
+    let long : c.len.result ≡ length x.vars = omega (arith, c.len.ensures, a.vars.ok.0) in
+    let begin : bindings_of old own ≡ unbound (length x.vars)
+    = ap (bindings_of old) c.in_ok-own.ensures ∙ (none_bound old c.len.result ∙ ap unbound long) in
+    let m =
+    match_made c.in_ok-start_goal.field-0 _ mid own made c.if-not-branch.false c.in_ok-start_goal.ensures.started in
+    let met =
+    ap (found_events new) c.as_slice.ensures.value
+    ∙ (c.in_ok-found.ensures.finds.stand
+    ∙ ap (λ st. branches_at axioms st level x (bindings_of mid made))
+    (state_stays old mid c.start_goal.ensures.cells (stage_in scene) c.requires.world)) in
+    IfOk-weaker c.conclusions.result _ _
+    (λ v h. finds_same c.conclusions.new.cells (length s.values) v.items _ _
+    (ap₂ (λ xs f. through xs f) met
+    (ap₂ (concluded x.head) (goal_stays old new grown goal' c.requires.goal)
+    (bindings_stay old new grown s c.requires.slots))
+    ∙ (axiom_started branches q e x (bindings_of mid made) (ap (start_goal x.head q) (sym begin) ∙ m.0)
+    ∙ sym (ap (placed_events branches q e) there)))
+    h)
+    c.conclusions.ensures.found
+
+-- ---- the branches of an axiom
+
+pub branch_events-events-requires : goal.branch_events-events-requires
+branch_events-events-requires t c =
+    let scene = c.args.self.now in
+    let axioms = axioms_in scene in
+    let level = c.args.level in
+    let old = c.args.cells.now in
+    let mid = c.loop-clause.cells in
+    let grown = c.loop-clause.invariant.grows in
+    let x = axiom_of c.args.rule.now in
+    let clause = c.clause-item.result in
+    let some : 0 < level = omega arith in
+    let clauses = c.args.rule.now.clauses.items in
+    let i = c.loop-clause.clause-index in
+    let is = c.deref-clause-items.ensures.value in
+    let among =
+    map_has clause_of clauses clause (
+      i,
+      subst (λ cs. i < length cs) is c.loop-clause-test.true,
+      sym (c.clause-item.is ∙ ap (λ cs. get_or cs i clause) is),
+    ) in (
+      subst
+          (λ m. left_to_do axioms (level - 1) (8 * size (expression_of clause.body)) < m) c.decreases
+          (less_to_do_below axioms level (size (expression_of clause.body)) 4 some
+          (branch_size axioms x (clause_of clause) c.requires.known among)),
+      (
+        c.requires.few,
+        (
+          below_grows old mid grown c.args.slots.now c.requires.slots,
+          stage_below_grows old mid grown (stage_in scene) c.requires.world,
+        ),
+      ),
+    )
+
+pub branch_events-returns-then-not-is_empty-clause-finds : goal.branch_events-returns-then-not-is_empty-clause-finds
+branch_events-returns-then-not-is_empty-clause-finds t c =
+    let scene = c.args.self.now in
+    let axioms = axioms_in scene in
+    let level = c.args.level in
+    let old = c.args.cells.now in
+    let mid = c.loop-clause.cells in
+    let new = c.events.new.cells in
+    let held = c.loop-clause.invariant in
+    let got = c.in_ok-found.ensures in
+    let s = c.args.slots.now in
+    let clauses = c.args.rule.now.clauses.items in
+    let clause = c.clause-item.result in
+    let i = c.loop-clause.clause-index in
+    let is = c.deref-clause-items.ensures.value in
+    let found = c.in_ok-found.found.items in
+    let f : Expression → List Event
+    = λ part. sat axioms (state_in old scene) (level - 1) part (bindings_of old s) in
+    let met : found_events new found ≡ f (expression_of clause.body)
+    = got.found
+    ∙ sat_stays old mid held.grows (stage_in scene) c.requires.world s c.requires.slots axioms (level - 1)
+    (expression_of clause.body) in
+    let many = eqb-false (vec_len c.in_ok-found.found) 0 (sym c.is_empty.ensures ∙ c.if-not-is_empty.true) in
+    let some : 0 < length found = omega (arith, many, c.in_ok-found.found.ok.0) in
+    let first =
+    first_found (f (expression_of clause.body)) (first_list f (map clause_of (drop (i + 1) clauses)))
+    (omega (arith, some, length-map found (found_event new), ap length met)) in
+    record {
+      stand =
+          met
+          ∙ sym (held.so_far
+          ∙ (branch_left f clauses i clause (subst (λ cs. i < length cs) is c.loop-clause-test.true)
+          (c.clause-item.is ∙ ap (λ cs. get_or cs i clause) is)
+          ∙ first));
+      fit = got.fit;
+    }
+
+pub branch_events-loop-clause-preserved : goal.branch_events-loop-clause-preserved
+branch_events-loop-clause-preserved t c =
+    let scene = c.args.self.now in
+    let axioms = axioms_in scene in
+    let level = c.args.level in
+    let old = c.args.cells.now in
+    let mid = c.loop-clause.cells in
+    let new = c.events.new.cells in
+    let held = c.loop-clause.invariant in
+    let got = c.in_ok-found.ensures in
+    let s = c.args.slots.now in
+    let clauses = c.args.rule.now.clauses.items in
+    let clause = c.clause-item.result in
+    let i = c.loop-clause.clause-index in
+    let is = c.deref-clause-items.ensures.value in
+    let found = c.in_ok-found.found.items in
+    let f : Expression → List Event
+    = λ part. sat axioms (state_in old scene) (level - 1) part (bindings_of old s) in
+    let met : found_events new found ≡ f (expression_of clause.body)
+    = got.found
+    ∙ sat_stays old mid held.grows (stage_in scene) c.requires.world s c.requires.slots axioms (level - 1)
+    (expression_of clause.body) in
+    let many = eqb-true (vec_len c.in_ok-found.found) 0 (sym c.is_empty.ensures ∙ c.if-not-is_empty.false) in
+    let none : length found ≡ 0 = omega (arith, many, c.in_ok-found.found.ok.0) in
+    record {
+      grows = grows_on old mid new held.grows got.cells;
+      so_far =
+          held.so_far
+          ∙ (branch_left f clauses i clause (subst (λ cs. i < length cs) is c.loop-clause-test.true)
+          (c.clause-item.is ∙ ap (λ cs. get_or cs i clause) is)
+          ∙ first_passes (f (expression_of clause.body)) (first_list f (map clause_of (drop (i + 1) clauses)))
+          (omega (arith, none, length-map found (found_event new), ap length met)));
+    }

@@ -1,0 +1,36 @@
+use Rattle.std.proofs.Common.{length, sym, ◌∙◌, subst}
+use Rattle.hp_syntax.specs.Preconditions.{heard}
+use Rattle.hp_eval.proofs.GrowthLemmas.{grows_on}
+use Rattle.hp_plain.specs.Founds.{Finds, FindsUpTo}
+use Rattle.hp_plain.proofs.PreconditionLemmas.{more_left, none_left}
+use Rattle.hp_plain.proofs.preconditions.drained.Goals as goal
+
+pub loop-found-preserved : goal.loop-found-preserved
+loop-found-preserved g c =
+    let h = c.loop-found.invariant in
+    let new = c.take_next.new in
+    let whole = heard (g.S.Sats.rest c.args.sats.now tt c.args.cells.now c.args.slots.now) in
+    let left = g.S.Sats.rest new.sats tt new.cells new.slots in
+    record {
+      found =
+          subst (λ n. FindsUpTo new.cells n new.found.items whole (heard left)) (sym c.take_next.ensures.vars)
+          (more_left new.cells (length c.loop-found.slots.values) new.found.items whole c.in_ok-take_next.field-0 left
+          c.if-branch.true (c.in_ok-take_next.ensures.takes whole h.found));
+      vars = c.take_next.ensures.vars ∙ h.vars;
+      live = c.in_ok-take_next.ensures.live;
+      still_open = c.take_next.ensures.open;
+      suits = c.take_next.ensures.suits;
+      fits = c.take_next.ensures.fits;
+      kept = c.take_next.ensures.kept;
+      grown = grows_on c.args.cells.now c.loop-found.cells new.cells h.grown c.take_next.ensures.cells;
+    }
+
+pub returns-clause-finds : goal.returns-clause-finds
+returns-clause-finds g c =
+    let h = c.loop-found.invariant in
+    let new = c.take_next.new in
+    let whole = heard (g.S.Sats.rest c.args.sats.now tt c.args.cells.now c.args.slots.now) in
+    let left = g.S.Sats.rest new.sats tt new.cells new.slots in
+    subst (λ n. Finds new.cells n new.found.items whole) h.vars
+    (none_left new.cells (length c.loop-found.slots.values) new.found.items whole c.in_ok-take_next.field-0 left
+    c.if-branch.false (c.in_ok-take_next.ensures.takes whole h.found))

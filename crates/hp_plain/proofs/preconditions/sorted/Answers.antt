@@ -1,0 +1,29 @@
+use Rattle.std.proofs.Common.{length, Option, ℕ, None, ◌∙◌, ap, subst}
+use Rattle.std.proofs.lemmas.List.{length-replicate}
+use Rattle.std.proofs.lemmas.Result.{IfOk-weaker}
+use Rattle.hp_syntax.specs.Preconditions.{heard, keyed, sorted_events}
+use Rattle.hp_syntax.specs.Views.{key_of}
+use Rattle.hp_plain.specs.Founds.{Finds, found_events}
+use Rattle.hp_plain.proofs.FoundLemmas.{finds_same}
+use Rattle.hp_plain.proofs.PreconditionLemmas.{sorted_heard_whole}
+use Rattle.hp_plain.proofs.preconditions.sorted.Goals as goal
+
+pub returns-clause-finds : goal.returns-clause-finds
+returns-clause-finds c =
+    let cells = c.args.cells.now in
+    let slots = c.in_ok-slots.slots in
+    let k = key_of c.args.key.now in
+    let copy = key_of c.in_ok-copy.field-0 in
+    let xs = heard (found_events cells c.args.found.items) in
+    let vars =
+    ap (λ s. length s.values) c.in_ok-slots.ensures ∙ length-replicate {A = Option ℕ} c.args.vars None in
+    let rest =
+    ap heard (c.new-sats.ensures.rest tt cells slots
+    ∙ (ap (λ ys. sorted_events copy.order (keyed copy ys)) (c.new-listed.ensures.rest cells slots)
+    ∙ ap (λ x. sorted_events x.order (keyed x xs)) c.in_ok-copy.ensures.same))
+    ∙ sorted_heard_whole k.order (keyed k xs) in
+    IfOk-weaker c.drained.result _ _
+    (λ v h.
+    subst (λ n. Finds c.drained.new.cells n v.items (sorted_events k.order (keyed k xs))) vars
+    (finds_same c.drained.new.cells (length slots.values) v.items _ _ rest h))
+    c.drained.ensures.finds

@@ -1,0 +1,69 @@
+-- What is met while one looks for satisfiers, in memory.
+use Rattle.std.specs.Prelude.{◌≡◌, ℕ, Bool, true, false, ◌&&◌, List, [], ◌∷◌, ◌++◌, map, length}
+use Rattle.std.specs.List.{All}
+use Rattle.hp_syntax.specs.Terms.{Term}
+use Rattle.hp_syntax.specs.Values.{Bindings}
+use Rattle.hp_syntax.specs.Syntax.{Atom}
+use Rattle.hp_syntax.specs.Events as plain
+use Rattle.hp_syntax.specs.Events.{Event}
+use Rattle.hp_eval.specs.declared.event.EvalStop.{EvalStop}
+use Rattle.hp_eval.specs.declared.event.EvalStop.TheVariants as stops
+use Rattle.hp_eval.specs.Slotted.{AreBelow, bindings_of}
+use Rattle.hp_plain.specs.declared.found.Found.{Found}
+use Rattle.hp_plain.specs.declared.found.Found.TheVariants.{Sat, Cut, Fault}
+use Rattle.hp_plain.specs.declared.found.Finding.{Finding}
+use Rattle.hp_plain.specs.declared.found.Finding.TheVariants as findings
+
+abbrev pub found_event : List Term → Found → Event
+found_event terms (Sat slots) = plain.Sat (bindings_of terms slots)
+found_event terms Cut = plain.Cut
+found_event terms (Fault f) = plain.Fault f
+
+abbrev pub found_events : List Term → List Found → List Event
+found_events terms found = map (found_event terms) found
+
+-- a Sat binds so many variables, to cells below a count
+abbrev pub Fits : ℕ → ℕ → Found → Type 0
+Fits vars n (Sat slots) = (length slots.values ≡ vars) × AreBelow n slots
+Fits vars n Cut = Unit {0}
+Fits vars n (Fault f) = Unit {0}
+
+abbrev pub AllFit : ℕ → ℕ → List Found → Type 0
+AllFit vars n found = All (Fits vars n) found
+
+-- what is found stands for these events, and each Sat fits
+pub record Finds (terms : List Term) (vars : ℕ) (found : List Found) (events : List Event) : Type 0 where
+  pub stand : found_events terms found ≡ events
+  pub fit : AllFit vars (length terms) found
+
+-- what is found so far stands for all events but those that are left
+pub record FindsUpTo (terms : List Term) (vars : ℕ) (found : List Found) (whole left : List Event) : Type 0 where
+  pub so_far : whole ≡ found_events terms found ++ left
+  pub fit : AllFit vars (length terms) found
+
+-- what is found where an evaluation stopped: its fault
+abbrev pub FindsStop : EvalStop → List Found → Type 0
+FindsStop (stops.Fault f) found = found ≡ Fault f ∷ []
+FindsStop stops.NoMemory found = ⊥
+
+-- what decides a negation, as the definition has it
+abbrev pub finding_of : Finding → plain.Finding
+finding_of findings.Satisfied = plain.Satisfied
+finding_of (findings.Faulty f) = plain.Faulty f
+finding_of findings.Undecided = plain.Undecided
+finding_of findings.Nothing = plain.Nothing
+
+-- the events of a part under bindings, or those of its negation
+abbrev pub turned : Bool → List Event → Bindings → List Event
+turned false xs b = xs
+turned true xs b = plain.negated (plain.finding xs) b
+
+-- a Sat binds to cells below a count
+abbrev pub BindsBelow : ℕ → Found → Type 0
+BindsBelow n (Sat slots) = AreBelow n slots
+BindsBelow n Cut = Unit {0}
+BindsBelow n (Fault f) = Unit {0}
+
+-- each variable of a head stands for a term
+abbrev pub head_bound : Atom → Bindings → Bool
+head_bound h b = plain.parts_bound h.args b && plain.tail_is_bound h.tail b

@@ -1,0 +1,18 @@
+-- The rules of a domain by their names.
+use Rattle.std.specs.Prelude.{ℕ, ◌≤◌, List, length, filter, Option, slice_get, bytes_eq}
+use Rattle.std.specs.Option.{option_and_then}
+use Rattle.std.specs.List.{All}
+use Rattle.hp_syntax.specs.Syntax.{Rule, Axiom}
+use Rattle.hp_syntax.specs.Events.{axiom_if, axioms_of}
+
+-- the axioms whose head has a name, in the order of the domain
+abbrev pub concluding : List ℕ → List Rule → List Axiom
+concluding name rules = filter (λ x. bytes_eq x.head.name name) (axioms_of rules)
+
+-- the axiom that is the rule of a place
+abbrev pub axiom_at : List Rule → ℕ → Option Axiom
+axiom_at rules i = option_and_then axiom_if (slice_get rules i)
+
+-- each axiom has few variables
+abbrev pub AreFew : List Axiom → Type 0
+AreFew axioms = All (λ x. length x.vars ≤ 256) axioms
