@@ -3,9 +3,9 @@ use Rattle.std.proofs.lemmas.Result.{err_from_is_err_and}
 use Rattle.hp_syntax.specs.Views.{atoms_of}
 use Rattle.hp_eval.proofs.GrowthLemmas.{grows_self, grows_on}
 use Rattle.hp_world.specs.Stages.{changes_of}
-use Rattle.hp_plain.specs.Founds.{found_event}
+use Rattle.hp_plain.specs.Founds.{BindsBelow, found_event}
 use Rattle.hp_plain.specs.Effected.{values_at, HasPut, StopsHere}
-use Rattle.hp_plain.proofs.FoundLemmas.{item_binds, binds_grow, event_stays}
+use Rattle.hp_plain.proofs.FoundLemmas.{item_holds, binds_grow, event_stays}
 use Rattle.hp_plain.proofs.EffectLemmas.{each_going, along_none, along_more, along_stops, each_left}
 use Rattle.hp_plain.proofs.effects.put_each.Goals as goal
 
@@ -23,7 +23,7 @@ pub put_found-requires-clause-found : goal.put_found-requires-clause-found
 put_found-requires-clause-found c =
     let old = c.args.cells.now in
     binds_grow old c.loop-x.cells c.loop-x.invariant.grows c.x-item.result
-    (item_binds (length old) c.args.found.now c.loop-x.x-index c.x-item.result c.loop-x-test.true c.x-item.is
+    (item_holds (BindsBelow (length old)) c.args.found.now c.loop-x.x-index c.x-item.result c.loop-x-test.true c.x-item.is
     c.requires.found)
 
 pub loop-x-preserved : goal.loop-x-preserved
@@ -36,7 +36,7 @@ loop-x-preserved c =
     let as' = atoms_of c.args.atoms.now in
     let i = c.loop-x.x-index in
     let x = c.x-item.result in
-    let below = item_binds (length old) found i x c.loop-x-test.true c.x-item.is c.requires.found in
+    let below = item_holds (BindsBelow (length old)) found i x c.loop-x-test.true c.x-item.is c.requires.found in
     let put =
     subst (λ ev. HasPut c.args.side (values_at as' ev) new (changes_of now c.loop-x.changes) c.put_found.new.changes)
     (event_stays old now grows x below) c.in_ok-put_found.ensures.puts in
@@ -59,7 +59,7 @@ returns-in_err-put_found-clause-puts c =
     let i = c.loop-x.x-index in
     let x = c.x-item.result in
     let halt = c.in_err-put_found.field-0.0 in
-    let below = item_binds (length old) found i x c.loop-x-test.true c.x-item.is c.requires.found in
+    let below = item_holds (BindsBelow (length old)) found i x c.loop-x-test.true c.x-item.is c.requires.found in
     let stops =
     subst (λ ev. StopsHere halt (values_at as' ev)) (event_stays old now c.loop-x.invariant.grows x below)
     c.in_err-put_found.ensures.puts in

@@ -7,8 +7,7 @@ use Rattle.hp_eval.specs.Slotted.{bindings_of}
 use Rattle.hp_plain.specs.Founds.{Finds}
 use Rattle.hp_plain.specs.Scenes.{axioms_in, state_in}
 use Rattle.hp_plain.proofs.FoundLemmas.{finds_same}
-use Rattle.hp_plain.proofs.SearchSteps.{finds_vars}
-use Rattle.hp_plain.proofs.PreconditionLemmas.{plain_events, first_events, ordered_events}
+use Rattle.hp_plain.proofs.PreconditionLemmas.{plain_events, first_events, ordered_events, finds_vars}
 use Rattle.hp_plain.proofs.expressions.Scene.precondition.Goals as goal
 
 pub returns-in_ok-events-in-Plain-clause-finds : goal.returns-in_ok-events-in-Plain-clause-finds
