@@ -23,8 +23,8 @@ pub put_found-requires-clause-found : goal.put_found-requires-clause-found
 put_found-requires-clause-found c =
     let old = c.args.cells.now in
     binds_grow old c.loop-x.cells c.loop-x.invariant.grows c.x-item.result
-    (item_holds (BindsBelow (length old)) c.args.found.now c.loop-x.x-index c.x-item.result c.loop-x-test.true c.x-item.is
-    c.requires.found)
+    (item_holds (BindsBelow (length old)) c.args.found.now c.loop-x.x-index c.x-item.result c.loop-x-test.true
+    c.x-item.is c.requires.found)
 
 pub loop-x-preserved : goal.loop-x-preserved
 loop-x-preserved c =
