@@ -9,3 +9,11 @@ pub mod SceneGrowth
 pub mod EffectLemmas
 pub mod ListedLemmas
 pub mod PreconditionLemmas
+pub mod NodeLemmas
+pub mod SiteSteps
+pub mod RestSteps
+pub mod ComingLemmas
+pub mod StackLemmas
+pub mod FrameSteps
+pub mod SearchLemmas
+pub mod BeginSteps

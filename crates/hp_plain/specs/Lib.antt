@@ -5,3 +5,12 @@ pub mod Scenes
 pub mod Tables
 pub mod Effected
 pub mod Listed
+pub mod Comings
+pub mod Frames
+pub mod Spots
+pub mod Searches
+pub mod Sites
+pub mod Rests
+pub mod Turns
+pub mod Walked
+pub mod Begins

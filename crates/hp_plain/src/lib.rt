@@ -2,12 +2,22 @@
 //! their definition.
 #![tactic(auto)]
 
+mod begin;
 mod conclusions;
 mod effects;
 mod expressions;
 mod found;
+mod frame;
+mod laws;
 mod listed;
 mod matches;
 mod preconditions;
+mod rest;
 mod rulebook;
+mod search;
+mod site;
+mod spot;
 mod tables;
+mod walk;
+
+pub use walk::PlainWalk;

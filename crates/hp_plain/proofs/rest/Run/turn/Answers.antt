@@ -1,0 +1,44 @@
+use Rattle.std.proofs.Common.{◌≡◌, ◌+◌, true, false, length, arith, rules}
+use Rattle.hp_eval.proofs.GrowthLemmas.{grows_on}
+use Rattle.hp_plain.specs.Rests.{rules_of, is_none}
+use Rattle.hp_plain.proofs.NodeLemmas.{spot_grows}
+use Rattle.hp_plain.proofs.RestSteps.{run_grows, run_from, run_takes, run_passes}
+use Rattle.hp_plain.proofs.rest.Run.turn.Goals as goal
+
+pub returns-then-not-is_none-clause-takes : goal.returns-then-not-is_none-clause-takes
+returns-then-not-is_none-clause-takes c =
+    let old = c.args.cells.now in
+    let mid = c.loop-self.cells in
+    let new = c.met.new.cells in
+    let base = c.args.base.now in
+    let held = c.loop-self.invariant in
+    let some : is_none c.in_ok-turn.turn ≡ false = search rules in
+    run_takes mid new c.in_ok-turn.ensures.cells (rules_of base) base.nest c.args.spot.now
+    (spot_grows old mid held.grows c.args.spot.now c.requires.spot) c.loop-self.self held.run (omega arith)
+    c.in_ok-turn.turn _ held.left c.in_ok-turn.ensures.turns some
+
+pub returns-then-not-is_none-clause-run : goal.returns-then-not-is_none-clause-run
+returns-then-not-is_none-clause-run c =
+    let r = c.loop-self.self in
+    run_from (length c.met.new.cells) (r.next + 1) c.args.spot.now r
+    (run_grows c.loop-self.cells c.met.new.cells c.in_ok-turn.ensures.cells c.args.spot.now r c.loop-self.invariant.run)
+
+pub loop-self-preserved : goal.loop-self-preserved
+loop-self-preserved c =
+    let old = c.args.cells.now in
+    let mid = c.loop-self.cells in
+    let new = c.met.new.cells in
+    let base = c.args.base.now in
+    let r = c.loop-self.self in
+    let held = c.loop-self.invariant in
+    let none : is_none c.in_ok-turn.turn ≡ true = search rules in
+    record {
+      grows = grows_on old mid new held.grows c.in_ok-turn.ensures.cells;
+      run =
+          run_from (length new) (r.next + 1) c.args.spot.now r
+          (run_grows mid new c.in_ok-turn.ensures.cells c.args.spot.now r held.run);
+      left =
+          run_passes mid new c.in_ok-turn.ensures.cells (rules_of base) base.nest c.args.spot.now
+          (spot_grows old mid held.grows c.args.spot.now c.requires.spot) r held.run (omega arith)
+          c.in_ok-turn.turn _ held.left c.in_ok-turn.ensures.turns none;
+    }

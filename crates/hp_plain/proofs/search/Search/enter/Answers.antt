@@ -1,0 +1,21 @@
+use Rattle.std.proofs.Common.{List, length, ◌∷◌, [], ◌++◌, ap, ap₂, sym, ◌∙◌, refl, subst}
+use Rattle.hp_syntax.specs.Terms.{Term}
+use Rattle.hp_plain.specs.Frames.{Opens}
+use Rattle.hp_plain.specs.Searches.{rules_in_search}
+use Rattle.hp_plain.specs.Spots.{IsSpot}
+use Rattle.hp_plain.proofs.search.Search.enter.Goals as goal
+
+pub returns-clause-entered : goal.returns-clause-entered
+returns-clause-entered c =
+    let s = c.args.self.now in
+    record {
+      top =
+          subst (λ f. (terms : List Term) → IsSpot (length terms) c.args.spot
+          → Opens (rules_in_search s) s.nest terms c.args.spot f) (sym c.replace.ensures.after) c.in_ok-child.ensures;
+      above =
+          c.push_reserved.ensures.items
+          ∙ ap₂ (λ fs f. fs ++ f ∷ []) c.in_ok-reserve.ensures.items
+          (c.replace.ensures.value ∙ ap (λ d. record s.top { dids = d }) c.saturating_add-self.ensures);
+      path = c.in_ok-push.ensures.items;
+      same = refl;
+    }

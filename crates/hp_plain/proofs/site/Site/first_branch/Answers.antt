@@ -1,0 +1,64 @@
+use Rattle.std.proofs.Common.{◌≡◌, ◌<◌, ◌+◌, length, map, drop, ap, sym, ◌∙◌, subst, rules}
+use Rattle.std.specs.Prelude.{flat_map, slice_get}
+use Rattle.std.proofs.lemmas.List.{length-map}
+use Rattle.hp_syntax.specs.Views.{branch_of}
+use Rattle.hp_plain.specs.Founds.{found_event}
+use Rattle.hp_eval.specs.Slotted.{bindings_of}
+use Rattle.hp_eval.proofs.GrowthLemmas.{grows_on}
+use Rattle.hp_syntax.specs.Walk.{child_of}
+use Rattle.hp_plain.specs.Sites.{branch_done, rules_at, node_at_site, place_at}
+use Rattle.hp_plain.proofs.SiteSteps.{precondition_stays, branch_chosen, branch_passed, branch_next, branch_there, finds_few}
+use Rattle.hp_plain.proofs.site.Site.first_branch.Goals as goal
+
+pub returns-then-not-is_empty-clause-chooses : goal.returns-then-not-is_empty-clause-chooses
+returns-then-not-is_empty-clause-chooses c =
+    let old = c.args.cells.now in
+    let mid = c.loop-i.cells in
+    let s = c.args.self.now in
+    let n = node_at_site old s in
+    let slots = c.args.slots.now in
+    let e = bindings_of old slots in
+    let branches = c.args.branches.now in
+    let i = c.loop-i.i in
+    let b = c.index-branches-i.result in
+    let items = c.in_ok-found.found.items in
+    let held = c.loop-i.invariant in
+    let some : 0 < length items = search rules in
+    let few = finds_few c.precondition.new.cells (length slots.values) items _ _ c.requires.few
+    (precondition_stays s c.scene.result old mid held.grows c.requires.site b.pre slots c.requires.slots
+    c.scene.ensures.book c.scene.ensures.world) c.in_ok-found.ensures.finds in
+    record {
+      stand =
+          ap (λ xs. flat_map (child_of (branch_done n (place_at s) (slice_get (map branch_of branches) i))) xs) few.stand
+          ∙ branch_chosen n (place_at s) (map branch_of branches) i (branch_of b) _ _ _
+          (branch_there branches i b c.loop-i-test.true c.index-branches-i.is)
+          (subst (λ k. 0 < k) (sym (length-map items (found_event c.precondition.new.cells)) ∙ ap length few.stand) some)
+          (held.left ∙ branch_next (rules_at s) s.nest n.state e branches i b c.loop-i-test.true c.index-branches-i.is);
+      few = few.few;
+    }
+
+pub loop-i-preserved : goal.loop-i-preserved
+loop-i-preserved c =
+    let old = c.args.cells.now in
+    let mid = c.loop-i.cells in
+    let s = c.args.self.now in
+    let n = node_at_site old s in
+    let slots = c.args.slots.now in
+    let e = bindings_of old slots in
+    let branches = c.args.branches.now in
+    let i = c.loop-i.i in
+    let b = c.index-branches-i.result in
+    let items = c.in_ok-found.found.items in
+    let held = c.loop-i.invariant in
+    let none : length items ≡ 0 = search rules in
+    let few = finds_few c.precondition.new.cells (length slots.values) items _ _ c.requires.few
+    (precondition_stays s c.scene.result old mid held.grows c.requires.site b.pre slots c.requires.slots
+    c.scene.ensures.book c.scene.ensures.world) c.in_ok-found.ensures.finds in
+    let lengths = ap length few.stand in
+    let empty = length-map items (found_event c.precondition.new.cells) in
+    record {
+      grows = grows_on old mid c.precondition.new.cells held.grows c.in_ok-found.ensures.cells;
+      left =
+          branch_passed _ _ _ _ (sym lengths ∙ (empty ∙ none))
+          (held.left ∙ branch_next (rules_at s) s.nest n.state e branches i b c.loop-i-test.true c.index-branches-i.is);
+    }

@@ -1,0 +1,17 @@
+use Rattle.std.proofs.Common.{◌≡◌, map, drop}
+use Rattle.hp_syntax.specs.Views.{branch_of}
+use Rattle.hp_syntax.specs.Walk.{chosen}
+use Rattle.hp_eval.specs.Growth.{Grows}
+use Rattle.hp_eval.specs.Slotted.{bindings_of}
+use Rattle.hp_plain.specs.Sites.{rules_at, node_at_site}
+use Rattle.hp_plain.proofs.site.Site.first_branch.Given as goal
+
+abbrev pub invariant-loop-i : goal.invariant-loop-i
+invariant-loop-i l =
+    let state = (node_at_site l.fn.cells l.self).state in
+    let e = bindings_of l.fn.cells l.slots in
+    record {
+      grows : Grows l.fn.cells l.cells;
+      left : chosen (rules_at l.self) l.self.nest state (map branch_of l.branches) e
+          ≡ chosen (rules_at l.self) l.self.nest state (map branch_of (drop l.i l.branches)) e;
+    }

@@ -1,0 +1,163 @@
+//! A walk with all that it holds, apart from whether a call has failed.
+ghost use Rattle.std.specs.Prelude.{◌≡◌, ◌≢◌, ◌-◌, [], true, false, None, IfOk, OnOk, length, take};
+ghost use Rattle.std.specs.List.{All};
+ghost use Rattle.hp_syntax.specs.Views.{domain_of};
+ghost use Rattle.hp_plain.specs.Spots.{node_of, HasFew, IsSpot};
+ghost use Rattle.hp_plain.specs.Searches.{Begins, tree_in, stands_in, IsSearch, IsEntered, IsTaken, Moves, Goes};
+ghost use Rattle.hp_net.specs.Standings.{next_below, gone_back, pruned};
+
+use crate::frame::{Come, Frame};
+use crate::rest::Base;
+use crate::rulebook::Rulebook;
+use crate::site::Turn;
+use crate::spot::Spot;
+use hp_cells::Cells;
+use hp_net::Step;
+use hp_syntax::Domain;
+use std::alloc::{AllocError, Global};
+use std::mem;
+
+/// The nodes on the way to the one that is reached, the root first, and what is left of what comes at each.
+#[derive(Drop)]
+pub(crate) struct Search<'a> {
+    pub(crate) alloc: Global,
+    pub(crate) book: Rulebook<'a>,
+    pub(crate) nest: u32,
+    pub(crate) cells: Cells,
+    pub(crate) path: Vec<u64>,
+    pub(crate) above: Vec<Frame>,
+    pub(crate) top: Frame,
+    pub(crate) at_did: bool,
+    pub(crate) over: bool,
+}
+
+impl<'a> Search<'a> {
+    /// A search at the root of a tree.
+    pub(crate) fn new(
+        alloc: Global,
+        domain: &'a Domain,
+        nest: u32,
+        spot: Spot,
+        cells: Cells,
+    ) -> Result<Search<'a>, AllocError>
+        requires few { All HasFew (domain_of domain.now).rules }
+        requires spot { IsSpot (length cells) spot }
+        ensures { IfOk result (λ s. Begins (domain_of domain.now).rules nest (node_of cells spot) s) }
+    {
+        let book = Rulebook::new(alloc, domain)?;
+        let base = Base {
+            alloc,
+            book: &book,
+            nest,
+        };
+        let top = Frame::new(&base, spot)?;
+        Ok(Search {
+            alloc,
+            book,
+            nest,
+            cells,
+            path: Vec::new(alloc),
+            above: Vec::new(alloc),
+            top,
+            at_did: false,
+            over: false,
+        })
+    }
+}
+
+impl Search<'_> {
+    // Goes down to a child, which came next at the node reached.
+    fn enter(&mut self, spot: Spot) -> Result<(), AllocError>
+        ensures entered { OnOk result (IsEntered self.old spot self.new) }
+        ensures tree { tree_in self.new ≡ tree_in self.old }
+    {
+        let base = Base {
+            alloc: self.alloc,
+            book: &self.book,
+            nest: self.nest,
+        };
+        let child = Frame::new(&base, spot)?;
+        self.above.reserve(1)?;
+        let number = self.top.dids;
+        self.path.push(number)?;
+        self.top.dids = number.saturating_add(1);
+        self.above.push_reserved(mem::replace(&mut self.top, child));
+        self.at_did = true;
+        Ok(())
+    }
+
+    // Takes what came next at the node reached.
+    fn take(&mut self, come: Come) -> Result<Option<Step>, AllocError>
+        ensures taken { IfOk result (λ o. IsTaken self.old come o self.new) }
+        ensures tree { tree_in self.new ≡ tree_in self.old }
+    {
+        self.at_did = false;
+        match come {
+            Come::Plan => Ok(Some(Step::Plan)),
+            Come::Child(Turn::Nothing) => Ok(None),
+            Come::Child(Turn::Cut) => Ok(Some(Step::Cut)),
+            Come::Child(Turn::Fault(fault)) => {
+                self.over = true;
+                Ok(Some(Step::Fault(fault)))
+            }
+            Come::Child(Turn::Did(spot)) => {
+                self.enter(spot)?;
+                Ok(Some(Step::Did))
+            }
+        }
+    }
+
+    /// The next visit at or below the node reached.
+    pub(crate) fn step(&mut self) -> Result<Option<Step>, AllocError>
+        requires search { IsSearch self.old }
+        ensures moves { IfOk result (λ o. Moves self.old o self.new) }
+        ensures tree { tree_in self.new ≡ tree_in self.old }
+    {
+        if self.over {
+            self.at_did = false;
+            return Ok(None);
+        }
+        let base = Base {
+            alloc: self.alloc,
+            book: &self.book,
+            nest: self.nest,
+        };
+        let come = self.top.next(&base, &mut self.cells)?;
+        self.take(come)
+    }
+
+    // Stands at a node above, whose number is told no more.
+    fn rise(&mut self, frame: Frame)
+        ensures search { self.new ≡ record self.old { top = frame; path = self.new.path; at_did = false } }
+        ensures path { self.new.path.items ≡ take (length self.old.path.items - 1) self.old.path.items }
+    {
+        self.top = frame;
+        let _ = self.path.pop();
+        self.at_did = false;
+    }
+
+    /// Goes to the parent, where nothing more comes at the node reached or below it.
+    pub(crate) fn back(&mut self)
+        requires search { IsSearch self.old }
+        requires below { (stands_in self.old).path ≢ [] }
+        requires done { next_below (stands_in self.old).path (stands_in self.old).rest ≡ None }
+        ensures { Goes self.old (gone_back (stands_in self.old)) self.new }
+    {
+        match self.above.pop() {
+            Some(frame) => self.rise(frame),
+            None => self.at_did = false,
+        }
+    }
+
+    /// Leaves out what is left at the node reached, which was just answered.
+    pub(crate) fn prune(&mut self)
+        requires search { IsSearch self.old }
+        requires did { self.old.at_did ≡ true }
+        ensures { Goes self.old (pruned (stands_in self.old)) self.new }
+    {
+        self.top.end = None;
+        self.top.rest.run = None;
+        self.top.rest.queue.at = self.top.rest.queue.candidates.len();
+        self.at_did = false;
+    }
+}

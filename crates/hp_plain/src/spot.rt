@@ -1,0 +1,15 @@
+//! Nodes of the tree, in memory.
+use hp_cells::Cell;
+use hp_net::Net;
+use hp_world::World;
+
+/// A node: what holds and is protected, what is left to do, the steps so far with their cost, and how many
+/// decompositions may follow.
+#[derive(Drop)]
+pub(crate) struct Spot {
+    pub(crate) world: World,
+    pub(crate) net: Net,
+    pub(crate) steps: Vec<Cell>,
+    pub(crate) cost: i128,
+    pub(crate) depth: u32,
+}
