@@ -74,7 +74,8 @@ pub added_more : {A : Type 0} (mid new : List Term) (g : Grows mid new) (slots :
     → changes_of new d ≡ adding (atoms_said (atoms_of (take (i + 1) atoms)))
 added_more mid new g slots atoms i a r c d free says l is below so_far well puts =
     let (cell, t, value, named, put) = put_well r _ new c d well puts in
-    let there = slice_get-map atom_of atoms i ∙ ap (option_map atom_of) (slice_get-get_or atoms i a l ∙ ap Some (sym is)) in
+    let there = slice_get-map atom_of atoms i ∙ ap (option_map atom_of) (slice_get-get_or atoms i a l
+    ∙ ap Some (sym is)) in
     let itself = holds_there SaysItself (atoms_of atoms) i (atom_of a) says there in
     let none : bindings_of mid slots ≡ [] = ap (bindings_of mid) free in
     let same = sym value ∙ (ap (atom_value (atom_of a)) none ∙ itself) in

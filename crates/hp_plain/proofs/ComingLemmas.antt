@@ -59,9 +59,11 @@ module _ (rules : List Rule) (nest : ℕ) where
       let z : (n.depth == 0) ≡ true = ap (λ k. k == 0) e in
       elim (is_empty n.network) as (λ b. visit p n (cond b Plan CutHere) ∷ []
       ≡ visits_of rules nest n p 0
-      (cond b (PlanComes ∷ []) (cond (n.depth == 0) (ChildComes CutChild ∷ []) (map ChildComes (children rules nest n))))) [
+      (cond b (PlanComes ∷ []) (cond (n.depth == 0) (ChildComes CutChild ∷ []) (map ChildComes
+      (children rules nest n))))) [
         | true ↦ refl
-        | false ↦ sym (ap (λ c. visits_of rules nest n p 0 (cond c (ChildComes CutChild ∷ []) (map ChildComes (children rules nest n)))) z)
+        | false ↦ sym (ap (λ c. visits_of rules nest n p 0 (cond c (ChildComes CutChild ∷ []) (map ChildComes
+            (children rules nest n)))) z)
       ]
   within_split (suc d) n p e =
       let z : (n.depth == 0) ≡ false = ne_eqb n.depth 0 (λ k. omega arith) in
@@ -70,10 +72,12 @@ module _ (rules : List Rule) (nest : ℕ) where
       elim (is_empty n.network) as (λ b. cond b (visit p n Plan ∷ [])
       (flat_map (child_visits (visits_within rules nest d) n p) (numbered 0 (children rules nest n)))
       ≡ visits_of rules nest n p 0
-      (cond b (PlanComes ∷ []) (cond (n.depth == 0) (ChildComes CutChild ∷ []) (map ChildComes (children rules nest n))))) [
+      (cond b (PlanComes ∷ []) (cond (n.depth == 0) (ChildComes CutChild ∷ []) (map ChildComes
+      (children rules nest n))))) [
         | true ↦ refl
         | false ↦ numbered_visits d 0 n p (children rules nest n) deep
-            ∙ sym (ap (λ c. visits_of rules nest n p 0 (cond c (ChildComes CutChild ∷ []) (map ChildComes (children rules nest n)))) z)
+            ∙ sym (ap (λ c. visits_of rules nest n p 0 (cond c (ChildComes CutChild ∷ []) (map ChildComes
+            (children rules nest n)))) z)
       ]
 
   -- the visits of a node are those of what comes there

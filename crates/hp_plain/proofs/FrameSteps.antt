@@ -128,7 +128,8 @@ module _ (rules : List Rule) (nest : ℕ) where
             run = subst (MaybeRun (length terms) s) (sym run) tt;
             queue =
                 record {
-                  candidates = All-same (IsCandidate s.net) f.rest.queue.candidates.items [] none (All-nil (IsCandidate s.net));
+                  candidates = All-same (IsCandidate s.net) f.rest.queue.candidates.items [] none (All-nil
+                      (IsCandidate s.net));
                   rule = omega arith;
                   deep =
                       λ l. absurd (let few : length f.rest.queue.candidates.items ≡ 0 = ap length none in
@@ -168,7 +169,8 @@ module _ (rules : List Rule) (nest : ℕ) where
           queue =
               record {
                 candidates =
-                    candidates_are s.net ids.items (candidates (focused terms s.net).0 (focused terms s.net).1) names places;
+                    candidates_are s.net ids.items (candidates (focused terms s.net).0
+                    (focused terms s.net).1) names places;
                 rule = omega arith;
                 deep = λ l. deep;
               };

@@ -100,8 +100,10 @@ module _ (rules : List Rule) (nest : ℕ) where
           ∙ (ap (λ rs. task_by rules nest n p part rs ++ rest)
           (left_more rules rule r (slice_get_within rules rule r e) (sym (get_or_from_slice_get rules rule r r e)))
           ∙ (ap (λ xs. xs ++ rest) (rules_next n p part r (drop (rule + 1) rules))
-          ∙ (append_assoc (one_by rules nest n p part (Some r)) (task_by rules nest n p part (drop (rule + 1) rules)) rest
-          ∙ ap₂ (λ o ks. one_by rules nest n p part o ++ by_candidates rules nest n es ks (drop (rule + 1) rules)) (sym e)
+          ∙ (append_assoc (one_by rules nest n p part (Some r)) (task_by rules nest n p part (drop
+          (rule + 1) rules)) rest
+          ∙ ap₂ (λ o ks. one_by rules nest n p part o
+          ++ by_candidates rules nest n es ks (drop (rule + 1) rules)) (sym e)
           (sym next))))
 
       -- where no rule is left, those by the others are
@@ -198,7 +200,8 @@ module _ (old new : List Term) (g : Grows old new) (rules : List Rule) (nest : �
   run_step x e =
       run_next rules nest old s r x within (sym (get_or_from_slice_get r.choice.found.items r.next x x e))
       ∙ ap (λ xs. child_of (done_in rules nest old s r) (found_event old x) ++ xs)
-      (sym (run_stays old new g rules nest s spot (record r { next = r.next + 1 }) (run_from (length old) (r.next + 1) s r run)))
+      (sym (run_stays old new g rules nest s spot (record r { next = r.next + 1 }) (run_from (length old)
+      (r.next + 1) s r run)))
 
   module _ (turn : Turn) (before : List Child) (so_far : before ≡ run_children rules nest old s r)
       (turns : (x : Found) → slice_get r.choice.found.items r.next ≡ Some x

@@ -61,7 +61,8 @@ module _ (rules : List Rule) (nest : ℕ) (old new : List Term) (g : Grows old n
   frame_grows f h = record {
     spot = spot_grows old new g f.spot h.spot;
     rest = record { run = maybe_run_grows f.spot f.rest.run h.rest.run; queue = h.rest.queue };
-    dids = subst (λ l. 0 < dids_in l.left → f.dids ≡ min (given_at rules nest l) (2 ^ 64 - 1)) (sym (level_stays f h)) h.dids;
+    dids = subst (λ l. 0 < dids_in l.left → f.dids ≡ min (given_at rules nest l) (2 ^ 64 - 1)) (sym
+        (level_stays f h)) h.dids;
   }
 
   levels_stay_front : (fs : List Frame) → All (IsFrame rules nest old) fs
@@ -293,13 +294,16 @@ module _ (s : Search) (h : IsSearch s) (new : List Term) (g : Grows s.cells new)
         → (o : Option Step) (last : Search) → IsTaken (record s { top = t; cells = new }) come o last
         → Moves s o last
     moves_on on comes.Plan c o last (e, l) =
-        subst (λ z. Moves s o z) (sym l) (subst (λ z. Moves s z (record s { top = t; cells = new; at_did = false })) (sym e)
+        subst (λ z. Moves s o z) (sym l) (subst (λ z. Moves s z (record s { top = t; cells = new; at_did = false }))
+        (sym e)
         (moves_left PlanComes c.next s.over on refl refl))
     moves_on on (comes.Child turns.Nothing) c o last (e, l) =
-        subst (λ z. Moves s o z) (sym l) (subst (λ z. Moves s z (record s { top = t; cells = new; at_did = false })) (sym e)
+        subst (λ z. Moves s o z) (sym l) (subst (λ z. Moves s z (record s { top = t; cells = new; at_did = false }))
+        (sym e)
         (moves_none on c.next (c.all refl)))
     moves_on on (comes.Child turns.Cut) c o last (e, l) =
-        subst (λ z. Moves s o z) (sym l) (subst (λ z. Moves s z (record s { top = t; cells = new; at_did = false })) (sym e)
+        subst (λ z. Moves s o z) (sym l) (subst (λ z. Moves s z (record s { top = t; cells = new; at_did = false }))
+        (sym e)
         (moves_left (ChildComes CutChild) c.next s.over on refl refl))
     moves_on on (comes.Child (turns.Fault f)) c o last (e, l) =
         subst (λ z. Moves s o z) (sym l)
@@ -307,7 +311,14 @@ module _ (s : Search) (h : IsSearch s) (new : List Term) (g : Grows s.cells new)
         (moves_left (ChildComes (FaultChild f)) c.next true on refl refl))
     moves_on on (comes.Child (turns.Did m)) c o last (e, l) =
         subst (λ z. Moves s o z) (sym l.same)
-        (subst (λ z. Moves s z (record s { top = last.top; cells = new; above = last.above; path = last.path; at_did = true }))
+        (subst (λ z. Moves s z (record s {
+          top = last.top;
+          cells = new;
+          above = last.above;
+          path = last.path;
+          at_did
+              = true;
+        }))
         (sym e)
         (moves_did m c.fits c.next last.top (l.top new c.fits) last.above l.above last.path l.path on))
 
@@ -332,7 +343,8 @@ front_push xs x =
     ap (λ k. take k (xs ++ x ∷ [])) n ∙ take-append_seam xs (x ∷ [])
 
 -- going back leads to the frame above
-pub goes_back : (s : Search) → IsSearch s → (f : Frame) (fs : List Frame) (above : Vec Frame Global) (path : Vec ℕ Global)
+pub goes_back : (s : Search) → IsSearch s
+    → (f : Frame) (fs : List Frame) (above : Vec Frame Global) (path : Vec ℕ Global)
     → s.above.items ≡ fs ++ f ∷ [] → above.items ≡ fs
     → path.items ≡ take (length s.path.items - 1) s.path.items
     → next_below (stands_in s).path (stands_in s).rest ≡ None
@@ -356,7 +368,8 @@ goes_back s h f fs above path pushed is front e =
           (ap (root_of l) same ∙ leads.root);
       search =
           record {
-            top = All-head (IsFrame rules s.nest s.cells) f [] (all_right (IsFrame rules s.nest s.cells) fs (f ∷ []) frames);
+            top = All-head (IsFrame rules s.nest s.cells) f [] (all_right (IsFrame rules s.nest s.cells) fs
+                (f ∷ []) frames);
             above =
                 All-same (IsFrame rules s.nest s.cells) above.items fs is
                 (all_left (IsFrame rules s.nest s.cells) fs (f ∷ []) frames);

@@ -12,4 +12,5 @@ returns-in-Some-clause-comes c =
     let told = c.at_end.ensures in
     subst (λ g. Comes terms c.at_end.result (left_of (rules_of base) base.nest terms f)
     (left_of (rules_of base) base.nest terms g)) (sym told.frame)
-    (comes_end (rules_of base) base.nest terms f c.at_end.result (told.comes terms) told.some (told.fits (length terms)))
+    (comes_end (rules_of base) base.nest terms f c.at_end.result (told.comes terms) told.some (told.fits
+    (length terms)))

@@ -29,7 +29,8 @@ loop-turn-preserved c =
     let told = c.in_ok-turn.ensures in
     let none : is_none c.in_ok-turn.turn ≡ true = search rules in
     record {
-      grows = grows_on old mid c.go_on.new.cells held.grows (grows_on mid new c.go_on.new.cells told.cells c.in_ok-go_on.ensures.cells);
+      grows = grows_on old mid c.go_on.new.cells held.grows
+          (grows_on mid new c.go_on.new.cells told.cells c.in_ok-go_on.ensures.cells);
       rest = c.in_ok-go_on.ensures.rest;
       left =
           rest_passes mid new told.cells (rules_of base) base.nest spot

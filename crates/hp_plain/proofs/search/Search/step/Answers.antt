@@ -21,6 +21,7 @@ pub returns-clause-moves : goal.returns-clause-moves
 returns-clause-moves c =
     let told = c.in_ok-come.ensures in
     IfOk-weaker c.take.result _ _
-    (λ o h. moves_on c.args.self.now c.requires.search c.next.new.cells told.cells c.next.new.self told.spot told.dids told.rest
+    (λ o h. moves_on c.args.self.now c.requires.search c.next.new.cells told.cells c.next.new.self told.spot
+    told.dids told.rest
     c.if-self.false c.in_ok-come.come told.comes o c.take.new.self h)
     c.take.ensures.taken

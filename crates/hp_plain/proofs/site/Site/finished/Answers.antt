@@ -31,6 +31,8 @@ returns c =
           (c.in_ok-finish.ensures.below n);
       steps = steps_below n c.push.new.self.items spot.steps.items s.task items site.spot.steps site.task;
       depth = omega arith;
-      low = subst (λ z. neg_ℤ (pos (most_cost (spot.depth - 1))) ≤ℤ z) (sym cost) (low_after spot.depth spot.cost c.args.cost site.deep depth site.spot.low c.ranges.cost);
-      high = subst (λ z. z ≤ℤ pos (most_cost (spot.depth - 1))) (sym cost) (high_after spot.depth spot.cost c.args.cost site.deep depth site.spot.high c.ranges.cost);
+      low = subst (λ z. neg_ℤ (pos (most_cost (spot.depth - 1))) ≤ℤ z) (sym cost)
+          (low_after spot.depth spot.cost c.args.cost site.deep depth site.spot.low c.ranges.cost);
+      high = subst (λ z. z ≤ℤ pos (most_cost (spot.depth - 1))) (sym cost)
+          (high_after spot.depth spot.cost c.args.cost site.deep depth site.spot.high c.ranges.cost);
     })

@@ -29,10 +29,12 @@ returns-then-not-is_empty-clause-chooses c =
     c.scene.ensures.book c.scene.ensures.world) c.in_ok-found.ensures.finds in
     record {
       stand =
-          ap (λ xs. flat_map (child_of (branch_done n (place_at s) (slice_get (map branch_of branches) i))) xs) few.stand
+          ap (λ xs. flat_map (child_of (branch_done n (place_at s) (slice_get
+          (map branch_of branches) i))) xs) few.stand
           ∙ branch_chosen n (place_at s) (map branch_of branches) i (branch_of b) _ _ _
           (branch_there branches i b c.loop-i-test.true c.index-branches-i.is)
-          (subst (λ k. 0 < k) (sym (length-map items (found_event c.precondition.new.cells)) ∙ ap length few.stand) some)
+          (subst (λ k. 0 < k) (sym (length-map items (found_event c.precondition.new.cells))
+          ∙ ap length few.stand) some)
           (held.left ∙ branch_next (rules_at s) s.nest n.state e branches i b c.loop-i-test.true c.index-branches-i.is);
       few = few.few;
     }

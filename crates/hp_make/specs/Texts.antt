@@ -1,0 +1,26 @@
+-- The texts that are made.
+use Rattle.std.specs.Prelude.{ℕ, zero, suc, ◌+◌, List, [], ◌++◌, codes, decimal}
+use Rattle.hp_make.specs.declared.domain.TheConstants.{TRANSPORT}
+use Rattle.hp_make.specs.Draws.{next, draw}
+
+-- the domain of each problem
+abbrev pub domain_text : List ℕ
+domain_text = TRANSPORT.now
+
+-- package i, which is at place a and is to be at place b
+abbrev pub package_text : ℕ → ℕ → ℕ → List ℕ
+package_text i a b =
+    codes " (at p" ++ decimal i ++ codes " t" ++ decimal a
+    ++ codes ") (goal p" ++ decimal i ++ codes " t" ++ decimal b ++ codes ")"
+
+-- n packages from number i on: from state s, the place of each is the next draw, and where it is to be the draw
+-- after that
+abbrev pub packages_text : ℕ → ℕ → ℕ → List ℕ
+packages_text s i zero = []
+packages_text s i (suc n) =
+    package_text i (draw (next s)) (draw (next (next s))) ++ packages_text (next (next s)) (i + 1) n
+
+-- the problem of a seed with n packages, on one line
+abbrev pub problem_text : ℕ → ℕ → List ℕ
+problem_text seed n =
+    codes "(defproblem made transport ((truck t0)" ++ packages_text seed 0 n ++ codes ") ((all)))\n"
