@@ -1,11 +1,19 @@
 -- The texts that are made.
 use Rattle.std.specs.Prelude.{ℕ, zero, suc, ◌+◌, List, [], ◌++◌, codes, decimal}
-use Rattle.hp_make.specs.declared.domain.TheConstants.{TRANSPORT}
 use Rattle.hp_make.specs.Draws.{next, draw}
 
--- the domain of each problem
+-- the domain of each problem: a truck that drives between places, and loads and unloads packages
 abbrev pub domain_text : List ℕ
-domain_text = TRANSPORT.now
+domain_text =
+    codes "(defdomain transport (\n"
+    ++ codes "(:operator (!drive ?a ?b) ((truck ?a)) ((truck ?a)) ((truck ?b)) 2)\n"
+    ++ codes "(:operator (!load ?p ?a) ((truck ?a) (at ?p ?a)) ((at ?p ?a)) ((in ?p)))\n"
+    ++ codes "(:operator (!unload ?p ?a) ((truck ?a) (in ?p)) ((in ?p)) ((at ?p ?a)))\n"
+    ++ codes "(:method (go ?b) here ((truck ?b)) () away ((truck ?a)) ((!drive ?a ?b)))\n"
+    ++ codes "(:method (deliver ?p ?b) done ((at ?p ?b)) () move ((at ?p ?a)) ((go ?a) (!load"
+    ++ codes " ?p ?a) (go ?b) (!unload ?p ?b)))\n"
+    ++ codes "(:method (all) next ((goal ?p ?b) (not (at ?p ?b))) ((deliver ?p ?b) (all)) done () ())\n"
+    ++ codes "))\n"
 
 -- package i, which is at place a and is to be at place b
 abbrev pub package_text : ℕ → ℕ → ℕ → List ℕ
