@@ -27,6 +27,7 @@ fn tail(watch: &mut Watch, place: Place, tail: Option<Tail>)
 }
 
 /// A call is one of the call table, with as many arguments.
+#[inline(never)]
 fn arity(watch: &mut Watch, place: Place, span: Span, name: &Name, count: usize)
     ensures { watch.new.first ≡ earlier watch.old.first (first_of
         (checks.arity_faults (checks.arity_of name.now) count (place_of place) span)) }
@@ -49,6 +50,7 @@ fn head(watch: &mut Watch, place: Place, span: Span)
 /// A term.
 #[cycle(pattern)]
 #[tactic(auto, unfolding(hp_syntax::specs::Views::pattern_of, hp_syntax::specs::Checks::pattern_faults))]
+#[inline(always)]
 pub fn pattern(watch: &mut Watch, place: Place, pat: &Pat)
     ensures { watch.new.first ≡ earlier watch.old.first
         (first_of (checks.pattern_faults (place_of place) (pattern_of pat.now))) }
@@ -69,6 +71,7 @@ pub fn pattern(watch: &mut Watch, place: Place, pat: &Pat)
 }
 
 #[cycle(pattern)]
+#[inline(never)]
 fn patterns(watch: &mut Watch, place: Place, pats: &[Pat])
     ensures { watch.new.first ≡ earlier watch.old.first
         (first_of (checks.patterns_faults (place_of place) (patterns_of pats.now))) }

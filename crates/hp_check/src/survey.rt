@@ -51,6 +51,7 @@ struct Survey {
 
 impl Survey {
     /// Notes a task that no rule serves.
+    #[inline(never)]
     fn task(&mut self, in_problem: bool, atom: &AtomPat) -> Result<(), AllocError>
         ensures noted { OnOk result (Noted self.old.served.keys in_problem (atom_of atom.now ∷ [])
             self.old.list.items self.new.list.items) }
@@ -69,6 +70,7 @@ impl Survey {
     /// Each task of tasks.
     #[cycle(tasks)]
     #[tactic(auto, unfolding(hp_syntax::specs::Views::tasks_of, hp_syntax::specs::Notes::task_atoms))]
+    #[inline(always)]
     fn tasks(&mut self, in_problem: bool, tasks: &NetPat) -> Result<(), AllocError>
         ensures noted { OnOk result (Noted self.old.served.keys in_problem (task_atoms (tasks_of tasks.now))
             self.old.list.items self.new.list.items) }
@@ -85,6 +87,7 @@ impl Survey {
 
     #[cycle(tasks)]
     #[tactic(auto, unfolding(hp_syntax::specs::Views::tasks_of, hp_syntax::specs::Notes::task_atoms))]
+    #[inline(never)]
     fn task_list(&mut self, in_problem: bool, parts: &[NetPat]) -> Result<(), AllocError>
         ensures noted { OnOk result (Noted self.old.served.keys in_problem (task_list_atoms (task_list_of parts.now))
             self.old.list.items self.new.list.items) }

@@ -13,6 +13,7 @@ use hp_syntax::NetPat;
 /// A task or a list of tasks.
 #[cycle(tasks)]
 #[tactic(auto, unfolding(hp_syntax::specs::Views::tasks_of, hp_syntax::specs::Checks::tasks_faults))]
+#[inline(always)]
 pub fn tasks(watch: &mut Watch, place: Place, net: &NetPat)
     ensures { watch.new.first ≡ earlier watch.old.first
         (first_of (checks.tasks_faults (place_of place) (tasks_of net.now))) }
@@ -29,6 +30,7 @@ pub fn tasks(watch: &mut Watch, place: Place, net: &NetPat)
 
 #[cycle(tasks)]
 #[tactic(auto, unfolding(hp_syntax::specs::Views::tasks_of, hp_syntax::specs::Checks::tasks_faults))]
+#[inline(never)]
 fn task_list(watch: &mut Watch, place: Place, parts: &[NetPat])
     ensures { watch.new.first ≡ earlier watch.old.first
         (first_of (checks.task_list_faults (place_of place) (task_list_of parts.now))) }

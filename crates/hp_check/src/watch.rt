@@ -39,7 +39,9 @@ impl Watch {
         Watch { first: None }
     }
 
-    /// A fault was found.
+    /// A fault was found. Kept out of line, so that what finds none stays small.
+    #[cold]
+    #[inline(never)]
     pub fn found(&mut self, kind: CheckKind, place: Place, span: Span)
         ensures { self.new.first ≡ earlier self.old.first (first_of (found kind (place_of place) span)) }
     {
