@@ -18,6 +18,10 @@ use Rattle.hp_plain.specs.Rulebooks.{concluding, axiom_at, AreFew}
 use Rattle.hp_plain.specs.Scenes.{placed_events}
 use Rattle.hp_laws.proofs.JoinLemmas.{contains_first, contains_later}
 use Rattle.hp_plain.proofs.MatchSteps.{left_at}
+use Rattle.hp_syntax.specs.Preconditions.{heard}
+use Rattle.hp_plain.specs.declared.found.Found.{Found}
+use Rattle.hp_plain.specs.Founds.{found_event, found_events, AreHeardAlike}
+use Rattle.hp_plain.proofs.HeardLemmas.{alike_empty}
 
 -- ---- axioms
 
@@ -106,15 +110,19 @@ none_bound terms (suc n) = ap (λ os. None ∷ os) (none_bound terms n)
 
 -- ---- branches
 
--- a list that isn't empty is the first that isn't
-pub first_found : {A : Type 0} (xs ys : List A) → 0 < length xs → or_else xs ys ≡ xs
-first_found [] ys l = absurd (omega arith)
-first_found (x ∷ xs) ys l = refl
+-- a list of which something is heard is the first that isn't empty
+pub first_found : (terms : List Term) (found : List Found) (xs ys : List Event)
+    → AreHeardAlike (found_events terms found) xs → 0 < length found → or_else xs ys ≡ xs
+first_found terms found (x ∷ xs) ys h l = refl
+first_found terms found [] ys h l =
+    let none = ap length (alike_empty (found_events terms found) h) in
+    absurd (omega (arith, l, none, length-map found (found_event terms)))
 
--- behind an empty list the first that isn't is the first of the others
-pub first_passes : {A : Type 0} (xs ys : List A) → length xs ≡ 0 → or_else xs ys ≡ ys
-first_passes [] ys l = refl
-first_passes (x ∷ xs) ys l = absurd (omega arith)
+-- behind a list of which nothing is heard the first that isn't empty is the first of the others
+pub first_passes : (terms : List Term) (found : List Found) (xs ys : List Event)
+    → AreHeardAlike (found_events terms found) xs → found ≡ [] → or_else xs ys ≡ ys
+first_passes terms found xs ys h is =
+    ap (λ zs. or_else zs ys) (alike_empty xs (sym h ∙ ap (λ zs. heard (found_events terms zs)) is))
 
 -- a branch is met before the others that are left
 pub branch_left : (f : Expression → List Event) (clauses : List public_clause.Clause) (i : ℕ) (c : public_clause.Clause)

@@ -1,5 +1,5 @@
 -- How a walk of a pair begins.
-use Rattle.std.proofs.Common.{◌≡◌, ℕ, zero, suc, ◌+◌, ◌-◌, ◌<◌, ◌≤◌, Bool, true, false, List, [], ◌∷◌, ◌++◌, length, map, take, get_or, Option, Some, None, Result, Ok, Err, refl, sym, ◌∙◌, ap, ap₂, subst, arith}
+use Rattle.std.proofs.Common.{◌≡◌, ℕ, ◌+◌, ◌<◌, false, List, [], ◌∷◌, ◌++◌, length, take, get_or, Some, Result, Ok, Err, sym, ◌∙◌, ap, ap₂}
 use Rattle.std.specs.List.{All}
 use Rattle.std.specs.Prelude.{slice_get, option_map}
 use Rattle.std.specs.Result.{is_err}
@@ -7,11 +7,11 @@ use Rattle.std.proofs.lemmas.List.{map-append, take_more}
 use Rattle.std.proofs.lemmas.Option.{slice_get-get_or, slice_get-map}
 use Rattle.hp_syntax.specs.declared.fault.RunFault.{RunFault}
 use Rattle.hp_syntax.specs.declared.pattern.AtomPat.{AtomPat}
-use Rattle.hp_syntax.specs.Applying.{ChangesOf, Now}
+use Rattle.hp_syntax.specs.Applying.{ChangesOf}
 use Rattle.hp_syntax.specs.Changes.{Changes, added, apply}
 use Rattle.hp_syntax.specs.GroundPatterns.{atom_said, atoms_said}
 use Rattle.hp_syntax.specs.Terms.{Term}
-use Rattle.hp_syntax.specs.Values.{Bindings, atom_value}
+use Rattle.hp_syntax.specs.Values.{atom_value}
 use Rattle.hp_syntax.specs.Views.{atom_of, atoms_of}
 use Rattle.hp_eval.specs.declared.event.EvalStop.{EvalStop}
 use Rattle.hp_eval.specs.GoalViews.{term_at}

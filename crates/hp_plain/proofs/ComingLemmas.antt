@@ -1,19 +1,18 @@
 -- The visits of what comes at a node, and which of them lie below a node.
-use Rattle.std.proofs.Common.{◌≡◌, ◌≢◌, ◌⊎◌, inl, inr, ⊎_elim, ℕ, zero, suc, ◌+◌, ◌-◌, ◌<◌, ◌≤◌, Bool, true, false, ◌&&◌, ◌==◌, cond, List, [], ◌∷◌, ◌++◌, length, map, Option, Some, None, refl, sym, ◌∙◌, ap, ap₂, subst, arith, append_assoc, rules, tests}
-use Rattle.std.specs.Prelude.{Contains, flat_map}
+use Rattle.std.proofs.Common.{◌≡◌, ◌⊎◌, inl, inr, ℕ, zero, suc, ◌-◌, ◌<◌, ◌≤◌, Bool, true, false, ◌&&◌, ◌==◌, cond, List, [], ◌∷◌, ◌++◌, map, Some, None, refl, sym, ◌∙◌, ap, ap₂, subst, arith, append_assoc, rules, tests}
+use Rattle.std.specs.Prelude.{flat_map}
 use Rattle.std.specs.List.{All}
-use Rattle.std.specs.Option.{option_and_then}
 use Rattle.std.proofs.lemmas.Bool.{ne_eqb}
 use Rattle.std.proofs.lemmas.List.{append-nil}
 use Rattle.std.proofs.lemmas.List.Elements.{All-nil, All-cons, All-append, All-head, All-tail, All-weaker, All-map}
 use Rattle.hp_syntax.specs.Syntax.{Rule}
 use Rattle.hp_syntax.specs.Networks.{is_empty}
-use Rattle.hp_syntax.specs.Walk.{Node, Child, DidChild, CutChild, FaultChild, children, Did, Plan, CutHere, FaultHere, Visit, visit, numbered, child_visits, visits_within, visits, did_at, node_at, begins, skip}
+use Rattle.hp_syntax.specs.Walk.{Node, Child, DidChild, CutChild, FaultChild, children, Did, Plan, CutHere, FaultHere, Visit, visit, numbered, child_visits, visits_within, visits, begins, skip}
 use Rattle.hp_net.specs.Standings.{next_below}
 use Rattle.hp_laws.proofs.JoinLemmas.{all_from}
 use Rattle.hp_laws.proofs.DepthLemmas.{child_at_depth, children_at_depth}
 use Rattle.hp_laws.proofs.VisitLemmas.{all_visits}
-use Rattle.hp_plain.specs.Comings.{Coming, PlanComes, ChildComes, comings, visits_of, dids_in}
+use Rattle.hp_plain.specs.Comings.{Coming, PlanComes, ChildComes, comings, visits_of}
 
 -- ---- the visits of a node are those of what comes there
 

@@ -1,5 +1,5 @@
 -- What an axiom concludes of a goal.
-use Rattle.std.proofs.Common.{◌≡◌, ℕ, ◌+◌, ◌<◌, ◌≤◌, Bool, true, false, ◌&&◌, cond, List, [], ◌∷◌, length, drop, get_or, Option, Ok, ℤ, Vec, refl, sym, ◌∙◌, ap}
+use Rattle.std.proofs.Common.{◌≡◌, ℕ, ◌+◌, ◌<◌, ◌≤◌, Bool, true, false, ◌&&◌, cond, List, [], ◌∷◌, length, drop, get_or, Option, Ok, ℤ, Vec, refl, sym, ◌∙◌, ap, ap₂}
 use Rattle.std.specs.Global.{Global}
 use Rattle.std.proofs.lemmas.List.{drop_all}
 use Rattle.hp_syntax.specs.declared.name.Name.{Name}
@@ -12,14 +12,20 @@ use Rattle.hp_syntax.specs.Terms.{Term}
 use Rattle.hp_syntax.specs.Calls.{fault_at}
 use Rattle.hp_syntax.specs.Values.{Bindings, atom_value}
 use Rattle.hp_syntax.specs.Goals.{Goal, match_goal}
-use Rattle.hp_syntax.specs.Events.{Fault, is_bound, tail_is_bound, all_bound, parts_bound, sat_if, concluded, concluded_value}
+use Rattle.hp_syntax.specs.Events.{Fault, in_place, is_bound, tail_is_bound, all_bound, parts_bound, sat_if, concluded, concluded_value}
 use Rattle.hp_syntax.specs.Views.{pattern_of, patterns_of}
 use Rattle.hp_syntax.specs.ViewLaws.{pattern_of-var, pattern_of-sym, pattern_of-num, pattern_of-list, pattern_of-call}
-use Rattle.hp_eval.specs.Growth.{Gives}
-use Rattle.hp_eval.specs.GoalViews.{term_at}
+use Rattle.hp_eval.specs.Growth.{Gives, Grows}
+use Rattle.hp_eval.specs.GoalViews.{term_at, goal_of, GoalBelow}
+use Rattle.hp_eval.specs.Slotted.{Slotted, AreBelow, bindings_of}
+use Rattle.hp_eval.specs.declared.goals.Goal as open_goal
+use Rattle.hp_eval.proofs.GrowthLemmas.{bindings_stay}
 use Rattle.hp_eval.proofs.CellViews.{at_named}
 use Rattle.hp_eval.proofs.Loops.{left_more}
-use Rattle.hp_plain.specs.Founds.{head_bound}
+use Rattle.hp_plain.specs.declared.found.Found.{Found}
+use Rattle.hp_plain.specs.Founds.{found_event, BindsBelow, Hears, Finds, head_bound}
+use Rattle.hp_plain.proofs.FoundLemmas.{finds_same, event_stays, goal_stays}
+use Rattle.hp_plain.proofs.HeardLemmas.{hears_found}
 
 -- ---- bound variables
 
@@ -97,3 +103,17 @@ module _ (h : Atom) (q : Goal) (e b : Bindings) where
       → sat_if (match_goal q (term_at terms cell) e) ≡ concluded h q e b
   concluded_term k terms cell g =
       ap (λ r. concluded_value r q e) (ap Ok (at_named terms cell g.0 g.2) ∙ sym g.1) ∙ concluded_bound k
+
+-- what takes the place of something met does so as well for terms before others were added
+pub conclusion_heard : (old mid new : List Term) (g : Grows old mid) (h : Atom) (q : open_goal.Goal) (s : Slotted)
+    (x : Found) (found : List Found) → GoalBelow (length old) q → AreBelow (length old) s → BindsBelow (length old) x
+    → Finds new (length s.values) found
+    (in_place (concluded h (goal_of mid q) (bindings_of mid s)) (found_event mid x))
+    → Hears new (length s.values) found
+    (in_place (concluded h (goal_of old q) (bindings_of old s)) (found_event old x))
+conclusion_heard old mid new g h q s x found there below binds f =
+    hears_found new (length s.values) found _
+    (finds_same new (length s.values) found _ _
+    (ap₂ (λ p e. in_place (concluded h p e) (found_event mid x)) (goal_stays old mid g q there)
+    (bindings_stay old mid g s below)
+    ∙ ap (in_place (concluded h (goal_of old q) (bindings_of old s))) (event_stays old mid g x binds)) f)

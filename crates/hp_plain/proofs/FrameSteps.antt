@@ -1,5 +1,5 @@
 -- What is left at a frame, step by step.
-use Rattle.std.proofs.Common.{◌≡◌, ℕ, zero, suc, ◌+◌, ◌-◌, ◌<◌, ◌≤◌, Bool, true, false, ◌==◌, cond, List, [], ◌∷◌, ◌++◌, length, map, drop, Option, Some, None, refl, sym, ◌∙◌, ap, ap₂, subst, arith}
+use Rattle.std.proofs.Common.{◌≡◌, ℕ, ◌<◌, true, false, ◌==◌, cond, List, [], ◌∷◌, ◌++◌, length, map, Option, Some, None, refl, sym, ◌∙◌, ap, ap₂, subst, arith}
 use Rattle.std.specs.List.{All}
 use Rattle.std.specs.Prelude.{flat_map, Vec}
 use Rattle.std.specs.Global.{Global}
@@ -19,12 +19,13 @@ use Rattle.hp_plain.specs.declared.frame.End.TheVariants as ends
 use Rattle.hp_plain.specs.declared.frame.Frame.{Frame}
 use Rattle.hp_plain.specs.declared.site.Turn.{Turn}
 use Rattle.hp_plain.specs.declared.spot.Spot.{Spot}
-use Rattle.hp_plain.specs.Comings.{Coming, PlanComes, ChildComes, comings}
+use Rattle.hp_plain.specs.Comings.{PlanComes, ChildComes, comings}
 use Rattle.hp_plain.specs.Frames.{end_comings, left_of, Opens, Comes, come_list, is_nothing, ComeFits}
-use Rattle.hp_plain.specs.Rests.{place_in, task_by, by_candidates, queue_children, rest_children, if_run, is_none, IsCandidate, IsQueue, IsRest, MaybeRun, Takes}
+use Rattle.hp_plain.specs.Rests.{place_in, relevant_by, by_candidates, queue_children, rest_children, if_run, IsCandidate, MaybeRun, Takes}
 use Rattle.hp_plain.specs.Sites.{place_or_whole}
 use Rattle.hp_plain.specs.Spots.{node_of}
 use Rattle.hp_plain.specs.Turns.{turned_to}
+use Rattle.hp_plain.proofs.RulebookLemmas.{relevant_give}
 
 -- ---- candidates
 
@@ -55,25 +56,26 @@ candidates_are o (i ∷ ids) (p ∷ ps) n h =
     (candidates_are o ids ps (All-tail (NamesTask o) i ids n) t)
 
 module _ (rules : List Rule) (nest : ℕ) where
-  all_rules : (n : Node) (p : Place) (o : Option Network)
-      → task_by rules nest n p o rules ≡ task_children rules nest n p o
-  all_rules n p None = refl
-  all_rules n p (Some Empty) = refl
-  all_rules n p (Some (Task t i)) = refl
-  all_rules n p (Some (Ordered ns)) = refl
-  all_rules n p (Some (Unordered ns)) = refl
+  -- the rules relevant to a part of a network give all its children
+  by_relevant : (n : Node) (p : Place) (o : Option Network)
+      → relevant_by rules nest n p o 0 ≡ task_children rules nest n p o
+  by_relevant n p None = refl
+  by_relevant n p (Some Empty) = refl
+  by_relevant n p (Some (Task t i)) = relevant_give rules nest n p t rules
+  by_relevant n p (Some (Ordered ns)) = refl
+  by_relevant n p (Some (Unordered ns)) = refl
 
   by_places : (n : Node) (es : List Entry) (ids : List ℕ)
-      → by_candidates rules nest n es ids rules
+      → by_candidates rules nest n es ids 0
       ≡ flat_map (λ p. task_children rules nest n p (part_at n.network p)) (map (place_in es) ids)
   by_places n es [] = refl
   by_places n es (i ∷ ids) =
-      ap₂ ◌++◌ (all_rules n (place_in es i) (part_at n.network (place_in es i))) (by_places n es ids)
+      ap₂ ◌++◌ (by_relevant n (place_in es i) (part_at n.network (place_in es i))) (by_places n es ids)
 
   -- the children by all candidates are those of the node
   by_all : (n : Node) (es : List Entry) (ids : List ℕ)
       → map (place_of es) ids ≡ map Some (candidates n.network n.focus)
-      → by_candidates rules nest n es ids rules ≡ children rules nest n
+      → by_candidates rules nest n es ids 0 ≡ children rules nest n
   unfolding children
   by_all n es ids h =
       by_places n es ids
@@ -106,13 +108,13 @@ module _ (rules : List Rule) (nest : ℕ) where
       e z
 
   module _ (terms : List Term) (s : Spot) (f : Frame) (spot : f.spot ≡ s) (dids : f.dids ≡ 0)
-      (run : f.rest.run ≡ None) (none : f.rest.queue.candidates.items ≡ []) (rule : f.rest.queue.rule ≡ 0) where
+      (run : f.rest.run ≡ None) (none : f.rest.queue.candidates.items ≡ []) (tried : f.rest.queue.tried ≡ 0) where
     left_ended : (end : End) → f.end ≡ Some end → left_of rules nest terms f ≡ end_comings (Some end)
     left_ended end e =
         let q = f.rest.queue in
         let few : length q.candidates.items ≡ 0 = ap length none in
         let empty : queue_children rules nest terms f.spot q ≡ [] =
-        ap (λ ks. by_candidates rules nest (node_of terms f.spot) f.spot.net.entries ks (drop q.rule rules))
+        ap (λ ks. by_candidates rules nest (node_of terms f.spot) f.spot.net.entries ks q.tried)
         (drop_all q.at q.candidates.items (omega arith)) in
         ap₂ (λ o cs. end_comings o ++ map ChildComes cs) e
         (ap₂ (λ r cs. if_run rules nest terms f.spot r ++ cs) run empty)
@@ -130,7 +132,7 @@ module _ (rules : List Rule) (nest : ℕ) where
                 record {
                   candidates = All-same (IsCandidate s.net) f.rest.queue.candidates.items [] none (All-nil
                       (IsCandidate s.net));
-                  rule = omega arith;
+                  tried = omega arith;
                   deep =
                       λ l. absurd (let few : length f.rest.queue.candidates.items ≡ 0 = ap length none in
                       omega arith);
@@ -158,7 +160,7 @@ module _ (rules : List Rule) (nest : ℕ) where
         spot = s;
         dids = 0;
         end = None;
-        rest = record { run = None; queue = record { candidates = ids; at = 0; rule = 0 } };
+        rest = record { run = None; queue = record { candidates = ids; at = 0; tried = 0 } };
       })
   opens_children terms s ids some deep names places = record {
     spot = refl;
@@ -171,7 +173,7 @@ module _ (rules : List Rule) (nest : ℕ) where
                 candidates =
                     candidates_are s.net ids.items (candidates (focused terms s.net).0
                     (focused terms s.net).1) names places;
-                rule = omega arith;
+                tried = omega arith;
                 deep = λ l. deep;
               };
         };

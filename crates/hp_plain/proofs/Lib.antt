@@ -1,4 +1,5 @@
 pub mod FoundLemmas
+pub mod HeardLemmas
 pub mod MatchSteps
 pub mod ConclusionSteps
 pub mod RulebookLemmas
@@ -6,6 +7,7 @@ pub mod Sizes
 pub mod SearchSteps
 pub mod AxiomSteps
 pub mod SceneGrowth
+pub mod HeardSteps
 pub mod EffectLemmas
 pub mod ListedLemmas
 pub mod PreconditionLemmas

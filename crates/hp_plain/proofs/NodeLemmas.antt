@@ -1,5 +1,5 @@
 -- Nodes in memory stand for the same where terms are added.
-use Rattle.std.proofs.Common.{◌≡◌, ℕ, ◌<◌, ◌≤◌, List, [], ◌∷◌, ◌++◌, length, take, drop, Option, Some, None, refl, sym, ◌∙◌, ap, ap₂, subst, arith}
+use Rattle.std.proofs.Common.{◌≡◌, ℕ, ◌<◌, List, [], ◌∷◌, length, take, drop, refl, sym, ◌∙◌, ap, ap₂, arith}
 use Rattle.std.specs.List.{All}
 use Rattle.std.specs.Option.{option_and_then}
 use Rattle.std.proofs.lemmas.List.Elements.{All-head, All-tail, All-weaker}
@@ -20,7 +20,7 @@ use Rattle.hp_plain.specs.declared.spot.Spot.{Spot}
 use Rattle.hp_plain.specs.declared.found.Found.{Found}
 use Rattle.hp_plain.specs.declared.found.Found.TheVariants.{Sat, Cut, Fault}
 use Rattle.hp_plain.specs.Spots.{node_of, IsSpot}
-use Rattle.hp_plain.specs.Sites.{node_at_site, term_at_site, IsSite}
+use Rattle.hp_plain.specs.Sites.{IsSite}
 use Rattle.hp_plain.specs.Turns.{BindsFew}
 use Rattle.hp_plain.proofs.FoundLemmas.{state_stays, stage_below_grows}
 use Rattle.hp_eval.proofs.GrowthLemmas.{below_grows}

@@ -23,7 +23,7 @@ use Rattle.hp_syntax.specs.declared.fault.RunFault.{RunFault}
 use Rattle.hp_eval.proofs.Loops.{left_more}
 use Rattle.hp_plain.specs.declared.found.Found.{Found}
 use Rattle.hp_plain.specs.declared.found.Found.TheVariants.{Sat, Cut, Fault}
-use Rattle.hp_plain.specs.Founds.{found_event, found_events, Fits, Finds, FindsUpTo}
+use Rattle.hp_plain.specs.Founds.{found_event, found_events, Fits, Finds, FindsUpTo, Hears}
 
 module _ (terms : List Term) (found : List Found) (i : ℕ) where
   -- the front with the next behind it
@@ -81,10 +81,10 @@ module _ (terms : List Term) (found : List Found) (i : ℕ) where
 
 -- what is heard of a list is a front of it
 pub heard_found : (terms : List Term) (vars n : ℕ) (found : List Found) (events : List Event)
-    → found_events terms (take n found) ≡ heard (found_events terms found) → Finds terms vars found events
+    → found_events terms (take n found) ≡ heard (found_events terms found) → Hears terms vars found events
     → Finds terms vars (take n found) (heard events)
 heard_found terms vars n found events e h = record {
-  stand = e ∙ ap heard h.stand;
+  stand = e ∙ h.stand;
   fit = All-take (Fits vars (length terms)) n found h.fit;
 }
 

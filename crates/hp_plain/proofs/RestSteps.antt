@@ -1,10 +1,10 @@
 -- What is left of the children of a node, step by step.
-use Rattle.std.proofs.Common.{◌≡◌, ℕ, zero, suc, ◌+◌, ◌-◌, ◌*◌, ◌<◌, ◌≤◌, Bool, true, false, List, [], ◌∷◌, ◌++◌, length, map, drop, get_or, Option, Some, None, refl, sym, ◌∙◌, ap, ap₂, subst, arith, append_assoc}
+use Rattle.std.proofs.Common.{◌≡◌, ℕ, ◌+◌, ◌<◌, ◌≤◌, true, false, List, [], ◌∷◌, ◌++◌, length, drop, get_or, Option, Some, None, refl, sym, ◌∙◌, ap, ap₂, subst, arith, append_assoc}
 use Rattle.std.specs.List.{All}
 use Rattle.std.specs.Prelude.{flat_map, slice_get}
-use Rattle.std.proofs.lemmas.List.{append-nil, drop_all}
-use Rattle.std.proofs.lemmas.List.Elements.{All-get_or, All-head, All-tail, All-drop}
-use Rattle.std.proofs.lemmas.Option.{get_or_from_slice_get, slice_get-get_or, slice_get_within}
+use Rattle.std.proofs.lemmas.List.{drop_all}
+use Rattle.std.proofs.lemmas.List.Elements.{All-head, All-tail, All-drop}
+use Rattle.std.proofs.lemmas.Option.{get_or_from_slice_get, slice_get_within}
 use Rattle.hp_syntax.specs.Syntax.{Rule}
 use Rattle.hp_syntax.specs.Terms.{Term}
 use Rattle.hp_syntax.specs.Networks.{Network, Empty, Task, Ordered, Unordered, Place, part_at}
@@ -23,10 +23,11 @@ use Rattle.hp_plain.specs.declared.site.Turn.{Turn}
 use Rattle.hp_plain.specs.declared.site.Turn.TheVariants.{Nothing, Cut, Fault, Did}
 use Rattle.hp_plain.specs.declared.spot.Spot.{Spot}
 use Rattle.hp_plain.specs.Founds.{found_event, found_events}
-use Rattle.hp_plain.specs.Rests.{place_in, done_in, run_children, if_run, task_by, one_by, by_candidates, queue_children, rest_children, is_none, IsRun, MaybeRun, IsQueue, IsRest, Takes}
+use Rattle.hp_plain.specs.Rests.{place_in, done_in, run_children, if_run, task_by, one_by, relevant_by, by_candidates, queue_children, rest_children, is_none, IsRun, MaybeRun, IsQueue, IsRest, Takes}
+use Rattle.hp_plain.specs.Rulebooks.{relevant_to}
 use Rattle.hp_plain.specs.Sites.{done_by}
 use Rattle.hp_plain.specs.Spots.{node_of, IsSpot}
-use Rattle.hp_plain.specs.Turns.{BindsFew, Turns, TurnFits, turned_to}
+use Rattle.hp_plain.specs.Turns.{BindsFew, Turns, turned_to}
 use Rattle.hp_plain.proofs.NodeLemmas.{node_stays, term_stays, all_few_grow}
 use Rattle.hp_plain.proofs.FoundLemmas.{event_stays}
 
@@ -86,36 +87,37 @@ module _ (rules : List Rule) (nest : ℕ) where
 
   module _ (n : Node) (es : List Entry) (cs : List ℕ) (at c : ℕ) (within : at < length cs) (is : c ≡ get_or cs at c)
     where
-      -- the children by the next candidate and the next rule are first
-      pub candidate_next : (rule : ℕ) (r : Rule) → slice_get rules rule ≡ Some r
-          → by_candidates rules nest n es (drop at cs) (drop rule rules)
-          ≡ one_by rules nest n (place_in es c) (part_at n.network (place_in es c)) (slice_get rules rule)
-          ++ by_candidates rules nest n es (drop at cs) (drop (rule + 1) rules)
-      candidate_next rule r e =
+      -- the children by the next candidate and the next rule that is relevant to it are first
+      pub candidate_next : (k place : ℕ) (r : Rule)
+          → slice_get (relevant_to (part_at n.network (place_in es c)) rules) k ≡ Some r
+          → slice_get rules place ≡ Some r
+          → by_candidates rules nest n es (drop at cs) k
+          ≡ one_by rules nest n (place_in es c) (part_at n.network (place_in es c)) (slice_get rules place)
+          ++ by_candidates rules nest n es (drop at cs) (k + 1)
+      candidate_next k place r e there =
           let p = place_in es c in
           let part = part_at n.network p in
+          let own = relevant_to part rules in
           let next = left_more cs at c within is in
-          let rest = by_candidates rules nest n es (drop (at + 1) cs) rules in
-          ap (λ ks. by_candidates rules nest n es ks (drop rule rules)) next
+          let rest = by_candidates rules nest n es (drop (at + 1) cs) 0 in
+          ap (λ ks. by_candidates rules nest n es ks k) next
           ∙ (ap (λ rs. task_by rules nest n p part rs ++ rest)
-          (left_more rules rule r (slice_get_within rules rule r e) (sym (get_or_from_slice_get rules rule r r e)))
-          ∙ (ap (λ xs. xs ++ rest) (rules_next n p part r (drop (rule + 1) rules))
-          ∙ (append_assoc (one_by rules nest n p part (Some r)) (task_by rules nest n p part (drop
-          (rule + 1) rules)) rest
-          ∙ ap₂ (λ o ks. one_by rules nest n p part o
-          ++ by_candidates rules nest n es ks (drop (rule + 1) rules)) (sym e)
+          (left_more own k r (slice_get_within own k r e) (sym (get_or_from_slice_get own k r r e)))
+          ∙ (ap (λ xs. xs ++ rest) (rules_next n p part r (drop (k + 1) own))
+          ∙ (append_assoc (one_by rules nest n p part (Some r)) (relevant_by rules nest n p part (k + 1)) rest
+          ∙ ap₂ (λ o ks. one_by rules nest n p part o ++ by_candidates rules nest n es ks (k + 1)) (sym there)
           (sym next))))
 
-      -- where no rule is left, those by the others are
-      pub candidate_done : (rule : ℕ) → length rules ≤ rule
-          → by_candidates rules nest n es (drop at cs) (drop rule rules)
-          ≡ by_candidates rules nest n es (drop (at + 1) cs) rules
-      candidate_done rule l =
+      -- where no such rule is left, those by the others are
+      pub candidate_done : (k : ℕ) → length (relevant_to (part_at n.network (place_in es c)) rules) ≤ k
+          → by_candidates rules nest n es (drop at cs) k ≡ by_candidates rules nest n es (drop (at + 1) cs) 0
+      candidate_done k l =
           let p = place_in es c in
           let part = part_at n.network p in
-          let rest = by_candidates rules nest n es (drop (at + 1) cs) rules in
-          ap₂ (λ ks rs. by_candidates rules nest n es ks rs) (left_more cs at c within is) (drop_all rule rules l)
-          ∙ ap (λ xs. xs ++ rest) (rules_end n p part)
+          let rest = by_candidates rules nest n es (drop (at + 1) cs) 0 in
+          ap (λ ks. by_candidates rules nest n es ks k) (left_more cs at c within is)
+          ∙ (ap (λ rs. task_by rules nest n p part rs ++ rest) (drop_all k (relevant_to part rules) l)
+          ∙ ap (λ xs. xs ++ rest) (rules_end n p part))
 
 -- ---- runs
 
@@ -166,7 +168,7 @@ module _ (old new : List Term) (g : Grows old new) where
     -- a queue has the same children left
     pub queue_stays : (q : Queue) → queue_children rules nest new s q ≡ queue_children rules nest old s q
     queue_stays q =
-        ap (λ n. by_candidates rules nest n s.net.entries (drop q.at q.candidates.items) (drop q.rule rules))
+        ap (λ n. by_candidates rules nest n s.net.entries (drop q.at q.candidates.items) q.tried)
         (node_stays old new g s spot)
 
 module _ (rules : List Rule) (nest : ℕ) (terms : List Term) (s : Spot) (r : Run) where
@@ -258,7 +260,7 @@ module _ (old new : List Term) (g : Grows old new) (rules : List Rule) (nest : �
       → Takes new Nothing all (rest_children rules nest new s after)
   rest_ends none l =
       let empty : queue_children rules nest new s after.queue ≡ [] =
-      ap (λ ks. by_candidates rules nest (node_of new s) s.net.entries ks (drop after.queue.rule rules))
+      ap (λ ks. by_candidates rules nest (node_of new s) s.net.entries ks after.queue.tried)
       (drop_all after.queue.at after.queue.candidates.items l) in
       takes_none new all (rest_children rules nest new s after)
       (rest_next ∙ ap (λ xs. xs ++ rest_children rules nest new s after) (none_turned new turn none))

@@ -1,10 +1,10 @@
 -- What is met in a scene stays where terms are added.
-use Rattle.std.proofs.Common.{◌≡◌, ℕ, Bool, List, length, Option, ◌∙◌, ap, ap₂, subst}
+use Rattle.std.proofs.Common.{◌≡◌, ℕ, Bool, true, List, length, Option, ◌∙◌, ap, ap₂, subst}
 use Rattle.hp_syntax.specs.declared.expression.Expr.{Expr}
 use Rattle.hp_syntax.specs.Syntax.{Expression, Axiom}
 use Rattle.hp_syntax.specs.Terms.{Term}
 use Rattle.hp_syntax.specs.Values.{Bindings}
-use Rattle.hp_syntax.specs.Events.{Event, State, events, sat}
+use Rattle.hp_syntax.specs.Events.{Event, State, events, negated, sat}
 use Rattle.hp_syntax.specs.Views.{expression_of}
 use Rattle.hp_eval.specs.Growth.{Grows}
 use Rattle.hp_eval.specs.GoalViews.{goal_of, GoalBelow}
@@ -14,7 +14,8 @@ use Rattle.hp_eval.proofs.GrowthLemmas.{bindings_stay}
 use Rattle.hp_world.specs.Stages.{Stage, StageBelow, state_of}
 use Rattle.hp_plain.specs.declared.found.Found.{Found}
 use Rattle.hp_plain.proofs.FoundLemmas.{finds_same, state_stays, goal_stays}
-use Rattle.hp_plain.specs.Founds.{found_events, Finds, turned}
+use Rattle.hp_plain.proofs.HeardLemmas.{alike_turned, alike_decide, hears_found, hears_same}
+use Rattle.hp_plain.specs.Founds.{found_events, AreHeardAlike, Finds, Hears, turned}
 use Rattle.hp_plain.specs.Scenes.{branches_at, placed_events}
 
 -- ---- terms that are added
@@ -51,11 +52,22 @@ module _ (old new : List Term) (g : Grows old new) (stage : Stage) (there : Stag
 
 -- what an expression meets under slots, or its negation
 pub turn_gives : (terms : List Term) (vars : ℕ) (found items : List Found) (negate : Bool) (b e : Bindings)
-    (events : List Event) → found_events terms found ≡ events → b ≡ e
+    (events : List Event) → AreHeardAlike (found_events terms found) events → b ≡ e
     → Finds terms vars items (turned negate (found_events terms found) b)
-    → Finds terms vars items (turned negate events e)
+    → Hears terms vars items (turned negate events e)
 turn_gives terms vars found items negate b e events h k f =
-    finds_same terms vars items _ _ (ap₂ (turned negate) h k) f
+    hears_same terms vars items (turned negate (found_events terms found) e) (turned negate events e)
+    (alike_turned negate (found_events terms found) events e h)
+    (hears_found terms vars items (turned negate (found_events terms found) e)
+    (finds_same terms vars items _ _ (ap (turned negate (found_events terms found)) k) f))
+
+-- the negation of an expression meets what that of its events does
+pub negation_gives : (terms : List Term) (vars : ℕ) (found items : List Found) (b e : Bindings) (events : List Event)
+    → AreHeardAlike (found_events terms found) events → b ≡ e
+    → Finds terms vars items (turned true (found_events terms found) b)
+    → Finds terms vars items (turned true events e)
+negation_gives terms vars found items b e events h k f =
+    finds_same terms vars items _ _ (ap₂ negated (alike_decide (found_events terms found) events h) k) f
 
 -- what fits slots of so many variables, fits as many
 pub finds_vars : (terms : List Term) (m n : ℕ) (found : List Found) (events : List Event) → m ≡ n

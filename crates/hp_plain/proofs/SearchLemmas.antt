@@ -1,5 +1,5 @@
 -- Where a search goes.
-use Rattle.std.proofs.Common.{◌≡◌, ◌≢◌, ℕ, zero, suc, ◌+◌, ◌-◌, ◌^◌, ◌<◌, ◌≤◌, min, Bool, true, false, List, [], ◌∷◌, ◌++◌, length, map, reverse, take, drop, Option, Some, None, option_map, refl, sym, ◌∙◌, ap, ap₂, subst, arith}
+use Rattle.std.proofs.Common.{◌≡◌, ℕ, suc, ◌+◌, ◌-◌, ◌^◌, ◌<◌, ◌≤◌, min, Bool, true, false, List, [], ◌∷◌, ◌++◌, length, map, reverse, take, Option, Some, None, option_map, refl, sym, ◌∙◌, ap, ap₂, subst, arith}
 use Rattle.std.specs.Prelude.{Vec}
 use Rattle.std.specs.Global.{Global}
 use Rattle.std.specs.List.{All}
@@ -9,14 +9,14 @@ use Rattle.hp_laws.proofs.JoinLemmas.{all_left, all_right}
 use Rattle.std.proofs.lemmas.List.Elements.{All-nil, All-cons, All-append, All-head, All-tail, All-weaker, All-same}
 use Rattle.hp_syntax.specs.Syntax.{Rule, Does, Refines, Concludes}
 use Rattle.hp_syntax.specs.Terms.{Term}
-use Rattle.hp_syntax.specs.Walk.{Node, Child, DidChild, CutChild, FaultChild, visits, node_at}
+use Rattle.hp_syntax.specs.Walk.{Node, DidChild, CutChild, FaultChild, visits, node_at}
 use Rattle.hp_syntax.specs.Events.{axioms_of}
 use Rattle.hp_plain.specs.Rulebooks.{AreFew}
 use Rattle.hp_plain.proofs.ComingLemmas.{visits_split}
 use Rattle.hp_eval.specs.Growth.{Grows}
 use Rattle.hp_net.specs.declared.walk.Step.{Step}
 use Rattle.hp_net.specs.declared.walk.Step.TheVariants as steps
-use Rattle.hp_net.specs.Standings.{gone_back, next_below, pruned, standing, step_of, stepped, told}
+use Rattle.hp_net.specs.Standings.{gone_back, next_below, pruned, standing, step_of, told}
 use Rattle.hp_plain.specs.declared.frame.Come.{Come}
 use Rattle.hp_plain.specs.declared.frame.Come.TheVariants as comes
 use Rattle.hp_plain.specs.declared.frame.Frame.{Frame}
@@ -24,10 +24,10 @@ use Rattle.hp_plain.specs.declared.rest.Run.{Run}
 use Rattle.hp_plain.specs.declared.search.Search.{Search}
 use Rattle.hp_plain.specs.declared.site.Turn.TheVariants as turns
 use Rattle.hp_plain.specs.declared.spot.Spot.{Spot}
-use Rattle.hp_plain.specs.Comings.{Coming, PlanComes, ChildComes, comings, visits_of, dids_in, Level, Stack, given_at, path_to, root_of, rest_of, standing_of, told_of, with_left, taken, rested, IsStack}
-use Rattle.hp_plain.specs.Frames.{end_comings, left_of, level_of, IsFrame, Opens, Comes, come_list}
-use Rattle.hp_plain.specs.Rests.{by_candidates, rest_children, IsRest, IsQueue, MaybeRun}
-use Rattle.hp_plain.specs.Searches.{rules_in_search, levels_of, stack_of, tree_in, stands_in, IsSearch, Moves, Goes, IsEntered, IsTaken, Begins}
+use Rattle.hp_plain.specs.Comings.{Coming, PlanComes, ChildComes, comings, visits_of, dids_in, Level, Stack, given_at, path_to, root_of, standing_of, told_of, with_left, taken, IsStack}
+use Rattle.hp_plain.specs.Frames.{end_comings, left_of, level_of, IsFrame, Opens, Comes}
+use Rattle.hp_plain.specs.Rests.{by_candidates, IsRest, MaybeRun}
+use Rattle.hp_plain.specs.Searches.{rules_in_search, levels_of, stack_of, tree_in, stands_in, IsSearch, Moves, Goes, IsTaken, Begins}
 use Rattle.hp_plain.specs.Spots.{node_of, IsSpot, HasFew}
 use Rattle.hp_plain.proofs.NodeLemmas.{node_stays, spot_grows}
 use Rattle.hp_plain.proofs.RestSteps.{maybe_run_stays, queue_stays, run_grows}
@@ -404,7 +404,7 @@ goes_pruned s h did n is =
     } in
     let none : left_of rules s.nest s.cells t ≡ [] =
     ap (λ ks. map ChildComes (by_candidates rules s.nest (node_of s.cells s.top.spot) s.top.spot.net.entries ks
-    (drop s.top.rest.queue.rule rules))) (drop_all n s.top.rest.queue.candidates.items (omega (arith, is))) in
+    s.top.rest.queue.tried)) (drop_all n s.top.rest.queue.candidates.items (omega (arith, is))) in
     let leads = pruned_to rules s.nest (stack_of s) h.stack did in
     let stack = ap (λ cs. stack_by (with_left (stack_of s).top cs) (stack_of s).above false s.over) none in
     record {
@@ -423,7 +423,7 @@ goes_pruned s h did n is =
                         queue =
                             record {
                               candidates = h.top.rest.queue.candidates;
-                              rule = h.top.rest.queue.rule;
+                              tried = h.top.rest.queue.tried;
                               deep = λ l. absurd (omega (arith, is, l));
                             };
                       };

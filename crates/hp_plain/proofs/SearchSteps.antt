@@ -14,7 +14,9 @@ use Rattle.hp_syntax.specs.Events.{Event, Sat, Cut, Fault, State, in_place, thro
 use Rattle.hp_syntax.specs.Views.{pattern_of, atom_of, expression_of, expressions_of}
 use Rattle.hp_syntax.specs.ViewLaws.{expression_of-atom, expression_of-and, expression_of-or, expression_of-not, expression_of-forall, expression_of-assign, expression_of-call}
 use Rattle.hp_eval.proofs.Loops.{left_more}
-use Rattle.hp_plain.specs.Founds.{turned}
+use Rattle.hp_syntax.specs.Preconditions.{heard}
+use Rattle.hp_plain.specs.Founds.{AreHeardAlike, turned}
+use Rattle.hp_plain.proofs.HeardLemmas.{alike_through}
 use Rattle.hp_plain.specs.Scenes.{atoms_at}
 
 -- ---- kinds of expressions
@@ -126,18 +128,22 @@ module _ (axioms : List Axiom) (s : State) (n : ℕ) where
 
   -- the next part takes the place of each satisfier so far
   pub all_go_on : (parts : List Expr) (i : ℕ) (p : Expr) (old new whole : List Event) → i < length parts
-      → p ≡ get_or parts i p → new ≡ through old (λ b. turned false (sat axioms s n (expression_of p) b) b)
-      → through old (all_of (drop i parts)) ≡ whole → through new (all_of (drop (i + 1) parts)) ≡ whole
+      → p ≡ get_or parts i p
+      → AreHeardAlike new (through old (λ b. turned false (sat axioms s n (expression_of p) b) b))
+      → AreHeardAlike (through old (all_of (drop i parts))) whole
+      → AreHeardAlike (through new (all_of (drop (i + 1) parts))) whole
   all_go_on parts i p old new whole l is e h =
-      ap (λ xs. through xs (all_of (drop (i + 1) parts))) e
-      ∙ (through_through old (sat axioms s n (expression_of p)) (all_of (drop (i + 1) parts))
-      ∙ (ap (through old) (sym (ap all_of (left_more parts i p l is) ∙ all_step p (drop (i + 1) parts))) ∙ h))
+      let others = all_of (drop (i + 1) parts) in
+      alike_through new (through old (sat axioms s n (expression_of p))) others e
+      ∙ (ap heard (through_through old (sat axioms s n (expression_of p)) others
+      ∙ ap (through old) (sym (ap all_of (left_more parts i p l is) ∙ all_step p (drop (i + 1) parts))))
+      ∙ h)
 
   -- where no part is left, the satisfiers so far are those of all
   pub all_end : (parts : List Expr) (i : ℕ) (found whole : List Event) → length parts ≤ i
-      → through found (all_of (drop i parts)) ≡ whole → found ≡ whole
+      → AreHeardAlike (through found (all_of (drop i parts))) whole → AreHeardAlike found whole
   all_end parts i found whole l h =
-      sym (through_sat found) ∙ (ap (through found) (sym (ap all_of (drop_all i parts l) ∙ all_none)) ∙ h)
+      ap heard (sym (through_sat found) ∙ ap (through found) (sym (ap all_of (drop_all i parts l) ∙ all_none))) ∙ h
 
   -- ---- disjunctions
 

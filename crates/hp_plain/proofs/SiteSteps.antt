@@ -1,5 +1,5 @@
 -- What comes of a task by the rules, step by step.
-use Rattle.std.proofs.Common.{◌≡◌, ℕ, ◌+◌, ◌-◌, ◌<◌, ◌≤◌, ℤ, pos, neg_ℤ, ◌+ℤ◌, ◌≤ℤ◌, SFits, w64, to_z, of_z, Vec, List, [], ◌∷◌, ◌++◌, length, map, drop, get_or, Bool, true, false, Option, option_map, Some, None, Result, Ok, Err, refl, sym, ◌∙◌, ap, ap₂, subst, arith}
+use Rattle.std.proofs.Common.{◌≡◌, ℕ, ◌+◌, ◌-◌, ◌<◌, ◌≤◌, ℤ, pos, neg_ℤ, ◌+ℤ◌, ◌≤ℤ◌, SFits, w64, to_z, of_z, Vec, List, [], ◌∷◌, ◌++◌, length, map, drop, get_or, Bool, true, false, Option, option_map, Some, None, Result, Ok, refl, sym, ◌∙◌, ap, ap₂, subst, arith}
 use Rattle.std.specs.List.{All}
 use Rattle.std.specs.Prelude.{flat_map, slice_get}
 use Rattle.std.specs.Global.{Global}
@@ -7,7 +7,7 @@ use Rattle.std.specs.Int.{w128}
 use Rattle.std.proofs.lemmas.Int.{ints, to_z-of_z}
 use Rattle.std.proofs.lemmas.List.{map-append}
 use Rattle.std.proofs.lemmas.List.Elements.{All-get_or, All-append, All-cons, All-nil, All-same, All-weaker}
-use Rattle.hp_syntax.specs.Applying.{Now, Guarded, AppliedOf, applied}
+use Rattle.hp_syntax.specs.Applying.{Now, Guarded}
 use Rattle.hp_syntax.specs.Changes as changes
 use Rattle.std.proofs.lemmas.List.{drop_all, length-replicate}
 use Rattle.std.proofs.lemmas.Option.{get_or_from_slice_get, slice_get-get_or, slice_get-map, slice_get_past, slice_get_within}
@@ -35,7 +35,7 @@ use Rattle.hp_eval.specs.Slotted.{Slotted, AreBelow, Matched, no_bindings, bindi
 use Rattle.hp_plain.specs.declared.expressions.Scene.{Scene}
 use Rattle.hp_plain.specs.Scenes.{axioms_in, state_in}
 use Rattle.hp_syntax.specs.Terms.{Term}
-use Rattle.hp_syntax.specs.Networks.{Network, Place, finish, expand, normal}
+use Rattle.hp_syntax.specs.Networks.{Network, Place, finish, expand}
 use Rattle.hp_syntax.specs.Walk.{Node, Child, DidChild, child_of, operated, after_effects, decomposed, chosen_or, chosen, choice_children, operator_children, method_children}
 use Rattle.hp_syntax.specs.declared.fault.RunFault.{RunFault}
 use Rattle.hp_effect.specs.Puts.{IsApplied}
@@ -44,7 +44,7 @@ use Rattle.hp_world.specs.declared.store.Applied.TheVariants.{Done, Guarded as W
 use Rattle.hp_eval.specs.GoalViews.{term_at}
 use Rattle.hp_net.specs.Outlines.{Outline, focused, place_of, EntryBelow}
 use Rattle.hp_world.specs.Histories.{History}
-use Rattle.hp_world.specs.Stages.{Stage, StageBelow, AllBelow, state_of, guards_of, terms_at}
+use Rattle.hp_world.specs.Stages.{Stage, AllBelow, state_of, guards_of, terms_at}
 use Rattle.hp_plain.specs.declared.site.Choice.{Choice}
 use Rattle.hp_plain.specs.declared.site.Site.{Site}
 use Rattle.hp_plain.specs.declared.site.Turn.{Turn}

@@ -1,5 +1,5 @@
 -- Where a walk stands by what is left at each node on its way, and where each call takes it.
-use Rattle.std.proofs.Common.{◌≡◌, ◌≢◌, ℕ, zero, suc, ◌+◌, ◌-◌, ◌<◌, ◌≤◌, Bool, true, false, ◌==◌, cond, List, [], ◌∷◌, ◌++◌, length, map, Option, Some, None, option_map, refl, sym, ◌∙◌, ap, ap₂, subst, arith, append_assoc}
+use Rattle.std.proofs.Common.{◌≡◌, ℕ, suc, ◌+◌, ◌-◌, Bool, true, false, ◌==◌, cond, List, [], ◌∷◌, ◌++◌, map, Option, Some, None, option_map, refl, sym, ◌∙◌, ap, ap₂, subst, arith, append_assoc}
 use Rattle.std.specs.List.{All}
 use Rattle.std.specs.Option.{option_and_then}
 use Rattle.std.proofs.lemmas.List.{append-nil}
@@ -8,7 +8,7 @@ use Rattle.hp_syntax.specs.Syntax.{Rule}
 use Rattle.hp_syntax.specs.Networks.{is_empty}
 use Rattle.hp_syntax.specs.Walk.{Node, Child, DidChild, CutChild, FaultChild, children, Did, Plan, CutHere, FaultHere, Visit, visit, visits, did_at, node_at, begins, skip}
 use Rattle.hp_net.specs.Standings.{Standing, standing, next_below, step_of, stepped, gone_back, pruned, arrived, parent}
-use Rattle.hp_plain.specs.Comings.{Coming, PlanComes, ChildComes, comings, visits_of, dids_in, Level, given_at, ahead, path_to, rest_after, IsLevel, IsReached, AreReached, root_of, Stack, tree_of, rest_of, standing_of, IsStack, told_of, with_left, taken, rested}
+use Rattle.hp_plain.specs.Comings.{Coming, PlanComes, ChildComes, comings, visits_of, dids_in, Level, given_at, ahead, path_to, rest_after, IsLevel, AreReached, root_of, Stack, rest_of, standing_of, IsStack, told_of, with_left, taken, rested}
 use Rattle.hp_plain.proofs.ComingLemmas.{visits_split, visits_below, visits_elsewhere, begins_on, begins_itself, elsewhere_further, next_none, next_first, none_below, skip_below}
 
 -- ---- numbers of Dids

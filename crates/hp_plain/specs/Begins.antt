@@ -1,5 +1,5 @@
 -- What a pair must be, so that a walk of it can begin.
-use Rattle.std.specs.Prelude.{◌≡◌, List, [], ◌∷◌, Ok}
+use Rattle.std.specs.Prelude.{◌≡◌, List, [], Ok}
 use Rattle.std.specs.List.{All}
 use Rattle.hp_syntax.specs.Changes.{Changes}
 use Rattle.hp_syntax.specs.GroundPatterns.{atom_said, network_said}

@@ -1,11 +1,12 @@
 -- What is met while one looks for satisfiers, in memory.
-use Rattle.std.specs.Prelude.{◌≡◌, ℕ, Bool, true, false, ◌&&◌, List, [], ◌∷◌, ◌++◌, map, length}
+use Rattle.std.specs.Prelude.{◌≡◌, ℕ, ◌-◌, Bool, true, false, ◌&&◌, List, [], ◌∷◌, ◌++◌, map, length, slice_get, Option, None, Some}
 use Rattle.std.specs.List.{All}
 use Rattle.hp_syntax.specs.Terms.{Term}
 use Rattle.hp_syntax.specs.Values.{Bindings}
 use Rattle.hp_syntax.specs.Syntax.{Atom}
 use Rattle.hp_syntax.specs.Events as plain
 use Rattle.hp_syntax.specs.Events.{Event}
+use Rattle.hp_syntax.specs.Preconditions.{heard}
 use Rattle.hp_eval.specs.declared.event.EvalStop.{EvalStop}
 use Rattle.hp_eval.specs.declared.event.EvalStop.TheVariants as stops
 use Rattle.hp_eval.specs.Slotted.{AreBelow, bindings_of}
@@ -40,6 +41,31 @@ pub record Finds (terms : List Term) (vars : ℕ) (found : List Found) (events :
 pub record FindsUpTo (terms : List Term) (vars : ℕ) (found : List Found) (whole left : List Event) : Type 0 where
   pub so_far : whole ≡ found_events terms found ++ left
   pub fit : AllFit vars (length terms) found
+
+-- the same is heard of two lists of events
+abbrev pub AreHeardAlike : List Event → List Event → Type 0
+AreHeardAlike xs ys = heard xs ≡ heard ys
+
+-- what is found is heard as these events are, and each Sat fits
+pub record Hears (terms : List Term) (vars : ℕ) (found : List Found) (events : List Event) : Type 0 where
+  pub stand : AreHeardAlike (found_events terms found) events
+  pub fit : AllFit vars (length terms) found
+
+-- all events are heard as what is found so far and those that are left behind it
+pub record HearsUpTo (terms : List Term) (vars : ℕ) (found : List Found) (whole left : List Event) : Type 0 where
+  pub so_far : AreHeardAlike whole (found_events terms found ++ left)
+  pub fit : AllFit vars (length terms) found
+
+-- one is there, and it is a fault
+abbrev pub is_fault : Option Found → Bool
+is_fault None = false
+is_fault (Some (Sat slots)) = false
+is_fault (Some Cut) = false
+is_fault (Some (Fault f)) = true
+
+-- the last of a list is a fault
+abbrev pub ends_in_fault : List Found → Bool
+ends_in_fault found = is_fault (slice_get found (length found - 1))
 
 -- what is found where an evaluation stopped: its fault
 abbrev pub FindsStop : EvalStop → List Found → Type 0

@@ -1,5 +1,5 @@
 -- The children of a node that are left.
-use Rattle.std.specs.Prelude.{◌≡◌, ℕ, suc, ◌+◌, ◌-◌, ◌*◌, ◌<◌, ◌≤◌, Bool, true, false, List, [], ◌∷◌, ◌++◌, length, drop, Option, Some, None, flat_map, slice_get}
+use Rattle.std.specs.Prelude.{◌≡◌, ℕ, ◌+◌, ◌-◌, ◌*◌, ◌<◌, ◌≤◌, Bool, true, false, List, [], ◌∷◌, ◌++◌, length, drop, Option, Some, None, flat_map, slice_get}
 use Rattle.std.specs.List.{All}
 use Rattle.hp_syntax.specs.Terms.{Term}
 use Rattle.hp_syntax.specs.Syntax.{Rule}
@@ -18,8 +18,9 @@ use Rattle.hp_plain.specs.declared.rest.Queue.{Queue}
 use Rattle.hp_plain.specs.declared.rest.Rest.{Rest}
 use Rattle.hp_plain.specs.declared.spot.Spot.{Spot}
 use Rattle.hp_plain.specs.Founds.{found_events}
+use Rattle.hp_plain.specs.Rulebooks.{relevant_to}
 use Rattle.hp_plain.specs.Sites.{children_by, done_by, place_or_whole}
-use Rattle.hp_plain.specs.Spots.{node_of, HasFew}
+use Rattle.hp_plain.specs.Spots.{node_of}
 use Rattle.hp_plain.specs.Turns.{BindsFew, TurnFits, turned_to}
 
 abbrev pub rules_of : Base → List Rule
@@ -70,16 +71,20 @@ module _ (rules : List Rule) (nest : ℕ) where
   one_by n p (Some (Ordered ns)) r = []
   one_by n p (Some (Unordered ns)) r = []
 
-  -- the children by candidates, for the first of them by these rules alone
-  abbrev pub by_candidates : Node → List Entry → List ℕ → List Rule → List Child
-  by_candidates n es [] rs = []
-  by_candidates n es (c ∷ cs) rs =
-      task_by n (place_in es c) (part_at n.network (place_in es c)) rs ++ by_candidates n es cs rules
+  -- the children by a part of a network and the rules relevant to it, but so many of the first
+  abbrev pub relevant_by : Node → Place → Option Network → ℕ → List Child
+  relevant_by n p part k = task_by n p part (drop k (relevant_to part rules))
+
+  -- the children by candidates, for the first of them without those by so many rules
+  abbrev pub by_candidates : Node → List Entry → List ℕ → ℕ → List Child
+  by_candidates n es [] k = []
+  by_candidates n es (c ∷ cs) k =
+      relevant_by n (place_in es c) (part_at n.network (place_in es c)) k ++ by_candidates n es cs 0
 
   -- the children that are left of a queue
   abbrev pub queue_children : List Term → Spot → Queue → List Child
   queue_children terms s q =
-      by_candidates (node_of terms s) s.net.entries (drop q.at q.candidates.items) (drop q.rule rules)
+      by_candidates (node_of terms s) s.net.entries (drop q.at q.candidates.items) q.tried
 
   -- the children that are left
   abbrev pub rest_children : List Term → Spot → Rest → List Child
@@ -98,19 +103,20 @@ abbrev pub MaybeRun : ℕ → Spot → Option Run → Type 0
 MaybeRun n s None = Unit {0}
 MaybeRun n s (Some r) = IsRun n s r
 
--- a queue is of candidates, and where one is left, a decomposition may follow
+-- a queue is of candidates, no more rules were tried than there are, and where a candidate is left, a decomposition may
+-- follow
 pub record IsQueue (rules : List Rule) (s : Spot) (q : Queue) : Type 0 where
   pub candidates : All (IsCandidate s.net) q.candidates.items
-  pub rule : q.rule ≤ length rules
+  pub tried : q.tried ≤ length rules
   pub deep : q.at < length q.candidates.items → 0 < s.depth
 
 pub record IsRest (rules : List Rule) (n : ℕ) (s : Spot) (r : Rest) : Type 0 where
   pub run : MaybeRun n s r.run
   pub queue : IsQueue rules s r.queue
 
--- how many rules are left to be looked at, with one more for each candidate
+-- how many rules are left to be tried at most, with one more for each candidate
 abbrev pub work_left : List Rule → Queue → ℕ
-work_left rules q = (length q.candidates.items - q.at) * (length rules + 1) - q.rule
+work_left rules q = (length q.candidates.items - q.at) * (length rules + 1) - q.tried
 
 -- ---- turns
 

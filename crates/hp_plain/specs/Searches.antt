@@ -1,5 +1,5 @@
 -- Where a search stands, and what holds of it.
-use Rattle.std.specs.Prelude.{◌≡◌, ℕ, ◌+◌, ◌-◌, ◌^◌, min, Bool, true, false, List, [], ◌∷◌, ◌++◌, length, map, reverse, Option, Some, None, option_map}
+use Rattle.std.specs.Prelude.{◌≡◌, ℕ, ◌+◌, ◌-◌, ◌^◌, min, true, false, List, [], ◌∷◌, ◌++◌, length, map, reverse, Option, Some, None, option_map}
 use Rattle.std.specs.List.{All}
 use Rattle.hp_syntax.specs.Syntax.{Rule}
 use Rattle.hp_syntax.specs.Terms.{Term}
@@ -14,7 +14,7 @@ use Rattle.hp_plain.specs.declared.frame.Frame.{Frame}
 use Rattle.hp_plain.specs.declared.site.Turn.TheVariants as turns
 use Rattle.hp_plain.specs.declared.spot.Spot.{Spot}
 use Rattle.hp_plain.specs.declared.search.Search.{Search}
-use Rattle.hp_plain.specs.Comings.{Level, Stack, path_to, root_of, tree_of, standing_of, IsStack}
+use Rattle.hp_plain.specs.Comings.{Level, Stack, path_to, tree_of, standing_of, IsStack}
 use Rattle.hp_plain.specs.Frames.{level_of, IsFrame, Opens}
 use Rattle.hp_plain.specs.Spots.{IsSpot, HasFew}
 

@@ -6,16 +6,13 @@ use Rattle.std.specs.declared.hash.BuildHasherDefault.{BuildHasherDefault}
 use Rattle.indexmap.specs.IndexMap.{IndexMap, get}
 use Rattle.hp_syntax.specs.Syntax.{Rule, Does, Refines, Concludes}
 use Rattle.hp_plain.specs.declared.tables.Kind.{Kind}
-use Rattle.hp_plain.specs.declared.tables.Kind.TheVariants.{Operator, Method, Axiom}
+use Rattle.hp_plain.specs.declared.tables.Kind.TheVariants.{Task, Axiom}
 
 -- the name of a rule's head, where the rule is of a kind
 abbrev pub name_as : Kind → Rule → Option (List ℕ)
-name_as Operator (Does o) = Some o.head.name
-name_as Operator (Refines m) = None
-name_as Operator (Concludes x) = None
-name_as Method (Does o) = None
-name_as Method (Refines m) = Some m.head.name
-name_as Method (Concludes x) = None
+name_as Task (Does o) = Some o.head.name
+name_as Task (Refines m) = Some m.head.name
+name_as Task (Concludes x) = None
 name_as Axiom (Does o) = None
 name_as Axiom (Refines m) = None
 name_as Axiom (Concludes x) = Some x.head.name

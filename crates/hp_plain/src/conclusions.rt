@@ -10,9 +10,9 @@ ghost use Rattle.hp_syntax.specs.Goals.{match_goal};
 ghost use Rattle.hp_eval.specs.GoalViews.{term_at, goal_of, GoalBelow};
 ghost use Rattle.hp_eval.specs.Growth.{Grows};
 ghost use Rattle.hp_eval.specs.Slotted.{AreBelow, bindings_of};
-ghost use Rattle.hp_plain.specs.Founds.{Finds, found_event, found_events, BindsBelow, head_bound};
+ghost use Rattle.hp_plain.specs.Founds.{Finds, Hears, found_event, found_events, BindsBelow, head_bound};
 
-use crate::found::{Found, copy_slots, only, stopped};
+use crate::found::{Found, copy_slots, is_over, only, stopped};
 use crate::matches::matched;
 use hp_cells::{Cell, Cells};
 use hp_eval::{Goal, Slots, atom_value};
@@ -170,7 +170,7 @@ pub(crate) fn conclusions(
     requires slots { AreBelow (length cells.old) slots.now }
     requires goal { GoalBelow (length cells.old) goal.now }
     requires found { All (BindsBelow (length cells.old)) found.now }
-    ensures found { IfOk result (λ v. Finds cells.new (length slots.now.values) v.items
+    ensures found { IfOk result (λ v. Hears cells.new (length slots.now.values) v.items
         (plain.through (found_events cells.old found.now) (plain.concluded (atom_of head.now)
         (goal_of cells.old goal.now) (bindings_of cells.old slots.now)))) }
     ensures cells { Grows cells.old cells.new }
@@ -179,6 +179,9 @@ pub(crate) fn conclusions(
     for x in found {
         let mut more = conclusion(alloc, head, goal, slots, x, cells)?;
         all.append(&mut more)?;
+        if is_over(all.as_slice()) {
+            return Ok(all);
+        }
     }
     Ok(all)
 }

@@ -1,4 +1,4 @@
-//! The satisfiers of expressions in a state, as whole lists by their definition.
+//! The satisfiers of expressions in a state, as lists by their definition, as far as they are heard.
 ghost use Rattle.std.specs.Prelude.{◌≡◌, ◌<◌, ◌≤◌, true, Ok, IfOk, Contains, length};
 ghost use Rattle.hp_syntax.specs.Events as plain;
 ghost use Rattle.hp_syntax.specs.Events.{sat, axioms_of, events_of_all, events_of_any};
@@ -7,12 +7,12 @@ ghost use Rattle.hp_eval.specs.GoalViews.{goal_of, GoalBelow};
 ghost use Rattle.hp_eval.specs.Growth.{Grows};
 ghost use Rattle.hp_eval.specs.Slotted.{AreBelow, bindings_of};
 ghost use Rattle.hp_world.specs.Stages.{StageBelow, state_of};
-ghost use Rattle.hp_plain.specs.Founds.{found_event, found_events, Fits, AllFit, Finds, turned};
+ghost use Rattle.hp_plain.specs.Founds.{found_event, found_events, Fits, AllFit, AreHeardAlike, Finds, Hears, turned};
 ghost use Rattle.hp_plain.specs.Rulebooks.{axiom_at};
 ghost use Rattle.hp_plain.specs.Scenes.{rules_in, axioms_in, stage_in, state_in, atoms_at, branches_at, placed_events};
 
 use crate::conclusions::conclusions;
-use crate::found::{Found, only, satisfied, stopped, turn};
+use crate::found::{Found, is_over, only, satisfied, stopped, turn};
 use crate::matches::{assigned, state_events, tested};
 use crate::rulebook::Rulebook;
 use hp_cells::Cells;
@@ -30,7 +30,8 @@ pub(crate) struct Scene<'a> {
 }
 
 impl Scene<'_> {
-    /// All that is met while one looks for satisfiers of an expression, with so many axiom levels.
+    /// What is met while one looks for satisfiers of an expression, with so many axiom levels. All that is heard of it
+    /// is there; behind a fault, where nothing is heard, it may be cut short.
     #[cycle(events)]
     pub(crate) fn events(
         &self,
@@ -42,10 +43,10 @@ impl Scene<'_> {
         requires few { length slots.now.values ≤ 256 }
         requires slots { AreBelow (length cells.old) slots.now }
         requires world { StageBelow (length cells.old) self.now.world.now.now }
-        ensures found { IfOk result (λ v. found_events cells.new v.items
-            ≡ sat (axioms_of (domain_of self.now.book.now.domain.now).rules)
+        ensures found { IfOk result (λ v. AreHeardAlike (found_events cells.new v.items)
+            (sat (axioms_of (domain_of self.now.book.now.domain.now).rules)
             (state_of cells.old self.now.world.now.now) level (expression_of expr.now)
-            (bindings_of cells.old slots.now)) }
+            (bindings_of cells.old slots.now))) }
         ensures fit { IfOk result (λ v. AllFit (length slots.now.values) (length cells.new) v.items) }
         ensures cells { Grows cells.old cells.new }
     {
@@ -105,7 +106,7 @@ impl Scene<'_> {
         requires few { length slots.now.values ≤ 256 }
         requires slots { AreBelow (length cells.old) slots.now }
         requires world { StageBelow (length cells.old) (stage_in self.now) }
-        ensures finds { IfOk result (λ v. Finds cells.new (length slots.now.values) v.items
+        ensures finds { IfOk result (λ v. Hears cells.new (length slots.now.values) v.items
             (events_of_all (atoms_at (axioms_in self.now) (state_in cells.old self.now) level)
             (expressions_of parts.now) (bindings_of cells.old slots.now))) }
         ensures cells { Grows cells.old cells.new }
@@ -130,7 +131,7 @@ impl Scene<'_> {
         requires few { length slots.now.values ≤ 256 }
         requires slots { AreBelow (length cells.old) slots.now }
         requires world { StageBelow (length cells.old) (stage_in self.now) }
-        ensures finds { IfOk result (λ v. Finds cells.new (length slots.now.values) v.items
+        ensures finds { IfOk result (λ v. Hears cells.new (length slots.now.values) v.items
             (events_of_any (atoms_at (axioms_in self.now) (state_in cells.old self.now) level)
             (expressions_of parts.now) (bindings_of cells.old slots.now))) }
         ensures cells { Grows cells.old cells.new }
@@ -139,6 +140,9 @@ impl Scene<'_> {
         for part in parts {
             let mut more = self.events(part, slots, level, cells)?;
             found.append(&mut more)?;
+            if is_over(found.as_slice()) {
+                return Ok(found);
+            }
         }
         Ok(found)
     }
@@ -159,7 +163,7 @@ impl Scene<'_> {
         requires world { StageBelow (length cells.old) (stage_in self.now) }
         ensures finds { IfOk result (λ v.
             let part_events = sat (axioms_in self.now) (state_in cells.old self.now) level (expression_of part.now) in
-            Finds cells.new vars v.items
+            Hears cells.new vars v.items
             (plain.through (found_events cells.old found.now) (λ b. turned negate (part_events b) b))) }
         ensures cells { Grows cells.old cells.new }
     {
@@ -167,6 +171,9 @@ impl Scene<'_> {
         for x in found {
             let mut more = self.one_events(x, part, negate, vars, level, cells)?;
             all.append(&mut more)?;
+            if is_over(all.as_slice()) {
+                return Ok(all);
+            }
         }
         Ok(all)
     }
@@ -187,7 +194,7 @@ impl Scene<'_> {
         requires world { StageBelow (length cells.old) (stage_in self.now) }
         ensures finds { IfOk result (λ v.
             let part_events = sat (axioms_in self.now) (state_in cells.old self.now) level (expression_of part.now) in
-            Finds cells.new vars v.items
+            Hears cells.new vars v.items
             (plain.in_place (λ b. turned negate (part_events b) b) (found_event cells.old found.now))) }
         ensures cells { Grows cells.old cells.new }
     {
@@ -213,7 +220,7 @@ impl Scene<'_> {
         requires few { length slots.now.values ≤ 256 }
         requires slots { AreBelow (length cells.old) slots.now }
         requires world { StageBelow (length cells.old) (stage_in self.now) }
-        ensures finds { IfOk result (λ v. Finds cells.new (length slots.now.values) v.items
+        ensures finds { IfOk result (λ v. Hears cells.new (length slots.now.values) v.items
             (atoms_at (axioms_in self.now) (state_in cells.old self.now) level (atom_of atom.now)
             (bindings_of cells.old slots.now))) }
         ensures cells { Grows cells.old cells.new }
@@ -240,7 +247,7 @@ impl Scene<'_> {
         ensures finds { IfOk result (λ v.
             let axioms = axioms_in self.now in
             let state = state_in cells.old self.now in
-            Finds cells.new (length slots.now.values) v.items
+            Hears cells.new (length slots.now.values) v.items
             (plain.goal_events state axioms (branches_at axioms state level) (bindings_of cells.old slots.now)
             (Ok (goal_of cells.old goal.now)))) }
         ensures cells { Grows cells.old cells.new }
@@ -249,6 +256,9 @@ impl Scene<'_> {
         for place in self.book.axioms(&goal.name) {
             let mut more = self.axiom_events(*place, goal, slots, level, cells)?;
             found.append(&mut more)?;
+            if is_over(found.as_slice()) {
+                return Ok(found);
+            }
         }
         Ok(found)
     }
@@ -267,7 +277,7 @@ impl Scene<'_> {
         requires slots { AreBelow (length cells.old) slots.now }
         requires goal { GoalBelow (length cells.old) goal.now }
         requires world { StageBelow (length cells.old) (stage_in self.now) }
-        ensures finds { IfOk result (λ v. Finds cells.new (length slots.now.values) v.items
+        ensures finds { IfOk result (λ v. Hears cells.new (length slots.now.values) v.items
             (placed_events (branches_at (axioms_in self.now) (state_in cells.old self.now) level)
             (goal_of cells.old goal.now) (bindings_of cells.old slots.now)
             (axiom_at (rules_in self.now) place))) }
@@ -305,7 +315,7 @@ impl Scene<'_> {
         requires few { length slots.now.values ≤ 256 }
         requires slots { AreBelow (length cells.old) slots.now }
         requires world { StageBelow (length cells.old) (stage_in self.now) }
-        ensures finds { IfOk result (λ v. Finds cells.new (length slots.now.values) v.items
+        ensures finds { IfOk result (λ v. Hears cells.new (length slots.now.values) v.items
             (branches_at (axioms_in self.now) (state_in cells.old self.now) level (axiom_of rule.now)
             (bindings_of cells.old slots.now))) }
         ensures cells { Grows cells.old cells.new }

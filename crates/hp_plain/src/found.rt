@@ -1,9 +1,9 @@
-//! What is met while one looks for satisfiers, as whole lists.
+//! What is met while one looks for satisfiers, as lists.
 ghost use Rattle.std.specs.Prelude.{◌≡◌, ◌≤◌, [], ◌∷◌, IfOk, List, length};
 ghost use Rattle.hp_syntax.specs.Terms.{Term};
 ghost use Rattle.hp_syntax.specs.Events as plain;
 ghost use Rattle.hp_eval.specs.Slotted.{AreBelow, bindings_of};
-ghost use Rattle.hp_plain.specs.Founds.{found_events, AllFit, Finds, FindsStop, finding_of, turned};
+ghost use Rattle.hp_plain.specs.Founds.{found_events, AllFit, Finds, FindsStop, finding_of, turned, ends_in_fault};
 
 use hp_eval::{EvalStop, Slots};
 use hp_syntax::RunFault;
@@ -66,6 +66,13 @@ pub(crate) fn stopped(alloc: Global, stop: EvalStop) -> Result<Vec<Found>, Alloc
         EvalStop::Fault(fault) => only(alloc, Found::Fault(fault)),
         EvalStop::NoMemory => Err(AllocError),
     }
+}
+
+/// Whether nothing more is heard behind a list, since it ends in a fault.
+pub(crate) fn is_over(found: &[Found]) -> bool
+    ensures { result ≡ ends_in_fault found.now }
+{
+    matches!(found.last(), Some(Found::Fault(_)))
 }
 
 // What decides the negation of an expression that meets these.

@@ -43,7 +43,7 @@ fn ended(alloc: Global, spot: Spot, end: End) -> Frame
     ensures end { result.end ≡ Some end }
     ensures run { result.rest.run ≡ None }
     ensures queue { result.rest.queue.candidates.items ≡ [] }
-    ensures rule { result.rest.queue.rule ≡ 0 }
+    ensures tried { result.rest.queue.tried ≡ 0 }
 {
     Frame {
         spot,
@@ -54,7 +54,7 @@ fn ended(alloc: Global, spot: Spot, end: End) -> Frame
             queue: Queue {
                 candidates: Vec::new(alloc),
                 at: 0,
-                rule: 0,
+                tried: 0,
             },
         },
     }
@@ -83,7 +83,7 @@ impl Frame {
                 queue: Queue {
                     candidates,
                     at: 0,
-                    rule: 0,
+                    tried: 0,
                 },
             },
         })

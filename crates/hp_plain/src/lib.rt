@@ -1,5 +1,5 @@
-//! The plain engine: a walk that copies the world and the network for each node, and takes whole lists of satisfiers by
-//! their definition.
+//! The plain engine: a walk that copies the world and the network for each node, and takes lists of satisfiers by their
+//! definition, each up to its first fault.
 #![tactic(auto)]
 
 mod begin;

@@ -7,7 +7,7 @@ ghost use Rattle.hp_eval.specs.Events.{Happening, event_of, left_after, AreOfFir
 ghost use Rattle.hp_eval.specs.Growth.{Grows};
 ghost use Rattle.hp_eval.specs.Slotted.{AreBelow, bindings_of};
 ghost use Rattle.hp_world.specs.Stages.{StageBelow};
-ghost use Rattle.hp_plain.specs.Founds.{found_events, AllFit, Finds, FindsUpTo};
+ghost use Rattle.hp_plain.specs.Founds.{found_events, AllFit, Finds, FindsUpTo, Hears};
 ghost use Rattle.hp_plain.specs.Scenes.{axioms_in, stage_in, state_in};
 ghost use Rattle.hp_plain.specs.Listed.{FindsMore};
 
@@ -34,7 +34,7 @@ fn heard_len(found: &[Found]) -> usize
 
 /// What is heard of a list.
 pub(crate) fn heard(mut found: Vec<Found>) -> Vec<Found>
-    ensures { (terms : List Term) (vars : _) (events : List Happening) → Finds terms vars found.items events
+    ensures { (terms : List Term) (vars : _) (events : List Happening) → Hears terms vars found.items events
         → Finds terms vars result.items (heard events) }
 {
     let end = heard_len(found.as_slice());

@@ -1,10 +1,11 @@
 //! What is left of the children of a node.
-ghost use Rattle.std.specs.Prelude.{◌≡◌, ◌<◌, ◌++◌, IfOk, OnOk, Some, length, slice_get};
+ghost use Rattle.std.specs.Prelude.{◌≡◌, ◌<◌, ◌++◌, IfOk, OnOk, Some, length, option_map, slice_get};
 ghost use Rattle.std.specs.List.{All};
 ghost use Rattle.hp_syntax.specs.Networks.{part_at};
 ghost use Rattle.hp_syntax.specs.Walk.{child_of};
 ghost use Rattle.hp_eval.specs.Growth.{Grows};
 ghost use Rattle.hp_plain.specs.Founds.{found_event};
+ghost use Rattle.hp_plain.specs.Rulebooks.{relevant_to};
 ghost use Rattle.hp_plain.specs.Spots.{node_of, IsSpot, HasFew};
 ghost use Rattle.hp_plain.specs.Turns.{Turns};
 ghost use Rattle.hp_plain.specs.Rests.{rules_of, place_in, one_by, done_in, run_children, if_run, queue_children, rest_children, work_left, is_none, IsCandidate, IsRun, MaybeRun, IsQueue, IsRest, Takes};
@@ -35,12 +36,12 @@ pub(crate) struct Run {
     pub(crate) next: usize,
 }
 
-/// Candidates from a place on, of which the first is looked at by the rules from one on.
+/// Candidates from a place on, of which the first was tried with so many of the rules that are relevant to it.
 #[derive(Drop)]
 pub(crate) struct Queue {
     pub(crate) candidates: Vec<TaskId>,
     pub(crate) at: usize,
-    pub(crate) rule: usize,
+    pub(crate) tried: usize,
 }
 
 /// What is left of a node's children: what is met for a rule, and then what the rules behind it give.
@@ -108,6 +109,23 @@ impl Run {
     }
 }
 
+// The place of the rule of a number among those that are relevant to a candidate, if there are so many.
+fn relevant_rule(
+    base: &Base,
+    spot: &Spot,
+    id: TaskId,
+    number: usize,
+    cells: &Cells,
+) -> Option<usize>
+    requires spot { IsSpot (length cells.now) spot.now }
+    requires candidate { IsCandidate spot.now.net id }
+    ensures { option_map (slice_get (rules_of base.now)) result ≡ option_map Some (slice_get (relevant_to
+        (part_at (node_of cells.now spot.now).network (place_in spot.now.net.entries id)) (rules_of base.now)) number) }
+{
+    let task = spot.net.task(id);
+    base.book.relevant_at(task, number, cells)
+}
+
 // What is met for a candidate by a rule.
 fn started(
     base: &Base,
@@ -147,7 +165,7 @@ fn started(
 }
 
 impl Queue {
-    // What is met for the next candidate by the next rule, if there is one.
+    // What is met for the next candidate by the next rule that is relevant to it, if there is one.
     fn start(
         &mut self,
         base: &Base,
@@ -167,16 +185,19 @@ impl Queue {
         ensures less { OnOk result (work_left (rules_of base.now) self.new < work_left (rules_of base.now) self.old) }
         ensures cells { Grows cells.old cells.new }
     {
-        if self.rule >= base.book.domain.rules.len() {
-            self.at += 1;
-            self.rule = 0;
-            return Ok(None);
-        }
         let id = self.candidates[self.at];
-        let rule = self.rule;
-        let run = started(base, spot, id, rule, cells)?;
-        self.rule += 1;
-        Ok(Some(run))
+        match relevant_rule(base, spot, id, self.tried, cells) {
+            Some(rule) => {
+                let run = started(base, spot, id, rule, cells)?;
+                self.tried += 1;
+                Ok(Some(run))
+            }
+            None => {
+                self.at += 1;
+                self.tried = 0;
+                Ok(None)
+            }
+        }
     }
 }
 

@@ -11,8 +11,8 @@ use std::alloc::{AllocError, Global};
 /// Which rules a table has.
 #[derive(Clone, Copy)]
 pub(crate) enum Kind {
-    Operator,
-    Method,
+    /// Operators and methods alike, which are for tasks.
+    Task,
     Axiom,
 }
 
@@ -21,8 +21,8 @@ fn name_as(kind: Kind, rule: &Rule) -> Option<&Name>
     ensures { option_copied result ≡ name_as kind (rule_of rule.now) }
 {
     match (kind, rule) {
-        (Kind::Operator, Rule::Operator(operator)) => Some(&operator.head.name),
-        (Kind::Method, Rule::Method(method)) => Some(&method.head.name),
+        (Kind::Task, Rule::Operator(operator)) => Some(&operator.head.name),
+        (Kind::Task, Rule::Method(method)) => Some(&method.head.name),
         (Kind::Axiom, Rule::Axiom(axiom)) => Some(&axiom.head.name),
         _ => None,
     }

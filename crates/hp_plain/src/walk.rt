@@ -8,8 +8,8 @@ use hp_world::World;
 use std::alloc::{AllocError, Global};
 use std::marker::Model;
 
-/// A walk that copies the world and the network for each node, and takes whole lists of satisfiers by their
-/// definition.
+/// A walk that copies the world and the network for each node, and takes lists of satisfiers by their definition, each
+/// up to its first fault.
 #[derive(Drop)]
 pub struct PlainWalk<'a> {
     search: Search<'a>,

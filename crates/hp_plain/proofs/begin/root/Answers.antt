@@ -1,4 +1,4 @@
-use Rattle.std.proofs.Common.{◌<◌, pos, length, [], ◌∙◌, ap, sym, refl, arith}
+use Rattle.std.proofs.Common.{◌<◌, pos, length, [], ◌∙◌, ap, refl, arith}
 use Rattle.std.proofs.lemmas.Int.{ints}
 use Rattle.std.proofs.lemmas.List.Elements.{All-nil, All-same}
 use Rattle.hp_syntax.specs.GroundPatterns.{atoms_said}

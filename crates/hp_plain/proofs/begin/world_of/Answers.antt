@@ -1,4 +1,4 @@
-use Rattle.std.proofs.Common.{length, [], ap, sym, subst, rules}
+use Rattle.std.proofs.Common.{length, ap, sym, subst}
 use Rattle.std.proofs.lemmas.List.Elements.{All-nil}
 use Rattle.std.proofs.Common.{◌<◌}
 use Rattle.hp_syntax.specs.Changes.{apply}

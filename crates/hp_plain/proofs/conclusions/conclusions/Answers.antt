@@ -1,11 +1,13 @@
-use Rattle.std.proofs.Common.{◌+◌, length, drop, ap, ap₂, ◌∙◌}
-use Rattle.hp_syntax.specs.Events.{concluded, through, in_place}
+use Rattle.std.proofs.Common.{◌+◌, length, drop, ap, sym, ◌∙◌}
+use Rattle.hp_syntax.specs.Events.{concluded, through}
 use Rattle.hp_syntax.specs.Views.{atom_of}
 use Rattle.hp_eval.specs.GoalViews.{goal_of}
 use Rattle.hp_eval.specs.Slotted.{bindings_of}
-use Rattle.hp_eval.proofs.GrowthLemmas.{bindings_stay, below_grows, grows_on}
-use Rattle.hp_plain.specs.Founds.{BindsBelow, found_event, found_events}
-use Rattle.hp_plain.proofs.FoundLemmas.{finds_same, upto_more, upto_same, upto_grow, binds_grow, event_stays, goal_below_grows, goal_stays, left_replaced, item_holds}
+use Rattle.hp_eval.proofs.GrowthLemmas.{below_grows, grows_on}
+use Rattle.hp_plain.specs.Founds.{BindsBelow, found_events, ends_in_fault}
+use Rattle.hp_plain.proofs.FoundLemmas.{binds_grow, goal_below_grows, item_holds}
+use Rattle.hp_plain.proofs.HeardLemmas.{hears_replaced, hears_replaced_all, hears_over}
+use Rattle.hp_plain.proofs.ConclusionSteps.{conclusion_heard}
 use Rattle.hp_plain.proofs.conclusions.conclusions.Goals as goal
 
 pub conclusion-requires-clause-slots : goal.conclusion-requires-clause-slots
@@ -37,22 +39,51 @@ loop-x-preserved c =
     let x = c.x-item.result in
     let found = c.args.found.now in
     let i = c.loop-x.x-index in
-    let all = c.loop-x.all.items in
     let more = c.in_ok-more.more.items in
     let vars = length s.values in
-    let whole = through (found_events old found) f in
-    let left = through (found_events old (drop (i + 1) found)) f in
+    let items = c.append.new.self.items in
     let below = item_holds (BindsBelow (length old)) found i x c.loop-x-test.true c.x-item.is c.requires.found in
     record {
       grows = grows_on old mid new held.grows grown;
       found =
-          upto_more new vars all whole (in_place f (found_event old x)) left more c.append.new.self.items
-          (upto_grow mid new grown vars all whole _
-          (upto_same mid vars all whole _ _ (left_replaced old f found i x c.loop-x-test.true c.x-item.is)
-          held.found))
-          (finds_same new vars more _ _
-          (ap₂ (λ g e. in_place (concluded h g e) (found_event mid x))
-          (goal_stays old mid held.grows q c.requires.goal) (bindings_stay old mid held.grows s c.requires.slots)
-          ∙ ap (in_place f) (event_stays old mid held.grows x below)) c.in_ok-more.ensures.found)
+          hears_replaced old mid new grown vars f c.loop-x.all.items more items found i x c.loop-x-test.true c.x-item.is
+          held.found
+          (conclusion_heard old mid new held.grows h q s x more c.requires.goal c.requires.slots below
+          c.in_ok-more.ensures.found)
           c.in_ok-append.ensures.items;
     }
+
+pub returns-then-is_over-clause-found : goal.returns-then-is_over-clause-found
+returns-then-is_over-clause-found c =
+    let old = c.args.cells.now in
+    let mid = c.loop-x.cells in
+    let new = c.conclusion.new.cells in
+    let held = c.loop-x.invariant in
+    let grown = c.in_ok-more.ensures.cells in
+    let h = atom_of c.args.head.now in
+    let q = c.args.goal.now in
+    let s = c.args.slots.now in
+    let f = concluded h (goal_of old q) (bindings_of old s) in
+    let x = c.x-item.result in
+    let found = c.args.found.now in
+    let i = c.loop-x.x-index in
+    let more = c.in_ok-more.more.items in
+    let vars = length s.values in
+    let items = c.append.new.self.items in
+    let below = item_holds (BindsBelow (length old)) found i x c.loop-x-test.true c.x-item.is c.requires.found in
+    hears_over new vars items (through (found_events old found) f)
+    (through (found_events old (drop (i + 1) found)) f)
+    (sym (c.is_over.ensures ∙ ap ends_in_fault c.as_slice.ensures.value) ∙ c.if-is_over.true)
+    (hears_replaced old mid new grown vars f c.loop-x.all.items more items found i x c.loop-x-test.true c.x-item.is
+    held.found
+    (conclusion_heard old mid new held.grows h q s x more c.requires.goal c.requires.slots below
+    c.in_ok-more.ensures.found)
+    c.in_ok-append.ensures.items)
+
+pub returns-clause-found : goal.returns-clause-found
+returns-clause-found c =
+    let old = c.args.cells.now in
+    let s = c.args.slots.now in
+    let f = concluded (atom_of c.args.head.now) (goal_of old c.args.goal.now) (bindings_of old s) in
+    hears_replaced_all old c.loop-x.cells (length s.values) f c.loop-x.all.items c.args.found.now c.loop-x.x-index
+    c.loop-x-test.false c.loop-x.invariant.found

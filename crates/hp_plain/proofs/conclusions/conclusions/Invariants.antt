@@ -4,7 +4,7 @@ use Rattle.hp_syntax.specs.Views.{atom_of}
 use Rattle.hp_eval.specs.GoalViews.{goal_of}
 use Rattle.hp_eval.specs.Growth.{Grows}
 use Rattle.hp_eval.specs.Slotted.{bindings_of}
-use Rattle.hp_plain.specs.Founds.{FindsUpTo, found_events}
+use Rattle.hp_plain.specs.Founds.{HearsUpTo, found_events}
 use Rattle.hp_plain.proofs.conclusions.conclusions.Given as goal
 
 abbrev pub invariant-loop-x : goal.invariant-loop-x
@@ -12,6 +12,6 @@ invariant-loop-x l =
     let f = concluded (atom_of l.head) (goal_of l.fn.cells l.goal) (bindings_of l.fn.cells l.slots) in
     record {
       grows : Grows l.fn.cells l.cells;
-      found : FindsUpTo l.cells (length l.slots.values) l.all.items (through (found_events l.fn.cells l.found) f)
+      found : HearsUpTo l.cells (length l.slots.values) l.all.items (through (found_events l.fn.cells l.found) f)
           (through (found_events l.fn.cells (drop l.x-index l.found)) f);
     }

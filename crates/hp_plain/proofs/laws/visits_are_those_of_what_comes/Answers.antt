@@ -1,5 +1,4 @@
 use Rattle.hp_plain.proofs.ComingLemmas.{visits_split}
-use Rattle.hp_plain.proofs.StackLemmas.{given_is}
 use Rattle.hp_plain.proofs.laws.visits_are_those_of_what_comes.Goals as goal
 
 pub returns : goal.returns

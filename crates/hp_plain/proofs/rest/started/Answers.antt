@@ -1,5 +1,4 @@
-use Rattle.std.proofs.Common.{length, ap, sym, ◌∙◌, subst, arith}
-use Rattle.hp_syntax.specs.Networks.{Place}
+use Rattle.std.proofs.Common.{length, ap, sym, ◌∙◌, arith}
 use Rattle.hp_eval.proofs.GrowthLemmas.{grows_length}
 use Rattle.std.specs.Prelude.{slice_get}
 use Rattle.hp_plain.specs.Rests.{rules_of, place_in, one_by}

@@ -1,6 +1,6 @@
 use Rattle.std.proofs.Common.{◌≡◌, ◌+◌, ◌-◌, ◌*◌, ◌<◌, true, false, List, map, ℕ, Option, None, vec_len, ◌++◌, length, drop, get_or, Result, Ok, ap, ap₂, sym, ◌∙◌, subst, arith}
 use Rattle.std.specs.Prelude.{flat_map}
-use Rattle.std.proofs.lemmas.List.{length-map, length-replicate}
+use Rattle.std.proofs.lemmas.List.{length-replicate, nil_from_length}
 use Rattle.hp_laws.proofs.Listings.{map_has}
 use Rattle.hp_syntax.specs.Syntax.{Expression}
 use Rattle.std.proofs.lemmas.Option.{slice_get-get_or}
@@ -8,19 +8,22 @@ use Rattle.std.proofs.lemmas.Result.{IfOk-weaker}
 use Rattle.hp_syntax.specs.declared.fault.RunFault.{RunFault}
 use Rattle.hp_syntax.specs.Values.{Bindings, unbound}
 use Rattle.hp_syntax.specs.Goals.{Goal, start_goal}
-use Rattle.hp_syntax.specs.Events.{Event, State, in_place, through, sat, goal_events, axiom_events, concluded, first_list}
+use Rattle.hp_syntax.specs.Events.{Event, State, through, sat, goal_events, axiom_events, concluded, first_list}
 use Rattle.hp_syntax.specs.Views.{axiom_of, clause_of, expression_of, expressions_of}
 use Rattle.hp_eval.specs.GoalViews.{goal_of}
 use Rattle.hp_eval.specs.Slotted.{bindings_of}
 use Rattle.hp_eval.proofs.GrowthLemmas.{grows_self, grows_on, bindings_stay, below_grows}
-use Rattle.hp_plain.specs.Founds.{found_event, found_events, Fits, AllFit, Finds}
+use Rattle.hp_syntax.specs.Preconditions.{heard}
+use Rattle.hp_plain.specs.Founds.{found_events, Fits, AllFit, AreHeardAlike, ends_in_fault}
 use Rattle.hp_plain.specs.Rulebooks.{concluding, axiom_at}
 use Rattle.hp_plain.specs.Scenes.{rules_in, axioms_in, stage_in, state_in, branches_at, placed_events}
-use Rattle.hp_plain.proofs.FoundLemmas.{finds_none, finds_same, upto_more, upto_same, upto_all, sat_replaced, left_replaced, fits_below, event_stays, fits_grow, upto_grow, goal_below_grows, stage_below_grows, state_stays, goal_stays, item_holds, sat_fits}
+use Rattle.hp_plain.proofs.FoundLemmas.{finds_none, sat_replaced, fits_grow, goal_below_grows, stage_below_grows, state_stays, goal_stays, item_holds, sat_fits}
 use Rattle.hp_plain.proofs.Sizes.{size, sizes, left_to_do, less_to_do_below, branch_size, size_of-atom, size_of-and, size_of-or, size_of-not, size_of-forall, part_size}
-use Rattle.hp_plain.proofs.SearchSteps.{sat_of-atom, sat_of-and, sat_of-or, sat_of-not, sat_of-forall, sat_of-assign, sat_of-call, forall_sat, all_of, all_begin, all_go_on, all_end, any_of, any_left, any_end}
-use Rattle.hp_plain.proofs.AxiomSteps.{goal_begins, axioms_left, axioms_end, placed_axiom, few_at, axiom_among, axiom_unstarted, axiom_started, none_bound, branch_left, first_found, first_passes}
-use Rattle.hp_plain.proofs.SceneGrowth.{turned_sat, turned_stays, sat_stays, placed_stays, turn_gives, finds_vars}
+use Rattle.hp_plain.proofs.SearchSteps.{sat_of-atom, sat_of-and, sat_of-or, sat_of-not, sat_of-forall, sat_of-assign, sat_of-call, forall_sat, all_of, all_begin, all_go_on, all_end, any_of, any_end}
+use Rattle.hp_plain.proofs.AxiomSteps.{goal_begins, axioms_end, placed_axiom, few_at, axiom_among, axiom_unstarted, axiom_started, none_bound, branch_left, first_found, first_passes}
+use Rattle.hp_plain.proofs.SceneGrowth.{turned_sat, turned_stays, sat_stays, turn_gives, negation_gives, finds_vars}
+use Rattle.hp_plain.proofs.HeardLemmas.{alike_through, hears_found, hears_same, hears_vars, hears_all, hears_over, hears_replaced_all}
+use Rattle.hp_plain.proofs.HeardSteps.{any_next, each_next, goal_next}
 use Rattle.std.proofs.lemmas.Bool.{eqb-true, eqb-false}
 use Rattle.hp_plain.proofs.MatchSteps.{binds_vars, match_failed, match_made}
 use Rattle.hp_plain.proofs.expressions.Scene.+events.Goals as goal
@@ -63,8 +66,8 @@ events-returns-in-Atom-clause-found t c =
     let old = c.args.cells.now in
     IfOk-weaker c.atom_events.result _ _
     (λ v h. h.stand
-    ∙ sat_of-atom (axioms_in scene) (state_in old scene) c.args.level c.args.expr.now
-    (bindings_of old c.args.slots.now) c.in-Atom.atom c.in-Atom.is)
+    ∙ ap heard (sat_of-atom (axioms_in scene) (state_in old scene) c.args.level c.args.expr.now
+    (bindings_of old c.args.slots.now) c.in-Atom.atom c.in-Atom.is))
     c.atom_events.ensures.finds
 
 pub events-returns-in-And-clause-found : goal.events-returns-in-And-clause-found
@@ -74,7 +77,7 @@ events-returns-in-And-clause-found t c =
     let e = bindings_of old c.args.slots.now in
     IfOk-weaker c.all_events.result _ _
     (λ v h. h.stand
-    ∙ (ap (λ ps. all_of (axioms_in scene) (state_in old scene) c.args.level ps e) c.as_slice.ensures.value
+    ∙ ap heard (ap (λ ps. all_of (axioms_in scene) (state_in old scene) c.args.level ps e) c.as_slice.ensures.value
     ∙ sat_of-and (axioms_in scene) (state_in old scene) c.args.level c.args.expr.now e c.in-And.parts c.in-And.is))
     c.all_events.ensures.finds
 
@@ -85,7 +88,8 @@ events-returns-in-Or-clause-found t c =
     let e = bindings_of old c.args.slots.now in
     IfOk-weaker c.any_events.result _ _
     (λ v h. h.stand
-    ∙ (ap (λ ps. any_of (axioms_in scene) (state_in old scene) c.args.level ps e) c.as_slice-in-Or.ensures.value
+    ∙ ap heard (ap (λ ps. any_of (axioms_in scene) (state_in old scene) c.args.level ps e)
+    c.as_slice-in-Or.ensures.value
     ∙ sat_of-or (axioms_in scene) (state_in old scene) c.args.level c.args.expr.now e c.in-Or.parts c.in-Or.is))
     c.any_events.ensures.finds
 
@@ -95,8 +99,8 @@ events-returns-in-Forall-clause-found t c =
     let old = c.args.cells.now in
     let e = bindings_of old c.args.slots.now in
     IfOk-weaker c.forall_events.result _ _
-    (λ v h. h.stand
-    ∙ (ap₂ (forall_sat (axioms_in scene) (state_in old scene) c.args.level e) c.deref-in-Forall.ensures
+    (λ v h. ap heard (h.stand
+    ∙ ap₂ (forall_sat (axioms_in scene) (state_in old scene) c.args.level e) c.deref-in-Forall.ensures
     c.deref-in-Forall-2.ensures
     ∙ sat_of-forall (axioms_in scene) (state_in old scene) c.args.level c.args.expr.now e c.in-Forall.field-0
     c.in-Forall.range c.in-Forall.body c.in-Forall.is))
@@ -107,9 +111,9 @@ events-returns-in-Assign-clause-found t c =
     let scene = c.args.self.now in
     let old = c.args.cells.now in
     IfOk-weaker c.assigned.result _ _
-    (λ v h. h.stand
+    (λ v h. ap heard (h.stand
     ∙ sat_of-assign (axioms_in scene) (state_in old scene) c.args.level c.args.expr.now
-    (bindings_of old c.args.slots.now) c.in-Assign.v c.in-Assign.value c.in-Assign.is)
+    (bindings_of old c.args.slots.now) c.in-Assign.v c.in-Assign.value c.in-Assign.is))
     c.assigned.ensures.found
 
 pub events-returns-in-Call-clause-found : goal.events-returns-in-Call-clause-found
@@ -117,9 +121,9 @@ events-returns-in-Call-clause-found t c =
     let scene = c.args.self.now in
     let old = c.args.cells.now in
     IfOk-weaker c.tested.result _ _
-    (λ v h. h.stand
+    (λ v h. ap heard (h.stand
     ∙ sat_of-call (axioms_in scene) (state_in old scene) c.args.level c.args.expr.now
-    (bindings_of old c.args.slots.now) c.in-Call.call c.in-Call.is)
+    (bindings_of old c.args.slots.now) c.in-Call.call c.in-Call.is))
     c.tested.ensures.found
 
 pub events-returns-in_ok-found-in-Not-clause-found : goal.events-returns-in_ok-found-in-Not-clause-found
@@ -130,13 +134,13 @@ events-returns-in_ok-found-in-Not-clause-found t c =
     let s = c.args.slots.now in
     let e = bindings_of old s in
     let got = c.in_ok-found-in-Not.ensures in
-    let met = got.found ∙ ap (λ p. sat (axioms_in scene) (state_in old scene) c.args.level (expression_of p) e)
+    let met = got.found ∙ ap (λ p. heard (sat (axioms_in scene) (state_in old scene) c.args.level (expression_of p) e))
     c.deref.ensures in
     IfOk-weaker c.turn.result _ _
-    (λ v h. (turn_gives new (length s.values) c.in_ok-found-in-Not.found.items v.items true (bindings_of new s) e _ met
-    (bindings_stay old new got.cells s c.requires.slots)
+    (λ v h. ap heard ((negation_gives new (length s.values) c.in_ok-found-in-Not.found.items v.items
+    (bindings_of new s) e _ met (bindings_stay old new got.cells s c.requires.slots)
     (h new (below_grows old new got.cells s c.requires.slots) got.fit)).stand
-    ∙ sat_of-not (axioms_in scene) (state_in old scene) c.args.level c.args.expr.now e c.in-Not.part c.in-Not.is)
+    ∙ sat_of-not (axioms_in scene) (state_in old scene) c.args.level c.args.expr.now e c.in-Not.part c.in-Not.is))
     c.turn.ensures
 
 pub events-returns-in_ok-found-in-Not-clause-fit : goal.events-returns-in_ok-found-in-Not-clause-fit
@@ -165,13 +169,17 @@ forall_events-returns-clause-finds t c =
     let got = c.in_ok-refuted.ensures in
     let grown = grows_on old mid new met.cells got.cells in
     let refuted = c.in_ok-refuted.refuted.items in
-    let each = finds_vars new c.vars.result (length s.values) refuted _ c.vars.ensures got.finds in
+    let each = hears_vars new c.vars.result (length s.values) refuted _ c.vars.ensures got.finds in
+    let ranged = found_events mid c.as_slice.result.now in
+    let range = sat axioms (state_in old scene) level (expression_of c.args.range.now) e in
     let events =
     each.stand
-    ∙ (ap₂ (λ xs f. through xs f) (ap (found_events mid) c.as_slice.ensures.value ∙ met.found)
-    (turned_stays old mid met.cells stage c.requires.world axioms level c.args.body.now true)) in
+    ∙ (ap (λ f. heard (through ranged f))
+    (turned_stays old mid met.cells stage c.requires.world axioms level c.args.body.now true)
+    ∙ alike_through ranged range (turned_sat axioms (state_in old scene) level c.args.body.now true)
+    (ap (λ xs. heard (found_events mid xs)) c.as_slice.ensures.value ∙ met.found)) in
     IfOk-weaker c.turn.result _ _
-    (λ v h. turn_gives new (length s.values) refuted v.items true (bindings_of new s) e _ events
+    (λ v h. negation_gives new (length s.values) refuted v.items (bindings_of new s) e _ events
     (bindings_stay old new grown s c.requires.slots)
     (h new (below_grows old new grown s c.requires.slots) each.fit))
     c.turn.ensures
@@ -189,8 +197,8 @@ all_events-loop-part-init t c =
       grows = grows_self old;
       fit = (finds_vars old (length s.values) c.vars-vars.result found _ (sym c.vars-vars.ensures) one).fit;
       so_far =
-          all_begin (axioms_in scene) (state_in old scene) c.args.level c.args.parts.now (bindings_of old s)
-          (found_events old found) one.stand;
+          ap heard (all_begin (axioms_in scene) (state_in old scene) c.args.level c.args.parts.now (bindings_of old s)
+          (found_events old found) one.stand);
     }
 
 pub all_events-each_events-requires : goal.all_events-each_events-requires
@@ -230,7 +238,7 @@ all_events-loop-part-preserved t c =
           (found_events mid before) (found_events new c.in_ok-found-2.found.items) _ c.loop-part-test.true
           c.part-item.is
           (got.finds.stand
-          ∙ ap₂ (λ xs f. through (found_events mid xs) f) c.as_slice.ensures.value
+          ∙ ap₂ (λ xs f. heard (through (found_events mid xs) f)) c.as_slice.ensures.value
           (turned_stays old mid held.grows (stage_in scene) c.requires.world axioms level part false))
           held.so_far;
     }
@@ -279,40 +287,38 @@ any_events-loop-part-preserved t c =
     let held = c.loop-part.invariant in
     let got = c.in_ok-more.ensures in
     let s = c.args.slots.now in
-    let e = bindings_of old s in
-    let state = state_in old scene in
-    let parts = c.args.parts.now in
-    let part = c.part-item.result in
-    let i = c.loop-part.part-index in
-    let vars = length s.values in
-    let before = c.loop-part.found.items in
-    let more = c.in_ok-more.more.items in
-    let whole = any_of axioms state level parts e in
-    let piece = sat axioms state level (expression_of part) e in
-    let left = any_of axioms state level (drop (i + 1) parts) e in
-    let next : Finds new vars more piece = record {
-      stand =
-          got.found
-          ∙ sat_stays old mid held.grows (stage_in scene) c.requires.world s c.requires.slots axioms level
-          (expression_of part);
-      fit = got.fit;
-    } in
-    record {
-      grows = grows_on old mid new held.grows got.cells;
-      found =
-          upto_more new vars before whole piece left more c.append.new.self.items
-          (upto_grow mid new got.cells vars before whole _
-          (upto_same mid vars before whole _ _
-          (any_left axioms state level parts i part e c.loop-part-test.true c.part-item.is) held.found))
-          next c.in_ok-append.ensures.items;
-    }
+    let items = c.append.new.self.items in
+    let found =
+    any_next old mid new held.grows got.cells (stage_in scene) c.requires.world axioms level c.loop-part.found.items
+    c.in_ok-more.more.items items c.in_ok-append.ensures.items s c.requires.slots c.args.parts.now
+    c.loop-part.part-index c.part-item.result c.loop-part-test.true c.part-item.is held.found got.found got.fit in
+    record { grows = grows_on old mid new held.grows got.cells; found = found }
+
+pub any_events-returns-then-is_over-clause-finds : goal.any_events-returns-then-is_over-clause-finds
+any_events-returns-then-is_over-clause-finds t c =
+    let scene = c.args.self.now in
+    let axioms = axioms_in scene in
+    let level = c.args.level in
+    let old = c.args.cells.now in
+    let mid = c.loop-part.cells in
+    let new = c.events.new.cells in
+    let held = c.loop-part.invariant in
+    let got = c.in_ok-more.ensures in
+    let s = c.args.slots.now in
+    let items = c.append.new.self.items in
+    let found =
+    any_next old mid new held.grows got.cells (stage_in scene) c.requires.world axioms level c.loop-part.found.items
+    c.in_ok-more.more.items items c.in_ok-append.ensures.items s c.requires.slots c.args.parts.now
+    c.loop-part.part-index c.part-item.result c.loop-part-test.true c.part-item.is held.found got.found got.fit in
+    hears_over new (length s.values) items _ _
+    (sym (c.is_over.ensures ∙ ap ends_in_fault c.as_slice.ensures.value) ∙ c.if-is_over.true) found
 
 pub any_events-returns-clause-finds : goal.any_events-returns-clause-finds
 any_events-returns-clause-finds t c =
     let scene = c.args.self.now in
     let old = c.args.cells.now in
     let s = c.args.slots.now in
-    upto_all c.loop-part.cells (length s.values) c.loop-part.found.items _ _
+    hears_all c.loop-part.cells (length s.values) c.loop-part.found.items _ _
     (any_end (axioms_in scene) (state_in old scene) c.args.level c.args.parts.now c.loop-part.part-index
     (bindings_of old s) c.loop-part-test.false)
     c.loop-part.invariant.found
@@ -347,31 +353,48 @@ each_events-loop-x-preserved t c =
     let new = c.one_events.new.cells in
     let held = c.loop-x.invariant in
     let got = c.in_ok-more.ensures in
-    let part = c.args.part.now in
     let x = c.x-item.result in
     let found = c.args.found.now in
     let i = c.loop-x.x-index in
     let vars = c.args.vars in
-    let before = c.loop-x.all.items in
-    let more = c.in_ok-more.more.items in
-    let f = turned_sat axioms (state_in old scene) level part c.args.negate in
-    let whole = through (found_events old found) f in
-    let left = through (found_events old (drop (i + 1) found)) f in
+    let items = c.append.new.self.items in
     let fits = item_holds (Fits vars (length old)) found i x c.loop-x-test.true c.x-item.is c.requires.found in
-    record {
-      grows = grows_on old mid new held.grows got.cells;
-      found =
-          upto_more new vars before whole (in_place f (found_event old x)) left more c.append.new.self.items
-          (upto_grow mid new got.cells vars before whole _
-          (upto_same mid vars before whole _ _ (left_replaced old f found i x c.loop-x-test.true c.x-item.is)
-          held.found))
-          (finds_same new vars more _ _
-          (ap₂ (λ g y. in_place g y)
-          (turned_stays old mid held.grows (stage_in scene) c.requires.world axioms level part c.args.negate)
-          (event_stays old mid held.grows x (fits_below vars (length old) x fits)))
-          got.finds)
-          c.in_ok-append.ensures.items;
-    }
+    let next =
+    each_next old mid new held.grows got.cells (stage_in scene) c.requires.world axioms level c.loop-x.all.items
+    c.in_ok-more.more.items items c.in_ok-append.ensures.items vars c.args.part.now c.args.negate found i x
+    c.loop-x-test.true c.x-item.is fits held.found got.finds in
+    record { grows = grows_on old mid new held.grows got.cells; found = next }
+
+pub each_events-returns-then-is_over-clause-finds : goal.each_events-returns-then-is_over-clause-finds
+each_events-returns-then-is_over-clause-finds t c =
+    let scene = c.args.self.now in
+    let axioms = axioms_in scene in
+    let level = c.args.level in
+    let old = c.args.cells.now in
+    let mid = c.loop-x.cells in
+    let new = c.one_events.new.cells in
+    let held = c.loop-x.invariant in
+    let got = c.in_ok-more.ensures in
+    let x = c.x-item.result in
+    let found = c.args.found.now in
+    let i = c.loop-x.x-index in
+    let vars = c.args.vars in
+    let items = c.append.new.self.items in
+    let fits = item_holds (Fits vars (length old)) found i x c.loop-x-test.true c.x-item.is c.requires.found in
+    let next =
+    each_next old mid new held.grows got.cells (stage_in scene) c.requires.world axioms level c.loop-x.all.items
+    c.in_ok-more.more.items items c.in_ok-append.ensures.items vars c.args.part.now c.args.negate found i x
+    c.loop-x-test.true c.x-item.is fits held.found got.finds in
+    hears_over new vars items _ _
+    (sym (c.is_over.ensures ∙ ap ends_in_fault c.as_slice.ensures.value) ∙ c.if-is_over.true) next
+
+pub each_events-returns-clause-finds : goal.each_events-returns-clause-finds
+each_events-returns-clause-finds t c =
+    let scene = c.args.self.now in
+    let old = c.args.cells.now in
+    let f = turned_sat (axioms_in scene) (state_in old scene) c.args.level c.args.part.now c.args.negate in
+    hears_replaced_all old c.loop-x.cells c.args.vars f c.loop-x.all.items c.args.found.now c.loop-x.x-index
+    c.loop-x-test.false c.loop-x.invariant.found
 
 pub one_events-returns-in_ok-more-in-Sat-clause-finds : goal.one_events-returns-in_ok-more-in-Sat-clause-finds
 one_events-returns-in_ok-more-in-Sat-clause-finds t c =
@@ -385,8 +408,8 @@ one_events-returns-in_ok-more-in-Sat-clause-finds t c =
     let more = c.in_ok-more-in-Sat.more.items in
     let f = turned_sat (axioms_in scene) (state_in old scene) c.args.level c.args.part.now c.args.negate in
     IfOk-weaker c.turn.result _ _
-    (λ v h. finds_vars new (length s.values) c.args.vars v.items _ fits.0
-    (finds_same new (length s.values) v.items _ _ (sat_replaced old f x s c.in-Sat.is)
+    (λ v h. hears_vars new (length s.values) c.args.vars v.items _ fits.0
+    (hears_same new (length s.values) v.items _ _ (ap heard (sat_replaced old f x s c.in-Sat.is))
     (turn_gives new (length s.values) more v.items c.args.negate (bindings_of new s) (bindings_of old s) _ got.found
     (bindings_stay old new got.cells s fits.1)
     (h new (below_grows old new got.cells s fits.1) got.fit))))
@@ -407,11 +430,11 @@ atom_events-returns-in-Ok-clause-finds t c =
     let events : State → Bindings → Result Goal RunFault → List Event
     = λ st b r. goal_events st axioms (branches_at axioms st level) b r in
     IfOk-weaker c.goal_events.result _ _
-    (λ v h. finds_same c.goal_events.new.cells (length s.values) v.items _ _
-    (ap₂ (λ st b. events st b (Ok (goal_of mid c.in-Ok.goal)))
+    (λ v h. hears_same c.goal_events.new.cells (length s.values) v.items _ _
+    (ap heard (ap₂ (λ st b. events st b (Ok (goal_of mid c.in-Ok.goal)))
     (state_stays old mid filled.cells (stage_in scene) c.requires.world)
     (bindings_stay old mid filled.cells s c.requires.slots)
-    ∙ ap (events (state_in old scene) e) (sym filled.gives)) h)
+    ∙ ap (events (state_in old scene) e) (sym filled.gives))) h)
     c.goal_events.ensures.finds
 
 pub goal_events-loop-place-init : goal.goal_events-loop-place-init
@@ -428,7 +451,8 @@ goal_events-loop-place-init t c =
     record {
       grows = grows_self old;
       found = record {
-        so_far = goal_begins branches q e state (rules_in scene) ∙ ap (λ xs. xs ++ left) (sym got.stand);
+        so_far =
+            ap heard (goal_begins branches q e state (rules_in scene) ∙ ap (λ xs. xs ++ left) (sym got.stand));
         fit = got.fit;
       };
     }
@@ -455,44 +479,44 @@ pub goal_events-loop-place-preserved : goal.goal_events-loop-place-preserved
 goal_events-loop-place-preserved t c =
     let scene = c.args.self.now in
     let axioms = axioms_in scene in
-    let rules = rules_in scene in
     let level = c.args.level in
     let old = c.args.cells.now in
     let mid = c.loop-place.cells in
     let new = c.axiom_events.new.cells in
     let held = c.loop-place.invariant in
     let got = c.in_ok-more.ensures in
-    let state = state_in old scene in
-    let branches = branches_at axioms state level in
-    let goal' = c.args.goal.now in
-    let q = goal_of old goal' in
     let s = c.args.slots.now in
-    let e = bindings_of old s in
     let places = c.axioms-place-items.result.now in
     let i = c.loop-place.place-index in
-    let place = get_or places i 0 in
-    let vars = length s.values in
-    let before = c.loop-place.found.items in
-    let more = c.in_ok-more.more.items in
-    let named = concluding q.name rules in
-    let whole = goal_events state axioms branches e (Ok q) in
-    let piece = placed_events branches q e (axiom_at rules place) in
-    let left = flat_map (axiom_events branches q e) (drop (i + 1) named) in
-    record {
-      grows = grows_on old mid new held.grows got.cells;
-      found =
-          upto_more new vars before whole piece left more c.append.new.self.items
-          (upto_grow mid new got.cells vars before whole _
-          (upto_same mid vars before whole _ _
-          (axioms_left branches q e rules places named c.axioms-place-items.ensures i place
-          (slice_get-get_or places i 0 c.loop-place-test.true))
-          held.found))
-          (finds_same new vars more _ _
-          (placed_stays old mid held.grows (stage_in scene) c.requires.world s c.requires.slots axioms level goal'
-          c.requires.goal (axiom_at rules place))
-          got.finds)
-          c.in_ok-append.ensures.items;
-    }
+    let items = c.append.new.self.items in
+    let found =
+    goal_next old mid new held.grows got.cells (stage_in scene) c.requires.world axioms level c.loop-place.found.items
+    c.in_ok-more.more.items items c.in_ok-append.ensures.items s c.requires.slots (rules_in scene) c.args.goal.now
+    c.requires.goal places c.axioms-place-items.ensures i (get_or places i 0)
+    (slice_get-get_or places i 0 c.loop-place-test.true) held.found got.finds in
+    record { grows = grows_on old mid new held.grows got.cells; found = found }
+
+pub goal_events-returns-then-is_over-clause-finds : goal.goal_events-returns-then-is_over-clause-finds
+goal_events-returns-then-is_over-clause-finds t c =
+    let scene = c.args.self.now in
+    let axioms = axioms_in scene in
+    let level = c.args.level in
+    let old = c.args.cells.now in
+    let mid = c.loop-place.cells in
+    let new = c.axiom_events.new.cells in
+    let held = c.loop-place.invariant in
+    let got = c.in_ok-more.ensures in
+    let s = c.args.slots.now in
+    let places = c.axioms-place-items.result.now in
+    let i = c.loop-place.place-index in
+    let items = c.append.new.self.items in
+    let found =
+    goal_next old mid new held.grows got.cells (stage_in scene) c.requires.world axioms level c.loop-place.found.items
+    c.in_ok-more.more.items items c.in_ok-append.ensures.items s c.requires.slots (rules_in scene) c.args.goal.now
+    c.requires.goal places c.axioms-place-items.ensures i (get_or places i 0)
+    (slice_get-get_or places i 0 c.loop-place-test.true) held.found got.finds in
+    hears_over new (length s.values) items _ _
+    (sym (c.is_over.ensures ∙ ap ends_in_fault c.as_slice.ensures.value) ∙ c.if-is_over.true) found
 
 pub goal_events-returns-clause-finds : goal.goal_events-returns-clause-finds
 goal_events-returns-clause-finds t c =
@@ -500,7 +524,7 @@ goal_events-returns-clause-finds t c =
     let old = c.args.cells.now in
     let q = goal_of old c.args.goal.now in
     let s = c.args.slots.now in
-    upto_all c.loop-place.cells (length s.values) c.loop-place.found.items _ _
+    hears_all c.loop-place.cells (length s.values) c.loop-place.found.items _ _
     (axioms_end (branches_at (axioms_in scene) (state_in old scene) c.args.level) q (bindings_of old s) (rules_in scene)
     c.axioms-place-items.result.now (concluding q.name (rules_in scene)) c.axioms-place-items.ensures
     c.loop-place.place-index c.loop-place-test.false)
@@ -536,10 +560,11 @@ axiom_events-returns-then-not-branch-clause-finds t c =
     let m =
     match_failed c.in_ok-start_goal.field-0 _ new own c.start_goal.new.slots c.if-not-branch.true
     c.in_ok-start_goal.ensures.started in
-    finds_none new (length c.args.slots.now.values) c.new-then-not-branch.result.items _
+    hears_found new (length c.args.slots.now.values) c.new-then-not-branch.result.items _
+    (finds_none new (length c.args.slots.now.values) c.new-then-not-branch.result.items _
     c.new-then-not-branch.ensures.items
     (ap (placed_events branches q e) there
-    ∙ axiom_unstarted branches q e x (ap (start_goal x.head q) (sym begin) ∙ m.0))
+    ∙ axiom_unstarted branches q e x (ap (start_goal x.head q) (sym begin) ∙ m.0)))
 
 pub axiom_events-branch_events-requires : goal.axiom_events-branch_events-requires
 axiom_events-branch_events-requires t c =
@@ -612,17 +637,20 @@ axiom_events-returns-clause-finds t c =
     let m =
     match_made c.in_ok-start_goal.field-0 _ mid own made c.if-not-branch.false c.in_ok-start_goal.ensures.started in
     let met =
-    ap (found_events new) c.as_slice.ensures.value
+    ap (λ xs. heard (found_events new xs)) c.as_slice.ensures.value
     ∙ (c.in_ok-found.ensures.finds.stand
-    ∙ ap (λ st. branches_at axioms st level x (bindings_of mid made))
+    ∙ ap (λ st. heard (branches_at axioms st level x (bindings_of mid made)))
     (state_stays old mid c.start_goal.ensures.cells (stage_in scene) c.requires.world)) in
+    let same =
+    ap₂ (concluded x.head) (goal_stays old new grown goal' c.requires.goal)
+    (bindings_stay old new grown s c.requires.slots) in
     IfOk-weaker c.conclusions.result _ _
-    (λ v h. finds_same c.conclusions.new.cells (length s.values) v.items _ _
-    (ap₂ (λ xs f. through xs f) met
-    (ap₂ (concluded x.head) (goal_stays old new grown goal' c.requires.goal)
-    (bindings_stay old new grown s c.requires.slots))
+    (λ v h. hears_same c.conclusions.new.cells (length s.values) v.items _ _
+    (alike_through (found_events new c.as_slice.result.now) (branches x (bindings_of mid made))
+    (concluded x.head (goal_of new goal') (bindings_of new s)) met
+    ∙ ap heard (ap (through (branches x (bindings_of mid made))) same
     ∙ (axiom_started branches q e x (bindings_of mid made) (ap (start_goal x.head q) (sym begin) ∙ m.0)
-    ∙ sym (ap (placed_events branches q e) there)))
+    ∙ sym (ap (placed_events branches q e) there))))
     h)
     c.conclusions.ensures.found
 
@@ -679,22 +707,22 @@ branch_events-returns-then-not-is_empty-clause-finds t c =
     let found = c.in_ok-found.found.items in
     let f : Expression → List Event
     = λ part. sat axioms (state_in old scene) (level - 1) part (bindings_of old s) in
-    let met : found_events new found ≡ f (expression_of clause.body)
+    let met : AreHeardAlike (found_events new found) (f (expression_of clause.body))
     = got.found
-    ∙ sat_stays old mid held.grows (stage_in scene) c.requires.world s c.requires.slots axioms (level - 1)
-    (expression_of clause.body) in
+    ∙ ap heard (sat_stays old mid held.grows (stage_in scene) c.requires.world s c.requires.slots axioms (level - 1)
+    (expression_of clause.body)) in
     let many = eqb-false (vec_len c.in_ok-found.found) 0 (sym c.is_empty.ensures ∙ c.if-not-is_empty.true) in
     let some : 0 < length found = omega (arith, many, c.in_ok-found.found.ok.0) in
     let first =
-    first_found (f (expression_of clause.body)) (first_list f (map clause_of (drop (i + 1) clauses)))
-    (omega (arith, some, length-map found (found_event new), ap length met)) in
+    first_found new found (f (expression_of clause.body)) (first_list f (map clause_of (drop (i + 1) clauses))) met
+    some in
     record {
       stand =
           met
-          ∙ sym (held.so_far
+          ∙ ap heard (sym (held.so_far
           ∙ (branch_left f clauses i clause (subst (λ cs. i < length cs) is c.loop-clause-test.true)
           (c.clause-item.is ∙ ap (λ cs. get_or cs i clause) is)
-          ∙ first));
+          ∙ first)));
       fit = got.fit;
     }
 
@@ -716,10 +744,10 @@ branch_events-loop-clause-preserved t c =
     let found = c.in_ok-found.found.items in
     let f : Expression → List Event
     = λ part. sat axioms (state_in old scene) (level - 1) part (bindings_of old s) in
-    let met : found_events new found ≡ f (expression_of clause.body)
+    let met : AreHeardAlike (found_events new found) (f (expression_of clause.body))
     = got.found
-    ∙ sat_stays old mid held.grows (stage_in scene) c.requires.world s c.requires.slots axioms (level - 1)
-    (expression_of clause.body) in
+    ∙ ap heard (sat_stays old mid held.grows (stage_in scene) c.requires.world s c.requires.slots axioms (level - 1)
+    (expression_of clause.body)) in
     let many = eqb-true (vec_len c.in_ok-found.found) 0 (sym c.is_empty.ensures ∙ c.if-not-is_empty.false) in
     let none : length found ≡ 0 = omega (arith, many, c.in_ok-found.found.ok.0) in
     record {
@@ -728,6 +756,6 @@ branch_events-loop-clause-preserved t c =
           held.so_far
           ∙ (branch_left f clauses i clause (subst (λ cs. i < length cs) is c.loop-clause-test.true)
           (c.clause-item.is ∙ ap (λ cs. get_or cs i clause) is)
-          ∙ first_passes (f (expression_of clause.body)) (first_list f (map clause_of (drop (i + 1) clauses)))
-          (omega (arith, none, length-map found (found_event new), ap length met)));
+          ∙ first_passes new found (f (expression_of clause.body)) (first_list f (map clause_of (drop (i + 1) clauses)))
+          met (nil_from_length found none));
     }

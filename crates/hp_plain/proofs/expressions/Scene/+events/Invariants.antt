@@ -6,7 +6,7 @@ use Rattle.hp_syntax.specs.Views.{axiom_of, clause_of, expression_of, expression
 use Rattle.hp_eval.specs.GoalViews.{goal_of}
 use Rattle.hp_eval.specs.Growth.{Grows}
 use Rattle.hp_eval.specs.Slotted.{bindings_of}
-use Rattle.hp_plain.specs.Founds.{found_events, AllFit, FindsUpTo, turned}
+use Rattle.hp_plain.specs.Founds.{found_events, AllFit, AreHeardAlike, HearsUpTo, turned}
 use Rattle.hp_plain.specs.Rulebooks.{concluding}
 use Rattle.hp_plain.specs.Scenes.{rules_in, axioms_in, state_in, atoms_at, branches_at}
 use Rattle.hp_plain.proofs.Sizes.{size, sizes, left_to_do}
@@ -54,9 +54,10 @@ invariant-all_events-loop-part l =
     record {
       grows : Grows l.fn.cells l.cells;
       fit : AllFit l.vars (length l.cells) l.found.items;
-      so_far : through (found_events l.cells l.found.items)
-          (λ b. events_of_all atoms (expressions_of (drop l.part-index l.parts)) b)
-          ≡ events_of_all atoms (expressions_of l.parts) (bindings_of l.fn.cells l.slots);
+      so_far : AreHeardAlike
+          (through (found_events l.cells l.found.items)
+          (λ b. events_of_all atoms (expressions_of (drop l.part-index l.parts)) b))
+          (events_of_all atoms (expressions_of l.parts) (bindings_of l.fn.cells l.slots));
     }
 
 abbrev pub invariant-any_events-loop-part : goal.invariant-any_events-loop-part
@@ -65,7 +66,7 @@ invariant-any_events-loop-part l =
     let e = bindings_of l.fn.cells l.slots in
     record {
       grows : Grows l.fn.cells l.cells;
-      found : FindsUpTo l.cells (length l.slots.values) l.found.items
+      found : HearsUpTo l.cells (length l.slots.values) l.found.items
           (events_of_any atoms (expressions_of l.parts) e)
           (events_of_any atoms (expressions_of (drop l.part-index l.parts)) e);
     }
@@ -76,7 +77,7 @@ invariant-each_events-loop-x l =
     = λ b. turned l.negate (sat (axioms_in l.self) (state_in l.fn.cells l.self) l.level (expression_of l.part) b) b in
     record {
       grows : Grows l.fn.cells l.cells;
-      found : FindsUpTo l.cells l.vars l.all.items (through (found_events l.fn.cells l.found) f)
+      found : HearsUpTo l.cells l.vars l.all.items (through (found_events l.fn.cells l.found) f)
           (through (found_events l.fn.cells (drop l.x-index l.found)) f);
     }
 
@@ -89,7 +90,7 @@ invariant-goal_events-loop-place l =
     let e = bindings_of l.fn.cells l.slots in
     record {
       grows : Grows l.fn.cells l.cells;
-      found : FindsUpTo l.cells (length l.slots.values) l.found.items (goal_events state axioms branches e (Ok q))
+      found : HearsUpTo l.cells (length l.slots.values) l.found.items (goal_events state axioms branches e (Ok q))
           (flat_map (axiom_events branches q e) (drop l.place-index (concluding q.name (rules_in l.self))));
     }
 

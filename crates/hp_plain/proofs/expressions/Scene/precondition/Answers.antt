@@ -1,10 +1,10 @@
 use Rattle.std.proofs.Common.{length, ◌∙◌, ap}
 use Rattle.std.proofs.lemmas.Result.{IfOk-weaker}
 use Rattle.hp_syntax.specs.Events.{sat}
-use Rattle.hp_syntax.specs.Preconditions.{heard, up_to_sat, keyed, sorted_events}
+use Rattle.hp_syntax.specs.Preconditions.{up_to_sat, keyed, sorted_events}
 use Rattle.hp_syntax.specs.Views.{key_of, expression_of}
 use Rattle.hp_eval.specs.Slotted.{bindings_of}
-use Rattle.hp_plain.specs.Founds.{Finds}
+use Rattle.hp_plain.specs.Founds.{Hears}
 use Rattle.hp_plain.specs.Scenes.{axioms_in, state_in}
 use Rattle.hp_plain.proofs.FoundLemmas.{finds_same}
 use Rattle.hp_plain.proofs.PreconditionLemmas.{plain_events, first_events, ordered_events, finds_vars}
@@ -19,7 +19,7 @@ returns-in_ok-events-in-Plain-clause-finds c =
     let vars = length c.args.slots.now.values in
     let found = c.in_ok-events-in-Plain.field-0.items in
     let events = sat (axioms_in scene) state c.args.nest (expression_of c.in-Plain.expr) e in
-    let met : Finds new vars found events =
+    let met : Hears new vars found events =
     record { stand = c.in_ok-events-in-Plain.ensures.found; fit = c.in_ok-events-in-Plain.ensures.fit } in
     finds_same new vars c.heard.result.items _ _
     (plain_events (axioms_in scene) c.args.nest state c.args.pre.now e c.in-Plain.expr c.in-Plain.is)
@@ -33,7 +33,7 @@ returns-in_ok-found-in-First-clause-finds c =
     let new = c.first.new.cells in
     let vars = length c.args.slots.now.values in
     let same =
-    ap (λ xs. up_to_sat (heard xs)) c.in_ok-found-in-First.ensures.found
+    ap up_to_sat c.in_ok-found-in-First.ensures.found
     ∙ first_events (axioms_in scene) c.args.nest state c.args.pre.now e c.in-First.expr c.in-First.is in
     IfOk-weaker c.first.result _ _
     (λ v h. finds_same new vars v.items _ _ same (finds_vars new c.vars.result vars v.items _ c.vars.ensures h))
@@ -48,7 +48,7 @@ returns-in_ok-found-in-Sorted-clause-finds c =
     let vars = length c.args.slots.now.values in
     let k = key_of c.in-Sorted.key in
     let same =
-    ap (λ xs. sorted_events k.order (keyed k (heard xs))) c.in_ok-found-in-Sorted.ensures.found
+    ap (λ xs. sorted_events k.order (keyed k xs)) c.in_ok-found-in-Sorted.ensures.found
     ∙ ordered_events (axioms_in scene) c.args.nest state c.args.pre.now e c.in-Sorted.key c.in-Sorted.expr
     c.in-Sorted.is in
     IfOk-weaker c.sorted.result _ _

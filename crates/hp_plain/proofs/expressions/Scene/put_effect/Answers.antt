@@ -6,7 +6,7 @@ use Rattle.hp_syntax.specs.Events.{sat}
 use Rattle.hp_syntax.specs.Views.{atoms_of, expression_of}
 use Rattle.hp_eval.specs.Slotted.{bindings_of}
 use Rattle.hp_world.specs.Stages.{changes_of}
-use Rattle.hp_plain.specs.Founds.{Finds, Fits, BindsBelow}
+use Rattle.hp_plain.specs.Founds.{Hears, Fits, BindsBelow}
 use Rattle.hp_plain.specs.Scenes.{axioms_in, state_in}
 use Rattle.hp_plain.specs.Effected.{only_atoms, PutsAll}
 use Rattle.hp_plain.proofs.FoundLemmas.{fits_below}
@@ -20,7 +20,7 @@ put_each-requires-clause-found c =
     let events =
     sat (axioms_in c.args.self.now) (state_in c.args.cells.now c.args.self.now) c.args.nest
     (expression_of c.in-Forall.expr) (bindings_of c.args.cells.now c.args.slots.now) in
-    let met : Finds new vars c.in_ok-events-in-Forall.field-0.items events =
+    let met : Hears new vars c.in_ok-events-in-Forall.field-0.items events =
     record { stand = c.in_ok-events-in-Forall.ensures.found; fit = c.in_ok-events-in-Forall.ensures.fit } in
     let heard_all = c.heard-found.ensures new vars events met in
     subst (All (BindsBelow (length new))) (sym c.as_slice-in-Forall.ensures.value)
@@ -38,7 +38,7 @@ returns-in_ok-events-in-Forall-clause-puts c =
     let e = bindings_of old c.args.slots.now in
     let vars = length c.args.slots.now.values in
     let events = sat axioms state c.args.nest (expression_of c.in-Forall.expr) e in
-    let met : Finds met_in vars c.in_ok-events-in-Forall.field-0.items events =
+    let met : Hears met_in vars c.in_ok-events-in-Forall.field-0.items events =
     record { stand = c.in_ok-events-in-Forall.ensures.found; fit = c.in_ok-events-in-Forall.ensures.fit } in
     let as' = atoms_of c.in-Forall.atoms.items in
     let atoms = c.as_slice.result.now in

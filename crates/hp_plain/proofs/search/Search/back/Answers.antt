@@ -1,4 +1,4 @@
-use Rattle.std.proofs.Common.{◌≡◌, length, sym, subst, refl, [], rules}
+use Rattle.std.proofs.Common.{◌≡◌, length, sym, subst, refl, rules}
 use Rattle.hp_net.specs.Standings.{gone_back}
 use Rattle.hp_plain.specs.Searches.{stands_in, Goes}
 use Rattle.hp_plain.proofs.SearchLemmas.{goes_back, back_at_root, none_from_length}

@@ -1,4 +1,4 @@
-use Rattle.std.proofs.Common.{length, sym, subst, refl, false}
+use Rattle.std.proofs.Common.{sym, subst, refl, false}
 use Rattle.std.specs.List.{All}
 use Rattle.hp_syntax.specs.Views.{domain_of}
 use Rattle.hp_plain.specs.declared.search.Search.{Search}

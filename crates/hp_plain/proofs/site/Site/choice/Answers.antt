@@ -1,7 +1,7 @@
-use Rattle.std.proofs.Common.{length, ap}
+use Rattle.std.proofs.Common.{ap}
 use Rattle.std.proofs.lemmas.Result.{IfOk-weaker}
 use Rattle.hp_syntax.specs.Syntax.{Does, Refines}
-use Rattle.hp_syntax.specs.Views.{axiom_of, method_of, operator_of}
+use Rattle.hp_syntax.specs.Views.{method_of, operator_of}
 use Rattle.hp_syntax.specs.declared.domain.Rule.TheVariants as rules
 use Rattle.hp_plain.specs.Sites.{children_by, node_at_site, place_at, rules_at, term_at_site}
 use Rattle.hp_plain.specs.Spots.{HasFew}

@@ -1,4 +1,4 @@
-use Rattle.std.proofs.Common.{pos, neg_ℤ, ◌-◌, ◌≤ℤ◌, ◌<◌, ℕ, length, ap, sym, ◌∙◌, refl, subst, arith}
+use Rattle.std.proofs.Common.{pos, neg_ℤ, ◌-◌, ◌≤ℤ◌, ◌<◌, length, ap, sym, ◌∙◌, refl, subst, arith}
 use Rattle.std.proofs.lemmas.List.Elements.{All-same}
 use Rattle.hp_syntax.specs.Networks.{normal}
 use Rattle.hp_eval.specs.GoalViews.{network_of}

@@ -1,10 +1,6 @@
-use Rattle.std.proofs.Common.{w64, pos, neg_ℤ, ◌-◌, ◌≤ℤ◌, ℤ, ◌∷◌, [], ◌++◌, length, ap, sym, ◌∙◌, refl, subst, arith}
+use Rattle.std.proofs.Common.{w64, pos, neg_ℤ, ◌-◌, ◌≤ℤ◌, ◌∷◌, [], ◌++◌, length, ap, sym, ◌∙◌, refl, subst, arith}
 use Rattle.std.proofs.lemmas.Int.{to_z-of_z}
 use Rattle.hp_plain.specs.Spots.{most_cost}
-use Rattle.std.proofs.lemmas.List.Elements.{All-append, All-cons, All-nil, All-same}
-use Rattle.hp_eval.specs.GoalViews.{term_at}
-use Rattle.hp_world.specs.Stages.{terms_at}
-use Rattle.hp_plain.specs.Sites.{place_at}
 use Rattle.hp_plain.proofs.SiteSteps.{low_after, high_after, cost_added, did, finish_given, entries_given, steps_below, steps_named}
 use Rattle.hp_plain.proofs.site.Site.finished.Goals as goal
 

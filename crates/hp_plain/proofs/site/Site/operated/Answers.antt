@@ -1,11 +1,10 @@
-use Rattle.std.proofs.Common.{w64, FitsSigned, rules, length, ap, ap₂, sym, subst, ◌∙◌}
+use Rattle.std.proofs.Common.{w64, FitsSigned, rules, ap, sym, subst, ◌∙◌}
 use Rattle.std.proofs.lemmas.Int.{to_z-of_z}
 use Rattle.std.proofs.lemmas.Result.{IfOk-weaker}
 use Rattle.hp_syntax.specs.Changes.{apply, effects}
-use Rattle.hp_syntax.specs.Events.{axioms_of}
-use Rattle.hp_syntax.specs.Views.{domain_of, operator_of}
+use Rattle.hp_syntax.specs.Views.{operator_of}
 use Rattle.hp_eval.specs.Slotted.{bindings_of}
-use Rattle.hp_world.specs.Stages.{state_of, changes_of}
+use Rattle.hp_world.specs.Stages.{changes_of}
 use Rattle.hp_plain.specs.Effected.{ComesTo}
 use Rattle.hp_plain.specs.Scenes.{axioms_in, state_in}
 use Rattle.hp_syntax.specs.Walk.{operated}

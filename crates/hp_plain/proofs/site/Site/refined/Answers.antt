@@ -1,9 +1,7 @@
-use Rattle.std.proofs.Common.{length, subst, Ok}
 use Rattle.std.proofs.lemmas.Result.{IfOk-weaker}
 use Rattle.hp_syntax.specs.Networks.{tasks_value}
 use Rattle.hp_syntax.specs.Views.{tasks_of}
 use Rattle.hp_eval.specs.GoalViews.{network_of}
-use Rattle.hp_eval.specs.Growth.{GivesBy}
 use Rattle.hp_eval.specs.Slotted.{bindings_of}
 use Rattle.hp_plain.specs.Sites.{node_at_site, place_at}
 use Rattle.hp_plain.proofs.NodeLemmas.{node_stays}
