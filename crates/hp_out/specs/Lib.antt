@@ -1,3 +1,5 @@
+pub mod Endings
 pub mod Lines
+pub mod Pages
 pub mod RefusalTexts
 pub mod Writing

@@ -1,12 +1,18 @@
 //! What is written: the lines of a run, through a sink.
 #![tactic(auto)]
 
+mod ending;
+mod endings;
+mod page;
 mod pen;
+mod plans;
 mod refusal;
+mod terms;
 #[cfg(test)]
 mod tests;
 mod words;
 mod writing;
 
+pub use ending::Ending;
 pub use pen::Pen;
 pub use refusal::Refusal;

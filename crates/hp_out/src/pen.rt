@@ -1,18 +1,26 @@
 //! The pen of a run.
 
-ghost use Rattle.std.specs.Prelude.{◌≡◌, ◌≤◌, ◌++◌, OnErr, codes};
+ghost use Rattle.std.specs.Prelude.{◌≡◌, ◌≤◌, ◌++◌, OnErr, MatchOption, codes, true};
 ghost use Rattle.std.specs.List.{flat_map};
 ghost use Rattle.hp_check.specs.NoteViews.{note_of};
 ghost use Rattle.hp_io.specs.Rules.{Rose};
+ghost use Rattle.hp_net.specs.Standings.{node_reached};
+ghost use Rattle.hp_out.specs.Endings.{ending_of};
 ghost use Rattle.hp_out.specs.Lines.{kind_word, at_offset, at_span, span_text, refused, refused_read, note_place, note_text};
 ghost use Rattle.hp_out.specs.RefusalTexts.{refusal_text};
 ghost use Rattle.hp_out.specs.Writing.{Writes};
+ghost use Rattle.hp_syntax.specs.Report.{ending_text, told_plan};
 
+use crate::ending::Ending;
+use crate::endings::push_ending;
+use crate::page::Page;
+use crate::plans::push_told;
 use crate::refusal::Refusal;
 use crate::words::{check_word, input_word, kind_word, text_of, what_word};
 use crate::writing::{write_all, write_pieces};
 use hp_check::Note;
 use hp_io::{Failed, Input, Sink};
+use hp_net::Walk;
 use hp_syntax::{Span, TextKind};
 use itoa::Buffer;
 
@@ -167,5 +175,39 @@ impl<'a, K: Sink> Pen<'a, K> {
         self.text(b"note NoRule ")?;
         self.text(note.name.bytes())?;
         self.note_place(note.in_problem, note.span)
+    }
+
+    /// Writes the plan that a walk stands at, by its number: its line, a line for each step and, where states are asked
+    /// for, what holds and what is protected at its end. A plan goes out in one piece, or in pieces of a page.
+    pub fn plan_lines<W: Walk>(&mut self, number: u64, walk: &W, states: bool) -> Result<(), Failed>
+        requires live { W.is_live walk.now ≡ true }
+        ensures same_reference { self.new.sink.ghost_name ≡ self.old.sink.ghost_name }
+        ensures writes { MatchOption (node_reached (W.tree walk.now) (W.stands walk.now)) ⊥
+            (λ n. Writes result (told_plan states number n)
+            (K.bytes self.old.sink.now) (K.bytes self.new.sink.now)) }
+        ensures later { K.faults self.old.sink.now ≤ K.faults self.new.sink.now }
+        ensures cause { OnErr result (Rose (K.faults self.old.sink.now) (K.faults self.new.sink.now)) }
+    {
+        let mut page = Page::new();
+        push_told(&mut page, self.sink, number, walk, states)?;
+        page.flush(self.sink)
+    }
+
+    /// Writes the one line of an ending, with how many plans were found, and by how many expansions.
+    pub fn ending_line(
+        &mut self,
+        ending: &Ending,
+        plans: u64,
+        expansions: u64,
+    ) -> Result<(), Failed>
+        ensures same_reference { self.new.sink.ghost_name ≡ self.old.sink.ghost_name }
+        ensures writes { Writes result (ending_text (ending_of ending.now) plans expansions)
+            (K.bytes self.old.sink.now) (K.bytes self.new.sink.now) }
+        ensures later { K.faults self.old.sink.now ≤ K.faults self.new.sink.now }
+        ensures cause { OnErr result (Rose (K.faults self.old.sink.now) (K.faults self.new.sink.now)) }
+    {
+        let mut line = Page::new();
+        push_ending(&mut line, self.sink, ending, plans, expansions)?;
+        line.flush(self.sink)
     }
 }

@@ -1,7 +1,14 @@
-use crate::{Pen, Refusal};
+ghost use Rattle.std.specs.Prelude.{◌<◌, IfOk, length};
+ghost use Rattle.hp_cells.specs.Cells.{NamesList};
+
+use crate::page::Page;
+use crate::terms::push_term;
+use crate::{Ending, Pen, Refusal};
+use hp_cells::{Cell, Cells};
 use hp_check::Note;
 use hp_io::{Input, MemSink};
-use hp_syntax::{CheckFault, CheckKind, Name, Span, TextKind, What};
+use hp_syntax::{CheckFault, CheckKind, FaultKind, Name, RunFault, Span, TextKind, What};
+use std::alloc::AllocError;
 use std::test::Fail;
 
 const SPAN: Span = Span { from: 25, to: 29 };
@@ -84,5 +91,93 @@ fn a_line_that_fails_leaves_its_front(rt: HostRuntime) -> Result<(), Fail> {
             &b"refused domain UnknownOrder at 25-29\n"[..room]
         );
     }
+    Ok(())
+}
+
+fn zero_divisor() -> RunFault {
+    RunFault {
+        kind: FaultKind::ZeroDivisor,
+        span: SPAN,
+    }
+}
+
+#[test]
+fn endings_have_a_line_each(rt: HostRuntime) -> Result<(), Fail> {
+    for (ending, line) in [
+        (
+            Ending::Stopped,
+            b"stopped plans 2 expansions 12\n".as_slice(),
+        ),
+        (Ending::End, b"end plans 2 expansions 12\n"),
+        (Ending::Cut, b"cut plans 2 expansions 12\n"),
+        (
+            Ending::Fault(zero_divisor()),
+            b"fault ZeroDivisor at 25-29 plans 2 expansions 12\n",
+        ),
+    ] {
+        // It goes out in one piece, since a second write would fail.
+        let mut sink = MemSink::new(rt.alloc(), 100)?;
+        sink.fail_at(1)?;
+        let mut pen = Pen::new(&mut sink);
+        assert!(rt; pen.ending_line(&ending, 2, 12).is_ok());
+        assert_eq!(rt; sink.bytes(), line);
+        let mut slow = MemSink::new(rt.alloc(), 100)?;
+        slow.take_at_most(3);
+        let mut pen = Pen::new(&mut slow);
+        assert!(rt; pen.ending_line(&ending, 2, 12).is_ok());
+        assert_eq!(rt; slow.bytes(), line);
+    }
+    Ok(())
+}
+
+#[test]
+fn an_ending_that_fails_leaves_its_front(rt: HostRuntime) -> Result<(), Fail> {
+    for room in 0..67 {
+        let mut sink = MemSink::new(rt.alloc(), room)?;
+        sink.take_at_most(3);
+        let mut pen = Pen::new(&mut sink);
+        assert!(rt;
+            pen.ending_line(&Ending::Fault(zero_divisor()), 0, u64::MAX)
+                .is_err()
+        );
+        assert_eq!(rt;
+            sink.bytes(),
+            &b"fault ZeroDivisor at 25-29 plans 0 expansions 18446744073709551615\n"[..room]
+        );
+    }
+    Ok(())
+}
+
+// The list with one more part, the empty list.
+fn longer(cells: &mut Cells, list: Cell) -> Result<Cell, AllocError>
+    requires { NamesList cells.old list }
+    ensures { IfOk result (λ cell. NamesList cells.new cell) }
+{
+    let nil = cells.nil();
+    cells.cons(nil, list)
+}
+
+// The list of so many empty lists.
+fn long_list(cells: &mut Cells, parts: u32) -> Result<Cell, AllocError>
+    ensures { IfOk result (λ cell. cell < length cells.new) }
+{
+    let mut list = cells.nil();
+    'parts: for _ in 0..parts {
+        list = longer(cells, list)?;
+    }
+    Ok(list)
+}
+
+#[test]
+fn long_lists_need_no_deep_stack(rt: HostRuntime) -> Result<(), Fail> {
+    let mut cells = Cells::new(rt.alloc())?;
+    let list = long_list(&mut cells, 100_000)?;
+    // Its 300,001 bytes go out in 74 pages, since one more write would fail.
+    let mut sink = MemSink::new(rt.alloc(), 300_001)?;
+    sink.fail_at(74)?;
+    let mut page = Page::new();
+    assert!(rt; push_term(&mut page, &mut sink, &cells, list).is_ok());
+    assert!(rt; page.flush(&mut sink).is_ok());
+    assert!(rt; sink.bytes().len() == 300_001);
     Ok(())
 }

@@ -2,9 +2,10 @@
 
 ghost use Rattle.std.specs.Prelude.{◌≡◌};
 ghost use Rattle.hp_out.specs.Lines.{what_word, kind_word, check_word, input_word, text_of};
+ghost use Rattle.hp_syntax.specs.Report.{kind_text};
 
 use hp_io::Input;
-use hp_syntax::{CheckKind, TextKind, What};
+use hp_syntax::{CheckKind, FaultKind, TextKind, What};
 
 pub fn what_word(what: What) -> &'static [u8]
     ensures { result.now ≡ what_word what }
@@ -57,6 +58,20 @@ pub fn check_word(kind: CheckKind) -> &'static [u8]
         CheckKind::TooManyVariables => b"TooManyVariables",
         CheckKind::ExprNested => b"ExprNested",
         CheckKind::UnknownOrder => b"UnknownOrder",
+    }
+}
+
+pub fn fault_word(kind: FaultKind) -> &'static [u8]
+    ensures { result.now ≡ kind_text kind }
+{
+    match kind {
+        FaultKind::NotGround => b"NotGround",
+        FaultKind::NotNumber => b"NotNumber",
+        FaultKind::Overflow => b"Overflow",
+        FaultKind::ZeroDivisor => b"ZeroDivisor",
+        FaultKind::NegativePower => b"NegativePower",
+        FaultKind::NotList => b"NotList",
+        FaultKind::TooDeep => b"TooDeep",
     }
 }
 

@@ -1,0 +1,105 @@
+-- The texts of plans and endings, of the parts that are put one behind the other.
+use Rattle.std.proofs.Common.{◌≡◌, ℕ, ◌<◌, ◌^◌, ◌-◌, ℤ, FitsSigned, to_z, of_z, List, ◌++◌, Option, Some, None, Bool, true, cond, [], length, codes, decimal, min, refl, ap, sym, ◌∙◌, arith, append_assoc}
+use Rattle.std.specs.Fmt.{signed_decimal}
+use Rattle.std.specs.Int.{w128}
+use Rattle.std.specs.Option.{MatchOption}
+use Rattle.std.proofs.lemmas.Int.{to_z-of_z}
+use Rattle.std.proofs.lemmas.List.{length-map}
+use Rattle.hp_eval.specs.GoalViews.{term_at}
+use Rattle.hp_syntax.specs.Report as report
+use Rattle.hp_syntax.specs.Report.{lines_text, plan_text, state_text, told_plan, ending_word, ending_text}
+use Rattle.hp_syntax.specs.Terms.{Term}
+use Rattle.hp_syntax.specs.Walk.{Node}
+use Rattle.hp_world.specs.Stages.{Stage, live_atoms, terms_at, state_of, guards_of}
+
+-- ---- plans
+
+-- the line of a plan, its cost as a call is passed it
+abbrev pub head_text : ℕ → ℤ → ℕ → List ℕ
+head_text i cost count =
+    codes "plan " ++ decimal i ++ codes " cost " ++ signed_decimal (to_z w128 (of_z w128 cost)) ++ codes " steps "
+    ++ decimal count ++ codes "\n"
+
+plan_shape : (n : Node) (i : ℕ) (cost : ℤ) (count : ℕ) (steps : List Term) → n.steps ≡ steps
+    → n.cost ≡ to_z w128 (of_z w128 cost) → count ≡ length steps
+    → head_text i cost count ++ lines_text steps ≡ plan_text i n
+unfolding plan_text
+plan_shape n i cost count steps s c k = rw (k, ← s, ← c) refl
+
+-- the line of a plan and then the lines of its steps
+pub plan_parts : (n : Node) (i : ℕ) (cost : ℤ) (terms : List Term) (steps : List ℕ) → n.steps ≡ terms_at terms steps
+    → n.cost ≡ cost → FitsSigned w128 cost
+    → head_text i cost (length steps) ++ lines_text (terms_at terms steps) ≡ plan_text i n
+plan_parts n i cost terms steps s c fits =
+    plan_shape n i cost (length steps) (terms_at terms steps) s (c ∙ sym (to_z-of_z w128 cost fits))
+    (sym (length-map steps (term_at terms)))
+
+-- ---- states
+
+-- a word and a count
+abbrev pub count_line : List ℕ → ℕ → List ℕ
+count_line word count = word ++ decimal count ++ codes "\n"
+
+-- a line for each atom
+abbrev pub atoms_text : List Term → Stage → List ℕ
+atoms_text terms s = lines_text (state_of terms s)
+
+-- the count of the protections and a line for each
+abbrev pub guards_text : List Term → List ℕ → List ℕ
+guards_text terms guards = count_line (codes "protections ") (length guards) ++ lines_text (terms_at terms guards)
+
+regrouped : (a b c d e f g h : List ℕ)
+    → (a ++ b ++ c) ++ (d ++ (e ++ f ++ g ++ h)) ≡ a ++ b ++ c ++ d ++ e ++ f ++ g ++ h
+regrouped a b c d e f g h = simp append_assoc
+
+state_shape : (n : Node) (atoms guards : List Term) (count protections : ℕ) → n.state ≡ atoms → n.guards ≡ guards
+    → count ≡ length atoms → protections ≡ length guards
+    → count_line (codes "state ") count
+    ++ (lines_text atoms ++ (count_line (codes "protections ") protections ++ lines_text guards)) ≡ state_text n
+unfolding state_text
+state_shape n atoms guards count protections s g k l =
+    rw (k, l, ← s, ← g)
+    (regrouped (codes "state ") (decimal (length n.state)) (codes "\n") (lines_text n.state) (codes "protections ")
+    (decimal (length n.guards)) (codes "\n") (lines_text n.guards))
+
+-- the atoms and then the protections, each behind their count
+pub state_parts : (n : Node) (terms : List Term) (s : Stage) (count : ℕ) → n.state ≡ state_of terms s
+    → n.guards ≡ guards_of terms s → count ≡ length (live_atoms s.places)
+    → count_line (codes "state ") count ++ (atoms_text terms s ++ guards_text terms s.guards) ≡ state_text n
+state_parts n terms s count a g k =
+    state_shape n (state_of terms s) (guards_of terms s) count (length s.guards) a g
+    (k ∙ sym (length-map (live_atoms s.places) (term_at terms))) (sym (length-map s.guards (term_at terms)))
+
+-- a plan with its state, where states are asked for
+pub told_with_state : (states : Bool) (i : ℕ) (n : Node) → states ≡ true
+    → plan_text i n ++ state_text n ≡ told_plan states i n
+told_with_state states i n e = ap (λ b. plan_text i n ++ cond b (state_text n) []) (sym e)
+
+-- ---- endings
+
+-- how many plans were found and by how many expansions
+abbrev pub counts_text : ℕ → ℕ → List ℕ
+counts_text plans expansions =
+    codes " plans " ++ decimal plans ++ codes " expansions " ++ decimal expansions ++ codes "\n"
+
+-- the words of an ending and then the counts
+pub ending_parts : (x : report.Ending) (plans expansions : ℕ) → expansions < 2 ^ 64
+    → ending_word x ++ counts_text plans expansions ≡ ending_text x plans expansions
+unfolding ending_text
+ending_parts x plans expansions h =
+    let e : min expansions (2 ^ 64 - 1) ≡ expansions = omega arith in
+    rw e (simp append_assoc)
+
+-- ---- a value that there is
+
+-- what follows of a value, where there is one
+pub for_one : {A : Type 0} (o : Option A) (P R : A → Type 0) → MatchOption o ⊥ P → ((x : A) → P x → R x)
+    → MatchOption o ⊥ R
+for_one None P R p f = p
+for_one (Some x) P R p f = f x p
+
+-- what follows of two facts of a value, where there is one
+pub for_two : {A : Type 0} (o : Option A) (P Q R : A → Type 0) → MatchOption o ⊥ P → MatchOption o ⊥ Q
+    → ((x : A) → P x → Q x → R x) → MatchOption o ⊥ R
+for_two None P Q R p q f = p
+for_two (Some x) P Q R p q f = f x p q

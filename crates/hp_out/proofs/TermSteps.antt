@@ -1,0 +1,140 @@
+-- The texts of terms that cells name.
+use Rattle.std.proofs.Common.{◌≡◌, ℕ, ℤ, ◌<◌, List, [], ◌∷◌, ◌++◌, Option, Some, None, length, codes, get_or, slice_get, refl, ap, sym, ◌∙◌, append-nil}
+use Rattle.std.specs.Fmt.{signed_decimal}
+use Rattle.std.proofs.lemmas.List.{map-append}
+use Rattle.std.proofs.lemmas.List.Concat.{flat_map-append}
+use Rattle.std.proofs.lemmas.Option.{slice_get-get_or, slice_get_within, get_or_from_slice_get}
+use Rattle.hp_cells.specs.Cells.{NamesList, IsCons}
+use Rattle.hp_cells.specs.Keys.{parts_of}
+use Rattle.hp_cells.specs.Shows.{Shows}
+use Rattle.hp_cells.specs.declared.keys.View.{View}
+use Rattle.hp_cells.specs.declared.keys.View.TheVariants.{Nil, Sym, Num, Cons}
+use Rattle.hp_eval.specs.GoalViews.{term_at, term_or_nil}
+use Rattle.hp_out.proofs.PageSteps.{Joins}
+use Rattle.hp_syntax.specs.Report.{lines_text}
+use Rattle.hp_syntax.specs.Terms.{Term, Terms, Symbol, Number, Listed, NoTerm}
+use Rattle.hp_syntax.specs.TermTexts.{term_text, terms_text}
+use Rattle.hp_world.specs.Stages.{live_atoms, terms_at}
+
+-- ---- terms
+
+-- what is shown of the term that a cell names
+abbrev pub IsShown : List Term → ℕ → View → Type 0
+IsShown terms cell v = (t : Term) → slice_get terms cell ≡ Some t → Shows terms v t
+
+named : (terms : List Term) (cell : ℕ) (t : Term) → slice_get terms cell ≡ Some t → term_at terms cell ≡ t
+named terms cell t h = ap term_or_nil h
+
+-- a cell below the count of terms names the term at its place
+pub stands_at : (terms : List Term) (cell : ℕ) → cell < length terms
+    → slice_get terms cell ≡ Some (term_at terms cell)
+stands_at terms cell h =
+    let e = slice_get-get_or terms cell (Listed NoTerm) h in
+    e ∙ ap Some (sym (named terms cell (get_or terms cell (Listed NoTerm)) e))
+
+pub shown_at : (terms : List Term) (cell : ℕ) (v : View) → cell < length terms → IsShown terms cell v
+    → Shows terms v (term_at terms cell)
+shown_at terms cell v h s = s (term_at terms cell) (stands_at terms cell h)
+
+-- the cell of a list names a term
+pub list_within : (terms : List Term) (cell : ℕ) → NamesList terms cell → cell < length terms
+list_within terms cell n = slice_get_within terms cell (Listed n.0) n.1
+
+-- the parts of a list, where it has some
+pub cons_shown : (terms : List Term) (cell head tail : ℕ) → NamesList terms cell → IsShown terms cell (Cons head tail)
+    → IsCons terms head tail (term_at terms cell)
+cons_shown terms cell head tail n s = shown_at terms cell (Cons head tail) (list_within terms cell n) s
+
+-- what follows in the list that a cell names
+abbrev pub rest_at : List Term → ℕ → List ℕ
+rest_at terms cell = terms_text (parts_of (term_at terms cell))
+
+module _ (terms : List Term) (cell head tail : ℕ) (c : IsCons terms head tail (term_at terms cell)) where
+  pub head_within : head < length terms
+  head_within = slice_get_within terms head c.first c.head_names
+
+  pub tail_list : NamesList terms tail
+  tail_list = (c.rest, c.tail_names)
+
+  -- a list has the text of its first part and then that of the others
+  pub cons_text : codes "(" ++ (term_text (term_at terms head) ++ rest_at terms tail)
+      ≡ term_text (term_at terms cell)
+  cons_text =
+      rw (named terms head c.first c.head_names, named terms tail (Listed c.rest) c.tail_names, c.whole) refl
+
+  -- what follows in a list is the text of its first part and then that of the others
+  pub parts_text : codes " " ++ (term_text (term_at terms head) ++ rest_at terms tail) ≡ rest_at terms cell
+  parts_text =
+      rw (named terms head c.first c.head_names, named terms tail (Listed c.rest) c.tail_names, c.whole) refl
+
+-- a symbol has its name as its text
+pub symbol_text : (name : List ℕ) (t : Term) → t ≡ Symbol name → name ≡ term_text t
+symbol_text name t e = sym (ap term_text e)
+
+-- a number has its digits as its text
+pub number_text : (n : ℤ) (t : Term) → t ≡ Number n → signed_decimal n ≡ term_text t
+number_text n t e = sym (ap term_text e)
+
+-- where the cell of a list names no more parts, the closing bracket follows
+pub end_text : (terms : List Term) (cell : ℕ) (v : View) → NamesList terms cell → IsShown terms cell v
+    → ((head tail : ℕ) → v ≡ Cons head tail → ⊥) → codes ")" ≡ rest_at terms cell
+end_text terms cell v n s other = by v s other
+  where
+    at : (ts : Terms) → Listed n.0 ≡ Listed ts → terms_text ts ≡ rest_at terms cell
+    at ts e = ap (λ t. terms_text (parts_of t)) (sym e ∙ sym (named terms cell (Listed n.0) n.1))
+
+    by : (v : View) → IsShown terms cell v → ((head tail : ℕ) → v ≡ Cons head tail → ⊥)
+        → codes ")" ≡ rest_at terms cell
+    by Nil s other = at NoTerm (s (Listed n.0) n.1)
+    by (Sym name) s other = let e : Listed n.0 ≡ Symbol name.now = s (Listed n.0) n.1 in absurd (cc)
+    by (Num m) s other = let e : Listed n.0 ≡ Number m = s (Listed n.0) n.1 in absurd (cc)
+    by (Cons head tail) s other = absurd (other head tail refl)
+
+-- ---- lines
+
+-- a line for each of the terms that these cells name
+abbrev pub cells_text : List Term → List ℕ → List ℕ
+cells_text terms cells = lines_text (terms_at terms cells)
+
+-- a line for each atom at these places
+abbrev pub places_text : List Term → List (Option ℕ) → List ℕ
+places_text terms places = cells_text terms (live_atoms places)
+
+-- the line of a term
+abbrev pub line_at : List Term → ℕ → List ℕ
+line_at terms cell = term_text (term_at terms cell) ++ codes "\n"
+
+pub lines_joined : (terms : List Term) → Joins (cells_text terms)
+lines_joined terms xs ys =
+    ap lines_text (map-append (term_at terms) xs ys)
+    ∙ flat_map-append (λ t. term_text t ++ codes "\n") (terms_at terms xs) (terms_at terms ys)
+
+live_joined : (ps qs : List (Option ℕ)) → live_atoms (ps ++ qs) ≡ live_atoms ps ++ live_atoms qs
+live_joined [] qs = refl
+live_joined (None ∷ ps) qs = live_joined ps qs
+live_joined (Some a ∷ ps) qs = ap (λ xs. a ∷ xs) (live_joined ps qs)
+
+pub places_joined : (terms : List Term) → Joins (places_text terms)
+places_joined terms ps qs =
+    ap (cells_text terms) (live_joined ps qs) ∙ lines_joined terms (live_atoms ps) (live_atoms qs)
+
+-- the line of one cell among others
+pub one_line : (terms : List Term) (cells : List ℕ) (i cell : ℕ) → cell ≡ get_or cells i cell
+    → cells_text terms (get_or cells i cell ∷ []) ≡ line_at terms cell
+one_line terms cells i cell e =
+    ap (λ c. cells_text terms (c ∷ [])) (sym e) ∙ append-nil (line_at terms cell)
+
+-- what stands at one place among others
+pub one_place : (terms : List Term) (places : List (Option ℕ)) (i : ℕ) (place : Option ℕ)
+    → slice_get places i ≡ Some place → places_text terms (get_or places i place ∷ []) ≡ places_text terms (place ∷ [])
+one_place terms places i place e =
+    ap (λ q. places_text terms (q ∷ [])) (get_or_from_slice_get places i place place e)
+
+-- a place with an atom has its line
+pub place_line : (terms : List Term) (place : Option ℕ) (atom : ℕ) → place ≡ Some atom
+    → line_at terms atom ≡ places_text terms (place ∷ [])
+place_line terms place atom e = rw e (sym (append-nil (line_at terms atom)))
+
+-- an empty place has no line
+pub no_line : (terms : List Term) (place : Option ℕ) → place ≡ None → [] ≡ places_text terms (place ∷ [])
+no_line terms place e = rw e refl

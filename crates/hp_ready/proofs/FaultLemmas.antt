@@ -1,0 +1,65 @@
+-- What it means that the checks find nothing.
+use Rattle.std.proofs.Common.{◌≡◌, ℕ, ◌≤◌, Bool, true, false, cond, List, [], ◌∷◌, ◌++◌, length, Option, Some, None, refl, arith}
+use Rattle.std.proofs.lemmas.Bool.Decides.{nat_tests}
+use Rattle.std.proofs.lemmas.List.Elements.{All-nil, All-cons}
+use Rattle.std.specs.List.{All, flat_map}
+use Rattle.hp_syntax.specs.declared.pattern.Span.{Span}
+use Rattle.hp_syntax.specs.declared.check.CheckFault.{CheckFault}
+use Rattle.hp_syntax.specs.Checks.{vars_faults, rule_faults, pair_faults, domain_faults, problem_faults, comes_before, earlier, first_of}
+use Rattle.hp_syntax.specs.Syntax.{Rule, Does, Refines, Concludes, Domain, Problem}
+use Rattle.hp_plain.specs.Spots.{HasFew}
+
+-- the earlier of a fault and another one is a fault
+some_fault : (f : CheckFault) (o : Option CheckFault) → earlier (Some f) o ≡ None → ⊥
+some_fault f None e = cc
+some_fault f (Some g) e = one (comes_before g f) e
+  where
+    one : (b : Bool) → cond b (Some g) (Some f) ≡ None → ⊥
+    one true e = cc
+    one false e = cc
+
+-- where no fault is the first there is none
+none_found : (fs : List CheckFault) → first_of fs ≡ None → fs ≡ []
+none_found [] e = refl
+none_found (f ∷ fs) e = absurd (some_fault f (first_of fs) e)
+
+-- where two lists make an empty one both are empty
+pub both_empty : {A : Type 0} (xs ys : List A) → xs ++ ys ≡ [] → (xs ≡ []) × (ys ≡ [])
+both_empty [] ys e = (refl, e)
+both_empty (x ∷ xs) ys e = absurd cc
+
+-- where two lists make an empty one the first is empty
+front_empty : {A : Type 0} (xs ys : List A) → xs ++ ys ≡ [] → xs ≡ []
+front_empty xs ys e = (both_empty xs ys e).0
+
+-- where all the lists that are made of a list's elements are empty together each is empty
+pub each_empty : {X A : Type 0} (f : X → List A) (xs : List X) → flat_map f xs ≡ [] → All (λ x. f x ≡ []) xs
+each_empty f [] e = All-nil (λ x. f x ≡ [])
+each_empty f (x ∷ xs) e =
+    let b = both_empty (f x) (flat_map f xs) e in
+    All-cons (λ y. f y ≡ []) x xs b.0 (each_empty f xs b.1)
+
+-- where not too many variables are found there are few
+few_variables : (vars : List (List ℕ)) (s : Span) → vars_faults vars s ≡ [] → length vars ≤ 256
+few_variables vars s e = grind (arith, nat_tests)
+
+-- a rule without faults has few variables
+pub faultless_has_few : (r : Rule) → rule_faults r ≡ [] → HasFew r
+faultless_has_few (Does o) e = few_variables o.vars o.span (search (front_empty, e))
+faultless_has_few (Refines m) e = few_variables m.vars m.span (search (front_empty, e))
+faultless_has_few (Concludes a) e = few_variables a.vars a.span (search (front_empty, e))
+
+-- where no fault is the first of all no rule of the domain has faults
+pub faultless_rules : (d : Domain) (p : Problem) → first_of (domain_faults d ++ problem_faults d p) ≡ None
+    → All (λ r. rule_faults r ≡ []) d.rules
+unfolding domain_faults
+faultless_rules d p e =
+    each_empty rule_faults d.rules (both_empty (domain_faults d) (problem_faults d p) (none_found _ e)).0
+
+-- where no fault is the first of all no pair of the problem has faults
+pub faultless_pairs : (d : Domain) (p : Problem) → first_of (domain_faults d ++ problem_faults d p) ≡ None
+    → All (λ x. pair_faults x ≡ []) p.pairs
+unfolding problem_faults
+faultless_pairs d p e =
+    each_empty pair_faults p.pairs
+    (both_empty _ _ (both_empty (domain_faults d) (problem_faults d p) (none_found _ e)).1).1

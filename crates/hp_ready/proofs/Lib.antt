@@ -1,0 +1,4 @@
+pub mod FaultLemmas
+pub mod SayingLemmas
+pub mod StepLemmas
+pub mod ReadingLemmas
