@@ -7,7 +7,8 @@ use Rattle.hp_syntax.specs.Refusal.{Refusal, IsRefused}
 use Rattle.hp_syntax.specs.Steps.{Misform}
 use Rattle.hp_syntax.specs.Syntax.{Domain, Problem}
 use Rattle.hp_top.specs.declared.status.Status.TheVariants as status
-use Rattle.hp_top.specs.Command.{Command, accepts}
+use Rattle.hp_top.specs.Command.{Command, Request, OnFiles, Making, accepts}
+use Rattle.hp_top.specs.Making.{made_files, made_command}
 use Rattle.hp_out.specs.Lines.{refused_usage}
 use Rattle.hp_top.specs.Outcome as outcome
 use Rattle.hp_syntax.specs.TextForms.{Form, IsRead}
@@ -124,15 +125,41 @@ module _ (one : (t : List ℕ) (f g : Forest) → IsForest t f → IsForest t g 
         let also = file_same problem_form (files c.problem) s z p q m n o r in
         x ∙ (ap₂ (answer_of_read c) same also ∙ sym y)
 
+  one_command : (o : Option Request) (c d : Command) → o ≡ Some (OnFiles c) → o ≡ Some (OnFiles d) → c ≡ d
+  one_command o c d h k = let e : OnFiles c ≡ OnFiles d = one_value o (OnFiles c) (OnFiles d) h k in cc
+
+  one_seed : (o : Option Request) (s t m n : ℕ) → o ≡ Some (Making s m) → o ≡ Some (Making t n) → s ≡ t
+  one_seed o s t m n h k = let e : Making s m ≡ Making t n = one_value o (Making s m) (Making t n) h k in cc
+
+  one_count : (o : Option Request) (s t m n : ℕ) → o ≡ Some (Making s m) → o ≡ Some (Making t n) → m ≡ n
+  one_count o s t m n h k = let e : Making s m ≡ Making t n = one_value o (Making s m) (Making t n) h k in cc
+
+  not_both : (o : Option Request) (c : Command) (s n : ℕ) → o ≡ Some (OnFiles c) → o ≡ Some (Making s n) → ⊥
+  not_both o c s n h k = let e : OnFiles c ≡ Making s n = one_value o (OnFiles c) (Making s n) h k in cc
+
   pub outcome_one : (words : List (List ℕ)) (files : Files) (a b : Answer) → Outcome words files a
       → Outcome words files b → a ≡ b
   outcome_one words files a b (outcome.NoCommand e x) (outcome.NoCommand f y) = x ∙ sym y
   outcome_one words files a b (outcome.NoCommand e x) (outcome.ByCommand c f y) =
-      absurd (no_value (accepts words) c f e)
+      absurd (no_value (accepts words) (OnFiles c) f e)
   outcome_one words files a b (outcome.ByCommand c e x) (outcome.NoCommand f y) =
-      absurd (no_value (accepts words) c e f)
+      absurd (no_value (accepts words) (OnFiles c) e f)
   outcome_one words files a b (outcome.ByCommand c e x) (outcome.ByCommand d f y) =
-      comes_one files d a b (subst (λ c. Comes files c a) (one_value (accepts words) c d e f) x) y
+      comes_one files d a b (subst (λ c. Comes files c a) (one_command (accepts words) c d e f) x) y
+  outcome_one words files a b (outcome.NoCommand e x) (outcome.ByMaking t n f y) =
+      absurd (no_value (accepts words) (Making t n) f e)
+  outcome_one words files a b (outcome.ByMaking s m e x) (outcome.NoCommand f y) =
+      absurd (no_value (accepts words) (Making s m) e f)
+  outcome_one words files a b (outcome.ByCommand c e x) (outcome.ByMaking t n f y) =
+      absurd (not_both (accepts words) c t n e f)
+  outcome_one words files a b (outcome.ByMaking s m e x) (outcome.ByCommand d f y) =
+      absurd (not_both (accepts words) d s m f e)
+  outcome_one words files a b (outcome.ByMaking s m e x) (outcome.ByMaking t n f y) =
+      let seed = one_seed (accepts words) s t m n e f in
+      let count = one_count (accepts words) s t m n e f in
+      let same = subst (λ i. Comes (made_files i m) (made_command i m) a) seed x in
+      let both = subst (λ i. Comes (made_files t i) (made_command t i) a) count same in
+      comes_one (made_files t n) (made_command t n) a b both y
 
 module _ (all : (t : List ℕ) → ((f : Forest) × IsForest t f) ⊎ ((r : Refusal) × IsRefused t r)) where
   module _ {A : Type 0} (form : Form A) (t : List ℕ) where
@@ -170,10 +197,14 @@ module _ (all : (t : List ℕ) → ((f : Forest) × IsForest t f) ⊎ ((r : Refu
           | inr n ↦ (unreadable inputs.Domain n.0, outcome.BadDomain t n.0 e n.1 refl)
         ]
 
-  by_words : (words : List (List ℕ)) (files : Files) (o : Option Command) → accepts words ≡ o
+  by_words : (words : List (List ℕ)) (files : Files) (o : Option Request) → accepts words ≡ o
       → (a : Answer) × Outcome words files a
   by_words words files None e = ((refused_usage, status.Usage), outcome.NoCommand e refl)
-  by_words words files (Some c) e = let x = by_domain files c (files c.domain) refl in (x.0, outcome.ByCommand c e x.1)
+  by_words words files (Some (OnFiles c)) e =
+      let x = by_domain files c (files c.domain) refl in (x.0, outcome.ByCommand c e x.1)
+  by_words words files (Some (Making s n)) e =
+      let x = by_domain (made_files s n) (made_command s n) (made_files s n (made_command s n).domain) refl in
+      (x.0, outcome.ByMaking s n e x.1)
 
   pub outcome_some : (words : List (List ℕ)) (files : Files) → (a : Answer) × Outcome words files a
   outcome_some words files = by_words words files (accepts words) refl

@@ -1,37 +1,32 @@
 -- From how a run ends to what the top call promises.
 use Rattle.std.proofs.Common.{◌≡◌, ◌≢◌, ◌⊎◌, inl, inr, ℕ, ◌-◌, ◌≤◌, List, [], ◌∷◌, length, map, Bool, true, false, cond, nat_lt, nat_le, nat_eq, Option, Some, None, Result, Ok, Err, String, Global, string_bytes, get_or, arith, refl, ap, sym, ◌∙◌, subst}
 use Rattle.std.specs.Prelude.{slice_index_or}
-use Rattle.std.specs.List.{All}
-use Rattle.std.proofs.lemmas.Bool.{cond_both}
-use Rattle.std.proofs.lemmas.List.Elements.{All-nil, All-cons, All-head, All-tail}
 use Rattle.hp_io.specs.declared.folder.Input.{Input}
 use Rattle.hp_io.specs.declared.folder.Input.TheVariants as inputs
 use Rattle.hp_io.specs.Rules.{Rose}
 use Rattle.hp_syntax.specs.declared.check.CheckFault.{CheckFault}
-use Rattle.hp_syntax.specs.declared.pattern.Span.{Span}
 use Rattle.hp_syntax.specs.Grammar.{domain_form, problem_form}
 use Rattle.hp_syntax.specs.Steps.{Expected, SeveralPairs}
-use Rattle.hp_syntax.specs.Syntax as whole
+use Rattle.hp_syntax.specs.Syntax.{Domain, Problem}
 use Rattle.hp_out.specs.declared.refusal.Refusal.TheVariants as refusals
-use Rattle.hp_top.specs.SmallLowering.{lower_domain, lower_problem}
-use Rattle.hp_top.specs.SmallRules as plain
-use Rattle.hp_top.specs.SmallLaws.{IsFaultless}
-use Rattle.hp_top.specs.SmallReport.{Ending, Stopped, AtFault, AtCut, AtEnd, closing, ending, seen, plans, report}
-use Rattle.hp_top.specs.SmallWalk.{Sight, Did, Plan, CutHere, FaultHere, Visit, walk}
+use Rattle.hp_syntax.specs.Report.{Ending, Stopped, AtFault, AtCut, AtEnd, ending, seen, plans}
+use Rattle.hp_syntax.specs.Walk.{Visit}
 use Rattle.hp_top.specs.declared.loading.LoadError.{LoadError}
 use Rattle.hp_top.specs.declared.loading.LoadError.TheVariants as causes
 use Rattle.hp_top.specs.declared.status.Status.{Status}
 use Rattle.hp_top.specs.declared.status.Status.TheVariants as status
-use Rattle.hp_top.specs.Command.{Command, Job, Planning, Checking, Showing, accepts, make_command}
+use Rattle.hp_syntax.specs.declared.limits.TheConstants.{GREATEST_DEPTH, USUAL_LEVELS}
+use Rattle.hp_top.specs.Command.{Command, Job, Planning, Checking, Showing, Summing, accepts, on_files}
+use Rattle.hp_top.specs.Making.{made_files, made_command}
 use Rattle.hp_top.specs.Outcome as outcome
 use Rattle.hp_syntax.specs.TextForms.{IsRead}
-use Rattle.hp_top.specs.Outcome.{Files, Answer, Outcome, Comes, lowered_answer, job_answer, unless_faulty, first_fault, answer_of_read, IsUnreadable, Why, InText, InForm, refused_status, unreadable, planned_status, walk_status}
+use Rattle.hp_top.specs.Outcome.{Files, Answer, Outcome, Comes, walk_of_pairs, job_answer, unless_faulty, first_fault, answer_of_read, IsUnreadable, Why, InText, InForm, refused_status, unreadable, planned_status, walk_status}
 use Rattle.hp_top.specs.Loading as loading
 use Rattle.hp_top.specs.Loading.{ToldFile, Holds, Reads, IsUnread, IsProblemUnread, Stops, cause_of}
 use Rattle.hp_out.specs.Lines.{text_of, refused_usage, refused_read}
-use Rattle.hp_top.specs.Run.{TellsFiles, IsOutcome, RefusesWords, OfDomain, OfProblem, ReadFails, CouldWrite, OfOutcome, OfReading, WritesFront, WritesProperFront}
+use Rattle.hp_top.specs.Run.{TellsFiles, IsOutcome, RefusesWords, IsReadLine, OfDomain, OfProblem, ReadFails, CouldWrite, OfOutcome, OfReading, WritesFront, WritesProperFront}
 use Rattle.hp_top.specs.Serving as serving
-use Rattle.hp_top.specs.Serving.{Ends, load_answer}
+use Rattle.hp_top.specs.Serving.{Serves, Ends, load_answer, no_faults, told_made}
 use Rattle.hp_top.specs.Telling as telling
 use Rattle.hp_top.specs.Telling.{Tells}
 use Rattle.hp_out.specs.Writing.{SinkRun, Wrote, WroteFront, WroteProperFront}
@@ -102,7 +97,7 @@ data HowStops (domain problem : ToldFile) (before now : Input → ℕ) (cause : 
       → HowStops domain problem before now cause
   ForDomain : (why : Why) → load_answer cause ≡ unreadable inputs.Domain why → IsRefused (load_answer cause).1
       → Holds (λ t. IsUnreadable domain_form t why) domain → HowStops domain problem before now cause
-  ForProblem : (why : Why) (d : whole.Domain) → load_answer cause ≡ unreadable inputs.Problem why
+  ForProblem : (why : Why) (d : Domain) → load_answer cause ≡ unreadable inputs.Problem why
       → IsRefused (load_answer cause).1
       → Reads domain_form domain d → Holds (λ u. IsUnreadable problem_form u why) problem
       → HowStops domain problem before now cause
@@ -129,7 +124,7 @@ module _ (file : List ℕ → ToldFile) (files : Files) (told : TellsFiles file 
       outcome.BadDomain x.0 why x.1 x.2 e
 
   -- a command whose problem's text is read as nothing comes to that refusal
-  bad_problem_comes : (a : Answer) (why : Why) (d : whole.Domain) → a ≡ unreadable inputs.Problem why
+  bad_problem_comes : (a : Answer) (why : Why) (d : Domain) → a ≡ unreadable inputs.Problem why
       → Reads domain_form (file c.domain) d
       → Holds (λ u. IsUnreadable problem_form u why) (file c.problem) → Comes files c a
   bad_problem_comes a why d e r h =
@@ -138,7 +133,7 @@ module _ (file : List ℕ → ToldFile) (files : Files) (told : TellsFiles file 
       outcome.BadProblem x.0 y.0 d why x.1 x.2 y.1 y.2 e
 
   -- a command whose domain and problem are read comes to the answer to them
-  judged_comes : (a : Answer) (d : whole.Domain) (p : whole.Problem) → a ≡ answer_of_read c d p
+  judged_comes : (a : Answer) (d : Domain) (p : Problem) → a ≡ answer_of_read c d p
       → Reads domain_form (file c.domain) d → Reads problem_form (file c.problem) p → Comes files c a
   judged_comes a d p e r q =
       let x = told_text (λ t. IsRead domain_form t d) (file c.domain) (files c.domain) (told c.domain) r in
@@ -185,22 +180,41 @@ made words files before a s old new o w x = record {
   written = subst (λ m. Wrote a.0 m new) o w.1;
 }
 
-module _ (words : List (List ℕ)) (file : List ℕ → ToldFile) (s : Status) (before now : Input → ℕ) (r : SinkRun) where
-  -- whatever ends without want of memory and faults is the outcome
-  pub ends_well : (files : Files) (written : List ℕ) → Ends words file s before now r → TellsFiles file files
-      → r.before ≡ Some written
-      → s ≢ status.NoMemory → s ≢ status.WriteFault → ReadsWell s before now → IsOutcome words files s written r.after
-  ends_well files written (serving.NoCommand e t) told o n w k =
-      made words files written (refused_usage, status.Usage) s r.before r.after o (told_whole _ s r t n w)
-      (outcome.NoCommand e refl)
-  ends_well files written (serving.ByCommand c e (serving.Stopped cause h t)) told o n w k =
-      let x = told_whole (load_answer cause) s r t n w in
+-- no file that is made is left unread
+made_read : (which : Input) (f : ToldFile) (text : List ℕ) → f ≡ Some (Some text) → IsUnread which f no_faults no_faults
+    → ⊥
+made_read which f text e (inl rose) = absurd (omega (arith, rose))
+made_read which f text e (inr m) = let both : Some (Some text) ≡ Some None = sym e ∙ m in cc
+
+never_rose : (which : Input) → Rose (no_faults which) (no_faults which) → ⊥
+never_rose which rose = absurd (omega (arith, rose))
+
+module _ (words : List (List ℕ)) (s : Status) (r : SinkRun) (files : Files) (written : List ℕ)
+    (o : r.before ≡ Some written) (memory : s ≢ status.NoMemory) (write : s ≢ status.WriteFault) where
+  -- what is served without want of memory and faults is an outcome, where what it comes to is one of the words
+  serves_well : (c : Command) (file : List ℕ → ToldFile) (before now : Input → ℕ) (fs : Files) → TellsFiles file fs
+      → ReadsWell s before now → ((a : Answer) → Comes fs c a → Outcome words files a)
+      → Serves c file s before now r → IsOutcome words files s written r.after
+  serves_well c file before now fs told k by (serving.Stopped cause h t) =
+      let x = told_whole (load_answer cause) s r t memory write in
       made words files written (load_answer cause) s r.before r.after o x
-      (outcome.ByCommand c e (stopped_comes file files told c before now cause s h n x.0 k))
-  ends_well files written (serving.ByCommand c e (serving.Answered d p h k t)) told o n w g =
+      (by (load_answer cause) (stopped_comes file fs told c before now cause s h memory x.0 k))
+  serves_well c file before now fs told k by (serving.Answered d p h q t) =
       let a = answer_of_read c d p in
-      made words files written a s r.before r.after o (told_whole a s r t n w)
-      (outcome.ByCommand c e (judged_comes file files told c a d p refl h k))
+      made words files written a s r.before r.after o (told_whole a s r t memory write)
+      (by a (judged_comes file fs told c a d p refl h q))
+
+  -- whatever ends without want of memory and faults is the outcome
+  pub ends_well : (file : List ℕ → ToldFile) (before now : Input → ℕ) → Ends words file s before now r
+      → TellsFiles file files → ReadsWell s before now → IsOutcome words files s written r.after
+  ends_well file before now (serving.NoCommand e t) told k =
+      made words files written (refused_usage, status.Usage) s r.before r.after o
+      (told_whole _ s r t memory write) (outcome.NoCommand e refl)
+  ends_well file before now (serving.ByCommand c e h) told k =
+      serves_well c file before now files told k (λ a x. outcome.ByCommand c e x) h
+  ends_well file before now (serving.ByMaking seed n e h) told k =
+      serves_well (made_command seed n) (told_made seed n) no_faults no_faults (made_files seed n) (λ name. refl)
+      (inr never_rose) (λ a x. outcome.ByMaking seed n e x) h
 
 -- what a domain and a problem that are read come to has one of six statuses
 abbrev IsAnswer : Status → Type 0
@@ -233,22 +247,17 @@ refused_answers : (which : Input) → IsAnswer (refused_status which)
 refused_answers inputs.Domain = tt
 refused_answers inputs.Problem = tt
 
-lowered_answers : (k n : ℕ) (d : Result plain.Domain Span) (p : Option plain.Problem)
-    → IsAnswer (lowered_answer k n d p).1
-lowered_answers k n (Err s) p = tt
-lowered_answers k n (Ok d) None = tt
-lowered_answers k n (Ok d) (Some p) = walk_answers k (walk d p n)
-
-job_answers : (j : Job) (d : whole.Domain) (p : whole.Problem) → IsAnswer (job_answer j d p).1
-job_answers (Planning k n) d p = lowered_answers k n (lower_domain d) (lower_problem p)
+job_answers : (j : Job) (d : Domain) (p : Problem) → IsAnswer (job_answer j d p).1
+job_answers (Planning k n o) d p = walk_answers k (walk_of_pairs d.rules o.levels p.pairs n)
 job_answers Checking d p = tt
 job_answers Showing d p = tt
+job_answers (Summing seed n) d p = walk_answers 1 (walk_of_pairs d.rules USUAL_LEVELS p.pairs GREATEST_DEPTH)
 
 checks_answer : (f : Option CheckFault) (a : Answer) → IsAnswer a.1 → IsAnswer (unless_faulty f a).1
 checks_answer (Some f) a h = refused_answers (text_of f.in_problem)
 checks_answer None a h = h
 
-read_answers : (c : Command) (d : whole.Domain) (p : whole.Problem) → IsAnswer (answer_of_read c d p).1
+read_answers : (c : Command) (d : Domain) (p : Problem) → IsAnswer (answer_of_read c d p).1
 read_answers c d p = checks_answer (first_fault d p) (job_answer c.job d p) (job_answers c.job d p)
 
 -- a run that tells an answer ends in one of three ways, and what follows from each follows
@@ -334,131 +343,175 @@ nothing_short text s r t = record {
       (λ m h. absurd (other s _ _ (λ x. cc) m e));
 }
 
-module _ (words : List (List ℕ)) (file : List ℕ → ToldFile) (s : Status) (before now : Input → ℕ) (r : SinkRun) where
-  stopped : (c : Command) (cause : LoadError) → Stops cause (file c.domain) (file c.problem) before now
+-- what is served, whatever it comes to
+module _ (c : Command) (file : List ℕ → ToldFile) (s : Status) (before now : Input → ℕ) (r : SinkRun) where
+  stopped : (cause : LoadError) → Stops cause (file c.domain) (file c.problem) before now
       → IsStopped (load_answer cause).1
-  stopped c cause h =
+  stopped cause h =
       load_stopped cause (file c.domain) (file c.problem) before now
       (how_stops (file c.domain) (file c.problem) before now cause h)
 
-  -- words are refused only where they are no command
-  pub ends_usage : Ends words file s before now r → s ≡ status.Usage → accepts words ≡ None
-  ends_usage (serving.NoCommand e t) u = e
-  ends_usage (serving.ByCommand c e (serving.Stopped cause h t)) u =
-      absurd
-      (told_status (load_answer cause) s r ⊥ t (λ m f. other s _ _ (λ x. cc) m u)
+  -- what is served isn't refused as no command
+  serves_usage : Serves c file s before now r → s ≡ status.Usage → ⊥
+  serves_usage (serving.Stopped cause h t) u =
+      told_status (load_answer cause) s r ⊥ t (λ m f. other s _ _ (λ x. cc) m u)
       (λ m rose f. other s _ _ (λ x. cc) m u)
-      (λ m w. subst IsStopped (sym m ∙ u) (stopped c cause h)))
-  ends_usage (serving.ByCommand c e (serving.Answered d p h k t)) u =
-      absurd
-      (told_status (answer_of_read c d p) s r ⊥ t (λ m f. other s _ _ (λ x. cc) m u)
-      (λ m rose f. other s _ _ (λ x. cc) m u) (λ m w. subst IsAnswer (sym m ∙ u) (read_answers c d p)))
+      (λ m w. subst IsStopped (sym m ∙ u) (stopped cause h))
+  serves_usage (serving.Answered d p h k t) u =
+      told_status (answer_of_read c d p) s r ⊥ t (λ m f. other s _ _ (λ x. cc) m u)
+      (λ m rose f. other s _ _ (λ x. cc) m u) (λ m w. subst IsAnswer (sym m ∙ u) (read_answers c d p))
 
   abbrev SinkRose : Type 0
   SinkRose = Rose r.faults_before r.faults_after
 
   -- a write fault comes only where the count of the sink rose
-  pub ends_write : Ends words file s before now r → s ≡ status.WriteFault → SinkRose
-  ends_write (serving.NoCommand e t) u =
-      told_status _ s r SinkRose t (λ m f. absurd (other s _ _ (λ x. cc) m u)) (λ m rose f. rose)
-      (λ m w. absurd (other s _ _ (λ x. cc) m u))
-  ends_write (serving.ByCommand c e (serving.Stopped cause h t)) u =
+  serves_write : Serves c file s before now r → s ≡ status.WriteFault → SinkRose
+  serves_write (serving.Stopped cause h t) u =
       told_status (load_answer cause) s r SinkRose t (λ m f. absurd (other s _ _ (λ x. cc) m u)) (λ m rose f. rose)
-      (λ m w. absurd (subst IsStopped (sym m ∙ u) (stopped c cause h)))
-  ends_write (serving.ByCommand c e (serving.Answered d p h k t)) u =
+      (λ m w. absurd (subst IsStopped (sym m ∙ u) (stopped cause h)))
+  serves_write (serving.Answered d p h k t) u =
       told_status (answer_of_read c d p) s r SinkRose t (λ m f. absurd (other s _ _ (λ x. cc) m u)) (λ m rose f. rose)
       (λ m w. absurd (subst IsAnswer (sym m ∙ u) (read_answers c d p)))
 
-  abbrev LineWritten : Type 0
-  LineWritten = ReadFails words file before now r
+  -- the line of an input that couldn't be read was written, where it is one that a run may write
+  record HasLine (MayWrite : List ℕ → Type 0) : Type 0 where
+    line : List ℕ
+    may : MayWrite line
+    written : Wrote line r.before r.after
 
-  -- a cause whose refusal is a read fault is an unread input, and its line was written
-  how_read : (c : Command) → accepts words ≡ Some c → (cause : LoadError)
-      → HowStops (file c.domain) (file c.problem) before now cause → (load_answer cause).1 ≡ status.ReadFault
-      → Wrote (load_answer cause).0 r.before r.after → LineWritten
-  how_read c a cause (ForMemory e) x w =
-      let y : status.NoMemory ≡ status.ReadFault = sym (ap (λ z. (load_answer z).1) e) ∙ x in
-      cc
-  how_read c a cause (AtDomainFile e u) x w = record {
-    line = refused_read inputs.Domain;
-    cause = OfDomain c a u refl;
-    written = subst (λ z. Wrote (load_answer z).0 r.before r.after) e w;
-  }
-  how_read c a cause (AtProblemFile e u) x w = record {
-    line = refused_read inputs.Problem;
-    cause = OfProblem c a u refl;
-    written = subst (λ z. Wrote (load_answer z).0 r.before r.after) e w;
-  }
-  how_read c a cause (ForDomain why e i h) x w = absurd (subst IsRefused x i)
-  how_read c a cause (ForProblem why d e i q h) x w = absurd (subst IsRefused x i)
+  module _ (MayWrite : List ℕ → Type 0)
+      (at_domain : IsUnread inputs.Domain (file c.domain) before now → MayWrite (refused_read inputs.Domain))
+      (at_problem : IsProblemUnread (file c.domain) (file c.problem) before now
+      → MayWrite (refused_read inputs.Problem)) where
+    -- a cause whose refusal is a read fault is an unread input, and its line was written
+    how_read : (cause : LoadError) → HowStops (file c.domain) (file c.problem) before now cause
+        → (load_answer cause).1 ≡ status.ReadFault → Wrote (load_answer cause).0 r.before r.after → HasLine MayWrite
+    how_read cause (ForMemory e) x w =
+        let y : status.NoMemory ≡ status.ReadFault = sym (ap (λ z. (load_answer z).1) e) ∙ x in
+        cc
+    how_read cause (AtDomainFile e u) x w = record {
+      line = refused_read inputs.Domain;
+      may = at_domain u;
+      written = subst (λ z. Wrote (load_answer z).0 r.before r.after) e w;
+    }
+    how_read cause (AtProblemFile e u) x w = record {
+      line = refused_read inputs.Problem;
+      may = at_problem u;
+      written = subst (λ z. Wrote (load_answer z).0 r.before r.after) e w;
+    }
+    how_read cause (ForDomain why e i h) x w = absurd (subst IsRefused x i)
+    how_read cause (ForProblem why d e i q h) x w = absurd (subst IsRefused x i)
 
-  stopped_read : (c : Command) → accepts words ≡ Some c → (cause : LoadError)
-      → Stops cause (file c.domain) (file c.problem) before now → (load_answer cause).1 ≡ status.ReadFault
-      → Wrote (load_answer cause).0 r.before r.after → LineWritten
-  stopped_read c a cause h = how_read c a cause (how_stops (file c.domain) (file c.problem) before now cause h)
+    -- a read fault is one of an unread input
+    serves_read : Serves c file s before now r → s ≡ status.ReadFault → HasLine MayWrite
+    serves_read (serving.Stopped cause h t) u =
+        told_status (load_answer cause) s r (HasLine MayWrite) t (λ m f. absurd (other s _ _ (λ x. cc) m u))
+        (λ m rose f. absurd (other s _ _ (λ x. cc) m u))
+        (λ m w. how_read cause (how_stops (file c.domain) (file c.problem) before now cause h) (sym m ∙ u) w)
+    serves_read (serving.Answered d p h k t) u =
+        absurd
+        (told_status (answer_of_read c d p) s r ⊥ t (λ m f. other s _ _ (λ x. cc) m u)
+        (λ m rose f. other s _ _ (λ x. cc) m u) (λ m w. subst IsAnswer (sym m ∙ u) (read_answers c d p)))
+
+    module _ (fs : Files) (told : TellsFiles file fs) (come : (a : Answer) → Comes fs c a → MayWrite a.0)
+        (some : (text : List ℕ) × MayWrite text) where
+      abbrev ServesShort : Type 0
+      ServesShort = (text : List ℕ) × MayWrite text × IsShort text s r
+
+      -- a refused text is told up to a front of its line
+      refused_short : (cause : LoadError) → Comes fs c (load_answer cause) → IsRefused (load_answer cause).1
+          → Tells (load_answer cause) s r → ServesShort
+      refused_short cause x i t = (
+        (load_answer cause).0,
+        come (load_answer cause) x,
+        told_short (load_answer cause) s r (λ e. subst IsRefused e i) (λ e. subst IsRefused e i) t,
+      )
+
+      -- a command of which nothing is planned stops short of a text that a run may write
+      how_short : (cause : LoadError) → HowStops (file c.domain) (file c.problem) before now cause
+          → Tells (load_answer cause) s r → ServesShort
+      how_short cause (ForMemory e) t =
+          (some.0, some.1, nothing_short some.0 s r (subst (λ z. Tells (load_answer z) s r) e t))
+      how_short cause (AtDomainFile e u) t = (
+        refused_read inputs.Domain,
+        at_domain u,
+        told_short _ s r (λ x. cc) (λ x. cc) (subst (λ z. Tells (load_answer z) s r) e t),
+      )
+      how_short cause (AtProblemFile e u) t = (
+        refused_read inputs.Problem,
+        at_problem u,
+        told_short _ s r (λ x. cc) (λ x. cc) (subst (λ z. Tells (load_answer z) s r) e t),
+      )
+      how_short cause (ForDomain why e i h) t =
+          refused_short cause (bad_domain_comes file fs told c (load_answer cause) why e h) i t
+      how_short cause (ForProblem why d e i q h) t =
+          refused_short cause (bad_problem_comes file fs told c (load_answer cause) why d e q h) i t
+
+      -- what is served has a text that a run may write, of which it wrote a front where it stopped short
+      serves_short : Serves c file s before now r → ServesShort
+      serves_short (serving.Stopped cause h t) =
+          how_short cause (how_stops (file c.domain) (file c.problem) before now cause h) t
+      serves_short (serving.Answered d p h k t) =
+          let a = answer_of_read c d p in (
+            a.0,
+            come a (judged_comes file fs told c a d p refl h k),
+            told_short a s r (λ x. subst IsAnswer x (read_answers c d p))
+                (λ x. subst IsAnswer x (read_answers c d p)) t,
+          )
+
+module _ (words : List (List ℕ)) (file : List ℕ → ToldFile) (s : Status) (before now : Input → ℕ) (r : SinkRun) where
+  -- words are refused only where they are no command
+  pub ends_usage : Ends words file s before now r → s ≡ status.Usage → accepts words ≡ None
+  ends_usage (serving.NoCommand e t) u = e
+  ends_usage (serving.ByCommand c e h) u = absurd (serves_usage c file s before now r h u)
+  ends_usage (serving.ByMaking seed n e h) u =
+      absurd (serves_usage (made_command seed n) (told_made seed n) s no_faults no_faults r h u)
+
+  -- a write fault comes only where the count of the sink rose
+  pub ends_write : Ends words file s before now r → s ≡ status.WriteFault → Rose r.faults_before r.faults_after
+  ends_write (serving.NoCommand e t) u =
+      told_status _ s r (Rose r.faults_before r.faults_after) t (λ m f. absurd (other s _ _ (λ x. cc) m u))
+      (λ m rose f. rose) (λ m w. absurd (other s _ _ (λ x. cc) m u))
+  ends_write (serving.ByCommand c e h) u = serves_write c file s before now r h u
+  ends_write (serving.ByMaking seed n e h) u =
+      serves_write (made_command seed n) (told_made seed n) s no_faults no_faults r h u
 
   -- a read fault is one of an input that the words name
-  pub ends_read : Ends words file s before now r → s ≡ status.ReadFault → LineWritten
+  pub ends_read : Ends words file s before now r → s ≡ status.ReadFault → ReadFails words file before now r
   ends_read (serving.NoCommand e t) u =
       absurd
       (told_status _ s r ⊥ t (λ m f. other s _ _ (λ x. cc) m u) (λ m rose f. other s _ _ (λ x. cc) m u)
       (λ m w. other s _ _ (λ x. cc) m u))
-  ends_read (serving.ByCommand c e (serving.Stopped cause h t)) u =
-      told_status (load_answer cause) s r LineWritten t (λ m f. absurd (other s _ _ (λ x. cc) m u))
-      (λ m rose f. absurd (other s _ _ (λ x. cc) m u)) (λ m w. stopped_read c e cause h (sym m ∙ u) w)
-  ends_read (serving.ByCommand c e (serving.Answered d p h k t)) u =
-      absurd
-      (told_status (answer_of_read c d p) s r ⊥ t (λ m f. other s _ _ (λ x. cc) m u)
-      (λ m rose f. other s _ _ (λ x. cc) m u) (λ m w. subst IsAnswer (sym m ∙ u) (read_answers c d p)))
+  ends_read (serving.ByCommand c e h) u =
+      let x = serves_read c file s before now r (IsReadLine words file before now) (λ n. OfDomain c e n refl)
+      (λ n. OfProblem c e n refl) h u in
+      record { line = x.line; cause = x.may; written = x.written }
+  ends_read (serving.ByMaking seed n e h) u =
+      let x = serves_read (made_command seed n) (told_made seed n) s no_faults no_faults r (λ line. ⊥)
+      (λ n. made_read inputs.Domain _ _ refl n) (λ n. made_read inputs.Problem _ _ refl n.unread) h u in
+      absurd x.may
 
   module _ (files : Files) (told : TellsFiles file files) (some : (a : Answer) × Outcome words files a) where
+    abbrev MayWrite : List ℕ → Type 0
+    MayWrite text = CouldWrite words files file before now text
+
     abbrev EndsShort : Type 0
-    EndsShort = (text : List ℕ) × CouldWrite words files file before now text × IsShort text s r
+    EndsShort = (text : List ℕ) × MayWrite text × IsShort text s r
 
-    -- a refused text is told up to a front of its line
-    refused_short : (c : Command) → accepts words ≡ Some c → (cause : LoadError) → Comes files c (load_answer cause)
-        → IsRefused (load_answer cause).1 → Tells (load_answer cause) s r → EndsShort
-    refused_short c a cause x i t = (
-      (load_answer cause).0,
-      OfOutcome (load_answer cause).1 (outcome.ByCommand c a x),
-      told_short (load_answer cause) s r (λ e. subst IsRefused e i) (λ e. subst IsRefused e i) t,
-    )
-
-    -- a command of which nothing is planned stops short of a text that it could write
-    how_short : (c : Command) → accepts words ≡ Some c → (cause : LoadError)
-        → HowStops (file c.domain) (file c.problem) before now cause → Tells (load_answer cause) s r → EndsShort
-    how_short c a cause (ForMemory e) t =
-        (some.0.0, OfOutcome some.0.1 some.1, nothing_short some.0.0 s r (subst (λ z. Tells (load_answer z) s r) e t))
-    how_short c a cause (AtDomainFile e u) t = (
-      refused_read inputs.Domain,
-      OfReading (OfDomain c a u refl),
-      told_short _ s r (λ x. cc) (λ x. cc) (subst (λ z. Tells (load_answer z) s r) e t),
-    )
-    how_short c a cause (AtProblemFile e u) t = (
-      refused_read inputs.Problem,
-      OfReading (OfProblem c a u refl),
-      told_short _ s r (λ x. cc) (λ x. cc) (subst (λ z. Tells (load_answer z) s r) e t),
-    )
-    how_short c a cause (ForDomain why e i h) t =
-        refused_short c a cause (bad_domain_comes file files told c (load_answer cause) why e h) i t
-    how_short c a cause (ForProblem why d e i q h) t =
-        refused_short c a cause (bad_problem_comes file files told c (load_answer cause) why d e q h) i t
-
-    stopped_short : (c : Command) → accepts words ≡ Some c → (cause : LoadError)
-        → Stops cause (file c.domain) (file c.problem) before now → Tells (load_answer cause) s r → EndsShort
-    stopped_short c a cause h = how_short c a cause (how_stops (file c.domain) (file c.problem) before now cause h)
+    any_text : (text : List ℕ) × MayWrite text
+    any_text = (some.0.0, OfOutcome some.0.1 some.1)
 
     -- for every run there is a text that it could write, of which it wrote a front where it stopped short
     ends_short : Ends words file s before now r → EndsShort
     ends_short (serving.NoCommand e t) =
         (refused_usage, OfOutcome status.Usage (outcome.NoCommand e refl), told_short _ s r (λ x. cc) (λ x. cc) t)
-    ends_short (serving.ByCommand c e (serving.Stopped cause h t)) = stopped_short c e cause h t
-    ends_short (serving.ByCommand c e (serving.Answered d p h k t)) =
-        let a = answer_of_read c d p in (
-          a.0,
-          OfOutcome a.1 (outcome.ByCommand c e (judged_comes file files told c a d p refl h k)),
-          told_short a s r (λ x. subst IsAnswer x (read_answers c d p)) (λ x. subst IsAnswer x (read_answers c d p)) t,
-        )
+    ends_short (serving.ByCommand c e h) =
+        serves_short c file s before now r MayWrite (λ n. OfReading (OfDomain c e n refl))
+        (λ n. OfReading (OfProblem c e n refl)) files told (λ a x. OfOutcome a.1 (outcome.ByCommand c e x)) any_text h
+    ends_short (serving.ByMaking seed n e h) =
+        serves_short (made_command seed n) (told_made seed n) s no_faults no_faults r MayWrite
+        (λ n. absurd (made_read inputs.Domain _ _ refl n)) (λ n. absurd (made_read inputs.Problem _ _ refl n.unread))
+        (made_files seed n) (λ name. refl) (λ a x. OfOutcome a.1 (outcome.ByMaking seed n e x)) any_text h
 
     -- after want of memory a front of a text was written that the run could write
     pub ends_front : Ends words file s before now r → s ≡ status.NoMemory → WritesFront words files file before now r
@@ -485,90 +538,9 @@ refused_words s r n t =
 pub named_command : (ws : List (String Global)) (d p : String Global) (dn pn : List ℕ) (j : Job) → 3 ≤ length ws
     → d ≡ get_or ws 1 d → p ≡ get_or ws 2 p → dn ≡ string_bytes d → pn ≡ string_bytes p
     → accepts (map string_bytes ws)
-    ≡ Some (make_command (slice_index_or (map string_bytes ws) 1 []) (slice_index_or (map string_bytes ws) 2 []) j)
-    → accepts (map string_bytes ws) ≡ Some (make_command dn pn j)
+    ≡ Some (on_files (slice_index_or (map string_bytes ws) 1 []) (slice_index_or (map string_bytes ws) 2 []) j)
+    → accepts (map string_bytes ws) ≡ Some (on_files dn pn j)
 named_command [] d p dn pn k l i j x y e = absurd (omega arith)
 named_command (u ∷ []) d p dn pn k l i j x y e = absurd (omega arith)
 named_command (u ∷ v ∷ []) d p dn pn k l i j x y e = absurd (omega arith)
 named_command (u ∷ v ∷ w ∷ ws) d p dn pn k l i j x y e = e ∙ (rw (x, y, i, j) refl)
-
--- an ending that is at no fault
-abbrev IsQuiet : Ending → Type 0
-IsQuiet Stopped = Unit {0}
-IsQuiet (AtFault f) = ⊥
-IsQuiet AtCut = Unit {0}
-IsQuiet AtEnd = Unit {0}
-
--- a visit that sees no fault
-abbrev IsClear : Visit → Type 0
-IsClear v = IsFaultless v.sight
-
--- what is seen of visits without faults has none either
-seen_one : (k : ℕ) (v : Visit) (vs : List Visit) (s : Sight) → IsClear v → All IsClear (seen (k - 1) vs)
-    → All IsClear (seen k vs)
-    → All IsClear (elim s [
-      | Plan ↦ v ∷ cond (nat_le k 1) [] (seen (k - 1) vs)
-      | Did ↦ v ∷ seen k vs
-      | CutHere ↦ v ∷ seen k vs
-      | FaultHere f ↦ v ∷ seen k vs
-    ])
-seen_one k v vs Plan h a b =
-    All-cons IsClear v _ h (cond_both (nat_le k 1) [] (seen (k - 1) vs) (All IsClear) (λ e. All-nil IsClear) (λ e. a))
-seen_one k v vs Did h a b = All-cons IsClear v (seen k vs) h b
-seen_one k v vs CutHere h a b = All-cons IsClear v (seen k vs) h b
-seen_one k v vs (FaultHere f) h a b = All-cons IsClear v (seen k vs) h b
-
-seen_clear : (k : ℕ) (vs : List Visit) → All IsClear vs → All IsClear (seen k vs)
-seen_clear k [] a = All-nil IsClear
-seen_clear k (v ∷ vs) a =
-    let rest = All-tail IsClear v vs a in
-    seen_one k v vs v.sight (All-head IsClear v vs a) (seen_clear (k - 1) vs rest) (seen_clear k vs rest)
-
--- an ending without a fault is one without a fault behind a cut
-after_cut : (x : Ending) → IsQuiet x
-    → IsQuiet (elim x [ AtFault f ↦ AtFault f | Stopped ↦ AtCut | AtCut ↦ AtCut | AtEnd ↦ AtCut ])
-after_cut Stopped h = tt
-after_cut (AtFault f) h = h
-after_cut AtCut h = tt
-after_cut AtEnd h = tt
-
-closing_one : (x : Ending) (s : Sight) → IsFaultless s → IsQuiet x
-    → IsQuiet (elim s [
-      | FaultHere f ↦ AtFault f
-      | CutHere ↦ elim x [ AtFault f ↦ AtFault f | Stopped ↦ AtCut | AtCut ↦ AtCut | AtEnd ↦ AtCut ]
-      | Did ↦ x
-      | Plan ↦ x
-    ])
-closing_one x Did h q = q
-closing_one x Plan h q = q
-closing_one x CutHere h q = after_cut x q
-closing_one x (FaultHere f) h q = h
-
-closing_quiet : (vs : List Visit) → All IsClear vs → IsQuiet (closing vs)
-closing_quiet [] a = tt
-closing_quiet (v ∷ vs) a =
-    closing_one (closing vs) v.sight (All-head IsClear v vs a) (closing_quiet vs (All-tail IsClear v vs a))
-
--- an ending without a fault has another status than a fault
-status_quiet : (x : Ending) (p : ℕ) → IsQuiet x → planned_status x p ≢ status.RunFault
-status_quiet Stopped p h = λ e. cc
-status_quiet (AtFault f) p h = absurd h
-status_quiet AtCut p h =
-    cond_both (nat_lt 0 p) status.Done status.CutShort (λ s. s ≢ status.RunFault) (λ t e. cc) (λ t e. cc)
-status_quiet AtEnd p h =
-    cond_both (nat_lt 0 p) status.Done status.NoPlan (λ s. s ≢ status.RunFault) (λ t e. cc) (λ t e. cc)
-
-walk_quiet : (k : ℕ) (vs : List Visit) → All IsClear vs → walk_status k vs ≢ status.RunFault
-unfolding walk_status
-walk_quiet k vs a =
-    let heard = seen k vs in
-    status_quiet (ending k heard) (plans heard)
-    (cond_both (nat_eq (plans heard) k) Stopped (closing heard) IsQuiet (λ e. tt)
-    (λ e. closing_quiet heard (seen_clear k vs a)))
-
--- what was told of a walk without faults ends with another status than a fault's
-pub told_quiet : (k : ℕ) (vs : List Visit) (s : Status) (r : SinkRun) → All IsClear vs
-    → Tells (report k vs, walk_status k vs) s r → s ≢ status.RunFault
-told_quiet k vs s r a t =
-    λ u. told_status (report k vs, walk_status k vs) s r ⊥ t (λ m f. other s _ _ (λ x. cc) m u)
-    (λ m rose f. other s _ _ (λ x. cc) m u) (λ m w. other s _ _ (walk_quiet k vs a) m u)

@@ -1,16 +1,12 @@
--- What the texts of the samples are read as, and what of it is run.
-use Rattle.std.proofs.Common.{◌≡◌, ℕ, [], length, Result, Ok, Err, refl, codes}
-use Rattle.hp_syntax.specs.Checks.{domain_faults, problem_faults, pattern_faults, patterns_faults, expression_faults, expressions_faults, tasks_faults, task_list_faults}
+-- What the texts of the samples are read as.
+use Rattle.std.proofs.Common.{ℕ, false, [], length, Result, Ok, Err, refl, codes}
 use Rattle.hp_syntax.specs.Forest.{IsForest}
 use Rattle.hp_syntax.specs.Grammar.{domain_form, problem_form, atoms, branch_name, branch_tasks, branches, cost, domain_list, effect, effects, expression, expressions, file, file_list, headed, items, keyed_effect, keyed_rule, list, list_expression, list_precondition, list_tasks, method, name, named_atom, named_branch, operator, pair, precondition, problem_list, rule, task_list, tasks, term, terms, word_tail, word_term}
 use Rattle.hp_syntax.specs.Samples.{basic_text, basic_forest, swap_text, swap_forest, empty_text, empty_forest}
 use Rattle.hp_syntax.specs.Steps.{Misform}
 use Rattle.hp_syntax.specs.Syntax.{Domain, Problem}
 use Rattle.hp_syntax.specs.TextForms.{IsRead}
-use Rattle.hp_top.specs.SmallLowering.{lower_domain, lower_problem}
-use Rattle.hp_top.specs.SmallSamples.{basic_domain, swap_problem, empty_problem}
-use Rattle.hp_top.specs.Command.{Command, Planning, make_command}
-use Rattle.hp_top.specs.Outcome.{plan_answer, answer_of_read}
+use Rattle.hp_top.specs.Command.{Command, Planning, make_command, options}
 
 abbrev domain_or_none : Result Domain Misform → Domain
 domain_or_none (Ok d) = d
@@ -54,24 +50,4 @@ empty_is_read h = record { forest = empty_forest; spelled = h; form_is = refl }
 
 -- the command that plans the domain `d` and the problem `p`
 abbrev pub plan_of : ℕ → ℕ → Command
-plan_of plans depth = make_command (codes "d") (codes "p") (Planning plans depth)
-
--- the samples basic and swap are run, since no check finds a fault in them
-pub swap_runs : (k n : ℕ) → plan_answer k n basic_domain swap_problem
-    ≡ answer_of_read (plan_of k n) basic_read swap_read
-unfolding basic_read swap_read file file_list domain_list problem_list pair atoms rule keyed_rule operator cost method
-    branches named_branch branch_tasks branch_name precondition list_precondition expression list_expression
-    expressions tasks list_tasks task_list effect effects keyed_effect headed named_atom term items terms word_term
-    word_tail name list domain_faults problem_faults pattern_faults patterns_faults expression_faults
-    expressions_faults tasks_faults task_list_faults lower_domain lower_problem
-swap_runs k n = refl
-
--- the samples basic and empty are run, since no check finds a fault in them
-pub empty_runs : (k n : ℕ) → plan_answer k n basic_domain empty_problem
-    ≡ answer_of_read (plan_of k n) basic_read empty_read
-unfolding basic_read empty_read file file_list domain_list problem_list pair atoms rule keyed_rule operator cost method
-    branches named_branch branch_tasks branch_name precondition list_precondition expression list_expression
-    expressions tasks list_tasks task_list effect effects keyed_effect headed named_atom term items terms word_term
-    word_tail name list domain_faults problem_faults pattern_faults patterns_faults expression_faults
-    expressions_faults tasks_faults task_list_faults lower_domain lower_problem
-empty_runs k n = refl
+plan_of plans depth = make_command (codes "d") (codes "p") (Planning plans depth (options 64 false))

@@ -1,11 +1,18 @@
 -- The words of a command.
-use Rattle.std.specs.Prelude.{ℕ, ◌+◌, ◌-◌, ◌*◌, Bool, ◌&&◌, ◌||◌, not, nat_le, nat_lt, ◌==◌, cond, length, slice_index, List, [], ◌∷◌, Option, Some, None, option_map, bytes_eq, codes}
+use Rattle.std.specs.Prelude.{ℕ, ◌+◌, ◌-◌, ◌*◌, Bool, true, false, ◌&&◌, ◌||◌, not, nat_le, nat_lt, ◌==◌, cond, length, slice_index, List, [], ◌∷◌, Option, Some, None, is_some, unwrap_or, option_map, bytes_eq, codes}
 use Rattle.std.specs.List.{list_all}
+use Rattle.std.specs.Option.{option_and_then}
 use Rattle.hp_io.specs.declared.folder.Input.{Input}
 use Rattle.hp_io.specs.declared.folder.Input.TheVariants as inputs
-use Rattle.hp_syntax.specs.declared.limits.TheConstants.{MOST_PLANS, GREATEST_DEPTH}
+use Rattle.hp_syntax.specs.declared.limits.TheConstants.{MOST_PLANS, GREATEST_DEPTH, MOST_LEVELS, USUAL_LEVELS}
 use Rattle.hp_syntax.specs.Text.{is_digit}
-use Rattle.hp_top.specs.SmallLowering.{only_if, joined}
+use Rattle.hp_top.specs.declared.words.TheConstants.{LARGEST_SEED, MOST_PACKAGES}
+
+-- something, where a condition holds
+abbrev pub only_if : {A : Type 0} → Bool → Option A → Option A
+only_if b x = cond b x None
+
+-- ---- numbers
 
 -- a number is `0`, or digits without a leading zero
 abbrev pub is_number : List ℕ → Bool
@@ -22,11 +29,36 @@ number_within least most bs =
     only_if (is_number bs && (nat_le least (number_from 0 bs) && nat_le (number_from 0 bs) most))
     (Some (number_from 0 bs))
 
--- what is done with two files: plans are looked for, so many and down to this depth; or they are checked, or shown
+-- ---- options
+
+-- how deep axioms may call one another, and whether states are told
+pub record Options : Type 0 where
+  pub levels : ℕ
+  pub states : Bool
+
+abbrev pub options : ℕ → Bool → Options
+options n s = record { levels = n; states = s }
+
+-- the options that words ask for behind those that were read: `--states` and `--nest N`, in any order, each at most
+-- once
+abbrev pub options_after : Option ℕ → Bool → List (List ℕ) → Option Options
+options_after levels states [] = Some (options (unwrap_or levels USUAL_LEVELS) states)
+options_after levels states (w ∷ []) =
+    only_if (bytes_eq w (codes "--states") && not states) (options_after levels true [])
+options_after levels states (w ∷ x ∷ ws) =
+    cond (bytes_eq w (codes "--states")) (only_if (not states) (options_after levels true (x ∷ ws)))
+    (only_if (bytes_eq w (codes "--nest") && not (is_some levels))
+    (option_and_then (λ n. options_after (Some n) states ws) (number_within 0 MOST_LEVELS x)))
+
+-- ---- commands
+
+-- what is done with two files: plans are looked for, so many and down to this depth; or they are checked, or shown; or
+-- the first plan is summed up, where the files were made from a seed with so many packages
 pub data Job : Type 0 where
-  Planning : (plans depth : ℕ) → Job
+  Planning : (plans depth : ℕ) → (options : Options) → Job
   Checking : Job
   Showing : Job
+  Summing : (seed packages : ℕ) → Job
 
 -- what is asked
 pub record Command : Type 0 where
@@ -36,6 +68,11 @@ pub record Command : Type 0 where
 
 abbrev pub make_command : List ℕ → List ℕ → Job → Command
 make_command d p j = record { domain = d; problem = p; job = j }
+
+-- what words ask for: a command over files, or a problem that is made
+pub data Request : Type 0 where
+  OnFiles : (command : Command) → Request
+  Making : (seed packages : ℕ) → Request
 
 -- the file that a command names for an input
 abbrev pub named : Command → Input → Option (List ℕ)
@@ -47,15 +84,34 @@ abbrev pub job_by_word : List ℕ → Option Job
 job_by_word word =
     cond (bytes_eq word (codes "check")) (Some Checking) (cond (bytes_eq word (codes "show")) (Some Showing) None)
 
--- the job of two numbers
-abbrev pub planning : Option ℕ → Option ℕ → Option Job
-planning k n = joined Planning k n
+-- the job of two numbers and options
+abbrev pub planning : Option ℕ → Option ℕ → Option Options → Option Job
+planning (Some k) (Some n) (Some o) = Some (Planning k n o)
+planning (Some k) (Some n) None = None
+planning (Some k) None o = None
+planning None n o = None
 
--- `plan DOMAIN PROBLEM K DEPTH`, `check DOMAIN PROBLEM` and `show DOMAIN PROBLEM`
-abbrev pub accepts : List (List ℕ) → Option Command
-accepts (word ∷ d ∷ p ∷ []) = option_map (make_command d p) (job_by_word word)
-accepts (word ∷ d ∷ p ∷ k ∷ n ∷ []) =
-    option_map (make_command d p)
+-- what a job over two files asks for
+abbrev pub on_files : List ℕ → List ℕ → Job → Request
+on_files d p j = OnFiles (make_command d p j)
+
+-- what a seed and a number of packages ask for
+abbrev pub making : Option ℕ → Option ℕ → Option Request
+making (Some s) (Some n) = Some (Making s n)
+making (Some s) None = None
+making None n = None
+
+-- what a word with two words behind it asks for, and nothing else
+abbrev pub asked_by_three : List ℕ → List ℕ → List ℕ → Option Request
+asked_by_three word x y =
+    cond (bytes_eq word (codes "make")) (making (number_within 0 LARGEST_SEED x) (number_within 1 MOST_PACKAGES y))
+    (option_map (on_files x y) (job_by_word word))
+
+-- `plan DOMAIN PROBLEM K DEPTH` and then options, `check DOMAIN PROBLEM`, `show DOMAIN PROBLEM` and `make SEED N`
+abbrev pub accepts : List (List ℕ) → Option Request
+accepts (word ∷ x ∷ y ∷ []) = asked_by_three word x y
+accepts (word ∷ d ∷ p ∷ k ∷ n ∷ more) =
+    option_map (on_files d p)
     (only_if (bytes_eq word (codes "plan"))
-    (planning (number_within 1 MOST_PLANS k) (number_within 0 GREATEST_DEPTH n)))
+    (planning (number_within 1 MOST_PLANS k) (number_within 0 GREATEST_DEPTH n) (options_after None false more)))
 accepts _ = None

@@ -10,7 +10,7 @@ use Rattle.hp_text.specs.declared.forest.TextRefusal.TheVariants as texts
 use Rattle.hp_syntax.specs.declared.limits.TheConstants.{LARGEST_TEXT}
 use Rattle.hp_syntax.specs.Grammar.{domain_form, problem_form}
 use Rattle.hp_syntax.specs.Steps.{Expected, SeveralPairs}
-use Rattle.hp_syntax.specs.Syntax as whole
+use Rattle.hp_syntax.specs.Syntax.{Domain}
 use Rattle.hp_out.specs.declared.refusal.Refusal.TheVariants as refusals
 use Rattle.hp_top.specs.declared.loading.LoadError.{LoadError}
 use Rattle.hp_top.specs.declared.loading.LoadError.TheVariants as causes
@@ -34,6 +34,10 @@ Holds P (Some None) = ⊥
 Holds P (Some (Some text)) = P text
 
 -- ---- one file
+
+-- some text is read as this by a grammar
+abbrev pub HasText : {A : Type 0} → Form A → A → Type 0
+HasText form x = (text : List ℕ) × IsRead form text x
 
 -- a told file is read as this by a grammar
 abbrev pub Reads : {A : Type 0} → Form A → ToldFile → A → Type 0
@@ -78,12 +82,12 @@ pub data StopsAt {A : Type 0} (which : Input) (form : Form A) (cause : LoadError
 
 -- the problem couldn't be read; the domain's file is there and read
 pub record IsProblemUnread (domain problem : ToldFile) (before now : Input → ℕ) : Type 0 where
-  pub of_domain : whole.Domain
+  pub of_domain : Domain
   pub is_read : Reads domain_form domain of_domain
   pub unread : IsUnread inputs.Problem problem before now
 
 -- why a run stops before both files are read: the problem's file matters only where the domain's is read
 pub data Stops (cause : LoadError) (domain problem : ToldFile) (before now : Input → ℕ) : Type 0 where
   AtDomain : StopsAt inputs.Domain domain_form cause domain before now → Stops cause domain problem before now
-  AtProblem : (d : whole.Domain) → Reads domain_form domain d
+  AtProblem : (d : Domain) → Reads domain_form domain d
       → StopsAt inputs.Problem problem_form cause problem before now → Stops cause domain problem before now

@@ -4,7 +4,7 @@ use Rattle.hp_io.specs.declared.folder.Input.{Input}
 use Rattle.hp_io.specs.declared.folder.Input.TheVariants as inputs
 use Rattle.hp_top.specs.declared.status.Status.{Status}
 use Rattle.hp_top.specs.declared.status.Status.TheVariants as status
-use Rattle.hp_top.specs.Command.{Command, accepts}
+use Rattle.hp_top.specs.Command.{Command, OnFiles, accepts}
 use Rattle.hp_top.specs.Outcome.{Files, Outcome}
 use Rattle.hp_top.specs.Loading.{ToldFile, IsUnread, IsProblemUnread}
 use Rattle.hp_out.specs.Lines.{refused_usage, refused_read}
@@ -28,9 +28,9 @@ RefusesWords s r = ((s ≡ status.Usage) × Wrote refused_usage r.before r.after
 -- the line of an input that the words name and that couldn't be read
 pub data IsReadLine (words : List (List ℕ)) (file : List ℕ → ToldFile) (before now : Input → ℕ)
     (line : List ℕ) : Type 0 where
-  OfDomain : (c : Command) → accepts words ≡ Some c → IsUnread inputs.Domain (file c.domain) before now
+  OfDomain : (c : Command) → accepts words ≡ Some (OnFiles c) → IsUnread inputs.Domain (file c.domain) before now
       → line ≡ refused_read inputs.Domain → IsReadLine words file before now line
-  OfProblem : (c : Command) → accepts words ≡ Some c
+  OfProblem : (c : Command) → accepts words ≡ Some (OnFiles c)
       → IsProblemUnread (file c.domain) (file c.problem) before now
       → line ≡ refused_read inputs.Problem → IsReadLine words file before now line
 

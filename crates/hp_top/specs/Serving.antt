@@ -2,7 +2,7 @@
 use Rattle.std.specs.Prelude.{◌≡◌, ℕ, List, Some, None, codes}
 use Rattle.hp_io.specs.declared.folder.Input.{Input}
 use Rattle.hp_syntax.specs.Grammar.{domain_form, problem_form}
-use Rattle.hp_syntax.specs.Syntax as whole
+use Rattle.hp_syntax.specs.Syntax.{Domain, Problem}
 use Rattle.hp_out.specs.Lines.{text_of}
 use Rattle.hp_out.specs.RefusalTexts.{refusal_text}
 use Rattle.hp_out.specs.Writing.{SinkRun}
@@ -12,7 +12,8 @@ use Rattle.hp_top.specs.declared.loading.LoadError.{LoadError}
 use Rattle.hp_top.specs.declared.loading.LoadError.TheVariants as causes
 use Rattle.hp_top.specs.declared.status.Status.{Status}
 use Rattle.hp_top.specs.declared.status.Status.TheVariants as status
-use Rattle.hp_top.specs.Command.{Command, accepts}
+use Rattle.hp_top.specs.Command.{Command, OnFiles, Making, accepts}
+use Rattle.hp_top.specs.Making.{made_files, made_command}
 use Rattle.hp_top.specs.Outcome.{Answer, refused_status, answer_of_read}
 use Rattle.hp_top.specs.Loading.{ToldFile, Reads, Stops}
 use Rattle.hp_top.specs.Telling.{Tells}
@@ -39,13 +40,24 @@ pub data Serves (c : Command) (file : List ℕ → ToldFile) (s : Status) (befor
     (r : SinkRun) : Type 0 where
   Stopped : (cause : LoadError) → Stops cause (file c.domain) (file c.problem) before now
       → Tells (load_answer cause) s r → Serves c file s before now r
-  Answered : (d : whole.Domain) (p : whole.Problem) → Reads domain_form (file c.domain) d
+  Answered : (d : Domain) (p : Problem) → Reads domain_form (file c.domain) d
       → Reads problem_form (file c.problem) p → Tells (answer_of_read c d p) s r → Serves c file s before now r
 
--- how a run ends: the words are no command, or they are one, which is served
+-- no input has met a fault
+abbrev pub no_faults : Input → ℕ
+no_faults which = 0
+
+-- the files that are made are told whole
+abbrev pub told_made : ℕ → ℕ → List ℕ → ToldFile
+told_made seed packages name = Some (made_files seed packages name)
+
+-- how a run ends: the words are no command, or they are one, which is served, or what they ask to be made is
 pub data Ends (words : List (List ℕ)) (file : List ℕ → ToldFile) (s : Status) (before now : Input → ℕ)
     (r : SinkRun) : Type 0 where
   NoCommand : accepts words ≡ None → Tells (refusal_answer refusals.Usage) s r
       → Ends words file s before now r
-  ByCommand : (c : Command) → accepts words ≡ Some c → Serves c file s before now r
+  ByCommand : (c : Command) → accepts words ≡ Some (OnFiles c) → Serves c file s before now r
+      → Ends words file s before now r
+  ByMaking : (seed packages : ℕ) → accepts words ≡ Some (Making seed packages)
+      → Serves (made_command seed packages) (told_made seed packages) s no_faults no_faults r
       → Ends words file s before now r

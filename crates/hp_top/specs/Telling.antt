@@ -1,48 +1,54 @@
 -- What telling a walk has written, and what is left to tell.
-use Rattle.std.specs.Prelude.{◌≡◌, ℕ, ◌+◌, ◌<◌, ◌==◌, cond, List, ◌++◌, Option, Some, None, length}
+use Rattle.std.specs.Prelude.{◌≡◌, ℕ, ◌+◌, ◌<◌, ◌==◌, Bool, cond, List, ◌++◌, Option, Some, None, length}
 use Rattle.hp_io.specs.Rules.{Rose}
-use Rattle.hp_top.specs.SmallReport.{ending_text}
-use Rattle.hp_top.specs.declared.lines.Ending.{Ending}
-use Rattle.hp_top.specs.declared.lines.Ending.TheVariants.{Stopped}
+use Rattle.hp_net.specs.Standings.{Tree}
+use Rattle.hp_out.specs.Endings.{ending_of}
+use Rattle.hp_out.specs.Writing.{SinkRun, Wrote, WroteFront, WroteProperFront}
+use Rattle.hp_out.specs.declared.ending.Ending.{Ending}
+use Rattle.hp_out.specs.declared.ending.Ending.TheVariants.{Stopped}
+use Rattle.hp_syntax.specs.Report.{ending_text}
+use Rattle.hp_syntax.specs.Walk.{Visit, node_at}
 use Rattle.hp_top.specs.declared.planning.Progress.{Progress}
 use Rattle.hp_top.specs.declared.telling.Halt.{Halt}
 use Rattle.hp_top.specs.declared.telling.Halt.TheVariants.{NoMemory, Failed}
 use Rattle.hp_top.specs.declared.status.Status.{Status}
 use Rattle.hp_top.specs.declared.status.Status.TheVariants as status
-use Rattle.hp_top.specs.Flat.{Shown}
 use Rattle.hp_top.specs.Outcome.{Answer, planned_status}
-use Rattle.hp_top.specs.Told.{told, told_status, ending_of}
-use Rattle.hp_out.specs.Writing.{SinkRun, Wrote, WroteFront, WroteProperFront}
+use Rattle.hp_top.specs.Told.{told, told_status}
 
--- the text that is left, and the status to end with, of k plans asked
-abbrev pub left : ℕ → Progress → List Shown → List ℕ
-left k p vs = told k p.plans p.expansions p.is_cut vs
+-- a visit's path reaches its node from the root of a tree
+abbrev pub IsAtItsNode : Tree → Visit → Type 0
+IsAtItsNode t v = node_at t.rules t.nest t.root v.path ≡ Some v.node
 
-abbrev pub left_status : ℕ → Progress → List Shown → Status
+-- the text that is left, and the status to end with, of k plans asked with their states or without
+abbrev pub left : ℕ → Bool → Progress → List Visit → List ℕ
+left k states p vs = told k states p.plans p.expansions p.is_cut vs
+
+abbrev pub left_status : ℕ → Progress → List Visit → Status
 left_status k p vs = told_status k p.plans p.is_cut vs
 
 -- a text was written, which leaves the rest of what was left before
-pub record Goes (k : ℕ) (p q : Progress) (before after : List Shown)
+pub record Goes (k : ℕ) (states : Bool) (p q : Progress) (before after : List Visit)
     (old new : Option (List ℕ)) : Type 0 where
   pub text : List ℕ
   pub written : Wrote text old new
-  pub rest : left k p before ≡ text ++ left k q after
+  pub rest : left k states p before ≡ text ++ left k states q after
   pub status : left_status k p before ≡ left_status k q after
 
 -- a text was written, and the ending line is all that is left
-pub record Closes (k : ℕ) (p q : Progress) (before : List Shown) (x : Ending)
+pub record Closes (k : ℕ) (states : Bool) (p q : Progress) (before : List Visit) (x : Ending)
     (old new : Option (List ℕ)) : Type 0 where
   pub text : List ℕ
   pub written : Wrote text old new
-  pub rest : left k p before ≡ text ++ ending_text (ending_of x) q.plans q.expansions
+  pub rest : left k states p before ≡ text ++ ending_text (ending_of x) q.plans q.expansions
   pub status : left_status k p before ≡ planned_status (ending_of x) q.plans
 
 -- after one visit the telling goes on with fewer visits, or closes
-abbrev pub Visited : Option Ending → ℕ → Progress → Progress → List Shown → List Shown
+abbrev pub Visited : Option Ending → ℕ → Bool → Progress → Progress → List Visit → List Visit
     → Option (List ℕ) → Option (List ℕ) → Type 0
-Visited None k p q before after old new =
-    Goes k p q before after old new × (q.plans < k) × (length after < length before)
-Visited (Some x) k p q before after old new = Closes k p q before x old new
+Visited None k states p q before after old new =
+    Goes k states p q before after old new × (q.plans < k) × (length after < length before)
+Visited (Some x) k states p q before after old new = Closes k states p q before x old new
 
 -- the telling of a text stops: for want of memory, with a front of it written, or because the sink's
 -- count rose, with a proper front

@@ -2,7 +2,7 @@
 use Rattle.std.specs.Prelude.{◌≡◌, ◌⊎◌, ℕ, ◌+◌, ◌≤◌, Bool, true, List, drop, Option, Some, None}
 use Rattle.hp_io.specs.declared.folder.Input.{Input}
 use Rattle.hp_syntax.specs.declared.limits.TheConstants.{LARGEST_TEXT}
-use Rattle.hp_top.specs.Command.{Command, accepts, named}
+use Rattle.hp_top.specs.Command.{Command, OnFiles, accepts, named}
 use Rattle.hp_top.specs.Loading.{ToldFile}
 
 -- what a call did to an input: whether it was begun, and what is left to read of it, before and after
@@ -39,7 +39,7 @@ Touches file r = IsUntouched r ⊎ IsRead file r
 pub record IsNamed (words : List (List ℕ)) (file : List ℕ → ToldFile) (which : Input)
     (r : InputRun) : Type 0 where
   pub command : Command
-  pub accepted : accepts words ≡ Some command
+  pub accepted : accepts words ≡ Some (OnFiles command)
   pub name : List ℕ
   pub has_name : named command which ≡ Some name
   pub read : IsRead (file name) r

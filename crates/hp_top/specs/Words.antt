@@ -1,32 +1,57 @@
 -- What a command asks.
-use Rattle.std.specs.Prelude.{◌≡◌, ℕ, ◌<◌, List, Option, Some, None, slice_index_or, []}
-use Rattle.hp_top.specs.Command.{Job, Planning, Checking, Showing, accepts, make_command}
+use Rattle.std.specs.Prelude.{◌≡◌, ℕ, ◌<◌, ◌≤◌, List, Option, Some, None, slice_index_or, []}
+use Rattle.hp_syntax.specs.declared.limits.TheConstants.{GREATEST_DEPTH}
+use Rattle.hp_top.specs.declared.words.TheConstants.{LARGEST_SEED, MOST_PACKAGES}
+use Rattle.hp_top.specs.Command.{Job, Options, Planning, Checking, Showing, Summing, Request, Making, on_files, accepts, options}
 use Rattle.hp_top.specs.declared.words.Asked.{Asked}
 use Rattle.hp_top.specs.declared.words.Job as asked
+use Rattle.hp_top.specs.declared.words.Options as asked_options
 use Rattle.hp_top.specs.declared.words.Job.TheVariants as jobs
+use Rattle.hp_top.specs.declared.words.Request as asked_request
+use Rattle.hp_top.specs.declared.words.Request.TheVariants as requests
 
 -- what is done with the files
+abbrev pub options_of : asked_options.Options → Options
+options_of o = options o.levels o.states
+
 abbrev pub job_of : asked.Job → Job
-job_of (jobs.Plan a) = Planning a.plans a.depth
+job_of (jobs.Plan a) = Planning a.plans a.depth (options_of a.options)
 job_of jobs.Check = Checking
 job_of jobs.Show = Showing
+job_of (jobs.Sum seed packages) = Summing seed packages
 
--- at least one plan is asked for, where plans are
-abbrev pub HasPlans : asked.Job → Type 0
-HasPlans (jobs.Plan a) = 0 < a.plans
-HasPlans jobs.Check = Unit {0}
-HasPlans jobs.Show = Unit {0}
+-- at least one plan is asked for, down to a depth that may be asked
+pub record IsPlanned (a : Asked) : Type 0 where
+  pub plans : 0 < a.plans
+  pub depth : a.depth ≤ GREATEST_DEPTH
+
+-- a seed and a number of packages of which a problem can be made
+pub record IsMakeable (seed packages : ℕ) : Type 0 where
+  pub small : seed ≤ LARGEST_SEED
+  pub some : 1 ≤ packages
+  pub few : packages ≤ MOST_PACKAGES
+
+-- what is asked for may be asked
+abbrev pub IsAsked : asked.Job → Type 0
+IsAsked (jobs.Plan a) = IsPlanned a
+IsAsked jobs.Check = Unit {0}
+IsAsked jobs.Show = Unit {0}
+IsAsked (jobs.Sum seed packages) = IsMakeable seed packages
+
+abbrev pub IsRequested : asked_request.Request → Type 0
+IsRequested (requests.Files j) = IsAsked j
+IsRequested (requests.Make seed packages) = IsMakeable seed packages
 
 -- the words are a command of two files, for this job
 abbrev pub AsksFor : List (List ℕ) → asked.Job → Type 0
 AsksFor words j =
-    accepts words ≡ Some (make_command (slice_index_or words 1 []) (slice_index_or words 2 []) (job_of j))
+    accepts words ≡ Some (on_files (slice_index_or words 1 []) (slice_index_or words 2 []) (job_of j))
 
--- both numbers are spelled, and what is asked; or one of them isn't
-abbrev pub Spelled : Option Asked → Option ℕ → Option ℕ → Type 0
-Spelled (Some a) (Some k) (Some n) = (a.plans ≡ k) × (a.depth ≡ n)
-Spelled (Some a) (Some k) None = ⊥
-Spelled (Some a) None n = ⊥
-Spelled None (Some k) (Some n) = ⊥
-Spelled None (Some k) None = Unit {0}
-Spelled None None n = Unit {0}
+-- a request, with the two words behind the first
+abbrev pub request_of : List ℕ → List ℕ → asked_request.Request → Request
+request_of x y (requests.Files j) = on_files x y (job_of j)
+request_of x y (requests.Make seed packages) = Making seed packages
+
+-- the words ask for this
+abbrev pub Requests : List (List ℕ) → asked_request.Request → Type 0
+Requests words r = accepts words ≡ Some (request_of (slice_index_or words 1 []) (slice_index_or words 2 []) r)

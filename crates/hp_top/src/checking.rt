@@ -45,7 +45,7 @@ fn count_rules(rules: &[Rule]) -> RuleCounts
 }
 
 /// A word and a number behind it.
-fn push_count(text: &mut Vec<u8>, word: &[u8], count: u128) -> Result<(), AllocError>
+pub fn push_count(text: &mut Vec<u8>, word: &[u8], count: u128) -> Result<(), AllocError>
     ensures { OnOk result (text.new.items ≡ text.old.items ++ word.now ++ decimal count) }
 {
     let mut buffer = Buffer::new();
@@ -76,7 +76,7 @@ fn push_domain_line(text: &mut Vec<u8>, domain: &Domain) -> Result<(), AllocErro
 }
 
 /// How many atoms the states have, as they are written.
-fn atoms_written(pairs: &[Pair]) -> u128
+pub fn atoms_written(pairs: &[Pair]) -> u128
     ensures { result ≡ atoms_written (map pair_of pairs.now) }
 {
     let mut count = 0u128;

@@ -9,15 +9,16 @@ ghost use Rattle.hp_top.specs.Outcome.{Files};
 ghost use Rattle.hp_top.specs.Run.{TellsFiles, IsOutcome, RefusesWords, ReadFails, WritesFront, WritesProperFront};
 ghost use Rattle.hp_top.specs.Serving.{Serves, Ends};
 ghost use Rattle.hp_top.specs.Touching.{Touches, TouchesNamed, input_run};
-ghost use Rattle.hp_top.specs.Words.{HasPlans, job_of};
+ghost use Rattle.hp_top.specs.Words.{IsAsked, job_of};
 ghost use Rattle.hp_out.specs.Writing.{sink_run};
 
 use crate::laws::every_run_has_an_outcome;
 use crate::loading::load;
+use crate::making::serve_made;
 use crate::refusing::{refuse, refuse_files};
 use crate::serving::serve_job;
 use crate::status::Status;
-use crate::words::{Job, job_asked};
+use crate::words::{Job, Request, request_asked};
 use hp_io::{Folder, Input, Sink};
 use hp_out::Refusal;
 use std::alloc::Global;
@@ -31,11 +32,10 @@ fn serve_command<F: Folder, K: Sink>(
     folder: &mut F,
     out: &mut K,
 ) -> Status
-    requires { HasPlans job }
+    requires { IsAsked job }
     ensures serves { Serves (make_command domain.now problem.now (job_of job)) (F.file folder.old)
         result (F.faults folder.old) (F.faults folder.new)
         (sink_run (K.faults out.old) (K.faults out.new) (K.bytes out.old) (K.bytes out.new)) }
-    ensures faultless { result ≢ Status.RunFault }
     ensures files { (n : List ℕ) → F.file folder.new n ≡ F.file folder.old n }
     ensures later { (w : Input) → F.faults folder.old w ≤ F.faults folder.new w }
     ensures out_later { K.faults out.old ≤ K.faults out.new }
@@ -53,7 +53,6 @@ fn serve<F: Folder, K: Sink>(alloc: Global, words: &[String], folder: &mut F, ou
     ensures ends { Ends (map string_bytes words.now) (F.file folder.old) result
         (F.faults folder.old) (F.faults folder.new)
         (sink_run (K.faults out.old) (K.faults out.new) (K.bytes out.old) (K.bytes out.new)) }
-    ensures faultless { result ≢ Status.RunFault }
     ensures files { (n : List ℕ) → F.file folder.new n ≡ F.file folder.old n }
     ensures later { (w : Input) → F.faults folder.old w ≤ F.faults folder.new w }
     ensures out_later { K.faults out.old ≤ K.faults out.new }
@@ -64,9 +63,10 @@ fn serve<F: Folder, K: Sink>(alloc: Global, words: &[String], folder: &mut F, ou
         × RefusesWords result
         (sink_run (K.faults out.old) (K.faults out.new) (K.bytes out.old) (K.bytes out.new)) }
 {
-    match job_asked(words) {
+    match request_asked(words) {
         None => refuse(out, &Refusal::Usage),
-        Some(job) => serve_command(
+        Some(Request::Make { seed, packages }) => serve_made(alloc, seed, packages, out),
+        Some(Request::Files(job)) => serve_command(
             alloc,
             words[1].as_str(),
             words[2].as_str(),
@@ -78,9 +78,12 @@ fn serve<F: Folder, K: Sink>(alloc: Global, words: &[String], folder: &mut F, ou
 }
 
 /// Runs a command. `plan DOMAIN PROBLEM K DEPTH` writes the first K plans down to that depth, each
-/// as soon as it is found, and one ending line. `check DOMAIN PROBLEM` writes how many rules and atoms
-/// there are, a note for each task that no rule serves, and `accepted`. `show DOMAIN PROBLEM` writes both
-/// in canonical text.
+/// as soon as it is found, and one ending line. Behind these words `--nest N` says how deep axioms may
+/// call one another (else 64), and `--states` has each plan told with the state that it leads to.
+/// `check DOMAIN PROBLEM` writes how many rules and atoms there are, a note for each task that no rule
+/// serves, and `accepted`. `show DOMAIN PROBLEM` writes both in canonical text. `make SEED N` reads no
+/// file: it makes a problem with N packages, plans it, and writes how many atoms its state has, the
+/// first line of its first plan, and the ending line.
 ///
 /// The words don't hold the program's own name. Nothing is written before both files are read and
 /// accepted, but the one line of a refusal; after want of memory or a fault of the sink nothing
@@ -131,9 +134,6 @@ pub fn run<F: Folder, K: Sink>(
         (F.faults folder.old) (F.faults folder.new)
         (sink_run (K.faults out.old) (K.faults out.new) (K.bytes out.old) (K.bytes out.new)) }
     ensures write { result ≡ Status.WriteFault → Rose (K.faults out.old) (K.faults out.new) }
-
-    // No walk of the language meets a fault.
-    ensures faultless { result ≢ Status.RunFault }
 
     // The folder goes on telling the same files, and no count of faults falls.
     ensures tells { (n : List ℕ) → F.file folder.new n ≡ F.file folder.old n }

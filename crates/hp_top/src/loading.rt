@@ -10,7 +10,7 @@ ghost use Rattle.hp_syntax.specs.Views.{domain_of, problem_of};
 ghost use Rattle.hp_syntax.specs.TextForms.{IsRead};
 ghost use Rattle.hp_text.specs.Nodes.{forest_of};
 ghost use Rattle.hp_text.specs.Refusals.{RefusesText};
-ghost use Rattle.hp_top.specs.Loading.{ReadsFile, Reads, IsUnread, IsRefusedFor, StopsAt, Stops, of_text, of_form};
+ghost use Rattle.hp_top.specs.Loading.{ReadsFile, Reads, HasText, IsUnread, IsRefusedFor, StopsAt, Stops, of_text, of_form};
 ghost use Rattle.hp_top.specs.Touching.{Touches, IsUntouched, input_run};
 
 use crate::reading::{ReadError, read_rest};
@@ -150,6 +150,7 @@ fn load_domain<F: Folder>(alloc: Global, folder: &mut F, name: &str) -> Result<D
 /// The problem in a file.
 fn load_problem<F: Folder>(alloc: Global, folder: &mut F, name: &str) -> Result<Problem, LoadError>
     ensures problem { IfOk result (λ p. Reads problem_form (F.file folder.old name.now) (problem_of p)) }
+    ensures text { IfOk result (λ p. HasText problem_form (problem_of p)) }
     ensures stops { IfErr result (λ e. StopsAt inputs.Problem problem_form e (F.file folder.old name.now)
         (F.faults folder.old) (F.faults folder.new)) }
     ensures touched { Touches (F.file folder.old name.now) (input_run
@@ -181,6 +182,7 @@ pub fn load<F: Folder>(
 ) -> Result<Loaded, LoadError>
     ensures domain { IfOk result (λ l. Reads domain_form (F.file folder.old domain.now) (domain_of l.domain)) }
     ensures problem { IfOk result (λ l. Reads problem_form (F.file folder.old problem.now) (problem_of l.problem)) }
+    ensures text { IfOk result (λ l. HasText problem_form (problem_of l.problem)) }
     ensures stops { IfErr result (λ e. Stops e (F.file folder.old domain.now) (F.file folder.old problem.now)
         (F.faults folder.old) (F.faults folder.new)) }
     ensures files { (n : List ℕ) → F.file folder.new n ≡ F.file folder.old n }

@@ -1,35 +1,31 @@
 //! The walk of a problem, with each plan written as it is found.
 
-ghost use Rattle.std.specs.Prelude.{◌≡◌, ◌≤◌, ◌<◌, ◌+◌, false, IfOk, IfErr, OnOk};
-ghost use Rattle.hp_top.specs.SmallReport.{report, ending_text};
-ghost use Rattle.hp_top.specs.SmallWalk.{walk};
-ghost use Rattle.hp_top.specs.Flat.{heard_shown, shown_at};
-ghost use Rattle.hp_top.specs.Outcome.{planned_status, walk_status};
-ghost use Rattle.hp_top.specs.Program.{plain_terms, plain_domain, plain_problem};
-ghost use Rattle.hp_top.specs.Rest.{rest};
-ghost use Rattle.hp_top.specs.Told.{told, told_status, ending_of, flat_plan_text, quiet_ending};
-ghost use Rattle.hp_top.specs.Telling.{Visited, Halts, Tells, counted, left, stop_at};
+ghost use Rattle.std.specs.Prelude.{◌≡◌, ◌≤◌, ◌<◌, ◌+◌, true, false, MatchOption, IfOk, IfErr, OnOk};
+ghost use Rattle.std.specs.List.{All};
+ghost use Rattle.hp_net.specs.Standings.{node_reached};
+ghost use Rattle.hp_out.specs.Endings.{ending_of};
 ghost use Rattle.hp_out.specs.Writing.{Wrote, sink_run};
+ghost use Rattle.hp_syntax.specs.Report.{told_plan, ending_text};
+ghost use Rattle.hp_top.specs.Outcome.{planned_status};
+ghost use Rattle.hp_top.specs.Told.{told, told_status, quiet_ending};
+ghost use Rattle.hp_top.specs.Telling.{IsAtItsNode, Visited, Halts, counted, left, stop_at};
 
-use crate::lines::{Ending, ending_line, plan_lines};
-use crate::program::{Domain, GroundAtom, Problem};
 use crate::status::Status;
-use crate::telling::{Halt, write};
-use crate::walk::{Step, Walk};
+use crate::telling::Halt;
 use crate::words::Asked;
 use hp_io::Sink;
-use std::alloc::{AllocError, Global};
-use std::rc::Rc;
+use hp_net::{Step, Walk};
+use hp_out::{Ending, Pen};
 
 /// How far a walk was told.
 #[derive(Clone, Copy)]
-struct Progress {
+pub struct Progress {
     /// How many plans were written.
-    plans: u64,
+    pub plans: u64,
     /// How many decompositions were gone through; it stands still at its end.
-    expansions: u64,
+    pub expansions: u64,
     /// Whether a part of the tree was cut off.
-    is_cut: bool,
+    pub is_cut: bool,
 }
 
 /// The status of a run that ends so.
@@ -46,52 +42,77 @@ fn status_of(ending: Ending, plans: u64) -> Status
 }
 
 /// How a walk ends that met no fault.
-fn quiet(is_cut: bool) -> Ending
+pub fn quiet(is_cut: bool) -> Ending
     ensures { ending_of result ≡ quiet_ending is_cut }
 {
     if is_cut { Ending::Cut } else { Ending::End }
 }
 
+/// Writes the plan of the node that is reached.
+fn write_plan<W: Walk, K: Sink>(
+    number: u64,
+    walk: &W,
+    states: bool,
+    out: &mut K,
+) -> Result<(), Halt>
+    requires live { W.is_live walk.now ≡ true }
+    ensures written { MatchOption (node_reached (W.tree walk.now) (W.stands walk.now)) ⊥
+        (λ n. OnOk result (Wrote (told_plan states number n) (K.bytes out.old) (K.bytes out.new))) }
+    ensures err { MatchOption (node_reached (W.tree walk.now) (W.stands walk.now)) ⊥
+        (λ n. IfErr result (λ h. Halts h (told_plan states number n)
+        (sink_run (K.faults out.old) (K.faults out.new) (K.bytes out.old) (K.bytes out.new)))) }
+    ensures later { K.faults out.old ≤ K.faults out.new }
+{
+    let mut pen = Pen::new(out);
+    match pen.plan_lines(number, walk, states) {
+        Ok(()) => Ok(()),
+        Err(_) => Err(Halt::Failed),
+    }
+}
+
 /// Counts and writes a plan, and answers the ending where it is the last that was asked.
-fn plan_found<K: Sink>(
-    alloc: Global,
-    steps: &[Rc<GroundAtom>],
-    most: u64,
+fn plan_found<W: Walk, K: Sink>(
+    walk: &W,
+    asked: Asked,
     progress: &mut Progress,
     out: &mut K,
 ) -> Result<Option<Ending>, Halt>
-    requires { progress.old.plans < most }
-    ensures written { OnOk result (Wrote (flat_plan_text (progress.old.plans + 1) (plain_terms steps.now))
-        (K.bytes out.old) (K.bytes out.new)) }
+    requires live { W.is_live walk.now ≡ true }
+    requires fewer { progress.old.plans < asked.plans }
+    ensures written { MatchOption (node_reached (W.tree walk.now) (W.stands walk.now)) ⊥
+        (λ n. OnOk result (Wrote (told_plan asked.options.states (progress.old.plans + 1) n)
+        (K.bytes out.old) (K.bytes out.new))) }
     ensures counted { OnOk result (progress.new ≡ counted progress.old) }
-    ensures stops { IfOk result (λ o. o ≡ stop_at most (progress.old.plans + 1)) }
-    ensures err { IfErr result (λ h. Halts h (flat_plan_text (progress.old.plans + 1) (plain_terms steps.now))
-        (sink_run (K.faults out.old) (K.faults out.new) (K.bytes out.old) (K.bytes out.new))) }
+    ensures stops { IfOk result (λ o. o ≡ stop_at asked.plans (progress.old.plans + 1)) }
+    ensures err { MatchOption (node_reached (W.tree walk.now) (W.stands walk.now)) ⊥
+        (λ n. IfErr result (λ h. Halts h (told_plan asked.options.states (progress.old.plans + 1) n)
+        (sink_run (K.faults out.old) (K.faults out.new) (K.bytes out.old) (K.bytes out.new)))) }
     ensures later { K.faults out.old ≤ K.faults out.new }
 {
     progress.plans += 1;
-    let Ok(text) = plan_lines(alloc, progress.plans, steps) else {
-        return Err(Halt::NoMemory);
-    };
-    match write(out, text.as_slice()) {
-        Ok(()) if progress.plans == most => Ok(Some(Ending::Stopped)),
+    match write_plan(progress.plans, walk, asked.options.states, out) {
+        Ok(()) if progress.plans == asked.plans => Ok(Some(Ending::Stopped)),
         Ok(()) => Ok(None),
         Err(halt) => Err(halt),
     }
 }
 
 /// One visit: what is counted and written of it, and the ending where it is the last.
-fn visit<K: Sink>(
-    alloc: Global,
-    walk: &mut Walk,
-    most: u64,
+fn visit<W: Walk, K: Sink>(
+    walk: &mut W,
+    asked: Asked,
     progress: &mut Progress,
     out: &mut K,
 ) -> Result<Option<Ending>, Halt>
-    requires { progress.old.plans < most }
-    ensures visited { IfOk result (λ o. Visited o most progress.old progress.new
-        (rest walk.old) (rest walk.new) (K.bytes out.old) (K.bytes out.new)) }
-    ensures err { IfErr result (λ h. Halts h (left most progress.old (rest walk.old))
+    requires live { W.is_live walk.old ≡ true }
+    requires at { All (IsAtItsNode (W.tree walk.old)) (W.stands walk.old).rest }
+    requires fewer { progress.old.plans < asked.plans }
+    ensures visited { IfOk result (λ o. Visited o asked.plans asked.options.states progress.old progress.new
+        (W.stands walk.old).rest (W.stands walk.new).rest (K.bytes out.old) (K.bytes out.new)) }
+    ensures at { OnOk result (All (IsAtItsNode (W.tree walk.new)) (W.stands walk.new).rest) }
+    ensures live { OnOk result (W.is_live walk.new ≡ true) }
+    ensures err { IfErr result (λ h. Halts h
+        (left asked.plans asked.options.states progress.old (W.stands walk.old).rest)
         (sink_run (K.faults out.old) (K.faults out.new) (K.bytes out.old) (K.bytes out.new))) }
     ensures later { K.faults out.old ≤ K.faults out.new }
 {
@@ -105,19 +126,14 @@ fn visit<K: Sink>(
             progress.is_cut = true;
             Ok(None)
         }
-        Ok(Step::Plan) => plan_found(alloc, walk.steps(), most, progress, out),
+        Ok(Step::Plan) => plan_found(walk, asked, progress, out),
         Ok(Step::Fault(fault)) => Ok(Some(Ending::Fault(fault))),
         Ok(Step::End) => Ok(Some(quiet(progress.is_cut))),
     }
 }
 
 /// Writes the ending line.
-fn close<K: Sink>(
-    alloc: Global,
-    ending: Ending,
-    progress: Progress,
-    out: &mut K,
-) -> Result<Status, Halt>
+pub fn close<K: Sink>(ending: Ending, progress: Progress, out: &mut K) -> Result<Status, Halt>
     ensures written { OnOk result (Wrote (ending_text (ending_of ending) progress.plans progress.expansions)
         (K.bytes out.old) (K.bytes out.new)) }
     ensures status { IfOk result (λ s. s ≡ planned_status (ending_of ending) progress.plans) }
@@ -125,22 +141,22 @@ fn close<K: Sink>(
         (sink_run (K.faults out.old) (K.faults out.new) (K.bytes out.old) (K.bytes out.new))) }
     ensures later { K.faults out.old ≤ K.faults out.new }
 {
-    let Ok(text) = ending_line(alloc, ending, progress.plans, progress.expansions) else {
-        return Err(Halt::NoMemory);
-    };
-    match write(out, text.as_slice()) {
+    let mut pen = Pen::new(out);
+    match pen.ending_line(&ending, progress.plans, progress.expansions) {
         Ok(()) => Ok(status_of(ending, progress.plans)),
-        Err(halt) => Err(halt),
+        Err(_) => Err(Halt::Failed),
     }
 }
 
-/// Writes the plans of the walk, as many as are asked, and the ending line.
-fn tell<K: Sink>(alloc: Global, walk: &mut Walk, most: u64, out: &mut K) -> Result<Status, Halt>
-    requires { 0 < most }
-    ensures written { OnOk result (Wrote (told most 0 0 false (rest walk.old)) (K.bytes out.old)
-        (K.bytes out.new)) }
-    ensures status { IfOk result (λ s. s ≡ told_status most 0 false (rest walk.old)) }
-    ensures err { IfErr result (λ h. Halts h (told most 0 0 false (rest walk.old))
+/// Writes the plans of a walk, as many as are asked, and the ending line.
+pub fn tell<W: Walk, K: Sink>(walk: &mut W, asked: Asked, out: &mut K) -> Result<Status, Halt>
+    requires live { W.is_live walk.old ≡ true }
+    requires at { All (IsAtItsNode (W.tree walk.old)) (W.stands walk.old).rest }
+    requires plans { 0 < asked.plans }
+    ensures written { OnOk result (Wrote (told asked.plans asked.options.states 0 0 false (W.stands walk.old).rest)
+        (K.bytes out.old) (K.bytes out.new)) }
+    ensures status { IfOk result (λ s. s ≡ told_status asked.plans 0 false (W.stands walk.old).rest) }
+    ensures err { IfErr result (λ h. Halts h (told asked.plans asked.options.states 0 0 false (W.stands walk.old).rest)
         (sink_run (K.faults out.old) (K.faults out.new) (K.bytes out.old) (K.bytes out.new))) }
     ensures later { K.faults out.old ≤ K.faults out.new }
 {
@@ -150,35 +166,10 @@ fn tell<K: Sink>(alloc: Global, walk: &mut Walk, most: u64, out: &mut K) -> Resu
         is_cut: false,
     };
     loop {
-        match visit(alloc, walk, most, &mut progress, out) {
+        match visit(walk, asked, &mut progress, out) {
             Ok(None) => {}
-            Ok(Some(ending)) => return close(alloc, ending, progress, out),
+            Ok(Some(ending)) => return close(ending, progress, out),
             Err(halt) => return Err(halt),
         }
-    }
-}
-
-/// Plans, and answers how that ended.
-pub fn plan<K: Sink>(
-    alloc: Global,
-    domain: &Domain,
-    problem: &Problem,
-    asked: Asked,
-    out: &mut K,
-) -> Status
-    requires { 0 < asked.plans }
-    ensures tells { let visits = walk (plain_domain domain.now) (plain_problem problem.now) asked.depth in
-        Tells (report asked.plans visits, walk_status asked.plans visits) result
-        (sink_run (K.faults out.old) (K.faults out.new) (K.bytes out.old) (K.bytes out.new)) }
-    ensures later { K.faults out.old ≤ K.faults out.new }
-{
-    let rules = domain.rules.as_slice();
-    let Ok(mut walk) = Walk::new(alloc, rules, problem, asked.depth) else {
-        return Status::NoMemory;
-    };
-    match tell(alloc, &mut walk, asked.plans, out) {
-        Ok(status) => status,
-        Err(Halt::NoMemory) => Status::NoMemory,
-        Err(Halt::Failed) => Status::WriteFault,
     }
 }

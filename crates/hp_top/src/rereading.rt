@@ -2,7 +2,7 @@
 
 ghost use Rattle.std.specs.Prelude.{◌≡◌, IfOk, IsErrOf};
 ghost use Rattle.hp_syntax.specs.Grammar.{domain_form, problem_form};
-ghost use Rattle.hp_syntax.specs.Syntax as whole;
+ghost use Rattle.hp_syntax.specs.Syntax as plain;
 ghost use Rattle.hp_syntax.specs.TextForms.{IsRead};
 ghost use Rattle.hp_syntax.specs.Unplaced as unplaced;
 ghost use Rattle.hp_syntax.specs.Views.{domain_of, problem_of};
@@ -69,7 +69,7 @@ pub fn reread_domain(alloc: Global, text: &[u8]) -> Result<RereadDomain, RereadE
     ensures same { IfOk result (λ r. unplaced.domain (domain_of r.second) ≡ unplaced.domain (domain_of r.first)) }
     ensures unreadable { IsErrOf result RereadError.Unreadable
         → (why : Why) × IsUnreadable domain_form text.now why }
-    ensures too_long { IsErrOf result RereadError.TooLong → (d : whole.Domain)
+    ensures too_long { IsErrOf result RereadError.TooLong → (d : plain.Domain)
         × (IsRead domain_form text.now d × IsPastLimits (written.domain_text d) (written.domain d)) }
 {
     // Nothing runs here: the laws make known that a text is read as one domain, and that canonical text reads back.
@@ -97,7 +97,7 @@ pub fn reread_problem(alloc: Global, text: &[u8]) -> Result<RereadProblem, Rerea
     ensures same { IfOk result (λ r. unplaced.problem (problem_of r.second) ≡ unplaced.problem (problem_of r.first)) }
     ensures unreadable { IsErrOf result RereadError.Unreadable
         → (why : Why) × IsUnreadable problem_form text.now why }
-    ensures too_long { IsErrOf result RereadError.TooLong → (p : whole.Problem)
+    ensures too_long { IsErrOf result RereadError.TooLong → (p : plain.Problem)
         × (IsRead problem_form text.now p × IsPastLimits (written.problem_text p) (written.problem p)) }
 {
     // Nothing runs here: the laws make known that a text is read as one problem, and that canonical text reads back.

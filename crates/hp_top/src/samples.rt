@@ -5,7 +5,7 @@ ghost use Rattle.hp_syntax.specs.Samples.{swap_text, empty_text};
 ghost use Rattle.hp_top.specs.declared.status.Status.TheVariants.{Done, CutShort};
 ghost use Rattle.hp_top.specs.Outcome.{Outcome};
 ghost use Rattle.hp_top.specs.Samples.{basic_files, plan_words};
-ghost use Rattle.hp_top.specs.WholePlans.{options, options_after, plan_asked, asked};
+ghost use Rattle.hp_top.specs.Command.{Planning, Making, accepts, on_files, options, options_after};
 
 use hp_syntax::samples::samples_are_spelled;
 
@@ -26,7 +26,7 @@ pub fn basic_comes_to_its_plan()
     samples_are_spelled();
 }
 
-/// The options of `plan` once the whole language is run: in any order, each at most once, levels up to 128.
+/// The options of `plan`: in any order, each at most once, levels up to 128.
 pub fn options_are_read()
     ensures none { options_after None false [] ≡ Some (options 64 false) }
     ensures both { options_after None false (codes "--states" ∷ codes "--nest" ∷ codes "5" ∷ [])
@@ -37,8 +37,19 @@ pub fn options_are_read()
     ensures too_many { options_after None false (codes "--nest" ∷ codes "129" ∷ []) ≡ None }
     ensures no_number { options_after None false (codes "--nest" ∷ []) ≡ None }
     ensures twice { options_after None false (codes "--states" ∷ codes "--states" ∷ []) ≡ None }
-    ensures plan { plan_asked
+    ensures plan { accepts
         (codes "plan" ∷ codes "d" ∷ codes "--nest" ∷ codes "5" ∷ codes "10" ∷ codes "--states" ∷ [])
-        ≡ Some (asked (codes "d") (codes "--nest") 5 10 (options 64 true)) }
-    ensures no_plan { plan_asked (codes "plan" ∷ codes "d" ∷ codes "p" ∷ codes "0" ∷ codes "10" ∷ []) ≡ None }
+        ≡ Some (on_files (codes "d") (codes "--nest") (Planning 5 10 (options 64 true))) }
+    ensures no_plan { accepts (codes "plan" ∷ codes "d" ∷ codes "p" ∷ codes "0" ∷ codes "10" ∷ []) ≡ None }
+{}
+
+/// The words of `make`: a seed of up to 2,147,483,647, and from one to a hundred packages.
+pub fn makings_are_read()
+    ensures small { accepts (codes "make" ∷ codes "1" ∷ codes "2" ∷ []) ≡ Some (Making 1 2) }
+    ensures great { accepts (codes "make" ∷ codes "2147483647" ∷ codes "100" ∷ [])
+        ≡ Some (Making 2147483647 100) }
+    ensures no_package { accepts (codes "make" ∷ codes "1" ∷ codes "0" ∷ []) ≡ None }
+    ensures too_many { accepts (codes "make" ∷ codes "1" ∷ codes "101" ∷ []) ≡ None }
+    ensures too_large { accepts (codes "make" ∷ codes "2147483648" ∷ codes "1" ∷ []) ≡ None }
+    ensures more { accepts (codes "make" ∷ codes "1" ∷ codes "2" ∷ codes "--states" ∷ []) ≡ None }
 {}

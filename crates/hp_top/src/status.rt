@@ -16,7 +16,7 @@ pub enum Status {
     DomainRefused = 4,
     /// The problem's text is no problem of the language, or one of another domain.
     ProblemRefused = 5,
-    /// A value that was wanted couldn't be had. No run of the language ends so yet.
+    /// A value that was wanted couldn't be had: the run met a fault before its last plan.
     RunFault = 6,
     /// What was to be written couldn't be written whole.
     WriteFault = 7,

@@ -1,15 +1,14 @@
 //! Writing the texts of a run, and how a run ends that stops in the middle of one.
 
-ghost use Rattle.std.specs.Prelude.{◌≡◌, ◌⊎◌, ◌≤◌, OnOk, OnErr, IfErr, map};
+ghost use Rattle.std.specs.Prelude.{◌≤◌, OnOk, OnErr, IfErr, map};
 ghost use Rattle.hp_check.specs.NoteViews.{note_of};
 ghost use Rattle.hp_io.specs.Rules.{Rose};
 ghost use Rattle.hp_out.specs.Lines.{note_text};
 ghost use Rattle.hp_out.specs.RefusalTexts.{refusal_text};
 ghost use Rattle.hp_out.specs.Writing.{Wrote, Writes, sink_run};
 ghost use Rattle.hp_top.specs.CheckTexts.{notes_text};
-ghost use Rattle.hp_top.specs.Telling.{Halts, Tells};
+ghost use Rattle.hp_top.specs.Telling.{Halts};
 
-use crate::status::Status;
 use hp_check::Note;
 use hp_io::{Failed, Sink};
 use hp_out::{Pen, Refusal};
@@ -72,18 +71,4 @@ pub fn write_notes<K: Sink>(out: &mut K, notes: &[Note]) -> Result<(), Halt>
         }
     }
     Ok(())
-}
-
-/// Writes a text, and answers this status.
-pub fn end_with<K: Sink>(out: &mut K, text: &[u8], status: Status) -> Status
-    ensures tells { Tells (text.now, status) result
-        (sink_run (K.faults out.old) (K.faults out.new) (K.bytes out.old) (K.bytes out.new)) }
-    ensures either { (result ≡ status) ⊎ (result ≡ Status.WriteFault) }
-    ensures later { K.faults out.old ≤ K.faults out.new }
-{
-    let mut pen = Pen::new(out);
-    match pen.text(text) {
-        Ok(()) => status,
-        Err(_) => Status::WriteFault,
-    }
 }

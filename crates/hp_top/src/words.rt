@@ -1,19 +1,32 @@
 //! The words of a command.
 
 ghost use Rattle.std.specs.List.{list_all};
-ghost use Rattle.std.specs.Prelude.{true, nat_le, IfSome, ◌≡◌, ◌≢◌, ◌≤◌, ◌^◌, ◌<◌, ℕ, List, None, Some, MatchOption, length, map, string_bytes, slice_get, unwrap_or, [], option_map};
-ghost use Rattle.hp_top.specs.SmallLowering.{only_if};
-ghost use Rattle.hp_top.specs.Words.{AsksFor, HasPlans, Spelled, job_of};
-ghost use Rattle.hp_top.specs.Command.{accepts, job_by_word, number_within, number_from, is_number};
+ghost use Rattle.std.specs.Prelude.{true, false, nat_le, IfSome, ◌≡◌, ◌≢◌, ◌≤◌, ◌^◌, ◌<◌, ℕ, List, None, Some, MatchOption, length, map, string_bytes, slice_get, unwrap_or, [], option_map};
+ghost use Rattle.hp_top.specs.Words.{AsksFor, IsPlanned, IsAsked, IsRequested, Requests, job_of, options_of, request_of};
+ghost use Rattle.hp_top.specs.Command.{accepts, only_if, planning, making, options_after, job_by_word, asked_by_three, number_within, number_from, is_number};
 ghost use Rattle.hp_syntax.specs.Text.{is_digit};
 
-use hp_syntax::limits::{GREATEST_DEPTH, MOST_PLANS};
+use hp_syntax::limits::{GREATEST_DEPTH, MOST_LEVELS, MOST_PLANS, USUAL_LEVELS};
 
-/// The numbers of a command: how many plans are asked, and down to which depth.
+/// The largest seed of which a problem can be made.
+pub const LARGEST_SEED: u32 = 2_147_483_647;
+
+/// The most packages that a problem can be made with.
+pub const MOST_PACKAGES: u32 = 100;
+
+/// How deep axioms may call one another, and whether each plan is told with its state.
+#[derive(Clone, Copy)]
+pub struct Options {
+    pub levels: u32,
+    pub states: bool,
+}
+
+/// What a search for plans is asked for: how many plans, down to which depth, and how.
 #[derive(Clone, Copy)]
 pub struct Asked {
     pub plans: u64,
     pub depth: u32,
+    pub options: Options,
 }
 
 /// What a command does with its two files.
@@ -22,6 +35,17 @@ pub enum Job {
     Plan(Asked),
     Check,
     Show,
+    /// Sums up the first plan of two files that were made.
+    Sum { seed: u32, packages: u32 },
+}
+
+/// What words ask for.
+#[derive(Clone, Copy)]
+pub enum Request {
+    /// A job with the two files that the words name.
+    Files(Job),
+    /// The problem of a seed with so many packages.
+    Make { seed: u32, packages: u32 },
 }
 
 /// Whether all bytes are digits.
@@ -52,7 +76,7 @@ fn is_number(word: &[u8]) -> bool
 /// The number that digits spell, where it is at most `most`.
 fn number_up_to(digits: &[u8], most: u64) -> Option<u64>
     requires digits { list_all is_digit digits.now ≡ true }
-    requires most { most ≤ MOST_PLANS }
+    requires most { most < 2 ^ 32 }
     ensures { result ≡ only_if (nat_le (number_from 0 digits.now) most) (Some (number_from 0 digits.now)) }
 {
     let mut number = 0u64;
@@ -67,7 +91,7 @@ fn number_up_to(digits: &[u8], most: u64) -> Option<u64>
 
 /// The number that a word spells, where it is within these bounds.
 fn number_within(word: &[u8], least: u64, most: u64) -> Option<u64>
-    requires { most ≤ MOST_PLANS }
+    requires { most < 2 ^ 32 }
     ensures { result ≡ number_within least most word.now }
 {
     if !is_number(word) {
@@ -77,33 +101,61 @@ fn number_within(word: &[u8], least: u64, most: u64) -> Option<u64>
     if number < least { None } else { Some(number) }
 }
 
-/// How many plans and which depth two words ask for.
-fn both_numbers(plans: &[u8], depth: &[u8]) -> Option<Asked>
-    ensures spelled { Spelled result (number_within 1 MOST_PLANS plans.now)
-        (number_within 0 GREATEST_DEPTH depth.now) }
-    ensures some { IfSome result (λ a. 0 < a.plans) }
+/// The options that words ask for behind those that were read, each at most once.
+fn options_after(words: &[String], levels: Option<u32>, states: bool) -> Option<Options>
+    ensures { option_map options_of result ≡ options_after levels states (map string_bytes words.now) }
+{
+    match words {
+        [] => Some(Options {
+            levels: levels.unwrap_or(USUAL_LEVELS),
+            states,
+        }),
+        [word, rest @ ..] if word.as_str() == "--states" => {
+            if states {
+                None
+            } else {
+                options_after(rest, levels, true)
+            }
+        }
+        [word, number, rest @ ..] if word.as_str() == "--nest" && levels.is_none() => {
+            match number_within(number.as_bytes(), 0, u64::from(MOST_LEVELS)) {
+                Some(most) => options_after(rest, Some(most as u32), states),
+                None => None,
+            }
+        }
+        _ => None,
+    }
+}
+
+/// How many plans, which depth and which options words ask for.
+fn planned(plans: &[u8], depth: &[u8], more: &[String]) -> Option<Asked>
+    ensures spelled { option_map job_of (option_map Job.Plan result) ≡ planning (number_within 1 MOST_PLANS plans.now)
+        (number_within 0 GREATEST_DEPTH depth.now) (options_after None false (map string_bytes more.now)) }
+    ensures some { IfSome result IsPlanned }
 {
     let plans = number_within(plans, 1, MOST_PLANS)?;
     let depth = number_within(depth, 0, u64::from(GREATEST_DEPTH))?;
+    let options = options_after(more, None, false)?;
     Some(Asked {
         plans,
         depth: depth as u32,
+        options,
     })
 }
 
-/// The numbers of a command of five words.
-fn numbers_asked(words: &[String]) -> Option<Asked>
+/// What a command of five words and more asks.
+fn plan_asked(words: &[String]) -> Option<Asked>
     requires { length words.now ≢ 3 }
     ensures asks { MatchOption (option_map Job.Plan result) (accepts (map string_bytes words.now) ≡ None)
         (AsksFor (map string_bytes words.now)) }
-    ensures five { IfSome result (λ a. length words.now ≡ 5) }
-    ensures some { IfSome result (λ a. 0 < a.plans) }
+    ensures five { IfSome result (λ a. 5 ≤ length words.now) }
+    ensures some { IfSome result IsPlanned }
 {
-    let [word, _, _, plans, depth] = words else {
+    let [word, _, _, plans, depth, more @ ..] = words else {
         return None;
     };
     if word.as_str() == "plan" {
-        both_numbers(plans.as_bytes(), depth.as_bytes())
+        planned(plans.as_bytes(), depth.as_bytes(), more)
     } else {
         None
     }
@@ -111,7 +163,8 @@ fn numbers_asked(words: &[String]) -> Option<Asked>
 
 /// The job of a word with two files behind it.
 fn job_by_word(word: &str) -> Option<Job>
-    ensures { option_map job_of result ≡ job_by_word word.now }
+    ensures spelled { option_map job_of result ≡ job_by_word word.now }
+    ensures some { IfSome result IsAsked }
 {
     match word {
         "check" => Some(Job::Check),
@@ -120,18 +173,47 @@ fn job_by_word(word: &str) -> Option<Job>
     }
 }
 
-/// What a command asks, where the words are one.
-pub fn job_asked(words: &[String]) -> Option<Job>
-    ensures asks { MatchOption result (accepts (map string_bytes words.now) ≡ None)
-        (AsksFor (map string_bytes words.now)) }
-    ensures files { IfSome result (λ j. 3 ≤ length words.now) }
-    ensures some { IfSome result HasPlans }
+/// What a seed and a number of packages ask for.
+fn make_asked(seed: &[u8], packages: &[u8]) -> Option<Request>
+    ensures spelled { (x y : List ℕ) → option_map (request_of x y) result
+        ≡ making (number_within 0 LARGEST_SEED seed.now) (number_within 1 MOST_PACKAGES packages.now) }
+    ensures some { IfSome result IsRequested }
 {
-    if let [word, _, _] = words {
-        return job_by_word(word.as_str());
+    let seed = number_within(seed, 0, u64::from(LARGEST_SEED))?;
+    let packages = number_within(packages, 1, u64::from(MOST_PACKAGES))?;
+    Some(Request::Make {
+        seed: seed as u32,
+        packages: packages as u32,
+    })
+}
+
+/// What a word with two words behind it asks for.
+fn asked_by_three(word: &str, first: &[u8], second: &[u8]) -> Option<Request>
+    ensures spelled { option_map (request_of first.now second.now) result
+        ≡ asked_by_three word.now first.now second.now }
+    ensures some { IfSome result IsRequested }
+{
+    if word == "make" {
+        return make_asked(first, second);
     }
-    match numbers_asked(words) {
-        Some(asked) => Some(Job::Plan(asked)),
+    match job_by_word(word) {
+        Some(job) => Some(Request::Files(job)),
+        None => None,
+    }
+}
+
+/// What words ask for, where they are a command.
+pub fn request_asked(words: &[String]) -> Option<Request>
+    ensures asks { MatchOption result (accepts (map string_bytes words.now) ≡ None)
+        (Requests (map string_bytes words.now)) }
+    ensures three { IfSome result (λ r. 3 ≤ length words.now) }
+    ensures some { IfSome result IsRequested }
+{
+    if let [word, first, second] = words {
+        return asked_by_three(word.as_str(), first.as_bytes(), second.as_bytes());
+    }
+    match plan_asked(words) {
+        Some(asked) => Some(Request::Files(Job::Plan(asked))),
         None => None,
     }
 }

@@ -5,6 +5,12 @@
 #[cfg(test)]
 mod forms;
 #[cfg(test)]
+mod made;
+#[cfg(test)]
+mod plans;
+#[cfg(test)]
 mod rereads;
 #[cfg(test)]
 mod runs;
+#[cfg(test)]
+mod wide_plans;

@@ -371,7 +371,6 @@ fn problems_are_refused(rt: HostRuntime) -> Result<(), Fail> {
             "(defproblem p d ((w ?x 1)) ((m)))",
             "refused problem VariableInProblem at 20-22\n",
         ),
-        ("(defproblem p d ((w a 3)) ())", "refused problem Later\n"),
     ] {
         let (got, sink) = run_on(
             rt.alloc(),
@@ -390,7 +389,7 @@ fn domain_with(alloc: Global, rule: &str) -> Result<String, Fail> {
     Ok(format!(in alloc; "(defdomain d ((:operator (!do ?x) () () ()) {rule}))")?)
 }
 
-/// Rules with a fault or with a form that is run later, whatever form the problem has.
+/// Rules in which a check finds a fault.
 #[test]
 fn rules_are_judged(rt: HostRuntime) -> Result<(), Fail> {
     for (rule, text) in [
@@ -410,15 +409,6 @@ fn rules_are_judged(rt: HostRuntime) -> Result<(), Fail> {
             "(:method (m) (:sort-by ?x near (w ?x 1)) ((!do ?x)))",
             "refused domain UnknownOrder at 70-74\n",
         ),
-        (
-            "(:method (m) ((or (w ?x 1) (w ?x 1))) ((!do ?x)))",
-            "refused domain Later at 44-93\n",
-        ),
-        // The first of two rules that are run later.
-        (
-            "(:method (m) ((not (w a))) ((!do a))) (:- (q) ())",
-            "refused domain Later at 44-81\n",
-        ),
     ] {
         let domain = domain_with(rt.alloc(), rule)?;
         let problem = "(defproblem p d ((w a 3) (w b 1) (w c 3)) ((m)))";
@@ -429,7 +419,7 @@ fn rules_are_judged(rt: HostRuntime) -> Result<(), Fail> {
     Ok(())
 }
 
-/// Of a fault in the domain, one in the problem and a rule that is run later, the first is told.
+/// Of a fault in the domain and one in the problem the first is told.
 #[test]
 fn verdicts_have_an_order(rt: HostRuntime) -> Result<(), Fail> {
     let call = "(:method (m) ((call frob 1)) ())";

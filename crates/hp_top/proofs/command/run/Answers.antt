@@ -4,12 +4,12 @@ use Rattle.hp_top.proofs.command.run.Goals as goal
 
 pub returns-clause-exact : goal.returns-clause-exact
 returns-clause-exact g c = λ files before told old memory read write.
-    ends_well _ _ _ _ _ _ files before c.serve.ensures.ends told old memory write (inl read)
+    ends_well _ _ _ files before old memory write _ _ _ c.serve.ensures.ends told (inl read)
 
 pub returns-clause-complete : goal.returns-clause-complete
 returns-clause-complete g c = λ files before told old inputs sink memory.
-    ends_well _ _ _ _ _ _ files before c.serve.ensures.ends told old memory
-    (λ e. sink (ends_write _ _ _ _ _ _ c.serve.ensures.ends e)) (inr inputs)
+    ends_well _ _ _ files before old memory (λ e. sink (ends_write _ _ _ _ _ _ c.serve.ensures.ends e)) _ _ _
+    c.serve.ensures.ends told (inr inputs)
 
 pub returns-clause-usage : goal.returns-clause-usage
 returns-clause-usage g c = λ e. ends_usage _ _ _ _ _ _ c.serve.ensures.ends e

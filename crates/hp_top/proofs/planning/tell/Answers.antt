@@ -1,5 +1,4 @@
 use Rattle.std.proofs.Common.{arith, subst}
-use Rattle.hp_top.specs.Rest.{rest}
 use Rattle.hp_top.specs.Telling.{Visited}
 use Rattle.hp_top.proofs.Tellings.{goes_through, goes_to_close, halted_midway, halted_at_end}
 use Rattle.hp_top.proofs.planning.tell.Goals as goal
@@ -7,26 +6,33 @@ use Rattle.hp_top.proofs.planning.tell.Goals as goal
 pub loop-ending-preserved : goal.loop-ending-preserved
 loop-ending-preserved g c =
     let v = subst
-    (λ o. Visited o c.args.most c.loop-ending.progress c.visit.new.progress (rest c.loop-ending.walk)
-    (rest c.visit.new.walk) (g.K.Sink.bytes c.loop-ending.out) (g.K.Sink.bytes c.visit.new.out))
+    (λ o. Visited o c.args.asked.plans c.args.asked.options.states c.loop-ending.progress c.visit.new.progress
+    (g.W.Walk.stands c.loop-ending.walk).rest (g.W.Walk.stands c.visit.new.walk).rest
+    (g.K.Sink.bytes c.loop-ending.out) (g.K.Sink.bytes c.visit.new.out))
     c.in-Ok-None.field-0-is c.in-Ok-None.ensures.visited in
     record {
-      gone = goes_through _ _ _ _ _ _ _ _ _ _ c.loop-ending.invariant.gone v.0;
+      gone =
+          goes_through c.args.asked.plans c.args.asked.options.states _ _ _ _ _ _ _ _ _ c.loop-ending.invariant.gone
+          v.0;
       fewer = v.1;
       later = omega (arith, c.loop-ending.invariant.later, c.visit.ensures.later);
+      live = c.in-Ok-None.ensures.live;
+      at = c.in-Ok-None.ensures.at;
     }
 
 pub returns-in-Ok-Some-clause-err : goal.returns-in-Ok-Some-clause-err
 returns-in-Ok-Some-clause-err g c =
     let v = subst
-    (λ o. Visited o c.args.most c.loop-ending.progress c.visit.new.progress (rest c.loop-ending.walk)
-    (rest c.visit.new.walk) (g.K.Sink.bytes c.loop-ending.out) (g.K.Sink.bytes c.visit.new.out))
+    (λ o. Visited o c.args.asked.plans c.args.asked.options.states c.loop-ending.progress c.visit.new.progress
+    (g.W.Walk.stands c.loop-ending.walk).rest (g.W.Walk.stands c.visit.new.walk).rest
+    (g.K.Sink.bytes c.loop-ending.out) (g.K.Sink.bytes c.visit.new.out))
     c.in-Ok-Some.field-0-is c.in-Ok-Some.ensures.visited in
-    halted_at_end c.args.most _ _ _ c.in-Ok-Some.ending c.close.result _ _ _ _ _ _
+    halted_at_end c.args.asked.plans c.args.asked.options.states _ _ _ c.in-Ok-Some.ending c.close.result _ _ _ _ _ _
     (omega (arith, c.loop-ending.invariant.later, c.visit.ensures.later))
-    (goes_to_close _ _ _ _ _ _ _ _ _ _ c.loop-ending.invariant.gone v) c.close.ensures.err
+    (goes_to_close c.args.asked.plans c.args.asked.options.states _ _ _ _ _ _ _ _ _ c.loop-ending.invariant.gone v)
+    c.close.ensures.err
 
 pub returns-in-Err-clause-err : goal.returns-in-Err-clause-err
 returns-in-Err-clause-err g c =
-    halted_midway c.args.most _ _ _ _ c.in-Err.halt _ _ _ _ _ _ c.loop-ending.invariant.later
-    c.loop-ending.invariant.gone c.in-Err.ensures.err
+    halted_midway c.args.asked.plans c.args.asked.options.states _ _ _ _ c.in-Err.halt _ _ _ _ _ _
+    c.loop-ending.invariant.later c.loop-ending.invariant.gone c.in-Err.ensures.err

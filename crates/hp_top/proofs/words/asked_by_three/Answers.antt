@@ -1,0 +1,10 @@
+use Rattle.std.proofs.Common.{option_map}
+use Rattle.hp_top.specs.Words.{request_of}
+use Rattle.hp_top.proofs.Numbers.{make_by_three}
+use Rattle.hp_top.proofs.words.asked_by_three.Goals as goal
+
+pub returns-then-eq-clause-spelled : goal.returns-then-eq-clause-spelled
+returns-then-eq-clause-spelled c =
+    make_by_three c.args.word.now c.args.first.now c.args.second.now c.eq.result
+    (option_map (request_of c.args.first.now c.args.second.now) c.make_asked.result) c.eq.ensures c.if-eq.true
+    (c.make_asked.ensures.spelled c.args.first.now c.args.second.now)
