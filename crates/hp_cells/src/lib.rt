@@ -4,8 +4,6 @@
 mod cells;
 mod keys;
 pub mod laws;
-#[cfg(test)]
-mod tests;
 
 pub use cells::Cells;
 pub use keys::{Cell, View};

@@ -15,15 +15,3 @@ pub fn the_first_fault_is_told()
 pub fn no_fault_is_left_out()
     ensures { (faults : List CheckFault) → first_of faults ≡ None ↔ faults ≡ [] }
 {}
-
-#[cfg(test)]
-mod tests {
-    use super::*;
-
-    /// A law does nothing, and so can always be cited.
-    #[test]
-    fn laws_can_be_cited() {
-        the_first_fault_is_told();
-        no_fault_is_left_out();
-    }
-}

@@ -13,6 +13,3 @@ pub use host::{HostFolder, HostSink};
 pub use mem_folder::MemFolder;
 pub use mem_sink::MemSink;
 pub use sink::Sink;
-
-#[cfg(test)]
-mod tests;

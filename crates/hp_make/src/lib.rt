@@ -11,8 +11,6 @@ mod domain;
 mod draws;
 mod problem;
 pub mod samples;
-#[cfg(test)]
-mod tests;
 
 pub use domain::TRANSPORT;
 use std::alloc::{AllocError, Global};

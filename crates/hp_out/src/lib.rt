@@ -8,8 +8,6 @@ mod pen;
 mod plans;
 mod refusal;
 mod terms;
-#[cfg(test)]
-mod tests;
 mod words;
 mod writing;
 

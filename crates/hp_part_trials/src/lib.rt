@@ -4,6 +4,10 @@
 
 pub mod answers;
 #[cfg(test)]
+mod cells;
+#[cfg(test)]
+mod goals;
+#[cfg(test)]
 mod networks;
 #[cfg(test)]
 mod picks;

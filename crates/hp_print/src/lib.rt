@@ -21,8 +21,6 @@ mod rules;
 pub mod samples;
 mod tasks;
 mod terms;
-#[cfg(test)]
-mod tests;
 mod words;
 
 use hp_syntax::{AtomPat, Domain, Ground, Name, NetPat, Pat, Problem};

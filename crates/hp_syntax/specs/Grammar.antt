@@ -463,7 +463,7 @@ domain_list s rest = do
   ended y.1
   pure (record { name = text; rules = rules })
 
--- a problem has one pair as yet
+-- nothing stands behind the one pair of a problem
 abbrev pub no_more_pairs : Forest → Step (Unit {0})
 no_more_pairs Bare = pure tt
 no_more_pairs (Grow n rest) = refuse (SeveralPairs (span_of n))

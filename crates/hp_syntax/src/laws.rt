@@ -96,24 +96,3 @@ pub fn misforms_are_decided_by_the_front()
         → take ((misform_span e).to + 1) text ≡ take ((misform_span e).to + 1) other
         → problem_form (length other) g ≡ Err e }
 {}
-
-#[cfg(test)]
-mod tests {
-    use super::*;
-
-    /// A law does nothing, and so can always be cited.
-    #[test]
-    fn laws_can_be_cited() {
-        texts_spell_one_forest();
-        texts_have_one_refusal();
-        no_text_is_both();
-        every_text_is_one_or_the_other();
-        refusals_are_decided_by_the_front();
-        limits_are_kept();
-        reading_goes_on_in_one_way();
-        forests_have_one_form();
-        terms_are_compared();
-        forms_are_numbered();
-        misforms_are_decided_by_the_front();
-    }
-}

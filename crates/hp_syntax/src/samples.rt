@@ -11,13 +11,3 @@ pub fn samples_are_spelled()
     ensures fetch { IsForest fetch_text fetch_forest }
     ensures empty { IsForest empty_text empty_forest }
 {}
-
-#[cfg(test)]
-mod tests {
-    use super::*;
-
-    #[test]
-    fn samples_can_be_cited() {
-        samples_are_spelled();
-    }
-}

@@ -88,6 +88,23 @@ fn wide_states(rt: HostRuntime) -> Result<(), Fail> {
     Ok(())
 }
 
+/// A list of a hundred thousand parts in a step.
+#[test]
+fn wide_steps(rt: HostRuntime) -> Result<(), Fail> {
+    let alloc = rt.alloc();
+    let parts = repeated(alloc, " ()", 99_999)?;
+    let domain = domain_of(alloc, "(:method (m ?x) () ((!do ?x)))")?;
+    let problem = format!(in alloc; "(defproblem p d () ((m (a{parts}))))")?;
+    let text = format!(in alloc;
+        "plan 1 cost 1 steps 1\n(!do (a{parts}))\nend plans 1 expansions 2\n"
+    )?;
+    let files = (domain.as_str(), problem.as_str());
+    let (got, sink) = run_on(alloc, files, "5 5", 20 * ROOM)?;
+    assert_eq!(rt; got, Status::Done);
+    assert_eq!(rt; sink.bytes(), text.as_bytes());
+    Ok(())
+}
+
 /// Nine hundred tasks in any order, of which the first order is asked.
 #[test]
 fn wide_networks(rt: HostRuntime) -> Result<(), Fail> {
