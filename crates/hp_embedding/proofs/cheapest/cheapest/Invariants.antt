@@ -1,0 +1,15 @@
+use Rattle.std.proofs.Common.{◌≡◌, true, length}
+use Rattle.std.specs.List.{All}
+use Rattle.hp_top.specs.Telling.{IsAtItsNode}
+use Rattle.hp_embedding.proofs.Searches.{Searched}
+use Rattle.hp_embedding.proofs.cheapest.cheapest.Given as goal
+
+abbrev pub invariant-loop-best : goal.invariant-loop-best
+invariant-loop-best g l = record {
+  searched : Searched l.best (g.W.Walk.stands l.fn.walk).rest (g.W.Walk.stands l.walk).rest;
+  live : g.W.Walk.is_live l.walk ≡ true;
+  at : All (IsAtItsNode (g.W.Walk.tree l.walk)) (g.W.Walk.stands l.walk).rest;
+}
+
+abbrev pub decreases-loop-best : goal.decreases-loop-best
+decreases-loop-best g l = length (g.W.Walk.stands l.walk).rest

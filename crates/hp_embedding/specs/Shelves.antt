@@ -1,0 +1,22 @@
+-- What a shelf tells.
+use Rattle.std.specs.Prelude.{ℕ, Bool, cond, List, Option, Some, None, option_map, is_some, bytes_eq, codes}
+use Rattle.hp_io.specs.Inputs.{by_input}
+use Rattle.hp_io.specs.declared.folder.Input.{Input}
+use Rattle.hp_top.specs.Outcome.{Files}
+use Rattle.hp_embedding.specs.declared.shelf.Shelf.{Shelf}
+
+-- two texts by their names
+abbrev pub texts : List ℕ → List ℕ → Files
+texts domain problem n =
+    cond (bytes_eq n (codes "domain")) (Some domain) (cond (bytes_eq n (codes "problem")) (Some problem) None)
+
+abbrev pub text_named : Shelf → List ℕ → Option (List ℕ)
+text_named s n = texts s.domain.now s.problem.now n
+
+-- what is left to read of an input that was begun
+abbrev pub left_of : Shelf → Input → Option (List ℕ)
+left_of s which = by_input which (option_map (λ t. t.now) s.domain_left) (option_map (λ t. t.now) s.problem_left)
+
+-- whether an input was begun
+abbrev pub is_begun : Shelf → Input → Bool
+is_begun s which = by_input which (is_some s.domain_left) (is_some s.problem_left)

@@ -1,0 +1,98 @@
+//! From two texts to a walk.
+ghost use Rattle.std.specs.Prelude.{◌≡◌, ◌≤◌, [], ◌∷◌, true, false, None, IfOk};
+ghost use Rattle.std.specs.List.{All};
+ghost use Rattle.hp_net.specs.Standings.{standing};
+ghost use Rattle.hp_plain.specs.Walked.{stands_walked, tree_walked};
+ghost use Rattle.hp_syntax.specs.Grammar.{domain_form, problem_form};
+ghost use Rattle.hp_syntax.specs.Syntax.{Pair};
+ghost use Rattle.hp_syntax.specs.TextForms.{IsRead};
+ghost use Rattle.hp_syntax.specs.Views.{domain_of, problem_of};
+ghost use Rattle.hp_syntax.specs.Walk.{root, visits};
+ghost use Rattle.hp_top.specs.Loading.{HasText};
+ghost use Rattle.hp_top.specs.Outcome.{first_fault};
+ghost use Rattle.hp_top.specs.Telling.{IsAtItsNode};
+
+use hp_check::{CheckFault, first_fault};
+use hp_forms::{FormRefusal, into_domain, into_problem};
+use hp_laws::tree_laws::visits_are_in_the_tree;
+use hp_plain::PlainWalk;
+use hp_ready::laws::{
+    accepted_pairs_are_ground, checked_rules_have_few_variables, problems_have_one_pair,
+};
+use hp_syntax::limits::USUAL_LEVELS;
+use hp_syntax::{Domain, Problem};
+use hp_text::{TextRefusal, read};
+use std::alloc::{AllocError, Global};
+use thiserror::Error;
+
+/// Why two texts can't be walked.
+#[derive(Clone, Copy, Debug, PartialEq, Eq, Error)]
+pub enum LoadError {
+    #[error("a text is refused")]
+    Text(TextRefusal),
+    #[error("a form is refused")]
+    Form(FormRefusal),
+    #[error("the checks found a fault")]
+    Check(CheckFault),
+}
+
+fn domain_in(alloc: Global, text: &str) -> Result<Domain, LoadError>
+    ensures { IfOk result (λ d. IsRead domain_form text.now (domain_of d)) }
+{
+    match read(alloc, text.as_bytes()) {
+        Ok(forest) => into_domain(alloc, forest).map_err(LoadError::Form),
+        Err(refusal) => Err(LoadError::Text(refusal)),
+    }
+}
+
+fn problem_in(alloc: Global, text: &str) -> Result<Problem, LoadError>
+    ensures { IfOk result (λ p. IsRead problem_form text.now (problem_of p)) }
+{
+    match read(alloc, text.as_bytes()) {
+        Ok(forest) => into_problem(alloc, forest).map_err(LoadError::Form),
+        Err(refusal) => Err(LoadError::Text(refusal)),
+    }
+}
+
+/// Reads two texts, and checks them.
+pub fn accepted(alloc: Global, domain: &str, problem: &str) -> Result<(Domain, Problem), LoadError>
+    ensures domain { IfOk result (λ r. IsRead domain_form domain.now (domain_of r.0)) }
+    ensures problem { IfOk result (λ r. IsRead problem_form problem.now (problem_of r.1)) }
+    ensures checked { IfOk result (λ r. first_fault (domain_of r.0) (problem_of r.1) ≡ None) }
+{
+    let domain = domain_in(alloc, domain)?;
+    let problem = problem_in(alloc, problem)?;
+    match first_fault(&domain, &problem) {
+        None => Ok((domain, problem)),
+        Some(fault) => Err(LoadError::Check(fault)),
+    }
+}
+
+/// A walk down to a depth, with all visits left. It takes the problem's one pair.
+pub fn walk<'a>(
+    alloc: Global,
+    domain: &'a Domain,
+    problem: &Problem,
+    depth: u32,
+) -> Result<PlainWalk<'a>, AllocError>
+    requires text { HasText problem_form (problem_of problem.now) }
+    requires checked { first_fault (domain_of domain.now) (problem_of problem.now) ≡ None }
+    requires depth { depth ≤ 1000 }
+    ensures tree { (p : Pair) → (problem_of problem.now).pairs ≡ p ∷ [] → IfOk result (λ w. tree_walked w ≡ record {
+      rules = (domain_of domain.now).rules;
+      nest = USUAL_LEVELS;
+      root = root p depth;
+    }) }
+    ensures stands { IfOk result (λ w. stands_walked w ≡ standing []
+        (visits (tree_walked w).rules (tree_walked w).nest (tree_walked w).root []) false) }
+    ensures live { IfOk result (λ w. w.live ≡ true) }
+    ensures at { IfOk result (λ w. All (IsAtItsNode (tree_walked w)) (stands_walked w).rest) }
+{
+    // Nothing runs here: the laws make known that what is accepted can be walked.
+    problems_have_one_pair();
+    checked_rules_have_few_variables();
+    accepted_pairs_are_ground();
+    visits_are_in_the_tree();
+    let pair = &problem.pairs[0];
+    PlainWalk::new(alloc, domain, pair, depth, USUAL_LEVELS)
+}

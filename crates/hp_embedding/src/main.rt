@@ -1,0 +1,60 @@
+//! An example: a program of one's own over the planner's crates. It runs a command over a folder and a sink of its
+//! own, and it walks the tree itself, call by call and to find the cheapest plan.
+#![tactic(auto)]
+
+mod cheapest;
+mod courier;
+mod loading;
+mod planning;
+mod shelf;
+mod showing;
+mod steps;
+mod swap;
+mod tray;
+
+use hp_io::HostSink;
+use hp_out::Pen;
+use loading::{accepted, walk};
+use showing::{Shown, show};
+use std::alloc::Global;
+
+/// How many decompositions a plan may have here.
+const DEPTH: u32 = 20;
+
+/// Writes the courier's first ways.
+fn write_plans(rt: &impl Print, alloc: Global) -> anyhow::Result<()> {
+    let text = courier::plans(alloc)?;
+    let mut sink = HostSink::new(rt);
+    let mut pen = Pen::new(&mut sink);
+    pen.text(text.as_slice())?;
+    Ok(())
+}
+
+/// Shows something of the walk of two texts.
+fn show_walk(
+    rt: &impl Print,
+    alloc: Global,
+    domain: &str,
+    problem: &str,
+    what: Shown,
+) -> anyhow::Result<()> {
+    let (domain, problem) = accepted(alloc, domain, problem)?;
+    let mut walk = walk(alloc, &domain, &problem, DEPTH)?;
+    show(rt, alloc, &mut walk, what)
+}
+
+fn main(rt: HostRuntime) -> anyhow::Result<()> {
+    let alloc = rt.alloc();
+    write_plans(&rt, alloc)?;
+    show_walk(
+        &rt,
+        alloc,
+        courier::DOMAIN,
+        courier::PROBLEM,
+        Shown::Cheapest,
+    )?;
+    for what in [Shown::Visits, Shown::Pruned, Shown::WayBack] {
+        show_walk(&rt, alloc, swap::DOMAIN, swap::PROBLEM, what)?;
+    }
+    Ok(())
+}

@@ -1,0 +1,65 @@
+//! What is shown of a walk.
+ghost use Rattle.std.specs.Prelude.{◌≡◌, true};
+ghost use Rattle.std.specs.List.{All};
+ghost use Rattle.hp_top.specs.Telling.{IsAtItsNode};
+
+use crate::cheapest::{Found, cheapest};
+use crate::swap::{print_pruned, print_visits, print_way_back};
+use hp_io::HostSink;
+use hp_net::Walk;
+use hp_out::Pen;
+use std::alloc::Global;
+
+/// What is shown.
+#[derive(Clone, Copy)]
+pub enum Shown {
+    Cheapest,
+    Visits,
+    Pruned,
+    WayBack,
+}
+
+/// What a plan costs, where it was found, and its lines.
+fn print_found(rt: &impl Print, found: &Found) -> anyhow::Result<()> {
+    println!(rt;
+        "the cheapest costs {}, at path {:?}",
+        found.cost, found.path
+    )?;
+    let mut sink = HostSink::new(rt);
+    let mut pen = Pen::new(&mut sink);
+    pen.text(found.text.as_slice())?;
+    Ok(())
+}
+
+/// The cheapest plan of a walk.
+fn print_cheapest<W: Walk>(rt: &impl Print, alloc: Global, walk: &mut W) -> anyhow::Result<()>
+    requires live { W.is_live walk.old ≡ true }
+    requires at { All (IsAtItsNode (W.tree walk.old)) (W.stands walk.old).rest }
+{
+    match cheapest(alloc, walk)? {
+        Some(found) => print_found(rt, &found),
+        None => {
+            println!(rt; "no plan")?;
+            Ok(())
+        }
+    }
+}
+
+/// Shows something of a walk.
+pub fn show<W: Walk>(
+    rt: &impl Print,
+    alloc: Global,
+    walk: &mut W,
+    what: Shown,
+) -> anyhow::Result<()>
+    requires live { W.is_live walk.old ≡ true }
+    requires at { All (IsAtItsNode (W.tree walk.old)) (W.stands walk.old).rest }
+{
+    match what {
+        Shown::Cheapest => print_cheapest(rt, alloc, walk)?,
+        Shown::Visits => print_visits(rt, walk)?,
+        Shown::Pruned => print_pruned(rt, walk)?,
+        Shown::WayBack => print_way_back(rt, walk)?,
+    }
+    Ok(())
+}
