@@ -216,7 +216,8 @@ some_among None all left a h = tt
 some_among (Some f) all left a h = any_among (IsOf f) all left a h
 
 all_among : (all left more : List Visit) → All (Contains all) left → All (Contains left) more → All (Contains all) more
-all_among all left more a b = All-weaker (Contains left) (Contains all) (λ x c. All-contains (Contains all) left x a c) more b
+all_among all left more a b =
+    All-weaker (Contains left) (Contains all) (λ x c. All-contains (Contains all) left x a c) more b
 
 -- one visit more
 pub searched_on : (a b : Option Found) (all left more : List Visit) → Searched a all left → Goes a b left more

@@ -118,9 +118,9 @@ fn visit<W: Walk>(
     }
 }
 
-/// The cheapest plan that is left to a walk; of plans that cost the same the first. What lies below a decomposition is
-/// left out where a plan is known that costs no more than the steps so far: so this finds the cheapest where the cost
-/// never falls on the way down. Where a step may have a negative cost, what is left out might have been cheaper.
+/// The cheapest plan that is left to a walk. What lies below a decomposition is left out where a plan is known that
+/// costs no more than the steps so far: so this finds the cheapest where the cost never falls on the way down. Where
+/// a step may have a negative cost, what is left out might have been cheaper.
 pub fn cheapest<W: Walk>(alloc: Global, walk: &mut W) -> Result<Option<Found>, SearchError>
     requires live { W.is_live walk.old ≡ true }
     requires at { All (IsAtItsNode (W.tree walk.old)) (W.stands walk.old).rest }

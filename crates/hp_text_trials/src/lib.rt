@@ -1,5 +1,5 @@
-//! Trials of what reads, forms, checks, makes and writes texts, through the public calls. They stand in a crate of their
-//! own, so that the crates that they try are proved once and not once more with tests.
+//! Trials of what reads, forms, checks, makes and writes texts, through the public calls. They stand in a crate of
+//! their own, so that the crates that they try are proved once and not once more with tests.
 #![tactic(auto)]
 
 #[cfg(test)]
