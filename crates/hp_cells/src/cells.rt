@@ -16,12 +16,23 @@ const MOST_TERMS: usize = u32::MAX as usize;
 
 /// The terms that cells name. Each ground term stands once, behind its parts, and the first is the empty list.
 /// Contracts see the list of the terms.
-#[derive(Drop)]
 pub struct Cells {
     keys: IndexSet<Key>,
     // How deep each term nests.
     depths: Vec<u32>,
     alloc: Global,
+}
+
+impl Drop for Cells {
+    fn drop(self) {
+        let Cells {
+            keys,
+            depths,
+            alloc: _,
+        } = self;
+        drop(keys);
+        drop(depths);
+    }
 }
 
 impl Model for Cells {

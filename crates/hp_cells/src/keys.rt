@@ -49,12 +49,21 @@ pub enum View<'a> {
 }
 
 // What stands at a place: a term whose parts stand at earlier ones.
-#[derive(PartialEq, Eq, Hash, Drop)]
+#[derive(PartialEq, Eq, Hash)]
 pub(crate) enum Key {
     Nil,
     Sym(Name),
     Num(i64),
     Cons(Cell, Cell),
+}
+
+impl Drop for Key {
+    fn drop(self) {
+        match self {
+            Key::Sym(name) => drop(name),
+            Key::Nil | Key::Num(_) | Key::Cons(_, _) => {}
+        }
+    }
 }
 
 impl Key {

@@ -25,17 +25,33 @@ pub use hp_syntax::{CheckFault, CheckKind};
 use std::alloc::{AllocError, Global};
 
 /// A task of which no rule of the domain has the name.
-#[derive(Drop)]
 pub struct Note {
     pub name: Name,
     pub span: Span,
     pub in_problem: bool,
 }
 
+impl Drop for Note {
+    fn drop(self) {
+        let Note {
+            name,
+            span: _,
+            in_problem: _,
+        } = self;
+        drop(name);
+    }
+}
+
 /// What a user may want to know of an accepted domain and problem.
-#[derive(Drop)]
 pub struct Notes {
     pub list: Vec<Note>,
+}
+
+impl Drop for Notes {
+    fn drop(self) {
+        let Notes { list } = self;
+        drop(list);
+    }
 }
 
 /// Why a domain and a problem aren't accepted.

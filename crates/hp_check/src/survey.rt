@@ -2,7 +2,7 @@
 
 ghost use Rattle.std.specs.Prelude.{◌≡◌, ◌++◌, ◌∷◌, [], true, false, IfOk, OnOk, map};
 ghost use Rattle.std.specs.List.{flat_map};
-ghost use Rattle.hp_syntax.specs.Notes.{served_by, task_atoms, task_list_atoms, branch_atoms, rule_atoms, pair_atoms};
+ghost use Rattle.hp_syntax.specs.Notes.{served_by, task_atoms, task_list_atoms, branch_atoms, rule_atoms, pair_atoms, domain_atoms, problem_atoms, note_if_unserved};
 ghost use Rattle.hp_syntax.specs.Notes as plain;
 ghost use Rattle.hp_syntax.specs.Views.{atom_of, tasks_of, task_list_of, rule_of, branch_of, pair_of, domain_of, problem_of};
 ghost use Rattle.hp_check.specs.NoteViews.{note_of, Noted, SameNames};
@@ -42,11 +42,22 @@ fn served(alloc: Global, rules: &[Rule]) -> Result<IndexSet<Name>, AllocError>
 }
 
 /// The notes so far, of a domain or of a problem, by the names of the tasks that are served.
-#[derive(Drop)]
 struct Survey {
     alloc: Global,
     served: IndexSet<Name>,
     list: Vec<Note>,
+}
+
+impl Drop for Survey {
+    fn drop(self) {
+        let Survey {
+            alloc: _,
+            served,
+            list,
+        } = self;
+        drop(served);
+        drop(list);
+    }
 }
 
 impl Survey {
@@ -146,6 +157,28 @@ impl Survey {
         }
         Ok(())
     }
+
+    /// Each task of a domain, and then of a problem.
+    fn texts(&mut self, domain: &Domain, problem: &Problem) -> Result<(), AllocError>
+        ensures { OnOk result (map note_of self.new.list.items ≡ map note_of self.old.list.items
+            ++ (flat_map (note_if_unserved self.old.served.keys false) (domain_atoms (domain_of domain.now))
+            ++ flat_map (note_if_unserved self.old.served.keys true) (problem_atoms (problem_of problem.now)))) }
+    {
+        self.rules(domain.rules.as_slice())?;
+        self.pairs(problem.pairs.as_slice())
+    }
+
+    /// The notes, without the names.
+    fn into_list(self) -> Vec<Note>
+        ensures { result ≡ self.list }
+    {
+        let Survey {
+            alloc: _,
+            served: _,
+            list,
+        } = self;
+        list
+    }
 }
 
 /// The tasks of a domain and a problem that no rule of the domain serves, in the order of the texts.
@@ -159,12 +192,6 @@ pub fn unserved(alloc: Global, domain: &Domain, problem: &Problem) -> Result<Vec
         served: served(alloc, domain.rules.as_slice())?,
         list: Vec::new(alloc),
     };
-    survey.rules(domain.rules.as_slice())?;
-    survey.pairs(problem.pairs.as_slice())?;
-    let Survey {
-        alloc: _,
-        served: _,
-        list,
-    } = survey;
-    Ok(list)
+    survey.texts(domain, problem)?;
+    Ok(survey.into_list())
 }

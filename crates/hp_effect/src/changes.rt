@@ -1,5 +1,5 @@
 //! The atoms that an operator unguards, deletes, adds and guards.
-ghost use Rattle.std.specs.Prelude.{◌≡◌, ℕ, [], IfOk, OnErr, List, length};
+ghost use Rattle.std.specs.Prelude.{◌≡◌, ℕ, [], ◌∷◌, ◌++◌, IfOk, OnOk, OnErr, List, length};
 ghost use Rattle.hp_syntax.specs.Terms.{Term};
 ghost use Rattle.hp_syntax.specs.Changes.{apply};
 ghost use Rattle.hp_syntax.specs.Values as plain;
@@ -28,13 +28,28 @@ pub enum Part {
 }
 
 /// Four lists of atoms, each in the order in which they were put there.
-#[derive(Drop)]
 pub struct Changes {
     alloc: Global,
     unguard: Vec<Cell>,
     delete: Vec<Cell>,
     add: Vec<Cell>,
     guard: Vec<Cell>,
+}
+
+impl Drop for Changes {
+    fn drop(self) {
+        let Changes {
+            alloc: _,
+            unguard,
+            delete,
+            add,
+            guard,
+        } = self;
+        drop(unguard);
+        drop(delete);
+        drop(add);
+        drop(guard);
+    }
 }
 
 impl Model for Changes {
@@ -49,6 +64,14 @@ impl Model for Changes {
       add = c.add.items;
       guard = c.guard.items;
     } };
+}
+
+// Puts a cell behind others. An error leaves them as they were.
+fn push_to(cells: &mut Vec<Cell>, cell: Cell) -> Result<(), AllocError>
+    ensures ok { OnOk result (cells.new.items ≡ cells.old.items ++ cell ∷ []) }
+    ensures err { OnErr result (cells.new.items ≡ cells.old.items) }
+{
+    Ok(cells.push(cell)?)
 }
 
 impl Changes {
@@ -89,12 +112,11 @@ impl Changes {
         ensures { Pushes part result cell self.old self.new }
     {
         match part {
-            Part::Unguard => self.unguard.push(cell)?,
-            Part::Delete => self.delete.push(cell)?,
-            Part::Add => self.add.push(cell)?,
-            Part::Guard => self.guard.push(cell)?,
+            Part::Unguard => push_to(&mut self.unguard, cell),
+            Part::Delete => push_to(&mut self.delete, cell),
+            Part::Add => push_to(&mut self.add, cell),
+            Part::Guard => push_to(&mut self.guard, cell),
         }
-        Ok(())
     }
 
     /// One of the lists.

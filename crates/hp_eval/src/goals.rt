@@ -20,7 +20,6 @@ use hp_syntax::{AtomPat, FaultKind, Name, Pat, PatKind, RunFault, Span, Tail};
 use std::alloc::{AllocError, Global};
 
 /// A part of a goal.
-#[derive(Drop)]
 pub enum Filled {
     /// A part without free variables, by its cell.
     Known(Cell),
@@ -30,13 +29,33 @@ pub enum Filled {
     List(Vec<Filled>, Option<u32>),
 }
 
+impl Drop for Filled {
+    fn drop(self) {
+        match self {
+            Filled::Known(_) | Filled::Free(_) => {}
+            Filled::List(parts, _) => drop(parts),
+        }
+    }
+}
+
 /// An atom of a goal, filled. Whatever part has no free variable is known by its cell.
-#[derive(Drop)]
 pub struct Goal {
     pub name: Name,
     pub args: Vec<Filled>,
     /// The free variable that stands for all further arguments.
     pub tail: Option<u32>,
+}
+
+impl Drop for Goal {
+    fn drop(self) {
+        let Goal {
+            name,
+            args,
+            tail: _,
+        } = self;
+        drop(name);
+        drop(args);
+    }
 }
 
 // What stands behind the parts of a list: the parts of another, which is empty where there is no tail, or a free

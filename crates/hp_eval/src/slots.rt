@@ -15,10 +15,16 @@ struct Slot {
 
 /// What the variables of one rule stand for, and the order in which they were bound, so that bindings
 /// are undone back to a mark. All its memory is there from the start.
-#[derive(Drop)]
 pub struct Slots {
     slots: Vec<Slot>,
     bound: usize,
+}
+
+impl Drop for Slots {
+    fn drop(self) {
+        let Slots { slots, bound: _ } = self;
+        drop(slots);
+    }
 }
 
 impl Model for Slots {

@@ -14,11 +14,19 @@ use hp_syntax::NetPat;
 use std::alloc::Global;
 
 /// Tasks by their cells, each immediate or not, and lists of them.
-#[derive(Drop)]
 pub enum TaskTree {
     Task(Cell, bool),
     Ordered(Vec<TaskTree>),
     Unordered(Vec<TaskTree>),
+}
+
+impl Drop for TaskTree {
+    fn drop(self) {
+        match self {
+            TaskTree::Task(_, _) => {}
+            TaskTree::Ordered(parts) | TaskTree::Unordered(parts) => drop(parts),
+        }
+    }
 }
 
 // The trees of a list's tasks, from left to right.

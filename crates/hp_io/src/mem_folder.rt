@@ -8,10 +8,17 @@ use crate::folder::{BeginError, Failed, Folder, Input};
 use crate::schedule::Schedule;
 use std::alloc::{AllocError, Global};
 
-#[derive(Drop)]
 struct File {
     name: String,
     bytes: Vec<u8>,
+}
+
+impl Drop for File {
+    fn drop(self) {
+        let File { name, bytes } = self;
+        drop(name);
+        drop(bytes);
+    }
 }
 
 /// Where an input is read: the index of its file, and how many bytes were read.
@@ -41,12 +48,24 @@ impl MemInput {
 }
 
 /// A folder in memory. Begins and reads are numbered in one row, from 0 on.
-#[derive(Drop)]
 pub struct MemFolder {
     files: Vec<File>,
     domain: MemInput,
     problem: MemInput,
     schedule: Schedule,
+}
+
+impl Drop for MemFolder {
+    fn drop(self) {
+        let MemFolder {
+            files,
+            domain: _,
+            problem: _,
+            schedule,
+        } = self;
+        drop(files);
+        drop(schedule);
+    }
 }
 
 impl MemFolder {

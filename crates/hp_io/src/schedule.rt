@@ -5,10 +5,16 @@ ghost use Rattle.hp_io.specs.Schedules.{is_listed};
 use std::alloc::{AllocError, Global};
 
 /// The calls that are to fail, by their numbers, and the number of the next call.
-#[derive(Drop)]
 pub(crate) struct Schedule {
     listed: Vec<u64>,
     next: u64,
+}
+
+impl Drop for Schedule {
+    fn drop(self) {
+        let Schedule { listed, next: _ } = self;
+        drop(listed);
+    }
 }
 
 impl Schedule {

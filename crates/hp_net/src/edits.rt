@@ -1,5 +1,5 @@
 //! Changes of the entries of a network.
-ghost use Rattle.std.specs.Prelude.{◌≡◌, ◌+◌, ◌-◌, ◌<◌, ◌≤◌, ◌^◌, Bool, cond, nat_lt, IfOk, MatchOption, None, Some, length, slice_get, vec_len};
+ghost use Rattle.std.specs.Prelude.{◌≡◌, ◌+◌, ◌-◌, ◌<◌, ◌≤◌, ◌^◌, ◌++◌, Bool, cond, nat_lt, IfOk, OnOk, MatchOption, None, Some, length, slice_get, vec_len};
 ghost use Rattle.hp_net.specs.Edits.{HasTask, HasParts, IsPart, IsAlone, IsTakenOut, further_of, fewer_by, replaced};
 
 use crate::entry::Entry;
@@ -86,6 +86,22 @@ pub(crate) fn take_out(entries: &mut Vec<Entry>, task: usize)
     }
 }
 
+// Puts entries behind others, with subtasks in the place of one.
+fn put_replaced(
+    all: &mut Vec<Entry>,
+    entries: &[Entry],
+    task: usize,
+    subtasks: &[Entry],
+) -> Result<(), AllocError>
+    requires { task < length entries.now }
+    ensures { OnOk result (all.new.items ≡ all.old.items ++ replaced task subtasks.now entries.now) }
+{
+    all.extend_from_slice(&entries[..task])?;
+    all.extend_from_slice(subtasks)?;
+    all.extend_from_slice(&entries[task + 1..])?;
+    Ok(())
+}
+
 /// The entries with others in the place of one.
 pub(crate) fn with_subtasks(
     alloc: Global,
@@ -97,8 +113,6 @@ pub(crate) fn with_subtasks(
     ensures { IfOk result (λ v. v.items ≡ replaced task subtasks.now entries.now) }
 {
     let mut all = Vec::with_capacity(alloc, entries.len() - 1 + subtasks.len())?;
-    all.extend_from_slice(&entries[..task])?;
-    all.extend_from_slice(subtasks)?;
-    all.extend_from_slice(&entries[task + 1..])?;
+    put_replaced(&mut all, entries, task, subtasks)?;
     Ok(all)
 }

@@ -51,11 +51,21 @@ impl TaskId {
 /// A task network in normal form: no part is empty, and no list has one part. The focus is on the subtasks of the
 /// newest decomposition, unless a task was done since. The network is kept in reading order, so that no call recurs
 /// as deep as the network nests.
-#[derive(Drop)]
 pub struct Net {
     entries: Vec<Entry>,
     focus: Option<usize>,
     alloc: Global,
+}
+
+impl Drop for Net {
+    fn drop(self) {
+        let Net {
+            entries,
+            focus: _,
+            alloc: _,
+        } = self;
+        drop(entries);
+    }
 }
 
 impl Model for Net {

@@ -7,11 +7,17 @@ use hp_eval::{Event, Sats, Slots};
 use std::alloc::AllocError;
 
 /// Gives the events up to and including the first Sat.
-#[derive(Drop)]
 pub struct First<S> {
     inner: S,
     // The first Sat was given.
     ended: bool,
+}
+
+impl<S: Drop> Drop for First<S> {
+    fn drop(self) {
+        let First { inner, ended: _ } = self;
+        drop(inner);
+    }
 }
 
 impl<S> First<S> {

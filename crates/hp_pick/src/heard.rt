@@ -14,7 +14,6 @@ use std::alloc::{AllocError, Global};
 
 /// A list that was heard: the satisfiers in their order, of which so many were given, and whether a Cut is to come
 /// behind them.
-#[derive(Drop)]
 pub(crate) struct Heard {
     pub(crate) notes: Notes,
     pub(crate) given: usize,
@@ -22,6 +21,19 @@ pub(crate) struct Heard {
     pub(crate) kept: usize,
     pub(crate) is_live: bool,
     pub(crate) is_open: bool,
+}
+
+impl Drop for Heard {
+    fn drop(self) {
+        let Heard {
+            notes,
+            given: _,
+            kept: _,
+            is_live: _,
+            is_open: _,
+        } = self;
+        drop(notes);
+    }
 }
 
 // Binds a variable to what it is to stand for, if it isn't bound.

@@ -14,17 +14,29 @@ use hp_syntax::{FaultKind, RunFault, SortKey};
 use std::alloc::{AllocError, Global};
 
 /// A satisfier: the number by which it is sorted, and what each variable then stands for.
-#[derive(Drop)]
 pub(crate) struct Noted {
     pub(crate) number: i64,
     pub(crate) values: Vec<Option<Cell>>,
 }
 
+impl Drop for Noted {
+    fn drop(self) {
+        let Noted { number: _, values } = self;
+        drop(values);
+    }
+}
+
 /// The satisfiers of a list, and whether a Cut stood in it.
-#[derive(Drop)]
 pub(crate) struct Notes {
     pub(crate) sats: Vec<Noted>,
     pub(crate) cut: bool,
+}
+
+impl Drop for Notes {
+    fn drop(self) {
+        let Notes { sats, cut: _ } = self;
+        drop(sats);
+    }
 }
 
 impl Notes {

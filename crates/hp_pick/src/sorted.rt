@@ -9,7 +9,6 @@ use std::alloc::{AllocError, Global};
 /// Hears the whole list at its first `next`, and gives the satisfiers in a stable order by a variable's number, and
 /// then one Cut where any stood; where a fault is heard, or the variable of a Sat stands for no number, the first
 /// such fault alone.
-#[derive(Drop)]
 pub struct Sorted<S> {
     alloc: Global,
     inner: S,
@@ -18,6 +17,21 @@ pub struct Sorted<S> {
     mark: usize,
     // What was heard; the inner list is closed then.
     heard: Option<Heard>,
+}
+
+impl<S: Drop> Drop for Sorted<S> {
+    fn drop(self) {
+        let Sorted {
+            alloc: _,
+            inner,
+            key,
+            mark: _,
+            heard,
+        } = self;
+        drop(inner);
+        drop(key);
+        drop(heard);
+    }
 }
 
 impl<S> Sorted<S> {

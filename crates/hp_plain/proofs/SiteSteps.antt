@@ -317,6 +317,14 @@ rule_there list items i x r same l is e =
     ∙ (slice_get-map rule_of list i
     ∙ ap (option_map rule_of) (slice_get-get_or list i x l ∙ ap Some (sym is ∙ e)))
 
+-- a satisfier comes to what it does for the rule that stands at the number
+pub done_there : (terms : List Term) (s : Site) (rule branch : ℕ) (e : Bindings) (o : Option Rule)
+    → slice_get (rules_at s) rule ≡ o
+    → done_by (rules_at s) s.nest (node_at_site terms s) (place_at s) (term_at_site terms s) o branch e
+    ≡ done_at terms s rule branch e
+done_there terms s rule branch e o h =
+    ap (λ r. done_by (rules_at s) s.nest (node_at_site terms s) (place_at s) (term_at_site terms s) r branch e) (sym h)
+
 -- beyond the rules there is none
 pub rule_missing : (list items : List public_rule.Rule) (i : ℕ) → list ≡ items → length list ≤ i
     → slice_get (map rule_of items) i ≡ None

@@ -92,6 +92,11 @@ abbrev pub GoesAll : Result (ChangesOf ℕ × ℤ) Halt → Going (Changes × �
 GoesAll (Ok x) going terms = HasGone going terms x.0 x.1
 GoesAll (Err halt) going terms = StopsHere halt going
 
+-- the cost of an operator, whose changes are these
+abbrev pub GoesInto : Result ℤ Halt → Going (Changes × ℤ) → List Term → ChangesOf ℕ → Type 0
+GoesInto (Ok cost) going terms changes = HasGone going terms changes cost
+GoesInto (Err halt) going terms changes = StopsHere halt going
+
 -- an operator's effects come to changes and a cost, or stop at a Cut or at a fault
 abbrev pub ComesTo : Effected → Going (Changes × ℤ) → List Term → Type 0
 ComesTo (effected.Went changes cost) going terms = HasGone going terms changes cost

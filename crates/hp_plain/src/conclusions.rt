@@ -3,20 +3,22 @@ ghost use Rattle.std.specs.Prelude.{◌≡◌, ◌≤◌, IfOk, List, length};
 ghost use Rattle.hp_syntax.specs.Events as plain;
 ghost use Rattle.hp_syntax.specs.Events.{all_bound, parts_bound, tail_is_bound};
 ghost use Rattle.hp_syntax.specs.Terms.{Term};
-ghost use Rattle.hp_syntax.specs.Views.{pattern_of, patterns_of, atom_of};
+ghost use Rattle.hp_syntax.specs.Views.{pattern_of, patterns_of, atom_of, axiom_of};
 ghost use Rattle.std.specs.Prelude.{◌<◌};
 ghost use Rattle.std.specs.List.{All};
-ghost use Rattle.hp_syntax.specs.Goals.{match_goal};
+ghost use Rattle.hp_syntax.specs.Goals.{match_goal, start_goal};
+ghost use Rattle.hp_syntax.specs.Values.{unbound};
+ghost use Rattle.hp_plain.specs.Turns.{MeetsHead};
 ghost use Rattle.hp_eval.specs.GoalViews.{term_at, goal_of, GoalBelow};
 ghost use Rattle.hp_eval.specs.Growth.{Grows};
 ghost use Rattle.hp_eval.specs.Slotted.{AreBelow, bindings_of};
 ghost use Rattle.hp_plain.specs.Founds.{Finds, Hears, found_event, found_events, BindsBelow, head_bound};
 
-use crate::found::{Found, copy_slots, is_over, only, stopped};
+use crate::found::{Found, add, copy_slots, only, stopped};
 use crate::matches::matched;
 use hp_cells::{Cell, Cells};
-use hp_eval::{Goal, Slots, atom_value};
-use hp_syntax::{AtomPat, FaultKind, Pat, PatKind, RunFault, Tail};
+use hp_eval::{Goal, Slots, atom_value, start_goal};
+use hp_syntax::{AtomPat, Axiom, FaultKind, Pat, PatKind, RunFault, Tail};
 use std::alloc::{AllocError, Global};
 
 // Whether a variable stands for a term.
@@ -79,6 +81,24 @@ fn is_head_bound(head: &AtomPat, slots: &Slots) -> bool
         → result ≡ head_bound (atom_of head.now) (bindings_of terms slots.now) }
 {
     are_bound(head.args.as_slice(), slots) && is_tail_bound(&head.tail, slots)
+}
+
+/// An axiom's slots with what its head takes from a goal, where it starts.
+pub(crate) fn own_slots(
+    alloc: Global,
+    rule: &Axiom,
+    goal: &Goal,
+    cells: &mut Cells,
+) -> Result<Option<Slots>, AllocError>
+    requires few { length (axiom_of rule.now).vars ≤ 256 }
+    requires goal { GoalBelow (length cells.old) goal.now }
+    ensures starts { IfOk result (λ slots. let x = axiom_of rule.now in MeetsHead cells.new (length x.vars) slots
+        (start_goal x.head (goal_of cells.old goal.now) (unbound (length x.vars)))) }
+    ensures cells { Grows cells.old cells.new }
+{
+    let mut own = Slots::new(alloc, rule.vars.len())?;
+    let starts = start_goal(&rule.head, goal, cells, &mut own)?;
+    if starts { Ok(Some(own)) } else { Ok(None) }
 }
 
 // What a goal meets by the value of a head.
@@ -177,9 +197,9 @@ pub(crate) fn conclusions(
 {
     let mut all = Vec::new(alloc);
     for x in found {
-        let mut more = conclusion(alloc, head, goal, slots, x, cells)?;
-        all.append(&mut more)?;
-        if is_over(all.as_slice()) {
+        let more = conclusion(alloc, head, goal, slots, x, cells)?;
+        let over = add(&mut all, more)?;
+        if over {
             return Ok(all);
         }
     }

@@ -1,5 +1,5 @@
 //! What operators change and cost.
-ghost use Rattle.std.specs.Prelude.{◌≡◌, ◌≤◌, IfOk, map, length};
+ghost use Rattle.std.specs.Prelude.{◌≡◌, ◌≤◌, [], IfOk, map, length};
 ghost use Rattle.hp_syntax.specs.Changes.{atom_values, values_for_each, effect_values, effects_values, effects};
 ghost use Rattle.hp_syntax.specs.Values.{atom_value};
 ghost use Rattle.hp_syntax.specs.Views.{atom_of, atoms_of, effect_of, operator_of};
@@ -9,7 +9,7 @@ ghost use Rattle.hp_eval.specs.Slotted.{AreBelow, bindings_of};
 ghost use Rattle.hp_world.specs.Stages.{StageBelow, ChangesBelow, changes_of};
 ghost use Rattle.hp_plain.specs.Founds.{found_event, found_events, BindsBelow};
 ghost use Rattle.hp_plain.specs.Scenes.{axioms_in, stage_in, state_in};
-ghost use Rattle.hp_plain.specs.Effected.{part_of_atoms, part_of_protections, of_atom, of_guard, only_atoms, values_at, PutsAll, GoesAll, ComesTo};
+ghost use Rattle.hp_plain.specs.Effected.{part_of_atoms, part_of_protections, of_atom, of_guard, only_atoms, values_at, PutsAll, GoesAll, GoesInto, ComesTo};
 
 use crate::expressions::Scene;
 use crate::found::Found;
@@ -246,6 +246,30 @@ impl Scene<'_> {
         Ok(())
     }
 
+    // Puts what an operator's lists come to into changes, the delete list first. Gives its cost.
+    fn put_lists(
+        &self,
+        operator: &Operator,
+        slots: &Slots,
+        nest: u32,
+        cells: &mut Cells,
+        changes: &mut Changes,
+    ) -> Result<i64, Halt>
+        requires few { length slots.now.values ≤ 256 }
+        requires slots { AreBelow (length cells.old) slots.now }
+        requires world { StageBelow (length cells.old) (stage_in self.now) }
+        requires blank { changes.old ≡ record { unguard = []; delete = []; add = []; guard = [] } }
+        ensures goes { GoesInto result (effects (axioms_in self.now) nest (state_in cells.old self.now)
+            (operator_of operator.now) (bindings_of cells.old slots.now)) cells.new changes.new }
+        ensures cells { Grows cells.old cells.new }
+    {
+        let (dels, adds) = (operator.dels.as_slice(), operator.adds.as_slice());
+        self.put_effects(Side::Deletes, dels, slots, nest, cells, changes)?;
+        self.put_effects(Side::Adds, adds, slots, nest, cells, changes)?;
+        let cost = cost(self.alloc, &operator.cost, slots, cells)?;
+        Ok(cost)
+    }
+
     // The changes and the cost of an operator, or what stops.
     fn changes_and_cost(
         &self,
@@ -262,11 +286,10 @@ impl Scene<'_> {
         ensures cells { Grows cells.old cells.new }
     {
         let mut changes = Changes::new(self.alloc);
-        let (dels, adds) = (operator.dels.as_slice(), operator.adds.as_slice());
-        self.put_effects(Side::Deletes, dels, slots, nest, cells, &mut changes)?;
-        self.put_effects(Side::Adds, adds, slots, nest, cells, &mut changes)?;
-        let cost = cost(self.alloc, &operator.cost, slots, cells)?;
-        Ok((changes, cost))
+        match self.put_lists(operator, slots, nest, cells, &mut changes) {
+            Ok(cost) => Ok((changes, cost)),
+            Err(halt) => Err(halt),
+        }
     }
 
     /// What an operator changes and costs: its delete list first, then its add list, then its cost; or what stops it.

@@ -11,12 +11,12 @@ ghost use Rattle.hp_plain.specs.Founds.{found_event, found_events, Fits, AllFit,
 ghost use Rattle.hp_plain.specs.Rulebooks.{axiom_at};
 ghost use Rattle.hp_plain.specs.Scenes.{rules_in, axioms_in, stage_in, state_in, atoms_at, branches_at, placed_events};
 
-use crate::conclusions::conclusions;
-use crate::found::{Found, is_over, only, satisfied, stopped, turn};
+use crate::conclusions::{conclusions, own_slots};
+use crate::found::{Found, add, only, satisfied, stopped, turn};
 use crate::matches::{assigned, state_events, tested};
 use crate::rulebook::Rulebook;
 use hp_cells::Cells;
-use hp_eval::{Goal, Slots, fill_goal, start_goal};
+use hp_eval::{Goal, Slots, fill_goal};
 use hp_syntax::{AtomPat, Axiom, Expr, ExprKind};
 use hp_world::World;
 use std::alloc::{AllocError, Global};
@@ -138,9 +138,9 @@ impl Scene<'_> {
     {
         let mut found = Vec::new(self.alloc);
         for part in parts {
-            let mut more = self.events(part, slots, level, cells)?;
-            found.append(&mut more)?;
-            if is_over(found.as_slice()) {
+            let more = self.events(part, slots, level, cells)?;
+            let over = add(&mut found, more)?;
+            if over {
                 return Ok(found);
             }
         }
@@ -169,9 +169,9 @@ impl Scene<'_> {
     {
         let mut all = Vec::new(self.alloc);
         for x in found {
-            let mut more = self.one_events(x, part, negate, vars, level, cells)?;
-            all.append(&mut more)?;
-            if is_over(all.as_slice()) {
+            let more = self.one_events(x, part, negate, vars, level, cells)?;
+            let over = add(&mut all, more)?;
+            if over {
                 return Ok(all);
             }
         }
@@ -254,9 +254,9 @@ impl Scene<'_> {
     {
         let mut found = state_events(self.alloc, self.world, goal, slots, cells)?;
         for place in self.book.axioms(&goal.name) {
-            let mut more = self.axiom_events(*place, goal, slots, level, cells)?;
-            found.append(&mut more)?;
-            if is_over(found.as_slice()) {
+            let more = self.axiom_events(*place, goal, slots, level, cells)?;
+            let over = add(&mut found, more)?;
+            if over {
                 return Ok(found);
             }
         }
@@ -286,19 +286,21 @@ impl Scene<'_> {
         let Some(axiom) = self.book.axiom(place) else {
             return Ok(Vec::new(self.alloc));
         };
-        let mut own = Slots::new(self.alloc, axiom.vars.len())?;
-        if !start_goal(&axiom.head, goal, cells, &mut own)? {
-            return Ok(Vec::new(self.alloc));
+        let started = own_slots(self.alloc, axiom, goal, cells)?;
+        match started {
+            Some(own) => {
+                let found = self.branch_events(axiom, &own, level, cells)?;
+                conclusions(
+                    self.alloc,
+                    &axiom.head,
+                    goal,
+                    slots,
+                    found.as_slice(),
+                    cells,
+                )
+            }
+            None => Ok(Vec::new(self.alloc)),
         }
-        let found = self.branch_events(axiom, &own, level, cells)?;
-        conclusions(
-            self.alloc,
-            &axiom.head,
-            goal,
-            slots,
-            found.as_slice(),
-            cells,
-        )
     }
 
     // What the branches of an axiom meet: a cut where no level is left, or what the first branch meets that meets

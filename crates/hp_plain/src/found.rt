@@ -1,5 +1,5 @@
 //! What is met while one looks for satisfiers, as lists.
-ghost use Rattle.std.specs.Prelude.{◌≡◌, ◌≤◌, [], ◌∷◌, IfOk, List, length};
+ghost use Rattle.std.specs.Prelude.{◌≡◌, ◌≤◌, [], ◌∷◌, ◌++◌, IfOk, OnOk, List, length};
 ghost use Rattle.hp_syntax.specs.Terms.{Term};
 ghost use Rattle.hp_syntax.specs.Events as plain;
 ghost use Rattle.hp_eval.specs.Slotted.{AreBelow, bindings_of};
@@ -10,11 +10,19 @@ use hp_syntax::RunFault;
 use std::alloc::{AllocError, Global};
 
 /// What is met: bindings that satisfy, a cut by the limit of axiom levels, or a fault.
-#[derive(Drop)]
 pub(crate) enum Found {
     Sat(Slots),
     Cut,
     Fault(RunFault),
+}
+
+impl Drop for Found {
+    fn drop(self) {
+        match self {
+            Found::Sat(slots) => drop(slots),
+            Found::Cut | Found::Fault(_) => {}
+        }
+    }
 }
 
 // What decides a negation: a satisfier before any fault, a fault, a cut, or nothing.
@@ -68,11 +76,20 @@ pub(crate) fn stopped(alloc: Global, stop: EvalStop) -> Result<Vec<Found>, Alloc
     }
 }
 
-/// Whether nothing more is heard behind a list, since it ends in a fault.
-pub(crate) fn is_over(found: &[Found]) -> bool
+// Whether nothing more is heard behind a list, since it ends in a fault.
+fn is_over(found: &[Found]) -> bool
     ensures { result ≡ ends_in_fault found.now }
 {
     matches!(found.last(), Some(Found::Fault(_)))
+}
+
+/// Puts more behind what was found. Whether nothing more is heard behind that.
+pub(crate) fn add(found: &mut Vec<Found>, mut more: Vec<Found>) -> Result<bool, AllocError>
+    ensures added { OnOk result (found.new.items ≡ found.old.items ++ more.items) }
+    ensures over { IfOk result (λ over. over ≡ ends_in_fault found.new.items) }
+{
+    found.append(&mut more)?;
+    Ok(is_over(found.as_slice()))
 }
 
 // What decides the negation of an expression that meets these.

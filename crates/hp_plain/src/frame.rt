@@ -21,12 +21,24 @@ pub(crate) enum End {
 }
 
 /// A node with what is left of what comes there, and how many Dids were given, as far as 64 bits tell.
-#[derive(Drop)]
 pub(crate) struct Frame {
     pub(crate) spot: Spot,
     pub(crate) dids: u64,
     pub(crate) end: Option<End>,
     pub(crate) rest: Rest,
+}
+
+impl Drop for Frame {
+    fn drop(self) {
+        let Frame {
+            spot,
+            dids: _,
+            end: _,
+            rest,
+        } = self;
+        drop(spot);
+        drop(rest);
+    }
 }
 
 /// What comes next at a node.

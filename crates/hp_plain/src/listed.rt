@@ -13,13 +13,24 @@ use hp_eval::{Event, Sats, Slots};
 use std::alloc::AllocError;
 
 /// What is heard of a list, from a place on. Nothing is bound at the start.
-#[derive(Drop)]
 pub(crate) struct Listed {
     found: Vec<Found>,
     place: usize,
     // How many cells stood when the list was made.
     kept: usize,
     is_open: bool,
+}
+
+impl Drop for Listed {
+    fn drop(self) {
+        let Listed {
+            found,
+            place: _,
+            kept: _,
+            is_open: _,
+        } = self;
+        drop(found);
+    }
 }
 
 // Binds what other slots bind, where nothing is bound.

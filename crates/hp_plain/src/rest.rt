@@ -27,7 +27,6 @@ pub(crate) struct Base<'a> {
 }
 
 /// What is met for a task and a rule, from a place on.
-#[derive(Drop)]
 pub(crate) struct Run {
     pub(crate) id: TaskId,
     pub(crate) task: Cell,
@@ -36,19 +35,49 @@ pub(crate) struct Run {
     pub(crate) next: usize,
 }
 
+impl Drop for Run {
+    fn drop(self) {
+        let Run {
+            id: _,
+            task: _,
+            rule: _,
+            choice,
+            next: _,
+        } = self;
+        drop(choice);
+    }
+}
+
 /// Candidates from a place on, of which the first was tried with so many of the rules that are relevant to it.
-#[derive(Drop)]
 pub(crate) struct Queue {
     pub(crate) candidates: Vec<TaskId>,
     pub(crate) at: usize,
     pub(crate) tried: usize,
 }
 
+impl Drop for Queue {
+    fn drop(self) {
+        let Queue {
+            candidates,
+            at: _,
+            tried: _,
+        } = self;
+        drop(candidates);
+    }
+}
+
 /// What is left of a node's children: what is met for a rule, and then what the rules behind it give.
-#[derive(Drop)]
 pub(crate) struct Rest {
     pub(crate) run: Option<Run>,
     pub(crate) queue: Queue,
+}
+
+impl Drop for Rest {
+    fn drop(self) {
+        let Rest { run, queue } = self;
+        drop(run);
+        drop(queue);
+    }
 }
 
 // Whether a turn is none.

@@ -15,7 +15,6 @@ use indexmap::IndexMap;
 use std::alloc::{AllocError, Global};
 
 /// The rules of a domain, found by their names and not by going through the domain.
-#[derive(Drop)]
 pub(crate) struct Rulebook<'a> {
     pub(crate) domain: &'a Domain,
     tasks: IndexMap<Name, Vec<usize>>,
@@ -23,6 +22,18 @@ pub(crate) struct Rulebook<'a> {
     ghost few: { AreFew (axioms_of (domain_of domain.now).rules) },
     ghost for_tasks: { IsTableOf kinds.Task (domain_of domain.now).rules tasks },
     ghost listed: { IsTableOf kinds.Axiom (domain_of domain.now).rules axioms },
+}
+
+impl Drop for Rulebook<'_> {
+    fn drop(self) {
+        let Rulebook {
+            domain: _,
+            tasks,
+            axioms,
+        } = self;
+        drop(tasks);
+        drop(axioms);
+    }
 }
 
 // The name of a term, if it is a symbol.

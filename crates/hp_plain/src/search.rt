@@ -18,7 +18,6 @@ use std::alloc::{AllocError, Global};
 use std::mem;
 
 /// The nodes on the way to the one that is reached, the root first, and what is left of what comes at each.
-#[derive(Drop)]
 pub(crate) struct Search<'a> {
     pub(crate) alloc: Global,
     pub(crate) book: Rulebook<'a>,
@@ -29,6 +28,27 @@ pub(crate) struct Search<'a> {
     pub(crate) top: Frame,
     pub(crate) at_did: bool,
     pub(crate) over: bool,
+}
+
+impl Drop for Search<'_> {
+    fn drop(self) {
+        let Search {
+            alloc: _,
+            book,
+            nest: _,
+            cells,
+            path,
+            above,
+            top,
+            at_did: _,
+            over: _,
+        } = self;
+        drop(book);
+        drop(cells);
+        drop(path);
+        drop(above);
+        drop(top);
+    }
 }
 
 impl<'a> Search<'a> {

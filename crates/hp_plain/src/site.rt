@@ -14,7 +14,7 @@ ghost use Rattle.hp_eval.specs.Growth.{Grows};
 ghost use Rattle.hp_eval.specs.Slotted.{AreBelow, bindings_of};
 ghost use Rattle.hp_world.specs.Stages.{ChangesBelow, StageBelow, changes_of, state_of, guards_of};
 ghost use Rattle.hp_plain.specs.Founds.{found_event};
-ghost use Rattle.hp_plain.specs.Sites.{rules_at, node_at_site, place_at, term_at_site, done_at, children_at, IsSite};
+ghost use Rattle.hp_plain.specs.Sites.{branch_done, rules_at, node_at_site, place_at, term_at_site, done_at, children_at, IsSite};
 ghost use Rattle.hp_plain.specs.Turns.{Turns, BindsFew, FindsFew, MeetsHead, if_matched, ChoosesBranch, Chooses};
 
 use crate::effects::Effected;
@@ -42,10 +42,16 @@ pub(crate) struct Site<'a> {
 }
 
 /// What is met for a rule, by the branch of this number where the rule is a method.
-#[derive(Drop)]
 pub(crate) struct Choice {
     pub(crate) branch: usize,
     pub(crate) found: Vec<Found>,
+}
+
+impl Drop for Choice {
+    fn drop(self) {
+        let Choice { branch: _, found } = self;
+        drop(found);
+    }
 }
 
 /// What the next of what is left at a node comes to.
@@ -165,6 +171,27 @@ impl Site<'_> {
         }
     }
 
+    // What a satisfier comes to by the branch of a number of a method, if there is one.
+    fn by_branch(
+        &self,
+        method: &Method,
+        branch: usize,
+        slots: &Slots,
+        cells: &mut Cells,
+    ) -> Result<Turn, AllocError>
+        requires site { IsSite (length cells.old) self.now }
+        requires slots { AreBelow (length cells.old) slots.now }
+        ensures turns { IfOk result (λ turn. Turns cells.new turn
+            (branch_done (node_at_site cells.old self.now) (place_at self.now)
+            (slice_get (method_of method.now).branches branch) (bindings_of cells.old slots.now))) }
+        ensures cells { Grows cells.old cells.new }
+    {
+        match method.branches.get(branch) {
+            Some(branch) => self.refined(&branch.tasks, slots, cells),
+            None => Ok(Turn::Nothing),
+        }
+    }
+
     // What a satisfier comes to, for the rule and the branch of these numbers.
     fn satisfied(
         &self,
@@ -182,10 +209,7 @@ impl Site<'_> {
     {
         match self.book.domain.rules.get(rule) {
             Some(Rule::Operator(operator)) => self.operated(operator, slots, cells),
-            Some(Rule::Method(method)) => match method.branches.get(branch) {
-                Some(branch) => self.refined(&branch.tasks, slots, cells),
-                None => Ok(Turn::Nothing),
-            },
+            Some(Rule::Method(method)) => self.by_branch(method, branch, slots, cells),
             Some(Rule::Axiom(_)) => Ok(Turn::Nothing),
             None => Ok(Turn::Nothing),
         }

@@ -5,11 +5,25 @@ use hp_world::World;
 
 /// A node: what holds and is protected, what is left to do, the steps so far with their cost, and how many
 /// decompositions may follow.
-#[derive(Drop)]
 pub(crate) struct Spot {
     pub(crate) world: World,
     pub(crate) net: Net,
     pub(crate) steps: Vec<Cell>,
     pub(crate) cost: i128,
     pub(crate) depth: u32,
+}
+
+impl Drop for Spot {
+    fn drop(self) {
+        let Spot {
+            world,
+            net,
+            steps,
+            cost: _,
+            depth: _,
+        } = self;
+        drop(world);
+        drop(net);
+        drop(steps);
+    }
 }

@@ -6,7 +6,7 @@ ghost use Rattle.hp_syntax.specs.Written as written;
 ghost use Rattle.hp_syntax.specs.Written.{node_text, rest_text, group};
 
 use crate::expressions::push_expression;
-use crate::terms::{push_atom, push_atoms, push_variables};
+use crate::terms::{push_atom, push_atoms, push_begun_forall};
 use crate::words::push_begun;
 use hp_syntax::{Effect, Name};
 use std::alloc::AllocError;
@@ -25,15 +25,22 @@ fn push_effect(text: &mut Vec<u8>, vars: &[Name], effect: &Effect) -> Result<(),
             text.extend_from_slice(b")")
         }
         Effect::Forall(list, expr, atoms) => {
-            push_begun(text, b"forall ")?;
-            push_variables(text, vars, list.as_slice())?;
-            text.push(b' ')?;
+            push_begun_forall(text, vars, list.as_slice())?;
             push_expression(text, vars, expr)?;
             text.push(b' ')?;
             push_atoms(text, vars, atoms.as_slice())?;
             text.extend_from_slice(b")")
         }
     }
+}
+
+/// A space, and an effect.
+fn push_next_effect(text: &mut Vec<u8>, vars: &[Name], effect: &Effect) -> Result<(), AllocError>
+    ensures { OnOk result (text.new.items ≡ text.old.items
+        ++ codes " " ++ node_text (written.effect vars.now (effect_of effect.now))) }
+{
+    text.push(b' ')?;
+    push_effect(text, vars, effect)
 }
 
 /// More effects of a list, and the closing bracket.
@@ -43,8 +50,7 @@ fn push_more_effects(text: &mut Vec<u8>, vars: &[Name], list: &[Effect]) -> Resu
         ++ rest_text (written.effects vars.now (map effect_of list.now)) ++ codes ")") }
 {
     for effect in list {
-        text.push(b' ')?;
-        push_effect(text, vars, effect)?;
+        push_next_effect(text, vars, effect)?;
     }
     text.extend_from_slice(b")")
 }

@@ -3,9 +3,9 @@
 ghost use Rattle.std.specs.Prelude.{◌≡◌, ◌++◌, OnOk, codes};
 ghost use Rattle.hp_syntax.specs.Views.{pattern_of, expression_of, expressions_of, order_of, precondition_of};
 ghost use Rattle.hp_syntax.specs.Written as written;
-ghost use Rattle.hp_syntax.specs.Written.{node_text, rest_text};
+ghost use Rattle.hp_syntax.specs.Written.{name_of, node_text, rest_text};
 
-use crate::terms::{push_atom, push_pattern, push_variables};
+use crate::terms::{push_atom, push_begun_forall, push_pattern};
 use crate::words::{push_begun, push_variable};
 use hp_syntax::{Expr, ExprKind, Name, Pat, Pre, SortKey, SortOrder};
 use std::alloc::AllocError;
@@ -43,9 +43,7 @@ pub fn push_expression(text: &mut Vec<u8>, vars: &[Name], expr: &Expr) -> Result
             text.extend_from_slice(b")")
         }
         ExprKind::Forall(list, range, body) => {
-            push_begun(text, b"forall ")?;
-            push_variables(text, vars, list.as_slice())?;
-            text.push(b' ')?;
+            push_begun_forall(text, vars, list.as_slice())?;
             push_expression(text, vars, range)?;
             text.push(b' ')?;
             push_expression(text, vars, body)?;
@@ -56,6 +54,13 @@ pub fn push_expression(text: &mut Vec<u8>, vars: &[Name], expr: &Expr) -> Result
     }
 }
 
+/// The list of nothing.
+fn push_nothing(text: &mut Vec<u8>) -> Result<(), AllocError>
+    ensures { OnOk result (text.new.items ≡ text.old.items ++ codes "()") }
+{
+    text.extend_from_slice(b"()")
+}
+
 /// A conjunction; that of nothing is the empty list.
 #[cycle(expression)]
 #[tactic(auto, unfolding(hp_syntax::specs::Written::expression, hp_syntax::specs::Written::node_text))]
@@ -64,7 +69,7 @@ fn push_conjunction(text: &mut Vec<u8>, vars: &[Name], parts: &[Expr]) -> Result
         ++ node_text (written.conjunction vars.now (expressions_of parts.now))) }
 {
     if parts.is_empty() {
-        return text.extend_from_slice(b"()");
+        return push_nothing(text);
     }
     push_begun(text, b"and")?;
     push_expressions(text, vars, parts)
@@ -95,6 +100,18 @@ fn order_word(order: &SortOrder) -> &[u8]
     }
 }
 
+/// The beginning of what is sorted: `(:sort-by VARIABLE order `
+fn push_key(text: &mut Vec<u8>, vars: &[Name], key: &SortKey) -> Result<(), AllocError>
+    ensures { OnOk result (text.new.items ≡ text.old.items ++ codes "(:sort-by " ++ name_of vars.now key.now.var
+        ++ codes " " ++ written.order_word (order_of key.now.order) ++ codes " ") }
+{
+    push_begun(text, b":sort-by ")?;
+    push_variable(text, vars, key.var)?;
+    text.push(b' ')?;
+    text.extend_from_slice(order_word(&key.order))?;
+    text.extend_from_slice(b" ")
+}
+
 /// `(:sort-by VARIABLE order expression)`
 #[tactic(auto, unfolding(hp_syntax::specs::Written::precondition, hp_syntax::specs::Written::node_text))]
 fn push_sorted(
@@ -106,11 +123,7 @@ fn push_sorted(
     ensures { OnOk result (text.new.items ≡ text.old.items
         ++ node_text (written.precondition vars.now (precondition_of (Pre.Sorted key.now expr.now)))) }
 {
-    push_begun(text, b":sort-by ")?;
-    push_variable(text, vars, key.var)?;
-    text.push(b' ')?;
-    text.extend_from_slice(order_word(&key.order))?;
-    text.push(b' ')?;
+    push_key(text, vars, key)?;
     push_expression(text, vars, expr)?;
     text.extend_from_slice(b")")
 }

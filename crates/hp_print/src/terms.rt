@@ -3,7 +3,7 @@
 ghost use Rattle.std.specs.Prelude.{◌≡◌, ◌++◌, OnOk, codes};
 ghost use Rattle.hp_syntax.specs.Views.{pattern_of, patterns_of, atom_of, atoms_of};
 ghost use Rattle.hp_syntax.specs.Written as written;
-ghost use Rattle.hp_syntax.specs.Written.{node_text, rest_text, group};
+ghost use Rattle.hp_syntax.specs.Written.{name_of, node_text, rest_text, group};
 
 use crate::words::{push_begun, push_number, push_variable};
 use hp_syntax::{AtomPat, Name, Pat, PatKind, Tail};
@@ -99,6 +99,15 @@ pub fn push_atom(text: &mut Vec<u8>, vars: &[Name], atom: &AtomPat) -> Result<()
     push_items(text, vars, atom.args.as_slice(), atom.tail)
 }
 
+/// A space, and an atom.
+fn push_next_atom(text: &mut Vec<u8>, vars: &[Name], atom: &AtomPat) -> Result<(), AllocError>
+    ensures { OnOk result (text.new.items ≡ text.old.items
+        ++ codes " " ++ node_text (written.atom vars.now (atom_of atom.now))) }
+{
+    text.push(b' ')?;
+    push_atom(text, vars, atom)
+}
+
 /// More atoms of a list, and the closing bracket.
 #[tactic(auto, unfolding(hp_syntax::specs::Written::rest_text))]
 fn push_more_atoms(text: &mut Vec<u8>, vars: &[Name], atoms: &[AtomPat]) -> Result<(), AllocError>
@@ -106,8 +115,7 @@ fn push_more_atoms(text: &mut Vec<u8>, vars: &[Name], atoms: &[AtomPat]) -> Resu
         ++ rest_text (written.atoms vars.now (atoms_of atoms.now)) ++ codes ")") }
 {
     for atom in atoms {
-        text.push(b' ')?;
-        push_atom(text, vars, atom)?;
+        push_next_atom(text, vars, atom)?;
     }
     text.extend_from_slice(b")")
 }
@@ -128,6 +136,14 @@ pub fn push_atoms(text: &mut Vec<u8>, vars: &[Name], atoms: &[AtomPat]) -> Resul
     }
 }
 
+/// A space, and a variable.
+fn push_next_variable(text: &mut Vec<u8>, vars: &[Name], v: u32) -> Result<(), AllocError>
+    ensures { OnOk result (text.new.items ≡ text.old.items ++ codes " " ++ name_of vars.now v) }
+{
+    text.push(b' ')?;
+    push_variable(text, vars, v)
+}
+
 /// More variables of a list, and the closing bracket.
 #[tactic(auto, unfolding(hp_syntax::specs::Written::rest_text))]
 fn push_more_variables(text: &mut Vec<u8>, vars: &[Name], list: &[u32]) -> Result<(), AllocError>
@@ -135,8 +151,7 @@ fn push_more_variables(text: &mut Vec<u8>, vars: &[Name], list: &[u32]) -> Resul
         ++ rest_text (written.variables vars.now list.now) ++ codes ")") }
 {
     for v in list {
-        text.push(b' ')?;
-        push_variable(text, vars, *v)?;
+        push_next_variable(text, vars, *v)?;
     }
     text.extend_from_slice(b")")
 }
@@ -155,4 +170,14 @@ pub fn push_variables(text: &mut Vec<u8>, vars: &[Name], list: &[u32]) -> Result
             push_more_variables(text, vars, rest)
         }
     }
+}
+
+/// The beginning of what is said for all values of variables: `(forall (VARIABLE ..) `
+pub fn push_begun_forall(text: &mut Vec<u8>, vars: &[Name], list: &[u32]) -> Result<(), AllocError>
+    ensures { OnOk result (text.new.items ≡ text.old.items
+        ++ codes "(forall " ++ node_text (group (written.variables vars.now list.now)) ++ codes " ") }
+{
+    push_begun(text, b"forall ")?;
+    push_variables(text, vars, list)?;
+    text.extend_from_slice(b" ")
 }

@@ -4,22 +4,36 @@ use crate::pattern::{AtomPat, Pat, Span};
 use crate::tasks::NetPat;
 
 /// A branch of a method. The first branch with a satisfier is used, and no other.
-#[derive(Drop)]
 pub struct Branch {
     pub name: Option<Name>,
     pub pre: Pre,
     pub tasks: NetPat,
 }
 
+impl Drop for Branch {
+    fn drop(self) {
+        let Branch { name, pre, tasks } = self;
+        drop(name);
+        drop(pre);
+        drop(tasks);
+    }
+}
+
 /// A branch of an axiom.
-#[derive(Drop)]
 pub struct Clause {
     pub name: Option<Name>,
     pub body: Expr,
 }
 
+impl Drop for Clause {
+    fn drop(self) {
+        let Clause { name, body } = self;
+        drop(name);
+        drop(body);
+    }
+}
+
 /// What an operator deletes or adds.
-#[derive(Drop)]
 pub enum Effect {
     Atom(AtomPat),
     Protection(AtomPat),
@@ -28,8 +42,20 @@ pub enum Effect {
     Forall(Vec<u32>, Expr, Vec<AtomPat>),
 }
 
+impl Drop for Effect {
+    fn drop(self) {
+        match self {
+            Effect::Atom(atom) | Effect::Protection(atom) => drop(atom),
+            Effect::Forall(variables, range, atoms) => {
+                drop(variables);
+                drop(range);
+                drop(atoms);
+            }
+        }
+    }
+}
+
 /// A way to do a primitive task. `vars` has the names of its variables, by number.
-#[derive(Drop)]
 pub struct Operator {
     pub span: Span,
     pub vars: Vec<Name>,
@@ -41,8 +67,27 @@ pub struct Operator {
     pub cost: Pat,
 }
 
+impl Drop for Operator {
+    fn drop(self) {
+        let Operator {
+            span: _,
+            vars,
+            head,
+            pre,
+            dels,
+            adds,
+            cost,
+        } = self;
+        drop(vars);
+        drop(head);
+        drop(pre);
+        drop(dels);
+        drop(adds);
+        drop(cost);
+    }
+}
+
 /// A way to do a compound task by other tasks.
-#[derive(Drop)]
 pub struct Method {
     pub span: Span,
     pub vars: Vec<Name>,
@@ -50,8 +95,21 @@ pub struct Method {
     pub branches: Vec<Branch>,
 }
 
+impl Drop for Method {
+    fn drop(self) {
+        let Method {
+            span: _,
+            vars,
+            head,
+            branches,
+        } = self;
+        drop(vars);
+        drop(head);
+        drop(branches);
+    }
+}
+
 /// What follows from a state.
-#[derive(Drop)]
 pub struct Axiom {
     pub span: Span,
     pub vars: Vec<Name>,
@@ -59,34 +117,86 @@ pub struct Axiom {
     pub clauses: Vec<Clause>,
 }
 
+impl Drop for Axiom {
+    fn drop(self) {
+        let Axiom {
+            span: _,
+            vars,
+            head,
+            clauses,
+        } = self;
+        drop(vars);
+        drop(head);
+        drop(clauses);
+    }
+}
+
 /// A rule of a domain.
-#[derive(Drop)]
 pub enum Rule {
     Operator(Operator),
     Method(Method),
     Axiom(Axiom),
 }
 
+impl Drop for Rule {
+    fn drop(self) {
+        match self {
+            Rule::Operator(operator) => drop(operator),
+            Rule::Method(method) => drop(method),
+            Rule::Axiom(axiom) => drop(axiom),
+        }
+    }
+}
+
 /// A planning domain.
-#[derive(Drop)]
 pub struct Domain {
     pub name: Name,
     pub rules: Vec<Rule>,
 }
 
+impl Drop for Domain {
+    fn drop(self) {
+        let Domain { name, rules } = self;
+        drop(name);
+        drop(rules);
+    }
+}
+
 /// An initial state and what is to be done in it.
-#[derive(Drop)]
 pub struct Pair {
     pub state: Vec<AtomPat>,
     pub tasks: NetPat,
 }
 
+impl Drop for Pair {
+    fn drop(self) {
+        let Pair { state, tasks } = self;
+        drop(state);
+        drop(tasks);
+    }
+}
+
 /// A planning problem of the domain that it names.
-#[derive(Drop)]
 pub struct Problem {
     pub name: Name,
     pub domain: Name,
     pub domain_span: Span,
     pub vars: Vec<Name>,
     pub pairs: Vec<Pair>,
+}
+
+impl Drop for Problem {
+    fn drop(self) {
+        let Problem {
+            name,
+            domain,
+            domain_span: _,
+            vars,
+            pairs,
+        } = self;
+        drop(name);
+        drop(domain);
+        drop(vars);
+        drop(pairs);
+    }
 }

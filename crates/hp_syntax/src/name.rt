@@ -6,13 +6,20 @@ use std::mem::size_of;
 
 /// A name: of a symbol, a variable, a task or an operator. Contracts see it as its bytes, and two
 /// names are equal exactly where their bytes are. One of at most 16 bytes needs no allocation.
-#[derive(Debug, Drop)]
+#[derive(Debug)]
 pub struct Name {
     // 16 bytes and their length fit where a longer name has its `Vec`, so they cost no room.
     bytes: SmallVec<u8, 16>,
 }
 
 const _: () = prove!(size_of::<Name>() == 32);
+
+impl Drop for Name {
+    fn drop(self) {
+        let Name { bytes } = self;
+        drop(bytes);
+    }
+}
 
 impl Model for Name {
     ghost use Rattle.std.specs.Prelude.{List, ℕ};

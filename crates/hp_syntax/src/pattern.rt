@@ -16,15 +16,21 @@ pub struct Tail {
 
 /// A term of a rule. Variables are numbers: places in the rule's list of variable names.
 #[cycle(pat)]
-#[derive(Drop)]
 pub struct Pat {
     pub span: Span,
     pub kind: PatKind,
 }
 
+impl Drop for Pat {
+    #[cycle(pat)]
+    fn drop(self) {
+        let Pat { span: _, kind } = self;
+        drop(kind);
+    }
+}
+
 /// What kind of term.
 #[cycle(pat)]
-#[derive(Drop)]
 pub enum PatKind {
     Var(u32),
     Sym(Name),
@@ -33,6 +39,21 @@ pub enum PatKind {
     List(Vec<Pat>, Option<Tail>),
     /// A call of the call table, by its name.
     Call(Name, Vec<Pat>),
+}
+
+impl Drop for PatKind {
+    #[cycle(pat)]
+    fn drop(self) {
+        match self {
+            PatKind::Var(_) | PatKind::Num(_) => {}
+            PatKind::Sym(name) => drop(name),
+            PatKind::List(parts, _) => drop(parts),
+            PatKind::Call(name, args) => {
+                drop(name);
+                drop(args);
+            }
+        }
+    }
 }
 
 /// A term without variables and calls.
@@ -44,10 +65,22 @@ pub enum Ground {
 }
 
 /// An atom of a rule: a name and its arguments.
-#[derive(Drop)]
 pub struct AtomPat {
     pub span: Span,
     pub name: Name,
     pub args: Vec<Pat>,
     pub tail: Option<Tail>,
+}
+
+impl Drop for AtomPat {
+    fn drop(self) {
+        let AtomPat {
+            span: _,
+            name,
+            args,
+            tail: _,
+        } = self;
+        drop(name);
+        drop(args);
+    }
 }

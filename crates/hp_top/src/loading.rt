@@ -23,7 +23,7 @@ use hp_text::{Forest, TextRefusal, read};
 use std::alloc::Global;
 
 /// Why two files aren't read as a domain and a problem.
-#[derive(Clone, Copy, Debug, PartialEq, Eq)]
+#[derive(Clone, Copy)]
 pub enum LoadError {
     NoMemory,
     /// A file isn't there, couldn't be read, or its text or its form is refused.
@@ -31,10 +31,17 @@ pub enum LoadError {
 }
 
 /// A domain and a problem that are read.
-#[derive(Drop)]
 pub struct Loaded {
     pub domain: Domain,
     pub problem: Problem,
+}
+
+impl Drop for Loaded {
+    fn drop(self) {
+        let Loaded { domain, problem } = self;
+        drop(domain);
+        drop(problem);
+    }
 }
 
 /// Why a text isn't read that has no forest.

@@ -37,17 +37,31 @@ impl From<AllocError> for RereadError {
 }
 
 /// A domain as its text is read, and as its canonical text is.
-#[derive(Drop)]
 pub struct RereadDomain {
     pub first: Domain,
     pub second: Domain,
 }
 
+impl Drop for RereadDomain {
+    fn drop(self) {
+        let RereadDomain { first, second } = self;
+        drop(first);
+        drop(second);
+    }
+}
+
 /// A problem as its text is read, and as its canonical text is.
-#[derive(Drop)]
 pub struct RereadProblem {
     pub first: Problem,
     pub second: Problem,
+}
+
+impl Drop for RereadProblem {
+    fn drop(self) {
+        let RereadProblem { first, second } = self;
+        drop(first);
+        drop(second);
+    }
 }
 
 /// What is told where a text is read as nothing, unless memory is wanting.

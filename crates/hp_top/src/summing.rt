@@ -1,6 +1,7 @@
 //! The first plan of a walk, and what is written of it.
 
-ghost use Rattle.std.specs.Prelude.{◌≡◌, ◌≤◌, ◌++◌, true, false, IfOk, IfErr, OnOk, MatchOption, length};
+ghost use Rattle.std.specs.Prelude.{◌≡◌, ◌≤◌, ◌++◌, true, false, IfOk, IfErr, OnOk, MatchOption, length, codes, decimal};
+ghost use Rattle.std.specs.Fmt.{signed_decimal};
 ghost use Rattle.std.specs.List.{All};
 ghost use Rattle.hp_net.specs.Standings.{node_reached};
 ghost use Rattle.hp_out.specs.Writing.{Wrote, sink_run};
@@ -88,6 +89,15 @@ pub fn first_plan<W: Walk>(walk: &mut W) -> Result<First, AllocError>
     }
 }
 
+/// What was made: by which seed, and with how many packages.
+fn push_making(text: &mut Vec<u8>, seed: u32, packages: u32) -> Result<(), AllocError>
+    ensures { OnOk result (text.new.items ≡ text.old.items
+        ++ codes "made seed " ++ decimal seed ++ codes " packages " ++ decimal packages) }
+{
+    push_count(text, b"made seed ", u128::from(seed))?;
+    push_count(text, b" packages ", u128::from(packages))
+}
+
 /// What was made, and how many atoms its state has.
 #[tactic(auto, unfolding(crate::specs::Making::made_lines))]
 fn push_made(
@@ -98,8 +108,7 @@ fn push_made(
 ) -> Result<(), AllocError>
     ensures { OnOk result (text.new.items ≡ text.old.items ++ made_lines seed packages (problem_of problem.now)) }
 {
-    push_count(text, b"made seed ", u128::from(seed))?;
-    push_count(text, b" packages ", u128::from(packages))?;
+    push_making(text, seed, packages)?;
     push_count(
         text,
         b"\nstate atoms ",
@@ -108,15 +117,22 @@ fn push_made(
     text.extend_from_slice(b"\n")
 }
 
+/// A word and a signed number behind it.
+fn push_signed(text: &mut Vec<u8>, word: &[u8], number: i128) -> Result<(), AllocError>
+    ensures { OnOk result (text.new.items ≡ text.old.items ++ word.now ++ signed_decimal number) }
+{
+    let mut buffer = Buffer::new();
+    text.extend_from_slice(word)?;
+    text.extend_from_slice(buffer.format(number).as_bytes())
+}
+
 /// The line of the first plan.
 #[tactic(auto, unfolding(crate::specs::Making::cost_line))]
 fn push_size(text: &mut Vec<u8>, size: Size) -> Result<(), AllocError>
     ensures { OnOk result (text.new.items ≡ text.old.items ++ cost_line 1 size.cost size.steps) }
 {
-    let mut buffer = Buffer::new();
     push_count(text, b"plan ", 1)?;
-    text.extend_from_slice(b" cost ")?;
-    text.extend_from_slice(buffer.format(size.cost).as_bytes())?;
+    push_signed(text, b" cost ", size.cost)?;
     push_count(text, b" steps ", size.steps as u128)?;
     text.extend_from_slice(b"\n")
 }

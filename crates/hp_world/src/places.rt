@@ -9,11 +9,18 @@ use std::marker::Model;
 
 /// Places in a row, each with an atom or empty. No atom stands at two. Contracts see the places, how many can stand
 /// there without more memory, and up to which cell the table reaches.
-#[derive(Drop)]
 pub struct Places {
     places: Vec<Option<Cell>>,
     // By the number of an atom: its place.
     table: Vec<Option<usize>>,
+}
+
+impl Drop for Places {
+    fn drop(self) {
+        let Places { places, table } = self;
+        drop(places);
+        drop(table);
+    }
 }
 
 impl Model for Places {

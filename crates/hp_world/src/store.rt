@@ -25,11 +25,23 @@ pub enum Applied {
 }
 
 /// Places, protections and the trail of what changed them.
-#[derive(Drop)]
 pub struct Store {
     places: Places,
     guards: Vec<Cell>,
     trail: Vec<Change>,
+}
+
+impl Drop for Store {
+    fn drop(self) {
+        let Store {
+            places,
+            guards,
+            trail,
+        } = self;
+        drop(places);
+        drop(guards);
+        drop(trail);
+    }
 }
 
 impl Store {

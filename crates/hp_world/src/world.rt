@@ -11,9 +11,15 @@ use std::alloc::{AllocError, Global};
 use std::marker::Model;
 
 /// Atoms in order of place, each once, and protections, with a trail of what changed them.
-#[derive(Drop)]
 pub struct World {
     store: Store,
+}
+
+impl Drop for World {
+    fn drop(self) {
+        let World { store } = self;
+        drop(store);
+    }
 }
 
 impl Model for World {

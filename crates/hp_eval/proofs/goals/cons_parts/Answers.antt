@@ -14,21 +14,6 @@ cons_part-requires-clause-part c =
     let kept = All-pop (λ f. is_below (length c.args.cells.now) f ≡ true) _ _ (Some c.in-Some.part) items held.1 in
     is_below_more _ _ c.in-Some.part (grows_length _ _ held.2) kept.1
 
-pub loop-part-preserved-in_ok-left : goal.loop-part-preserved-in_ok-left
-loop-part-preserved-in_ok-left c =
-    let held = c.loop-part.invariant in
-    let items = c.in-Some.ensures.items in
-    let kept = All-pop (λ f. is_below (length c.args.cells.now) f ≡ true) _ _ (Some c.in-Some.part) items held.1 in (
-      c.in_ok-left.ensures.names,
-      kept.0,
-      grows_on c.args.cells.now c.loop-part.cells c.cons_part.new.cells held.2 c.in_ok-left.ensures.cells,
-      part_consed c.args.cells.now c.loop-part.cells c.cons_part.new.cells _ c.pop.new.self.items c.in-Some.part
-          c.loop-part.left c.in_ok-left.left held.2 kept.1
-          (known_joined (fillings_of c.args.cells.now c.args.parts.items) (parts_at c.args.cells.now c.args.list)
-          c.requires.known)
-          c.in_ok-left.ensures.parts (rw items at held.3),
-    )
-
 pub loop-part-preserved : goal.loop-part-preserved
 loop-part-preserved c =
     let held = c.loop-part.invariant in

@@ -1,10 +1,10 @@
-use Rattle.std.proofs.Common.{◌+◌, length, drop, ap, sym, ◌∙◌}
+use Rattle.std.proofs.Common.{◌+◌, length, drop, sym, ◌∙◌}
 use Rattle.hp_syntax.specs.Events.{concluded, through}
 use Rattle.hp_syntax.specs.Views.{atom_of}
 use Rattle.hp_eval.specs.GoalViews.{goal_of}
 use Rattle.hp_eval.specs.Slotted.{bindings_of}
 use Rattle.hp_eval.proofs.GrowthLemmas.{below_grows, grows_on}
-use Rattle.hp_plain.specs.Founds.{BindsBelow, found_events, ends_in_fault}
+use Rattle.hp_plain.specs.Founds.{BindsBelow, found_events}
 use Rattle.hp_plain.proofs.FoundLemmas.{binds_grow, goal_below_grows, item_holds}
 use Rattle.hp_plain.proofs.HeardLemmas.{hears_replaced, hears_replaced_all, hears_over}
 use Rattle.hp_plain.proofs.ConclusionSteps.{conclusion_heard}
@@ -41,7 +41,7 @@ loop-x-preserved c =
     let i = c.loop-x.x-index in
     let more = c.in_ok-more.more.items in
     let vars = length s.values in
-    let items = c.append.new.self.items in
+    let items = c.add.new.found.items in
     let below = item_holds (BindsBelow (length old)) found i x c.loop-x-test.true c.x-item.is c.requires.found in
     record {
       grows = grows_on old mid new held.grows grown;
@@ -50,11 +50,11 @@ loop-x-preserved c =
           held.found
           (conclusion_heard old mid new held.grows h q s x more c.requires.goal c.requires.slots below
           c.in_ok-more.ensures.found)
-          c.in_ok-append.ensures.items;
+          c.in_ok-over.ensures.added;
     }
 
-pub returns-then-is_over-clause-found : goal.returns-then-is_over-clause-found
-returns-then-is_over-clause-found c =
+pub returns-then-over-clause-found : goal.returns-then-over-clause-found
+returns-then-over-clause-found c =
     let old = c.args.cells.now in
     let mid = c.loop-x.cells in
     let new = c.conclusion.new.cells in
@@ -69,16 +69,16 @@ returns-then-is_over-clause-found c =
     let i = c.loop-x.x-index in
     let more = c.in_ok-more.more.items in
     let vars = length s.values in
-    let items = c.append.new.self.items in
+    let items = c.add.new.found.items in
     let below = item_holds (BindsBelow (length old)) found i x c.loop-x-test.true c.x-item.is c.requires.found in
     hears_over new vars items (through (found_events old found) f)
     (through (found_events old (drop (i + 1) found)) f)
-    (sym (c.is_over.ensures ∙ ap ends_in_fault c.as_slice.ensures.value) ∙ c.if-is_over.true)
+    (sym c.in_ok-over.ensures.over ∙ c.if-over.true)
     (hears_replaced old mid new grown vars f c.loop-x.all.items more items found i x c.loop-x-test.true c.x-item.is
     held.found
     (conclusion_heard old mid new held.grows h q s x more c.requires.goal c.requires.slots below
     c.in_ok-more.ensures.found)
-    c.in_ok-append.ensures.items)
+    c.in_ok-over.ensures.added)
 
 pub returns-clause-found : goal.returns-clause-found
 returns-clause-found c =
@@ -87,3 +87,15 @@ returns-clause-found c =
     let f = concluded (atom_of c.args.head.now) (goal_of old c.args.goal.now) (bindings_of old s) in
     hears_replaced_all old c.loop-x.cells (length s.values) f c.loop-x.all.items c.args.found.now c.loop-x.x-index
     c.loop-x-test.false c.loop-x.invariant.found
+
+pub returns-in_err-more-clause-cells : goal.returns-in_err-more-clause-cells
+returns-in_err-more-clause-cells c =
+    grows_on c.args.cells.now c.loop-x.cells c.conclusion.new.cells c.loop-x.invariant.grows c.conclusion.ensures.cells
+
+pub returns-in_err-over-clause-cells : goal.returns-in_err-over-clause-cells
+returns-in_err-over-clause-cells c =
+    grows_on c.args.cells.now c.loop-x.cells c.conclusion.new.cells c.loop-x.invariant.grows c.conclusion.ensures.cells
+
+pub returns-then-over-clause-cells : goal.returns-then-over-clause-cells
+returns-then-over-clause-cells c =
+    grows_on c.args.cells.now c.loop-x.cells c.conclusion.new.cells c.loop-x.invariant.grows c.conclusion.ensures.cells

@@ -60,3 +60,7 @@ returns-in_err-put_atom-clause-puts c =
     c.loop-atom.changes (of_atom (atom_value (atom_of a) e)) (atoms_going e (drop i atoms))
     (atoms_going e (drop (i + 1) atoms)) halt (atoms_left atoms i e a c.loop-atom-test.true c.atom-item.is)
     c.loop-atom.invariant.along stops)
+
+pub returns-in_err-put_atom-clause-cells : goal.returns-in_err-put_atom-clause-cells
+returns-in_err-put_atom-clause-cells c =
+    grows_on c.args.cells.now c.loop-atom.cells c.put_atom.new.cells c.loop-atom.invariant.grows c.put_atom.ensures.cells

@@ -69,3 +69,7 @@ returns-in_err-put_found-clause-puts c =
     (each_going as' old (drop i found))
     (each_going as' old (drop (i + 1) found)) halt
     (each_left as' old found i x c.loop-x-test.true c.x-item.is) c.loop-x.invariant.along stops)
+
+pub returns-in_err-put_found-clause-cells : goal.returns-in_err-put_found-clause-cells
+returns-in_err-put_found-clause-cells c =
+    grows_on c.args.cells.now c.loop-x.cells c.put_found.new.cells c.loop-x.invariant.grows c.put_found.ensures.cells

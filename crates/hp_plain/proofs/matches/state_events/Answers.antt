@@ -1,4 +1,4 @@
-use Rattle.std.proofs.Common.{◌+◌, length, map, drop, ap, ◌∙◌, subst}
+use Rattle.std.proofs.Common.{◌+◌, length, map, drop, ap, ◌∙◌, subst, sym, ◌≤◌}
 use Rattle.hp_syntax.specs.Events.{state_events}
 use Rattle.hp_eval.specs.GoalViews.{goal_of}
 use Rattle.hp_eval.specs.Slotted.{named, bindings_of}
@@ -7,6 +7,7 @@ use Rattle.hp_plain.specs.Founds.{Finds}
 use Rattle.hp_plain.specs.Places.{place_events}
 use Rattle.hp_plain.proofs.FoundLemmas.{upto_more, upto_same}
 use Rattle.hp_plain.proofs.MatchSteps.{left_at, live_at, places_step}
+use Rattle.std.specs.Prelude.{slice_get}
 use Rattle.hp_plain.proofs.matches.state_events.Goals as goal
 
 pub at_place-requires-clause-atom : goal.at_place-requires-clause-atom
@@ -40,3 +41,11 @@ loop-place-preserved c =
           c.in_ok-more.ensures.found)
           c.in_ok-append.ensures.items;
     }
+
+pub at_place-requires-clause-few : goal.at_place-requires-clause-few
+at_place-requires-clause-few c =
+    subst (λ vs. length vs ≤ 256) (sym c.loop-place.invariant.same) c.requires.few
+
+pub at_place-requires-clause-slots : goal.at_place-requires-clause-slots
+at_place-requires-clause-slots c = λ v cell k.
+    c.requires.slots v cell (ap (λ vs. slice_get vs v) (sym c.loop-place.invariant.same) ∙ k)

@@ -1,6 +1,6 @@
-use Rattle.std.proofs.Common.{◌≡◌, ◌+◌, ◌-◌, ◌*◌, ◌<◌, true, false, List, map, ℕ, Option, None, vec_len, ◌++◌, length, drop, get_or, Result, Ok, ap, ap₂, sym, ◌∙◌, subst, arith}
+use Rattle.std.proofs.Common.{◌≡◌, ◌+◌, ◌-◌, ◌*◌, ◌<◌, true, false, List, map, vec_len, ◌++◌, length, drop, get_or, Result, Ok, ap, ap₂, sym, ◌∙◌, subst, arith}
 use Rattle.std.specs.Prelude.{flat_map}
-use Rattle.std.proofs.lemmas.List.{length-replicate, nil_from_length}
+use Rattle.std.proofs.lemmas.List.{nil_from_length}
 use Rattle.hp_laws.proofs.Listings.{map_has}
 use Rattle.hp_syntax.specs.Syntax.{Expression}
 use Rattle.std.proofs.lemmas.Option.{slice_get-get_or}
@@ -14,18 +14,18 @@ use Rattle.hp_eval.specs.GoalViews.{goal_of}
 use Rattle.hp_eval.specs.Slotted.{bindings_of}
 use Rattle.hp_eval.proofs.GrowthLemmas.{grows_self, grows_on, bindings_stay, below_grows}
 use Rattle.hp_syntax.specs.Preconditions.{heard}
-use Rattle.hp_plain.specs.Founds.{found_events, Fits, AllFit, AreHeardAlike, ends_in_fault}
+use Rattle.hp_plain.specs.Founds.{found_events, Fits, AllFit, AreHeardAlike}
 use Rattle.hp_plain.specs.Rulebooks.{concluding, axiom_at}
+use Rattle.hp_plain.specs.Turns.{MeetsHead}
 use Rattle.hp_plain.specs.Scenes.{rules_in, axioms_in, stage_in, state_in, branches_at, placed_events}
 use Rattle.hp_plain.proofs.FoundLemmas.{finds_none, sat_replaced, fits_grow, goal_below_grows, stage_below_grows, state_stays, goal_stays, item_holds, sat_fits}
 use Rattle.hp_plain.proofs.Sizes.{size, sizes, left_to_do, less_to_do_below, branch_size, size_of-atom, size_of-and, size_of-or, size_of-not, size_of-forall, part_size}
 use Rattle.hp_plain.proofs.SearchSteps.{sat_of-atom, sat_of-and, sat_of-or, sat_of-not, sat_of-forall, sat_of-assign, sat_of-call, forall_sat, all_of, all_begin, all_go_on, all_end, any_of, any_end}
-use Rattle.hp_plain.proofs.AxiomSteps.{goal_begins, axioms_end, placed_axiom, few_at, axiom_among, axiom_unstarted, axiom_started, none_bound, branch_left, first_found, first_passes}
+use Rattle.hp_plain.proofs.AxiomSteps.{goal_begins, axioms_end, placed_axiom, few_at, axiom_among, axiom_unstarted, axiom_started, branch_left, first_found, first_passes}
 use Rattle.hp_plain.proofs.SceneGrowth.{turned_sat, turned_stays, sat_stays, turn_gives, negation_gives, finds_vars}
 use Rattle.hp_plain.proofs.HeardLemmas.{alike_through, hears_found, hears_same, hears_vars, hears_all, hears_over, hears_replaced_all}
 use Rattle.hp_plain.proofs.HeardSteps.{any_next, each_next, goal_next}
 use Rattle.std.proofs.lemmas.Bool.{eqb-true, eqb-false}
-use Rattle.hp_plain.proofs.MatchSteps.{binds_vars, match_failed, match_made}
 use Rattle.hp_plain.proofs.expressions.Scene.+events.Goals as goal
 
 -- ---- an expression by its kind
@@ -287,15 +287,15 @@ any_events-loop-part-preserved t c =
     let held = c.loop-part.invariant in
     let got = c.in_ok-more.ensures in
     let s = c.args.slots.now in
-    let items = c.append.new.self.items in
+    let items = c.add.new.found.items in
     let found =
     any_next old mid new held.grows got.cells (stage_in scene) c.requires.world axioms level c.loop-part.found.items
-    c.in_ok-more.more.items items c.in_ok-append.ensures.items s c.requires.slots c.args.parts.now
+    c.in_ok-more.more.items items c.in_ok-over.ensures.added s c.requires.slots c.args.parts.now
     c.loop-part.part-index c.part-item.result c.loop-part-test.true c.part-item.is held.found got.found got.fit in
     record { grows = grows_on old mid new held.grows got.cells; found = found }
 
-pub any_events-returns-then-is_over-clause-finds : goal.any_events-returns-then-is_over-clause-finds
-any_events-returns-then-is_over-clause-finds t c =
+pub any_events-returns-then-over-clause-finds : goal.any_events-returns-then-over-clause-finds
+any_events-returns-then-over-clause-finds t c =
     let scene = c.args.self.now in
     let axioms = axioms_in scene in
     let level = c.args.level in
@@ -305,13 +305,13 @@ any_events-returns-then-is_over-clause-finds t c =
     let held = c.loop-part.invariant in
     let got = c.in_ok-more.ensures in
     let s = c.args.slots.now in
-    let items = c.append.new.self.items in
+    let items = c.add.new.found.items in
     let found =
     any_next old mid new held.grows got.cells (stage_in scene) c.requires.world axioms level c.loop-part.found.items
-    c.in_ok-more.more.items items c.in_ok-append.ensures.items s c.requires.slots c.args.parts.now
+    c.in_ok-more.more.items items c.in_ok-over.ensures.added s c.requires.slots c.args.parts.now
     c.loop-part.part-index c.part-item.result c.loop-part-test.true c.part-item.is held.found got.found got.fit in
     hears_over new (length s.values) items _ _
-    (sym (c.is_over.ensures ∙ ap ends_in_fault c.as_slice.ensures.value) ∙ c.if-is_over.true) found
+    (sym c.in_ok-over.ensures.over ∙ c.if-over.true) found
 
 pub any_events-returns-clause-finds : goal.any_events-returns-clause-finds
 any_events-returns-clause-finds t c =
@@ -357,16 +357,16 @@ each_events-loop-x-preserved t c =
     let found = c.args.found.now in
     let i = c.loop-x.x-index in
     let vars = c.args.vars in
-    let items = c.append.new.self.items in
+    let items = c.add.new.found.items in
     let fits = item_holds (Fits vars (length old)) found i x c.loop-x-test.true c.x-item.is c.requires.found in
     let next =
     each_next old mid new held.grows got.cells (stage_in scene) c.requires.world axioms level c.loop-x.all.items
-    c.in_ok-more.more.items items c.in_ok-append.ensures.items vars c.args.part.now c.args.negate found i x
+    c.in_ok-more.more.items items c.in_ok-over.ensures.added vars c.args.part.now c.args.negate found i x
     c.loop-x-test.true c.x-item.is fits held.found got.finds in
     record { grows = grows_on old mid new held.grows got.cells; found = next }
 
-pub each_events-returns-then-is_over-clause-finds : goal.each_events-returns-then-is_over-clause-finds
-each_events-returns-then-is_over-clause-finds t c =
+pub each_events-returns-then-over-clause-finds : goal.each_events-returns-then-over-clause-finds
+each_events-returns-then-over-clause-finds t c =
     let scene = c.args.self.now in
     let axioms = axioms_in scene in
     let level = c.args.level in
@@ -379,14 +379,14 @@ each_events-returns-then-is_over-clause-finds t c =
     let found = c.args.found.now in
     let i = c.loop-x.x-index in
     let vars = c.args.vars in
-    let items = c.append.new.self.items in
+    let items = c.add.new.found.items in
     let fits = item_holds (Fits vars (length old)) found i x c.loop-x-test.true c.x-item.is c.requires.found in
     let next =
     each_next old mid new held.grows got.cells (stage_in scene) c.requires.world axioms level c.loop-x.all.items
-    c.in_ok-more.more.items items c.in_ok-append.ensures.items vars c.args.part.now c.args.negate found i x
+    c.in_ok-more.more.items items c.in_ok-over.ensures.added vars c.args.part.now c.args.negate found i x
     c.loop-x-test.true c.x-item.is fits held.found got.finds in
     hears_over new vars items _ _
-    (sym (c.is_over.ensures ∙ ap ends_in_fault c.as_slice.ensures.value) ∙ c.if-is_over.true) next
+    (sym c.in_ok-over.ensures.over ∙ c.if-over.true) next
 
 pub each_events-returns-clause-finds : goal.each_events-returns-clause-finds
 each_events-returns-clause-finds t c =
@@ -488,16 +488,16 @@ goal_events-loop-place-preserved t c =
     let s = c.args.slots.now in
     let places = c.axioms-place-items.result.now in
     let i = c.loop-place.place-index in
-    let items = c.append.new.self.items in
+    let items = c.add.new.found.items in
     let found =
     goal_next old mid new held.grows got.cells (stage_in scene) c.requires.world axioms level c.loop-place.found.items
-    c.in_ok-more.more.items items c.in_ok-append.ensures.items s c.requires.slots (rules_in scene) c.args.goal.now
+    c.in_ok-more.more.items items c.in_ok-over.ensures.added s c.requires.slots (rules_in scene) c.args.goal.now
     c.requires.goal places c.axioms-place-items.ensures i (get_or places i 0)
     (slice_get-get_or places i 0 c.loop-place-test.true) held.found got.finds in
     record { grows = grows_on old mid new held.grows got.cells; found = found }
 
-pub goal_events-returns-then-is_over-clause-finds : goal.goal_events-returns-then-is_over-clause-finds
-goal_events-returns-then-is_over-clause-finds t c =
+pub goal_events-returns-then-over-clause-finds : goal.goal_events-returns-then-over-clause-finds
+goal_events-returns-then-over-clause-finds t c =
     let scene = c.args.self.now in
     let axioms = axioms_in scene in
     let level = c.args.level in
@@ -509,14 +509,14 @@ goal_events-returns-then-is_over-clause-finds t c =
     let s = c.args.slots.now in
     let places = c.axioms-place-items.result.now in
     let i = c.loop-place.place-index in
-    let items = c.append.new.self.items in
+    let items = c.add.new.found.items in
     let found =
     goal_next old mid new held.grows got.cells (stage_in scene) c.requires.world axioms level c.loop-place.found.items
-    c.in_ok-more.more.items items c.in_ok-append.ensures.items s c.requires.slots (rules_in scene) c.args.goal.now
+    c.in_ok-more.more.items items c.in_ok-over.ensures.added s c.requires.slots (rules_in scene) c.args.goal.now
     c.requires.goal places c.axioms-place-items.ensures i (get_or places i 0)
     (slice_get-get_or places i 0 c.loop-place-test.true) held.found got.finds in
     hears_over new (length s.values) items _ _
-    (sym (c.is_over.ensures ∙ ap ends_in_fault c.as_slice.ensures.value) ∙ c.if-is_over.true) found
+    (sym c.in_ok-over.ensures.over ∙ c.if-over.true) found
 
 pub goal_events-returns-clause-finds : goal.goal_events-returns-clause-finds
 goal_events-returns-clause-finds t c =
@@ -532,63 +532,58 @@ goal_events-returns-clause-finds t c =
 
 -- ---- an axiom
 
-pub axiom_events-new-requires-2 : goal.axiom_events-new-requires-2
-axiom_events-new-requires-2 t c =
+pub axiom_events-own_slots-requires : goal.axiom_events-own_slots-requires
+axiom_events-own_slots-requires t c =
     let rules = rules_in c.args.self.now in
-    let x = axiom_of c.in-Some.axiom.now in
     let there =
     placed_axiom (axiom_at rules c.args.place) c.axiom.result c.in-Some.axiom c.axiom.ensures c.in-Some.is in
-    let few = few_at rules c.args.place x c.args.self.now.book.now.few there in
-    record { few = omega (arith, few, c.len.ensures, c.in-Some.axiom.now.vars.ok.0) }
+    record {
+      few = few_at rules c.args.place (axiom_of c.in-Some.axiom.now) c.args.self.now.book.now.few there;
+      goal = c.requires.goal;
+    }
 
-pub axiom_events-returns-then-not-branch-clause-finds : goal.axiom_events-returns-then-not-branch-clause-finds
-axiom_events-returns-then-not-branch-clause-finds t c =
+pub axiom_events-returns-in-None-clause-finds : goal.axiom_events-returns-in-None-clause-finds
+axiom_events-returns-in-None-clause-finds t c =
     let scene = c.args.self.now in
     let old = c.args.cells.now in
-    let new = c.start_goal.new.cells in
-    let a = c.in-Some.axiom.now in
-    let x = axiom_of a in
+    let new = c.own_slots.new.cells in
+    let x = axiom_of c.in-Some.axiom.now in
     let q = goal_of old c.args.goal.now in
     let e = bindings_of old c.args.slots.now in
-    let own = c.in_ok-own.own in
+    let vars = length c.args.slots.now.values in
+    let items = c.new-in-None.result.items in
     let branches = branches_at (axioms_in scene) (state_in old scene) c.args.level in
     let there =
     placed_axiom (axiom_at (rules_in scene) c.args.place) c.axiom.result c.in-Some.axiom c.axiom.ensures c.in-Some.is in
-    let long : c.len.result ≡ length x.vars = omega (arith, c.len.ensures, a.vars.ok.0) in
-    let begin : bindings_of old own ≡ unbound (length x.vars)
-    = ap (bindings_of old) c.in_ok-own.ensures ∙ (none_bound old c.len.result ∙ ap unbound long) in
-    let m =
-    match_failed c.in_ok-start_goal.field-0 _ new own c.start_goal.new.slots c.if-not-branch.true
-    c.in_ok-start_goal.ensures.started in
-    hears_found new (length c.args.slots.now.values) c.new-then-not-branch.result.items _
-    (finds_none new (length c.args.slots.now.values) c.new-then-not-branch.result.items _
-    c.new-then-not-branch.ensures.items
-    (ap (placed_events branches q e) there
-    ∙ axiom_unstarted branches q e x (ap (start_goal x.head q) (sym begin) ∙ m.0)))
+    let none =
+    subst (λ o. MeetsHead new (length x.vars) o (start_goal x.head q (unbound (length x.vars)))) c.in-None.is
+    c.in_ok-started.ensures.starts in
+    hears_found new vars items _
+    (finds_none new vars items _ c.new-in-None.ensures.items
+    (ap (placed_events branches q e) there ∙ axiom_unstarted branches q e x none))
 
 pub axiom_events-branch_events-requires : goal.axiom_events-branch_events-requires
 axiom_events-branch_events-requires t c =
     let old = c.args.cells.now in
-    let new = c.start_goal.new.cells in
+    let new = c.own_slots.new.cells in
     let rules = rules_in c.args.self.now in
     let x = axiom_of c.in-Some.axiom.now in
+    let q = goal_of old c.args.goal.now in
     let there =
     placed_axiom (axiom_at rules c.args.place) c.axiom.result c.in-Some.axiom c.axiom.ensures c.in-Some.is in
     let m =
-    match_made c.in_ok-start_goal.field-0 _ new c.in_ok-own.own c.start_goal.new.slots c.if-not-branch.false
-    c.in_ok-start_goal.ensures.started in
-    let vars = binds_vars c.in_ok-own.own c.start_goal.new.slots m.1 in
-    let own = ap (λ s. length s.values) c.in_ok-own.ensures in
-    let long = length-replicate {A = Option ℕ} c.len.result None in
+    subst (λ o. MeetsHead new (length x.vars) o (start_goal x.head q (unbound (length x.vars)))) c.in-Some-started.is
+    c.in_ok-started.ensures.starts in
+    let vars = m.1 in
     let few = few_at rules c.args.place x c.args.self.now.book.now.few there in (
       omega (arith, c.decreases),
       (
         axiom_among rules c.args.place x there,
         (
-          omega (arith, vars, own, long, few, c.len.ensures, c.in-Some.axiom.now.vars.ok.0),
+          omega (arith, vars, few),
           (
-            c.start_goal.ensures.below,
-            stage_below_grows old new c.start_goal.ensures.cells (stage_in c.args.self.now) c.requires.world,
+            m.2,
+            stage_below_grows old new c.in_ok-started.ensures.cells (stage_in c.args.self.now) c.requires.world,
           ),
         ),
       ),
@@ -597,59 +592,55 @@ axiom_events-branch_events-requires t c =
 pub axiom_events-conclusions-requires-clause-slots : goal.axiom_events-conclusions-requires-clause-slots
 axiom_events-conclusions-requires-clause-slots t c =
     let old = c.args.cells.now in
-    let mid = c.start_goal.new.cells in
+    let mid = c.own_slots.new.cells in
     let new = c.branch_events.new.cells in
-    below_grows old new (grows_on old mid new c.start_goal.ensures.cells c.branch_events.ensures.cells)
+    below_grows old new (grows_on old mid new c.in_ok-started.ensures.cells c.branch_events.ensures.cells)
     c.args.slots.now c.requires.slots
 
 pub axiom_events-conclusions-requires-clause-goal : goal.axiom_events-conclusions-requires-clause-goal
 axiom_events-conclusions-requires-clause-goal t c =
     let old = c.args.cells.now in
-    let mid = c.start_goal.new.cells in
+    let mid = c.own_slots.new.cells in
     let new = c.branch_events.new.cells in
-    goal_below_grows old new (grows_on old mid new c.start_goal.ensures.cells c.branch_events.ensures.cells)
+    goal_below_grows old new (grows_on old mid new c.in_ok-started.ensures.cells c.branch_events.ensures.cells)
     c.args.goal.now c.requires.goal
 
-pub axiom_events-returns-clause-finds : goal.axiom_events-returns-clause-finds
-axiom_events-returns-clause-finds t c =
+pub axiom_events-returns-in_ok-found-in-Some-started-clause-finds : goal.axiom_events-returns-in_ok-found-in-Some-started-clause-finds
+axiom_events-returns-in_ok-found-in-Some-started-clause-finds t c =
     let scene = c.args.self.now in
     let axioms = axioms_in scene in
     let level = c.args.level in
     let old = c.args.cells.now in
-    let mid = c.start_goal.new.cells in
+    let mid = c.own_slots.new.cells in
     let new = c.branch_events.new.cells in
-    let grown = grows_on old mid new c.start_goal.ensures.cells c.branch_events.ensures.cells in
-    let a = c.in-Some.axiom.now in
-    let x = axiom_of a in
+    let grown = grows_on old mid new c.in_ok-started.ensures.cells c.branch_events.ensures.cells in
+    let x = axiom_of c.in-Some.axiom.now in
     let goal' = c.args.goal.now in
     let q = goal_of old goal' in
     let s = c.args.slots.now in
     let e = bindings_of old s in
-    let own = c.in_ok-own.own in
-    let made = c.start_goal.new.slots in
+    let own = c.in-Some-started.own in
     let state = state_in old scene in
     let branches = branches_at axioms state level in
     let there =
     placed_axiom (axiom_at (rules_in scene) c.args.place) c.axiom.result c.in-Some.axiom c.axiom.ensures c.in-Some.is in
-    let long : c.len.result ≡ length x.vars = omega (arith, c.len.ensures, a.vars.ok.0) in
-    let begin : bindings_of old own ≡ unbound (length x.vars)
-    = ap (bindings_of old) c.in_ok-own.ensures ∙ (none_bound old c.len.result ∙ ap unbound long) in
     let m =
-    match_made c.in_ok-start_goal.field-0 _ mid own made c.if-not-branch.false c.in_ok-start_goal.ensures.started in
+    subst (λ o. MeetsHead mid (length x.vars) o (start_goal x.head q (unbound (length x.vars)))) c.in-Some-started.is
+    c.in_ok-started.ensures.starts in
     let met =
     ap (λ xs. heard (found_events new xs)) c.as_slice.ensures.value
-    ∙ (c.in_ok-found.ensures.finds.stand
-    ∙ ap (λ st. heard (branches_at axioms st level x (bindings_of mid made)))
-    (state_stays old mid c.start_goal.ensures.cells (stage_in scene) c.requires.world)) in
+    ∙ (c.in_ok-found-in-Some-started.ensures.finds.stand
+    ∙ ap (λ st. heard (branches_at axioms st level x (bindings_of mid own)))
+    (state_stays old mid c.in_ok-started.ensures.cells (stage_in scene) c.requires.world)) in
     let same =
     ap₂ (concluded x.head) (goal_stays old new grown goal' c.requires.goal)
     (bindings_stay old new grown s c.requires.slots) in
     IfOk-weaker c.conclusions.result _ _
     (λ v h. hears_same c.conclusions.new.cells (length s.values) v.items _ _
-    (alike_through (found_events new c.as_slice.result.now) (branches x (bindings_of mid made))
+    (alike_through (found_events new c.as_slice.result.now) (branches x (bindings_of mid own))
     (concluded x.head (goal_of new goal') (bindings_of new s)) met
-    ∙ ap heard (ap (through (branches x (bindings_of mid made))) same
-    ∙ (axiom_started branches q e x (bindings_of mid made) (ap (start_goal x.head q) (sym begin) ∙ m.0)
+    ∙ ap heard (ap (through (branches x (bindings_of mid own))) same
+    ∙ (axiom_started branches q e x (bindings_of mid own) m.0
     ∙ sym (ap (placed_events branches q e) there))))
     h)
     c.conclusions.ensures.found
@@ -759,3 +750,81 @@ branch_events-loop-clause-preserved t c =
           ∙ first_passes new found (f (expression_of clause.body)) (first_list f (map clause_of (drop (i + 1) clauses)))
           met (nil_from_length found none));
     }
+
+-- ---- cells that are added
+
+pub all_events-returns-in_err-found-2-clause-cells : goal.all_events-returns-in_err-found-2-clause-cells
+all_events-returns-in_err-found-2-clause-cells t c =
+    grows_on c.args.cells.now c.loop-part.cells c.each_events.new.cells c.loop-part.invariant.grows c.each_events.ensures.cells
+
+pub any_events-returns-in_err-more-clause-cells : goal.any_events-returns-in_err-more-clause-cells
+any_events-returns-in_err-more-clause-cells t c =
+    grows_on c.args.cells.now c.loop-part.cells c.events.new.cells c.loop-part.invariant.grows c.events.ensures.cells
+
+pub any_events-returns-in_err-over-clause-cells : goal.any_events-returns-in_err-over-clause-cells
+any_events-returns-in_err-over-clause-cells t c =
+    grows_on c.args.cells.now c.loop-part.cells c.events.new.cells c.loop-part.invariant.grows c.events.ensures.cells
+
+pub any_events-returns-then-over-clause-cells : goal.any_events-returns-then-over-clause-cells
+any_events-returns-then-over-clause-cells t c =
+    grows_on c.args.cells.now c.loop-part.cells c.events.new.cells c.loop-part.invariant.grows c.events.ensures.cells
+
+pub each_events-returns-in_err-more-clause-cells : goal.each_events-returns-in_err-more-clause-cells
+each_events-returns-in_err-more-clause-cells t c =
+    grows_on c.args.cells.now c.loop-x.cells c.one_events.new.cells c.loop-x.invariant.grows c.one_events.ensures.cells
+
+pub each_events-returns-in_err-over-clause-cells : goal.each_events-returns-in_err-over-clause-cells
+each_events-returns-in_err-over-clause-cells t c =
+    grows_on c.args.cells.now c.loop-x.cells c.one_events.new.cells c.loop-x.invariant.grows c.one_events.ensures.cells
+
+pub each_events-returns-then-over-clause-cells : goal.each_events-returns-then-over-clause-cells
+each_events-returns-then-over-clause-cells t c =
+    grows_on c.args.cells.now c.loop-x.cells c.one_events.new.cells c.loop-x.invariant.grows c.one_events.ensures.cells
+
+pub goal_events-returns-in_err-more-clause-cells : goal.goal_events-returns-in_err-more-clause-cells
+goal_events-returns-in_err-more-clause-cells t c =
+    grows_on c.args.cells.now c.loop-place.cells c.axiom_events.new.cells c.loop-place.invariant.grows c.axiom_events.ensures.cells
+
+pub goal_events-returns-in_err-over-clause-cells : goal.goal_events-returns-in_err-over-clause-cells
+goal_events-returns-in_err-over-clause-cells t c =
+    grows_on c.args.cells.now c.loop-place.cells c.axiom_events.new.cells c.loop-place.invariant.grows c.axiom_events.ensures.cells
+
+pub goal_events-returns-then-over-clause-cells : goal.goal_events-returns-then-over-clause-cells
+goal_events-returns-then-over-clause-cells t c =
+    grows_on c.args.cells.now c.loop-place.cells c.axiom_events.new.cells c.loop-place.invariant.grows c.axiom_events.ensures.cells
+
+pub branch_events-returns-in_err-found-clause-cells : goal.branch_events-returns-in_err-found-clause-cells
+branch_events-returns-in_err-found-clause-cells t c =
+    grows_on c.args.cells.now c.loop-clause.cells c.events.new.cells c.loop-clause.invariant.grows c.events.ensures.cells
+
+pub branch_events-returns-then-not-is_empty-clause-cells : goal.branch_events-returns-then-not-is_empty-clause-cells
+branch_events-returns-then-not-is_empty-clause-cells t c =
+    grows_on c.args.cells.now c.loop-clause.cells c.events.new.cells c.loop-clause.invariant.grows c.events.ensures.cells
+
+pub forall_events-returns-in_err-refuted-clause-cells : goal.forall_events-returns-in_err-refuted-clause-cells
+forall_events-returns-in_err-refuted-clause-cells t c =
+    grows_on c.args.cells.now c.events.new.cells c.each_events.new.cells c.events.ensures.cells
+    c.each_events.ensures.cells
+
+pub forall_events-returns-clause-cells : goal.forall_events-returns-clause-cells
+forall_events-returns-clause-cells t c =
+    grows_on c.args.cells.now c.events.new.cells c.each_events.new.cells c.events.ensures.cells
+    c.each_events.ensures.cells
+
+pub atom_events-returns-in-Ok-clause-cells : goal.atom_events-returns-in-Ok-clause-cells
+atom_events-returns-in-Ok-clause-cells t c =
+    grows_on c.args.cells.now c.fill_goal.new.cells c.goal_events.new.cells c.fill_goal.ensures.cells
+    c.goal_events.ensures.cells
+
+pub axiom_events-returns-in_err-found-in-Some-started-clause-cells : goal.axiom_events-returns-in_err-found-in-Some-started-clause-cells
+axiom_events-returns-in_err-found-in-Some-started-clause-cells t c =
+    grows_on c.args.cells.now c.own_slots.new.cells c.branch_events.new.cells c.own_slots.ensures.cells
+    c.branch_events.ensures.cells
+
+pub axiom_events-returns-in_ok-found-in-Some-started-clause-cells : goal.axiom_events-returns-in_ok-found-in-Some-started-clause-cells
+axiom_events-returns-in_ok-found-in-Some-started-clause-cells t c =
+    let old = c.args.cells.now in
+    let mid = c.own_slots.new.cells in
+    let new = c.branch_events.new.cells in
+    grows_on old new c.conclusions.new.cells
+    (grows_on old mid new c.own_slots.ensures.cells c.branch_events.ensures.cells) c.conclusions.ensures.cells

@@ -8,6 +8,7 @@ use Rattle.hp_plain.specs.Founds.{Hears}
 use Rattle.hp_plain.specs.Scenes.{axioms_in, state_in}
 use Rattle.hp_plain.proofs.FoundLemmas.{finds_same}
 use Rattle.hp_plain.proofs.PreconditionLemmas.{plain_events, first_events, ordered_events, finds_vars}
+use Rattle.hp_eval.proofs.GrowthLemmas.{grows_on}
 use Rattle.hp_plain.proofs.expressions.Scene.precondition.Goals as goal
 
 pub returns-in_ok-events-in-Plain-clause-finds : goal.returns-in_ok-events-in-Plain-clause-finds
@@ -56,3 +57,13 @@ returns-in_ok-found-in-Sorted-clause-finds c =
     finds_same new vars v.items _ _ same
     (finds_vars new c.vars-in-Sorted.result vars v.items _ c.vars-in-Sorted.ensures h))
     c.sorted.ensures.finds
+
+pub returns-in_ok-found-in-First-clause-cells : goal.returns-in_ok-found-in-First-clause-cells
+returns-in_ok-found-in-First-clause-cells c =
+    let mid = c.in_ok-found-in-First.ensures.cells in
+    grows_on c.args.cells.now _ c.first.new.cells mid c.first.ensures.cells
+
+pub returns-in_ok-found-in-Sorted-clause-cells : goal.returns-in_ok-found-in-Sorted-clause-cells
+returns-in_ok-found-in-Sorted-clause-cells c =
+    let mid = c.in_ok-found-in-Sorted.ensures.cells in
+    grows_on c.args.cells.now _ c.sorted.new.cells mid c.sorted.ensures.cells

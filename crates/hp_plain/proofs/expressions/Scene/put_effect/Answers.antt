@@ -11,6 +11,7 @@ use Rattle.hp_plain.specs.Scenes.{axioms_in, state_in}
 use Rattle.hp_plain.specs.Effected.{only_atoms, PutsAll}
 use Rattle.hp_plain.proofs.FoundLemmas.{fits_below}
 use Rattle.hp_plain.proofs.EffectLemmas.{changes_stay, each_going, each_effect}
+use Rattle.hp_eval.proofs.GrowthLemmas.{grows_on}
 use Rattle.hp_plain.proofs.expressions.Scene.put_effect.Goals as goal
 
 pub put_each-requires-clause-found : goal.put_each-requires-clause-found
@@ -54,3 +55,7 @@ returns-in_ok-events-in-Forall-clause-puts c =
     subst (λ g. PutsAll {A = Unit {0}} side c.put_each.result g new (changes_of old c.args.changes.now) after) same
     (subst (λ x. PutsAll {A = Unit {0}} side c.put_each.result (each_going (atoms_of atoms) met_in heard) new x after)
     stay c.put_each.ensures.puts)
+
+pub returns-in_ok-events-in-Forall-clause-cells : goal.returns-in_ok-events-in-Forall-clause-cells
+returns-in_ok-events-in-Forall-clause-cells c =
+    grows_on c.args.cells.now c.events.new.cells c.put_each.new.cells c.events.ensures.cells c.put_each.ensures.cells

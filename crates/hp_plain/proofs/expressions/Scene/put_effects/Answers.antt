@@ -3,11 +3,12 @@ use Rattle.std.proofs.lemmas.Result.{err_from_is_err_and}
 use Rattle.hp_syntax.specs.Changes.{effect_values}
 use Rattle.hp_syntax.specs.Views.{effect_of}
 use Rattle.hp_eval.specs.Slotted.{bindings_of}
-use Rattle.hp_eval.proofs.GrowthLemmas.{grows_self, grows_on}
+use Rattle.hp_eval.proofs.GrowthLemmas.{grows_self, grows_on, below_grows}
 use Rattle.hp_world.specs.Stages.{changes_of}
 use Rattle.hp_plain.specs.Scenes.{axioms_in, stage_in, state_in}
 use Rattle.hp_plain.specs.Effected.{HasPut, StopsHere}
 use Rattle.hp_plain.proofs.EffectLemmas.{list_going, along_none, along_more, along_stops, effects_left, seen_stays}
+use Rattle.hp_plain.proofs.FoundLemmas.{stage_below_grows}
 use Rattle.hp_plain.proofs.expressions.Scene.put_effects.Goals as goal
 
 pub loop-effect-init : goal.loop-effect-init
@@ -78,3 +79,19 @@ returns-in_err-put_effect-clause-puts c =
     (list_going axioms nest s e (drop (i + 1) effects)) halt
     (effects_left axioms nest s e effects i x c.loop-effect-test.true c.effect-item.is)
     c.loop-effect.invariant.along stops)
+
+pub returns-in_err-put_effect-clause-cells : goal.returns-in_err-put_effect-clause-cells
+returns-in_err-put_effect-clause-cells c =
+    grows_on c.args.cells.now c.loop-effect.cells c.put_effect.new.cells c.loop-effect.invariant.grows c.put_effect.ensures.cells
+
+pub put_effect-requires : goal.put_effect-requires
+put_effect-requires c =
+    let old = c.args.cells.now in
+    let now = c.loop-effect.cells in
+    let grows = c.loop-effect.invariant.grows in
+    record {
+      few = c.requires.few;
+      slots = below_grows old now grows c.args.slots.now c.requires.slots;
+      world = stage_below_grows old now grows (stage_in c.args.self.now) c.requires.world;
+      below = c.loop-effect.invariant.along.below;
+    }

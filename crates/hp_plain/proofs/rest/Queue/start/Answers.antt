@@ -62,3 +62,11 @@ returns-in_ok-run-in-Some-clause-queue c =
       tried = omega (arith, slice_get_within own q.tried r e, relevant_few part rules);
       deep = c.requires.queue.deep;
     }
+
+pub relevant_rule-requires-clause-candidate : goal.relevant_rule-requires-clause-candidate
+relevant_rule-requires-clause-candidate c =
+    let q = c.args.self.now in
+    let net = c.args.spot.now.net in
+    subst (IsCandidate net) (sym c.index-id.ensures)
+    (All-get_or (IsCandidate net) q.candidates.items q.at c.index-id.result.now c.requires.some
+    c.requires.queue.candidates)

@@ -1,4 +1,4 @@
-use Rattle.std.proofs.Common.{◌≡◌, ◌+◌, true, false, length, arith, rules}
+use Rattle.std.proofs.Common.{◌≡◌, ◌+◌, true, false, length, arith, sym, ◌∙◌}
 use Rattle.hp_eval.proofs.GrowthLemmas.{grows_on}
 use Rattle.hp_plain.specs.Rests.{rules_of, is_none}
 use Rattle.hp_plain.proofs.NodeLemmas.{spot_grows}
@@ -12,7 +12,7 @@ returns-then-not-is_none-clause-takes c =
     let new = c.met.new.cells in
     let base = c.args.base.now in
     let held = c.loop-self.invariant in
-    let some : is_none c.in_ok-turn.turn ≡ false = search rules in
+    let some : is_none c.in_ok-turn.turn ≡ false = sym c.is_none.ensures ∙ c.if-not-is_none.true in
     run_takes mid new c.in_ok-turn.ensures.cells (rules_of base) base.nest c.args.spot.now
     (spot_grows old mid held.grows c.args.spot.now c.requires.spot) c.loop-self.self held.run (omega arith)
     c.in_ok-turn.turn _ held.left c.in_ok-turn.ensures.turns some
@@ -31,7 +31,7 @@ loop-self-preserved c =
     let base = c.args.base.now in
     let r = c.loop-self.self in
     let held = c.loop-self.invariant in
-    let none : is_none c.in_ok-turn.turn ≡ true = search rules in
+    let none : is_none c.in_ok-turn.turn ≡ true = sym c.is_none.ensures ∙ c.if-not-is_none.false in
     record {
       grows = grows_on old mid new held.grows c.in_ok-turn.ensures.cells;
       run =
@@ -42,3 +42,11 @@ loop-self-preserved c =
           (spot_grows old mid held.grows c.args.spot.now c.requires.spot) r held.run (omega arith)
           c.in_ok-turn.turn _ held.left c.in_ok-turn.ensures.turns none;
     }
+
+pub returns-in_err-turn-clause-cells : goal.returns-in_err-turn-clause-cells
+returns-in_err-turn-clause-cells c =
+    grows_on c.args.cells.now c.loop-self.cells c.met.new.cells c.loop-self.invariant.grows c.met.ensures.cells
+
+pub returns-then-not-is_none-clause-cells : goal.returns-then-not-is_none-clause-cells
+returns-then-not-is_none-clause-cells c =
+    grows_on c.args.cells.now c.loop-self.cells c.met.new.cells c.loop-self.invariant.grows c.met.ensures.cells

@@ -64,3 +64,13 @@ loop-i-preserved c =
           branch_passed _ _ _ _ (sym lengths ∙ (empty ∙ none))
           (held.left ∙ branch_next (rules_at s) s.nest n.state e branches i b c.loop-i-test.true c.index-branches-i.is);
     }
+
+pub returns-in_err-found-clause-cells : goal.returns-in_err-found-clause-cells
+returns-in_err-found-clause-cells c =
+    grows_on c.args.cells.now c.loop-i.cells c.precondition.new.cells c.loop-i.invariant.grows
+    c.precondition.ensures.cells
+
+pub returns-then-not-is_empty-clause-cells : goal.returns-then-not-is_empty-clause-cells
+returns-then-not-is_empty-clause-cells c =
+    grows_on c.args.cells.now c.loop-i.cells c.precondition.new.cells c.loop-i.invariant.grows
+    c.precondition.ensures.cells

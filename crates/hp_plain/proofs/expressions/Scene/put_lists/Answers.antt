@@ -9,7 +9,8 @@ use Rattle.hp_world.specs.Stages.{changes_of}
 use Rattle.hp_plain.specs.Scenes.{axioms_in, stage_in, state_in}
 use Rattle.hp_plain.specs.Effected.{halt_of, StopsHere}
 use Rattle.hp_plain.proofs.EffectLemmas.{changes_stay, changes_grow, list_stays, list_going, dels_stop, adds_stop, cost_stop, cost_stops, all_go, gathered_both}
-use Rattle.hp_plain.proofs.expressions.Scene.changes_and_cost.Goals as goal
+use Rattle.hp_plain.proofs.FoundLemmas.{stage_below_grows}
+use Rattle.hp_plain.proofs.expressions.Scene.put_lists.Goals as goal
 
 pub returns-in_err-put_effects-clause-goes : goal.returns-in_err-put_effects-clause-goes
 returns-in_err-put_effects-clause-goes c =
@@ -103,8 +104,8 @@ returns-clause-goes c =
     ap (cost_value (pattern_of o.cost)) (sym (bindings_stay old later grows c.args.slots.now c.requires.slots))
     ∙ c.in_ok-cost.ensures.costs in
     let both =
-    gathered_both (changes_of old c.new-changes.result) (changes_of now c.put_effects.new.changes)
-    (changes_of later changes) put.values put2.values (ap (changes_of old) c.new-changes.ensures) put.puts put2.puts in
+    gathered_both (changes_of old c.args.changes.now) (changes_of now c.put_effects.new.changes)
+    (changes_of later changes) put.values put2.values (ap (changes_of old) c.requires.blank) put.puts put2.puts in
     let fits : FitsSigned w64 c.in_ok-cost.cost = search rules in
     let stay = changes_stay later new c.cost.ensures.cells changes put2.below in
     record {
@@ -113,3 +114,36 @@ returns-clause-goes c =
           ∙ ap₂ (λ x n. Went (x, n)) (sym (stay ∙ both)) (sym (to_z-of_z w64 c.in_ok-cost.cost fits));
       below = changes_grow later new c.cost.ensures.cells changes put2.below;
     }
+
+pub put_effects-requires-2 : goal.put_effects-requires-2
+put_effects-requires-2 c =
+    let old = c.args.cells.now in
+    let now = c.put_effects.new.cells in
+    let grows = c.put_effects.ensures.cells in
+    record {
+      few = c.requires.few;
+      slots = below_grows old now grows c.args.slots.now c.requires.slots;
+      world = stage_below_grows old now grows (stage_in c.args.self.now) c.requires.world;
+      below = c.in_ok-put_effects.ensures.puts.below;
+    }
+
+pub returns-in_err-put_effects-2-clause-cells : goal.returns-in_err-put_effects-2-clause-cells
+returns-in_err-put_effects-2-clause-cells c =
+    grows_on c.args.cells.now c.put_effects.new.cells c.put_effects-2.new.cells c.put_effects.ensures.cells
+    c.put_effects-2.ensures.cells
+
+pub returns-in_err-cost-clause-cells : goal.returns-in_err-cost-clause-cells
+returns-in_err-cost-clause-cells c =
+    let old = c.args.cells.now in
+    let later = c.put_effects-2.new.cells in
+    grows_on old later c.cost.new.cells
+    (grows_on old c.put_effects.new.cells later c.put_effects.ensures.cells c.put_effects-2.ensures.cells)
+    c.cost.ensures.cells
+
+pub returns-clause-cells : goal.returns-clause-cells
+returns-clause-cells c =
+    let old = c.args.cells.now in
+    let later = c.put_effects-2.new.cells in
+    grows_on old later c.cost.new.cells
+    (grows_on old c.put_effects.new.cells later c.put_effects.ensures.cells c.put_effects-2.ensures.cells)
+    c.cost.ensures.cells

@@ -1,0 +1,22 @@
+use Rattle.std.proofs.Common.{◌∙◌, ap, sym, map}
+use Rattle.std.specs.Prelude.{slice_get}
+use Rattle.std.proofs.lemmas.Result.{IfOk-weaker}
+use Rattle.hp_eval.specs.Slotted.{bindings_of}
+use Rattle.hp_syntax.specs.Views.{branch_of}
+use Rattle.hp_plain.specs.Sites.{branch_done, node_at_site, place_at}
+use Rattle.hp_plain.proofs.SiteSteps.{branch_there, turns_same}
+use Rattle.hp_plain.proofs.site.Site.by_branch.Goals as goal
+
+pub returns-in-Some-clause-turns : goal.returns-in-Some-clause-turns
+returns-in-Some-clause-turns c =
+    let s = c.args.self.now in
+    let old = c.args.cells.now in
+    let k = c.args.branch in
+    let at = c.in-Some.ensures.lookup in
+    let there =
+    ap (λ bs. slice_get (map branch_of bs) k) (sym c.deref.ensures.value)
+    ∙ branch_there c.deref.result.now k c.in-Some.branch.now at.3.0 at.1 in
+    IfOk-weaker c.refined.result _ _
+    (λ turn h. turns_same c.refined.new.cells turn _ _
+    (ap (λ o. branch_done (node_at_site old s) (place_at s) o (bindings_of old c.args.slots.now)) (sym there)) h)
+    c.refined.ensures.turns
