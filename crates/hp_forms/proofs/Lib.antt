@@ -6,4 +6,3 @@ pub mod PartLemmas
 pub mod RuleLemmas
 pub mod FileLemmas
 pub mod NumberedForms
-pub mod ListingLemmas

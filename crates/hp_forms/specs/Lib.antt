@@ -2,4 +2,3 @@ pub mod FormReads
 pub mod Heads
 pub mod Branches
 pub mod Operators
-pub mod Listings

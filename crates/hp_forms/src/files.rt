@@ -1,27 +1,28 @@
-//! A file's only node.
+//! A file's only node. The forest is needed no more: the nodes of a rule or an atom are let go once it is formed, so
+//! that a large forest and what is formed of it are never there whole at once.
 
-ghost use Rattle.std.specs.Prelude.{◌≡◌, codes};
+ghost use Rattle.std.specs.Prelude.{◌≡◌, ◌∷◌, [], codes, map, IfOk};
 ghost use Rattle.hp_syntax.specs.declared.form.What.TheVariants as wants;
 ghost use Rattle.hp_syntax.specs.Steps as steps;
 ghost use Rattle.hp_syntax.specs.Steps.{Names};
 ghost use Rattle.hp_syntax.specs.Grammar as grammar;
-ghost use Rattle.hp_syntax.specs.Views.{domain_of, pair_of, problem_of};
+ghost use Rattle.hp_syntax.specs.Views.{atom_of, domain_of, pair_of, problem_of, rule_of};
 ghost use Rattle.hp_text.specs.Nodes.{node_of, nodes_of, forest_of};
 ghost use Rattle.hp_forms.specs.FormReads.{Reads, Gives};
 
 use crate::names::is;
-use crate::nodes::{closing, ended, expected, list, name, next};
+use crate::nodes::{closing, ended, expected, is_word, name};
 use crate::refusal::FormRefusal;
-use crate::rules::rules;
+use crate::rules::rule;
 use crate::scope::Scope;
 use crate::tasks::tasks;
-use crate::terms::{Setting, atoms, begun};
-use hp_syntax::{Domain, Pair, Problem, Span, What};
-use hp_text::{Forest, Node};
-use std::alloc::Global;
+use crate::terms::{Setting, atom};
+use hp_syntax::{AtomPat, Domain, Name, Pair, Problem, Rule, Span, What};
+use hp_text::{Forest, Node, NodeKind};
+use std::alloc::{AllocError, Global};
 
 /// The empty span at the end of a file.
-pub fn end_of(forest: &Forest) -> Span
+fn end_of(forest: &Forest) -> Span
     ensures { result ≡ grammar.end_of_file forest.now.len }
 {
     Span {
@@ -30,21 +31,98 @@ pub fn end_of(forest: &Forest) -> Span
     }
 }
 
+/// The next item, taken from those that are left; where the list ends, this is wanted there.
+fn take_next(what: What, end: Span, nodes: &mut Vec<Node>) -> Result<Node, FormRefusal>
+    ensures { (names : Names) → Reads (λ first. (node_of first, nodes_of nodes.new.items)) result
+        (steps.next what end (nodes_of nodes.old.items)) names names }
+{
+    if nodes.is_empty() {
+        return expected(what, end);
+    }
+    Ok(nodes.remove(0))
+}
+
+/// The items of a list, taken out of it; `nil` has none.
+#[tactic(auto, unfolding(hp_syntax::specs::Grammar::list))]
+fn into_list(alloc: Global, what: What, node: Node) -> Result<Vec<Node>, FormRefusal>
+    ensures { (names : Names) → Reads (λ nodes. nodes_of nodes.items) result (grammar.list what (node_of node))
+        names names }
+{
+    match node.kind {
+        NodeKind::List(nodes) => Ok(nodes),
+        NodeKind::Name(name) if is(&name, b"nil") => Ok(Vec::new(alloc)),
+        _ => expected(what, node.span),
+    }
+}
+
+/// The domain of this name and these rules.
+fn named_domain(alloc: Global, name: &Name, rules: Vec<Rule>) -> Result<Domain, AllocError>
+    ensures { IfOk result (λ d. domain_of d ≡ record { name = name.now; rules = map rule_of rules.items }) }
+{
+    Ok(Domain {
+        name: name.copy(alloc)?,
+        rules,
+    })
+}
+
+/// The rules that nodes are.
+fn rules(alloc: Global, nodes: Vec<Node>) -> Result<Vec<Rule>, FormRefusal>
+    ensures { (names : Names) → Reads (λ v. map rule_of v.items) result
+        (steps.each grammar.rule (nodes_of nodes.items)) names names }
+{
+    let mut rules = Vec::with_capacity(alloc, nodes.len())?;
+    let mut scope = Scope::new(alloc);
+    for node in nodes {
+        rules.push(rule(&mut scope, &node)?)?;
+    }
+    Ok(rules)
+}
+
 /// `(defdomain NAME (rule ..))`, by what follows the word.
 #[tactic(auto, unfolding(hp_syntax::specs::Grammar::domain_list))]
-fn domain_list(alloc: Global, span: Span, rest: &[Node]) -> Result<Domain, FormRefusal>
-    ensures { (names : Names) → Reads domain_of result (grammar.domain_list span (nodes_of rest.now)) names names }
+fn domain_list(alloc: Global, span: Span, mut rest: Vec<Node>) -> Result<Domain, FormRefusal>
+    ensures { (names : Names) → Reads domain_of result (grammar.domain_list span (nodes_of rest.items)) names names }
 {
-    let (first, rest) = next(What::Name, closing(span), rest)?;
-    let name = name(first)?.copy(alloc)?;
-    let (second, rest) = next(What::Rules, closing(span), rest)?;
-    let rules = rules(alloc, list(What::Rules, second)?)?;
-    ended(rest)?;
-    Ok(Domain { name, rules })
+    let first = take_next(What::Name, closing(span), &mut rest)?;
+    let name = name(&first)?;
+    let second = take_next(What::Rules, closing(span), &mut rest)?;
+    let rules = rules(alloc, into_list(alloc, What::Rules, second)?)?;
+    ended(rest.as_slice())?;
+    Ok(named_domain(alloc, name, rules)?)
+}
+
+/// The domain that a node is.
+#[tactic(auto, unfolding(hp_syntax::specs::Grammar::file_list))]
+fn domain_of_node(alloc: Global, node: Node) -> Result<Domain, FormRefusal>
+    ensures { (names : Names) → Reads domain_of result
+        (grammar.file_list wants.Domain (codes "defdomain") grammar.domain_list (node_of node)) names names }
+{
+    let Node { span, kind } = node;
+    let NodeKind::List(mut parts) = kind else {
+        return expected(What::Domain, span);
+    };
+    let first = take_next(What::Domain, span, &mut parts)?;
+    if !is_word(&first, b"defdomain") {
+        return expected(What::Domain, span);
+    }
+    domain_list(alloc, span, parts)
+}
+
+/// The domain that a forest is the form of. The nodes of a rule are let go once the rule is formed.
+#[tactic(auto, unfolding(hp_syntax::specs::Grammar::file))]
+pub fn domain(alloc: Global, forest: Forest) -> Result<Domain, FormRefusal>
+    ensures { Gives domain_of result (grammar.domain_form forest.len (forest_of forest)) }
+{
+    let end = end_of(&forest);
+    let mut nodes = forest.nodes;
+    let only = take_next(What::Domain, end, &mut nodes)?;
+    let domain = domain_of_node(alloc, only)?;
+    ended(nodes.as_slice())?;
+    Ok(domain)
 }
 
 /// A problem has one pair of a state and a task list.
-pub fn no_more_pairs(nodes: &[Node]) -> Result<(), FormRefusal>
+fn no_more_pairs(nodes: &[Node]) -> Result<(), FormRefusal>
     ensures { (names : Names) → Reads (λ _. tt) result (grammar.no_more_pairs (nodes_of nodes.now)) names names }
 {
     match nodes {
@@ -53,85 +131,112 @@ pub fn no_more_pairs(nodes: &[Node]) -> Result<(), FormRefusal>
     }
 }
 
-/// The pair of a problem, of the nodes behind its names.
-#[tactic(auto, unfolding(hp_syntax::specs::Grammar::pair))]
-fn pair(scope: &mut Scope, end: Span, nodes: &[Node]) -> Result<Pair, FormRefusal>
-    ensures { Reads pair_of result (grammar.pair end (nodes_of nodes.now))
+/// The atoms that nodes are.
+fn atoms(scope: &mut Scope, nodes: Vec<Node>) -> Result<Vec<AtomPat>, FormRefusal>
+    ensures { Reads (λ v. map atom_of v.items) result
+        (steps.each (grammar.atom grammar.InProblem) (nodes_of nodes.items))
         scope.old.names.keys scope.new.names.keys }
 {
-    let (first, rest) = next(What::Atoms, end, nodes)?;
-    let state = atoms(scope, Setting::Problem, first)?;
-    let (second, rest) = next(What::Tasks, end, rest)?;
-    let tasks = tasks(scope, Setting::Problem, second)?;
-    no_more_pairs(rest)?;
+    let mut atoms = Vec::with_capacity(scope.alloc, nodes.len())?;
+    for node in nodes {
+        atoms.push(atom(scope, Setting::Problem, &node)?)?;
+    }
+    Ok(atoms)
+}
+
+/// The pair of a problem, of the nodes behind its names.
+#[tactic(auto, unfolding(hp_syntax::specs::Grammar::pair, hp_syntax::specs::Grammar::atoms))]
+fn pair(scope: &mut Scope, end: Span, mut nodes: Vec<Node>) -> Result<Pair, FormRefusal>
+    ensures { Reads pair_of result (grammar.pair end (nodes_of nodes.items))
+        scope.old.names.keys scope.new.names.keys }
+{
+    let first = take_next(What::Atoms, end, &mut nodes)?;
+    let state = into_list(scope.alloc, What::Atoms, first)?;
+    let state = atoms(scope, state)?;
+    let second = take_next(What::Tasks, end, &mut nodes)?;
+    let tasks = tasks(scope, Setting::Problem, &second)?;
+    no_more_pairs(nodes.as_slice())?;
     Ok(Pair { state, tasks })
 }
 
-/// `(defproblem NAME NAME atoms tasks)`, by what follows the word.
-#[tactic(auto, unfolding(hp_syntax::specs::Grammar::problem_list))]
-fn problem_list(alloc: Global, span: Span, rest: &[Node]) -> Result<Problem, FormRefusal>
-    ensures { Gives problem_of result (steps.from_no_names (grammar.problem_list span (nodes_of rest.now))) }
+/// The list of a problem's one pair.
+fn only(alloc: Global, pair: Pair) -> Result<Vec<Pair>, AllocError>
+    ensures { IfOk result (λ pairs. map pair_of pairs.items ≡ pair_of pair ∷ []) }
 {
-    let (first, rest) = next(What::Name, closing(span), rest)?;
-    let own = name(first)?.copy(alloc)?;
-    let (second, rest) = next(What::Name, closing(span), rest)?;
-    let domain = name(second)?.copy(alloc)?;
-    let mut scope = Scope::new(alloc);
-    let pair = pair(&mut scope, closing(span), rest)?;
-    let vars = scope.all_names()?;
     let mut pairs = Vec::with_capacity(alloc, 1)?;
     pairs.push(pair)?;
+    Ok(pairs)
+}
+
+/// The problem of these names and pairs, whose variables have the names of the scope.
+fn named_problem(
+    scope: &Scope,
+    own: &Name,
+    domain: &Name,
+    domain_span: Span,
+    pairs: Vec<Pair>,
+) -> Result<Problem, AllocError>
+    ensures { IfOk result (λ p. problem_of p ≡ record {
+      name = own.now;
+      domain = domain.now;
+      domain_span = domain_span;
+      vars = scope.now.names.keys;
+      pairs = map pair_of pairs.items;
+    }) }
+{
+    let vars = scope.all_names()?;
+    let name = own.copy(scope.alloc)?;
+    let domain = domain.copy(scope.alloc)?;
     Ok(Problem {
-        name: own,
+        name,
         domain,
-        domain_span: second.span,
+        domain_span,
         vars,
         pairs,
     })
 }
 
-/// The domain that a node is.
-#[tactic(auto, unfolding(hp_syntax::specs::Grammar::file_list))]
-fn domain_of_node(alloc: Global, node: &Node) -> Result<Domain, FormRefusal>
-    ensures { (names : Names) → Reads domain_of result
-        (grammar.file_list wants.Domain (codes "defdomain") grammar.domain_list (node_of node.now)) names names }
+/// `(defproblem NAME NAME atoms tasks)`, by what follows the word.
+#[tactic(auto, unfolding(hp_syntax::specs::Grammar::problem_list))]
+fn problem_list(alloc: Global, span: Span, mut rest: Vec<Node>) -> Result<Problem, FormRefusal>
+    ensures { Gives problem_of result (steps.from_no_names (grammar.problem_list span (nodes_of rest.items))) }
 {
-    match begun(node) {
-        Some((key, rest)) if is(key, b"defdomain") => domain_list(alloc, node.span, rest),
-        _ => expected(What::Domain, node.span),
-    }
+    let first = take_next(What::Name, closing(span), &mut rest)?;
+    let own = name(&first)?;
+    let second = take_next(What::Name, closing(span), &mut rest)?;
+    let domain = name(&second)?;
+    let mut scope = Scope::new(alloc);
+    let pair = pair(&mut scope, closing(span), rest)?;
+    let pairs = only(alloc, pair)?;
+    Ok(named_problem(&scope, own, domain, second.span, pairs)?)
 }
 
 /// The problem that a node is.
 #[tactic(auto, unfolding(hp_syntax::specs::Grammar::file_list))]
-fn problem_of_node(alloc: Global, node: &Node) -> Result<Problem, FormRefusal>
+fn problem_of_node(alloc: Global, node: Node) -> Result<Problem, FormRefusal>
     ensures { Gives problem_of result (steps.from_no_names
-        (grammar.file_list wants.Problem (codes "defproblem") grammar.problem_list (node_of node.now))) }
+        (grammar.file_list wants.Problem (codes "defproblem") grammar.problem_list (node_of node))) }
 {
-    match begun(node) {
-        Some((key, rest)) if is(key, b"defproblem") => problem_list(alloc, node.span, rest),
-        _ => expected(What::Problem, node.span),
+    let Node { span, kind } = node;
+    let NodeKind::List(mut parts) = kind else {
+        return expected(What::Problem, span);
+    };
+    let first = take_next(What::Problem, span, &mut parts)?;
+    if !is_word(&first, b"defproblem") {
+        return expected(What::Problem, span);
     }
+    problem_list(alloc, span, parts)
 }
 
-/// The domain that a forest is the form of.
+/// The problem that a forest is the form of. The nodes of an atom or a task are let go once it is formed.
 #[tactic(auto, unfolding(hp_syntax::specs::Grammar::file))]
-pub fn domain(alloc: Global, forest: &Forest) -> Result<Domain, FormRefusal>
-    ensures { Gives domain_of result (grammar.domain_form forest.now.len (forest_of forest.now)) }
+pub fn problem(alloc: Global, forest: Forest) -> Result<Problem, FormRefusal>
+    ensures { Gives problem_of result (grammar.problem_form forest.len (forest_of forest)) }
 {
-    let (only, others) = next(What::Domain, end_of(forest), forest.nodes.as_slice())?;
-    let domain = domain_of_node(alloc, only)?;
-    ended(others)?;
-    Ok(domain)
-}
-
-/// The problem that a forest is the form of.
-#[tactic(auto, unfolding(hp_syntax::specs::Grammar::file))]
-pub fn problem(alloc: Global, forest: &Forest) -> Result<Problem, FormRefusal>
-    ensures { Gives problem_of result (grammar.problem_form forest.now.len (forest_of forest.now)) }
-{
-    let (only, others) = next(What::Problem, end_of(forest), forest.nodes.as_slice())?;
+    let end = end_of(&forest);
+    let mut nodes = forest.nodes;
+    let only = take_next(What::Problem, end, &mut nodes)?;
     let problem = problem_of_node(alloc, only)?;
-    ended(others)?;
+    ended(nodes.as_slice())?;
     Ok(problem)
 }

@@ -21,7 +21,6 @@ mod preconditions;
 mod refusal;
 mod rules;
 mod scope;
-mod taking;
 mod tasks;
 mod terms;
 
@@ -32,9 +31,18 @@ use hp_text::Forest;
 pub use refusal::FormRefusal;
 use std::alloc::Global;
 
-/// The domain that a forest is the form of.
+/// The domain that a forest is the form of. The forest is copied, which `into_domain` spares.
 pub fn domain(alloc: Global, forest: &Forest) -> Result<Domain, FormRefusal>
     ensures form { Gives domain_of result (grammar.domain_form forest.now.len (forest_of forest.now)) }
+    ensures numbered { IfOk result (λ d. IsNumberedDomain (domain_of d)) }
+{
+    into_domain(alloc, forest.copy(alloc)?)
+}
+
+/// The domain that a forest is the form of. The nodes of a rule are let go once it is formed, so that the forest and
+/// the domain are never there whole at once.
+pub fn into_domain(alloc: Global, forest: Forest) -> Result<Domain, FormRefusal>
+    ensures form { Gives domain_of result (grammar.domain_form forest.len (forest_of forest)) }
     ensures numbered { IfOk result (λ d. IsNumberedDomain (domain_of d)) }
 {
     // Nothing runs here: the law makes known that each variable number is the place of a name.
@@ -42,31 +50,20 @@ pub fn domain(alloc: Global, forest: &Forest) -> Result<Domain, FormRefusal>
     files::domain(alloc, forest)
 }
 
-/// The same of a forest that is needed no more: the nodes of a rule are let go once it is formed, so
-/// that the forest and the domain are never there whole at once.
-pub fn into_domain(alloc: Global, forest: Forest) -> Result<Domain, FormRefusal>
-    ensures form { Gives domain_of result (grammar.domain_form forest.len (forest_of forest)) }
-    ensures numbered { IfOk result (λ d. IsNumberedDomain (domain_of d)) }
-{
-    forms_are_numbered();
-    taking::domain(alloc, forest)
-}
-
-/// The problem that a forest is the form of.
+/// The problem that a forest is the form of. The forest is copied, which `into_problem` spares.
 pub fn problem(alloc: Global, forest: &Forest) -> Result<Problem, FormRefusal>
     ensures form { Gives problem_of result (grammar.problem_form forest.now.len (forest_of forest.now)) }
     ensures numbered { IfOk result (λ p. IsNumberedProblem (problem_of p)) }
 {
-    forms_are_numbered();
-    files::problem(alloc, forest)
+    into_problem(alloc, forest.copy(alloc)?)
 }
 
-/// The same of a forest that is needed no more: the nodes of an atom or a task are let go once it is
-/// formed, so that the forest and the problem are never there whole at once.
+/// The problem that a forest is the form of. The nodes of an atom of the state are let go once it is formed, so that
+/// the forest and the problem are never there whole at once.
 pub fn into_problem(alloc: Global, forest: Forest) -> Result<Problem, FormRefusal>
     ensures form { Gives problem_of result (grammar.problem_form forest.len (forest_of forest)) }
     ensures numbered { IfOk result (λ p. IsNumberedProblem (problem_of p)) }
 {
     forms_are_numbered();
-    taking::problem(alloc, forest)
+    files::problem(alloc, forest)
 }

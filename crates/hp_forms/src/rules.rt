@@ -263,16 +263,3 @@ pub fn rule(scope: &mut Scope, node: &Node) -> Result<Rule, FormRefusal>
         None => expected(What::Rule, node.span),
     }
 }
-
-/// The rules that nodes are.
-pub fn rules(alloc: Global, nodes: &[Node]) -> Result<Vec<Rule>, FormRefusal>
-    ensures { (names : Names) → Reads (λ v. map rule_of v.items) result
-        (steps.each grammar.rule (nodes_of nodes.now)) names names }
-{
-    let mut rules = Vec::with_capacity(alloc, nodes.len())?;
-    let mut scope = Scope::new(alloc);
-    for node in nodes {
-        rules.push(rule(&mut scope, node)?)?;
-    }
-    Ok(rules)
-}

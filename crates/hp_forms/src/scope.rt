@@ -21,10 +21,16 @@ const FEW_NAMES: usize = 8;
 
 /// The names so far, each once, in the order of first appearance: a variable's number is the place
 /// of its name.
-#[derive(Drop)]
 pub struct Scope {
     pub alloc: Global,
     pub names: IndexSet<Name>,
+}
+
+impl Drop for Scope {
+    fn drop(self) {
+        let Scope { alloc: _, names } = self;
+        drop(names);
+    }
 }
 
 fn place_among(names: &[Name], name: &Name) -> Option<usize>

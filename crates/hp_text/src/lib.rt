@@ -3,6 +3,7 @@
 #![tactic(auto)]
 
 mod byte;
+mod copies;
 mod forest;
 mod gap;
 mod reader;

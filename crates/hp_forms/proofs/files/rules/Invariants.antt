@@ -6,7 +6,7 @@ use Rattle.hp_syntax.specs.Grammar as grammar
 use Rattle.hp_syntax.specs.Views.{rule_of}
 use Rattle.hp_text.specs.Nodes.{nodes_of}
 use Rattle.hp_forms.proofs.Turns.{prepend}
-use Rattle.hp_forms.proofs.taking.rules.Given as goal
+use Rattle.hp_forms.proofs.files.rules.Given as goal
 
 abbrev pub invariant-loop-node : goal.invariant-loop-node
 invariant-loop-node l =

@@ -9,7 +9,7 @@ use Rattle.hp_text.specs.Nodes.{node_of, nodes_of}
 use Rattle.hp_text.specs.NodeLaws.{node_of-list}
 use Rattle.hp_forms.proofs.Turns.{refused_same}
 use Rattle.hp_forms.proofs.FileLemmas.{next_is, list_refused, list_named, list_unnamed, value_refused, gives_same}
-use Rattle.hp_forms.proofs.taking.problem_of_node.Goals as goal
+use Rattle.hp_forms.proofs.files.problem_of_node.Goals as goal
 
 pub returns-in_err-first : goal.returns-in_err-first
 returns-in_err-first c =
