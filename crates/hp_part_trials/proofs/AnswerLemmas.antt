@@ -3,7 +3,7 @@ use Rattle.std.proofs.Common.{◌≡◌, ℕ, ◌≤◌, List, [], ◌∷◌, le
 use Rattle.std.specs.Prelude.{slice_get}
 use Rattle.std.proofs.lemmas.List.{length-take-le}
 use Rattle.hp_syntax.specs.Terms.{Term}
-use Rattle.hp_eval.specs.Slotted.{Slotted, Binds, AreBelow, with_bound, undone, bindings_of}
+use Rattle.hp_eval.specs.Slotted.{Slotted, Binds, AreBelow, undone, bindings_of}
 use Rattle.hp_eval.specs.Events.{event_of, AreOfFirst}
 use Rattle.hp_eval.proofs.SlotLemmas.{binds_self, binds_bound, below_bound}
 use Rattle.hp_part_trials.specs.declared.answers.Answer.{Answer}

@@ -1,5 +1,5 @@
 -- What the walk of the small tree stands on.
-use Rattle.std.specs.Prelude.{◌≡◌, ℕ, ◌<◌, Bool, false, List, [], ◌∷◌, Some, slice_get}
+use Rattle.std.specs.Prelude.{◌≡◌, ℕ, Bool, false, List, [], ◌∷◌, Some, slice_get}
 use Rattle.std.proofs.Common.{refl, ap, sym, subst}
 use Rattle.std.specs.Option.{MatchOption}
 use Rattle.hp_syntax.specs.Terms.{Term}

@@ -5,7 +5,7 @@ use Rattle.std.proofs.Common.{refl, ap, ap₂, sym}
 use Rattle.std.proofs.lemmas.List.Elements.{All-nil, All-cons}
 use Rattle.std.proofs.lemmas.Option.{none-some}
 use Rattle.hp_syntax.specs.Terms.{Term}
-use Rattle.hp_syntax.specs.Values.{Bindings, bound, flat_option}
+use Rattle.hp_syntax.specs.Values.{bound, flat_option}
 use Rattle.hp_syntax.specs.Events as plain
 use Rattle.hp_eval.specs.declared.event.Event.{Event}
 use Rattle.hp_eval.specs.declared.event.Event.TheVariants as events

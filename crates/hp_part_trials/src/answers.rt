@@ -11,7 +11,7 @@ use hp_syntax::RunFault;
 use std::alloc::AllocError;
 
 /// An event; a Sat with what it binds.
-#[derive(Drop)]
+#[derive(Clone, Copy)]
 pub enum Answer {
     Sat(Cell),
     Cut,
@@ -19,7 +19,6 @@ pub enum Answer {
 }
 
 /// Answers from a list. Each Sat binds the same variable above the bindings of the start.
-#[derive(Drop)]
 pub struct Answers {
     answers: Vec<Answer>,
     place: usize,
@@ -27,6 +26,20 @@ pub struct Answers {
     var: u32,
     kept: usize,
     is_open: bool,
+}
+
+impl Drop for Answers {
+    fn drop(self) {
+        let Answers {
+            answers,
+            place: _,
+            mark: _,
+            var: _,
+            kept: _,
+            is_open: _,
+        } = self;
+        drop(answers);
+    }
 }
 
 // The answers from a place on.

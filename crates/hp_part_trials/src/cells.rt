@@ -1,10 +1,10 @@
 //! Interned terms.
 ghost use Rattle.std.specs.Prelude.{◌<◌, IfOk, length};
 
+use crate::page::Page;
 use hp_cells::{Cell, Cells, View};
 use hp_syntax::Name;
-use std::alloc::AllocError;
-use std::test::Fail;
+use std::alloc::{AllocError, Global};
 
 // The list of one part.
 fn list_of(cells: &mut Cells, part: Cell) -> Result<Cell, AllocError>
@@ -15,34 +15,64 @@ fn list_of(cells: &mut Cells, part: Cell) -> Result<Cell, AllocError>
     cells.cons(part, nil)
 }
 
-#[test]
-fn each_term_stands_once(rt: HostRuntime) -> Result<(), Fail> {
-    let mut cells = Cells::new(rt.alloc())?;
-    let name = Name::new(rt.alloc(), b"a")?;
-    let a = cells.sym(&name)?;
-    let list = list_of(&mut cells, a)?;
+// Leaves three terms, where there are more.
+fn leave_three(cells: &mut Cells) {
+    if cells.len() > 3 {
+        cells.give_back(3);
+    }
+}
+
+// Each term stands once.
+fn show_terms(page: &mut Page, cells: &mut Cells, name: &Name) -> Result<(), AllocError> {
+    let a = cells.sym(name)?;
+    let list = list_of(cells, a)?;
     let three = cells.num(3)?;
-    assert!(rt; a != list && a != three);
-    let again = cells.sym(&name)?;
-    assert!(rt; again == a);
-    assert!(rt; cells.len() == 4);
-    cells.give_back(3);
-    assert!(rt; cells.len() == 3);
+    page.line("a is neither (a) nor 3", &(a != list && a != three));
+    let again = cells.sym(name)?;
+    page.line("a is the same again", &(again == a));
+    page.line("terms", &cells.len());
+    leave_three(cells);
+    page.line("terms once the last is given back", &cells.len());
     Ok(())
 }
 
-#[test]
-fn depths_and_parts_are_told(rt: HostRuntime) -> Result<(), Fail> {
-    let mut cells = Cells::new(rt.alloc())?;
-    let three = cells.num(3)?;
-    assert!(rt; cells.depth(three) == 0);
-    let inner = list_of(&mut cells, three)?;
-    assert!(rt; cells.depth(inner) == 1);
-    let outer = list_of(&mut cells, inner)?;
-    assert!(rt; cells.depth(outer) == 2);
-    match cells.get(outer) {
-        View::Cons(head, tail) => assert!(rt; head == inner && tail == cells.nil()),
-        _ => panic!(rt; "a list has parts"),
+// Whether a cell names the list of this part alone.
+fn is_list_of(cells: &Cells, list: Cell, part: Cell) -> bool
+    requires { list < length cells.now }
+{
+    match cells.get(list) {
+        View::Cons(head, tail) => head == part && tail == cells.nil(),
+        _ => false,
     }
+}
+
+// How deep 3, (3) and ((3)) nest.
+fn show_depths(page: &mut Page, cells: &mut Cells) -> Result<(), AllocError> {
+    let three = cells.num(3)?;
+    page.line("depth of 3", &cells.depth(three));
+    let inner = list_of(cells, three)?;
+    page.line("depth of (3)", &cells.depth(inner));
+    let outer = list_of(cells, inner)?;
+    page.line("depth of ((3))", &cells.depth(outer));
+    page.line("((3)) is the list of (3)", &is_list_of(cells, outer, inner));
     Ok(())
+}
+
+fn show_named(page: &mut Page, alloc: Global, name: &Name) -> Result<(), AllocError> {
+    let mut cells = Cells::new(alloc)?;
+    show_terms(page, &mut cells, name)
+}
+
+fn show_lists(page: &mut Page, alloc: Global) -> Result<(), AllocError> {
+    let mut cells = Cells::new(alloc)?;
+    show_depths(page, &mut cells)
+}
+
+/// Terms and their depths.
+pub fn show_cells(page: &mut Page, alloc: Global) -> Result<(), AllocError> {
+    page.title("Each term stands once");
+    let name = Name::new(alloc, b"a")?;
+    show_named(page, alloc, &name)?;
+    page.title("Depths and parts are told");
+    show_lists(page, alloc)
 }

@@ -2,11 +2,11 @@
 ghost use Rattle.std.specs.List.{All};
 ghost use Rattle.hp_net.specs.Outlines.{NamesTask};
 
+use crate::page::Page;
 use hp_cells::{Cell, Cells};
 use hp_eval::TaskTree;
 use hp_net::{Net, TaskId};
 use std::alloc::{AllocError, Global};
-use std::test::Fail;
 
 // The tasks that ids name.
 fn tasks_of(net: &Net, ids: &[TaskId], alloc: Global) -> Result<Vec<Cell>, AllocError>
@@ -19,10 +19,11 @@ fn tasks_of(net: &Net, ids: &[TaskId], alloc: Global) -> Result<Vec<Cell>, Alloc
     Ok(tasks)
 }
 
-// The candidates, by their cells.
-fn tasks(net: &Net, alloc: Global) -> Result<Vec<Cell>, AllocError> {
+// Whether the candidates are these, from left to right.
+fn are_next(net: &Net, alloc: Global, cells: &[Cell]) -> Result<bool, AllocError> {
     let ids = net.candidates(alloc)?;
-    tasks_of(net, ids.as_slice(), alloc)
+    let tasks = tasks_of(net, ids.as_slice(), alloc)?;
+    Ok(tasks.as_slice() == cells)
 }
 
 // Does the first candidate.
@@ -43,42 +44,138 @@ fn expand_first(net: &mut Net, alloc: Global, tree: &TaskTree) -> Result<(), All
     }
 }
 
-fn two_tasks(alloc: Global, first: Cell, second: Cell) -> Result<Vec<TaskTree>, AllocError> {
-    Ok(vec![in alloc; TaskTree::Task(first, false), TaskTree::Task(second, false)]?)
+// Two tasks, of which the second may be immediate.
+fn two_tasks(
+    alloc: Global,
+    first: Cell,
+    second: Cell,
+    immediate: bool,
+) -> Result<Vec<TaskTree>, AllocError> {
+    Ok(vec![in alloc;
+        TaskTree::Task(first, false),
+        TaskTree::Task(second, immediate),
+    ]?)
 }
 
-#[test]
-fn the_newest_subtasks_come_first(rt: HostRuntime) -> Result<(), Fail> {
-    let alloc = rt.alloc();
-    let mut cells = Cells::new(alloc)?;
+// A network of two unordered tasks.
+fn unordered(alloc: Global, first: Cell, second: Cell, immediate: bool) -> Result<Net, AllocError> {
+    let tree = TaskTree::Unordered(two_tasks(alloc, first, second, immediate)?);
+    Net::new(alloc, &tree)
+}
+
+// Decomposes the first candidate into two ordered tasks.
+fn expand_into(net: &mut Net, alloc: Global, first: Cell, second: Cell) -> Result<(), AllocError> {
+    let tree = TaskTree::Ordered(two_tasks(alloc, first, second, false)?);
+    expand_first(net, alloc, &tree)
+}
+
+// Cells of four tasks.
+#[derive(Clone, Copy)]
+struct Tasks {
+    x: Cell,
+    y: Cell,
+    a: Cell,
+    b: Cell,
+}
+
+fn four_tasks(cells: &mut Cells) -> Result<Tasks, AllocError> {
     let x = cells.num(1)?;
     let y = cells.num(2)?;
     let a = cells.num(3)?;
     let b = cells.num(4)?;
-    let mut net = Net::new(alloc, &TaskTree::Unordered(two_tasks(alloc, x, y)?))?;
-    assert!(rt; tasks(&net, alloc)?.as_slice() == [x, y].as_slice());
-    expand_first(&mut net, alloc, &TaskTree::Ordered(two_tasks(alloc, a, b)?))?;
-    assert!(rt; tasks(&net, alloc)?.as_slice() == [a].as_slice());
-    finish_first(&mut net, alloc)?;
-    assert!(rt; tasks(&net, alloc)?.as_slice() == [b, y].as_slice());
-    let copy = net.copy()?;
-    finish_first(&mut net, alloc)?;
-    finish_first(&mut net, alloc)?;
-    assert!(rt; net.is_empty());
-    assert!(rt; tasks(&copy, alloc)?.as_slice() == [b, y].as_slice());
+    Ok(Tasks { x, y, a, b })
+}
+
+// Of x and y, x is decomposed into a and b, and a is done.
+fn show_newest(
+    page: &mut Page,
+    alloc: Global,
+    net: &mut Net,
+    tasks: &Tasks,
+) -> Result<(), AllocError> {
+    let Tasks { x, y, a, b } = *tasks;
+    page.line("x and y come next", &are_next(net, alloc, &[x, y])?);
+    expand_into(net, alloc, a, b)?;
+    page.line(
+        "a comes next, once x is a and then b",
+        &are_next(net, alloc, &[a])?,
+    );
+    finish_first(net, alloc)?;
+    page.line(
+        "b and y come next, once a is done",
+        &are_next(net, alloc, &[b, y])?,
+    );
     Ok(())
 }
 
-#[test]
-fn immediate_tasks_come_before_others(rt: HostRuntime) -> Result<(), Fail> {
-    let alloc = rt.alloc();
-    let mut cells = Cells::new(alloc)?;
-    let x = cells.num(1)?;
-    let y = cells.num(2)?;
-    let tree = vec![in alloc; TaskTree::Task(x, false), TaskTree::Task(y, true)]?;
-    let mut net = Net::new(alloc, &TaskTree::Unordered(tree))?;
-    assert!(rt; tasks(&net, alloc)?.as_slice() == [y].as_slice());
-    expand_first(&mut net, alloc, &TaskTree::Ordered(Vec::new(alloc)))?;
-    assert!(rt; tasks(&net, alloc)?.as_slice() == [x].as_slice());
+// A copy of a network with b and y stays as it is while both are done.
+fn show_copy(
+    page: &mut Page,
+    alloc: Global,
+    net: &mut Net,
+    copy: &Net,
+    tasks: &Tasks,
+) -> Result<(), AllocError> {
+    finish_first(net, alloc)?;
+    finish_first(net, alloc)?;
+    page.line("nothing is left, once both are done", &net.is_empty());
+    page.line(
+        "b and y come next in a copy",
+        &are_next(copy, alloc, &[tasks.b, tasks.y])?,
+    );
     Ok(())
+}
+
+// Of x and the immediate y, y is done by an empty decomposition.
+fn show_immediate(
+    page: &mut Page,
+    alloc: Global,
+    net: &mut Net,
+    tasks: &Tasks,
+) -> Result<(), AllocError> {
+    page.line(
+        "the immediate y comes next",
+        &are_next(net, alloc, &[tasks.y])?,
+    );
+    expand_first(net, alloc, &TaskTree::Ordered(Vec::new(alloc)))?;
+    page.line(
+        "x comes next, once y is nothing",
+        &are_next(net, alloc, &[tasks.x])?,
+    );
+    Ok(())
+}
+
+fn show_copied(
+    page: &mut Page,
+    alloc: Global,
+    net: &mut Net,
+    tasks: &Tasks,
+) -> Result<(), AllocError> {
+    let copy = net.copy()?;
+    show_copy(page, alloc, net, &copy, tasks)
+}
+
+fn show_newest_first(page: &mut Page, alloc: Global, tasks: &Tasks) -> Result<(), AllocError> {
+    page.title("The newest subtasks come first");
+    let mut net = unordered(alloc, tasks.x, tasks.y, false)?;
+    show_newest(page, alloc, &mut net, tasks)?;
+    show_copied(page, alloc, &mut net, tasks)
+}
+
+fn show_immediate_first(page: &mut Page, alloc: Global, tasks: &Tasks) -> Result<(), AllocError> {
+    page.title("Immediate tasks come before others");
+    let mut net = unordered(alloc, tasks.x, tasks.y, true)?;
+    show_immediate(page, alloc, &mut net, tasks)
+}
+
+fn tasks_of_cells(alloc: Global) -> Result<Tasks, AllocError> {
+    let mut cells = Cells::new(alloc)?;
+    four_tasks(&mut cells)
+}
+
+/// Networks and their candidates.
+pub fn show_networks(page: &mut Page, alloc: Global) -> Result<(), AllocError> {
+    let tasks = tasks_of_cells(alloc)?;
+    show_newest_first(page, alloc, &tasks)?;
+    show_immediate_first(page, alloc, &tasks)
 }

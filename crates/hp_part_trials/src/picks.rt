@@ -1,13 +1,29 @@
 //! What is picked of satisfiers that answer from a list.
-ghost use Rattle.std.specs.Prelude.{◌≡◌, ◌<◌, ◌≤◌, IfOk, length, true};
+ghost use Rattle.std.specs.Prelude.{◌≡◌, ◌<◌, ◌≤◌, IfOk, OnOk, length, true};
+ghost use Rattle.hp_eval.specs.Slotted.{no_bindings};
+ghost use Rattle.hp_part_trials.specs.Answered.{AnswersBelow};
 
 use crate::answers::{Answer, answers_of};
+use crate::page::Page;
 use hp_cells::{Cell, Cells};
 use hp_eval::{Event, Sats, Slots};
 use hp_pick::{First, Sorted};
 use hp_syntax::{FaultKind, RunFault, SortKey, SortOrder, Span};
-use std::alloc::AllocError;
-use std::test::Fail;
+use std::alloc::{AllocError, Global};
+
+// Where the fault and the key of the trials stand.
+const SPAN: Span = Span { from: 3, to: 5 };
+
+// An event, and what a variable stands for then.
+type Told = (Event, Option<Cell>);
+
+// Cells of three numbers.
+#[derive(Clone, Copy)]
+struct Numbers {
+    nine: Cell,
+    one: Cell,
+    five: Cell,
+}
 
 // What a variable stands for, if there is such a variable.
 fn value(slots: &Slots, v: u32) -> Option<Cell> {
@@ -18,6 +34,29 @@ fn value(slots: &Slots, v: u32) -> Option<Cell> {
     }
 }
 
+// The next event, and what a variable stands for then, if the call doesn't fail.
+fn next_told<B, S: Sats<B>>(
+    sats: &mut S,
+    base: &B,
+    cells: &mut Cells,
+    slots: &mut Slots,
+    var: u32,
+) -> Result<Told, AllocError>
+    requires live { S.is_live sats.old ≡ true }
+    requires open { S.is_open sats.old ≡ true }
+    requires base { S.suits sats.old base.now }
+    requires slots { S.fits sats.old slots.old }
+    requires cells { S.kept sats.old ≤ length cells.old }
+    ensures live { OnOk result (S.is_live sats.new ≡ true) }
+    ensures open { S.is_open sats.new ≡ true }
+    ensures base { S.suits sats.new base.now }
+    ensures slots { S.fits sats.new slots.new }
+    ensures cells { S.kept sats.new ≤ length cells.new }
+{
+    let event = sats.next(base, cells, slots)?;
+    Ok((event, value(slots, var)))
+}
+
 // Five events, and what a variable stands for after each, if no call fails.
 fn first_five<B, S: Sats<B>>(
     sats: &mut S,
@@ -25,7 +64,7 @@ fn first_five<B, S: Sats<B>>(
     cells: &mut Cells,
     slots: &mut Slots,
     var: u32,
-) -> Result<([Event; 5], [Option<Cell>; 5]), AllocError>
+) -> Result<[Told; 5], AllocError>
     requires live { S.is_live sats.old ≡ true }
     requires open { S.is_open sats.old ≡ true }
     requires base { S.suits sats.old base.now }
@@ -34,105 +73,155 @@ fn first_five<B, S: Sats<B>>(
     ensures slots { S.fits sats.new slots.new }
     ensures open { S.is_open sats.new ≡ true }
 {
-    let first = sats.next(base, cells, slots)?;
-    let of_first = value(slots, var);
-    let second = sats.next(base, cells, slots)?;
-    let of_second = value(slots, var);
-    let third = sats.next(base, cells, slots)?;
-    let of_third = value(slots, var);
-    let fourth = sats.next(base, cells, slots)?;
-    let of_fourth = value(slots, var);
-    let fifth = sats.next(base, cells, slots)?;
-    let of_fifth = value(slots, var);
-    Ok((
-        [first, second, third, fourth, fifth],
-        [of_first, of_second, of_third, of_fourth, of_fifth],
-    ))
+    let first = next_told(sats, base, cells, slots, var)?;
+    let second = next_told(sats, base, cells, slots, var)?;
+    let third = next_told(sats, base, cells, slots, var)?;
+    let fourth = next_told(sats, base, cells, slots, var)?;
+    let fifth = next_told(sats, base, cells, slots, var)?;
+    Ok([first, second, third, fourth, fifth])
 }
 
-fn number(cells: &mut Cells, n: i64) -> Result<Cell, AllocError>
-    ensures below { IfOk result (λ c. c < length cells.new) }
-    ensures more { length cells.old ≤ length cells.new }
+// Three numbers have cells.
+fn three_numbers(cells: &mut Cells) -> Result<Numbers, AllocError>
+    ensures nine { IfOk result (λ n. n.nine < length cells.new) }
+    ensures one { IfOk result (λ n. n.one < length cells.new) }
+    ensures five { IfOk result (λ n. n.five < length cells.new) }
 {
-    cells.num(n)
+    let nine = cells.num(9)?;
+    let one = cells.num(1)?;
+    let five = cells.num(5)?;
+    Ok(Numbers { nine, one, five })
 }
 
-#[test]
-fn events_come_one_at_a_time(rt: HostRuntime) -> Result<(), Fail> {
-    let alloc = rt.alloc();
-    let fault = RunFault {
-        kind: FaultKind::NotList,
-        span: Span { from: 3, to: 5 },
-    };
-    let mut cells = Cells::new(alloc)?;
-    let nine = number(&mut cells, 9)?;
+const FAULT: RunFault = RunFault {
+    kind: FaultKind::NotList,
+    span: SPAN,
+};
+
+const DOWNWARD: SortKey = SortKey {
+    span: SPAN,
+    var: 1,
+    order: SortOrder::Down,
+};
+
+// The events of answers, which are closed in the end.
+fn heard(
+    cells: &mut Cells,
+    slots: &mut Slots,
+    answers: Vec<Answer>,
+) -> Result<([Told; 5], bool), AllocError>
+    requires answers { AnswersBelow (length cells.old) answers.items }
+    requires slots { slots.old ≡ no_bindings 2 }
+{
+    let mut sats = answers_of(answers, cells);
+    let told = first_five(&mut sats, &7, cells, slots, 1)?;
+    sats.close(slots);
+    Ok((told, sats.live()))
+}
+
+// The events of the first of answers.
+fn heard_first(
+    cells: &mut Cells,
+    slots: &mut Slots,
+    answers: Vec<Answer>,
+) -> Result<[Told; 5], AllocError>
+    requires answers { AnswersBelow (length cells.old) answers.items }
+    requires slots { slots.old ≡ no_bindings 2 }
+{
+    let mut sats = First::new::<u8>(answers_of(answers, cells));
+    first_five(&mut sats, &7, cells, slots, 1)
+}
+
+// The events of answers in their order.
+fn heard_in_order(
+    alloc: Global,
+    cells: &mut Cells,
+    slots: &mut Slots,
+    answers: Vec<Answer>,
+) -> Result<[Told; 5], AllocError>
+    requires answers { AnswersBelow (length cells.old) answers.items }
+    requires slots { slots.old ≡ no_bindings 2 }
+{
+    let mut sats = Sorted::new::<u8>(alloc, answers_of(answers, cells), DOWNWARD, slots);
+    first_five(&mut sats, &7, cells, slots, 1)
+}
+
+fn show_events(page: &mut Page, told: &[Told; 5]) {
+    let [(first, _), (second, _), (third, _), (fourth, _), (fifth, _)] = told;
+    page.line("events", &[*first, *second, *third, *fourth, *fifth]);
+}
+
+fn are_values(told: &[Told; 5], wanted: &[Option<Cell>; 5]) -> bool {
+    let [(_, first), (_, second), (_, third), (_, fourth), (_, fifth)] = told;
+    [*first, *second, *third, *fourth, *fifth] == *wanted
+}
+
+fn is_second(told: &[Told; 5], wanted: Cell) -> bool {
+    let [_, (_, second), _, _, _] = told;
+    *second == Some(wanted)
+}
+
+fn show_answers(page: &mut Page, alloc: Global, cells: &mut Cells) -> Result<(), AllocError> {
+    page.title("Events come one at a time: of a Cut, 9, a fault and a Cut");
+    let Numbers { nine, .. } = three_numbers(cells)?;
+    let mut slots = Slots::new(alloc, 2)?;
     let answers = vec![in alloc;
         Answer::Cut,
         Answer::Sat(nine),
-        Answer::Fault(fault),
+        Answer::Fault(FAULT),
         Answer::Cut,
     ]?;
-    let mut sats = answers_of(answers, &cells);
-    let mut slots = Slots::new(alloc, 2)?;
-    let (met, values) = first_five(&mut sats, &7, &mut cells, &mut slots, 1)?;
-    assert!(rt;
-        met == [
-            Event::Cut,
-            Event::Sat,
-            Event::Fault(fault),
-            Event::End,
-            Event::End
-        ]
+    let (told, is_live) = heard(cells, &mut slots, answers)?;
+    show_events(page, &told);
+    page.line(
+        "?1 is 9 at the second alone",
+        &are_values(&told, &[None, Some(nine), None, None, None]),
     );
-    assert!(rt; values == [None, Some(nine), None, None, None]);
-    assert!(rt; sats.live());
-    sats.close(&mut slots);
-    assert_eq!(rt; slots.mark(), 0);
+    page.line("no call failed", &is_live);
+    page.line("bindings once they are closed", &slots.mark());
     Ok(())
 }
 
-#[test]
-fn the_first_satisfier_is_the_last(rt: HostRuntime) -> Result<(), Fail> {
-    let alloc = rt.alloc();
-    let mut cells = Cells::new(alloc)?;
-    let nine = number(&mut cells, 9)?;
-    let one = number(&mut cells, 1)?;
+fn show_first(page: &mut Page, alloc: Global, cells: &mut Cells) -> Result<(), AllocError> {
+    page.title("The first satisfier is the last: of a Cut, 9, 1 and a Cut");
+    let Numbers { nine, one, .. } = three_numbers(cells)?;
+    let mut slots = Slots::new(alloc, 2)?;
     let answers = vec![in alloc;
         Answer::Cut,
         Answer::Sat(nine),
         Answer::Sat(one),
         Answer::Cut,
     ]?;
-    let mut slots = Slots::new(alloc, 2)?;
-    let mut sats = First::new::<u8>(answers_of(answers, &cells));
-    let (met, values) = first_five(&mut sats, &7, &mut cells, &mut slots, 1)?;
-    assert!(rt; met == [Event::Cut, Event::Sat, Event::End, Event::End, Event::End]);
-    assert!(rt; values[1] == Some(nine));
+    let told = heard_first(cells, &mut slots, answers)?;
+    show_events(page, &told);
+    page.line("?1 is 9 at the second", &is_second(&told, nine));
     Ok(())
 }
 
-#[test]
-fn satisfiers_are_sorted(rt: HostRuntime) -> Result<(), Fail> {
-    let alloc = rt.alloc();
-    let mut cells = Cells::new(alloc)?;
-    let nine = number(&mut cells, 9)?;
-    let one = number(&mut cells, 1)?;
-    let five = number(&mut cells, 5)?;
+fn show_sorted(page: &mut Page, alloc: Global, cells: &mut Cells) -> Result<(), AllocError> {
+    page.title("Satisfiers are sorted: 1, a Cut, 9 and 5, downward");
+    let Numbers { nine, one, five } = three_numbers(cells)?;
+    let mut slots = Slots::new(alloc, 2)?;
     let answers = vec![in alloc;
         Answer::Sat(one),
         Answer::Cut,
         Answer::Sat(nine),
         Answer::Sat(five),
     ]?;
-    let mut slots = Slots::new(alloc, 2)?;
-    let key = SortKey {
-        span: Span { from: 3, to: 5 },
-        var: 1,
-        order: SortOrder::Down,
-    };
-    let mut sats = Sorted::new::<u8>(alloc, answers_of(answers, &cells), key, &slots);
-    let (met, values) = first_five(&mut sats, &7, &mut cells, &mut slots, 1)?;
-    assert!(rt; met == [Event::Sat, Event::Sat, Event::Sat, Event::Cut, Event::End]);
-    assert!(rt; values == [Some(nine), Some(five), Some(one), None, None]);
+    let told = heard_in_order(alloc, cells, &mut slots, answers)?;
+    let wanted = [Some(nine), Some(five), Some(one), None, None];
+    show_events(page, &told);
+    page.line(
+        "?1 is 9, then 5, then 1, and then nothing",
+        &are_values(&told, &wanted),
+    );
     Ok(())
+}
+
+/// Answers, the first of answers, and answers in an order.
+pub fn show_picks(page: &mut Page, alloc: Global) -> Result<(), AllocError> {
+    let mut cells = Cells::new(alloc)?;
+    show_answers(page, alloc, &mut cells)?;
+    show_first(page, alloc, &mut cells)?;
+    show_sorted(page, alloc, &mut cells)
 }

@@ -1,107 +1,95 @@
-//! Values, calls, matching and slots.
-use hp_cells::{Cell, Cells, View};
-use hp_eval::{
-    EvalStop, Goal, Slots, TaskTree, atom_value, call, fill_goal, match_atom, match_goal,
-    start_goal, tasks_value, value,
-};
-use hp_syntax::{AtomPat, FaultKind, Name, NetPat, Pat, PatKind, RunFault, Span, TaskPat};
-use std::alloc::{AllocError, Global};
-use std::test::Fail;
+//! Values of patterns and tasks, calls of numbers, and slots.
+ghost use Rattle.std.specs.Prelude.{◌≡◌};
+ghost use Rattle.hp_eval.specs.Slotted.{no_bindings};
 
-const SPAN: Span = Span { from: 3, to: 19 };
+use crate::fixtures::{SPAN, list_of, of_a_list};
+use crate::page::Page;
+use hp_cells::{Cell, Cells, View};
+use hp_eval::{EvalStop, Slots, TaskTree, atom_value, call, tasks_value, value};
+use hp_syntax::{Name, NetPat, TaskPat};
+use std::alloc::{AllocError, Global};
+
+// The name of a call, and two numbers.
+type Row = (&'static str, i64, i64);
+
+const CALLS: [Row; 11] = [
+    ("+", 2, 3),
+    ("/", -7, 2),
+    ("/", 7, -2),
+    ("mod", -7, 2),
+    ("mod", 7, -2),
+    ("mod", i64::MIN, -1),
+    ("^", 0, 0),
+    ("^", -2, 63),
+    ("^", -1, i64::MAX),
+    ("^", 3, 39),
+    ("max", -1, -2),
+];
+
+const FAULTS: [Row; 7] = [
+    ("+", i64::MAX, 1),
+    ("/", i64::MIN, -1),
+    ("/", 1, 0),
+    ("mod", 1, 0),
+    ("^", 2, 63),
+    ("^", 2, 64),
+    ("^", 1, -1),
+];
 
 // What a call of two numbers gives, where it is a number.
-fn number_of(alloc: Global, name: &[u8], m: i64, n: i64) -> Result<Option<i64>, EvalStop> {
-    let mut cells = Cells::new(alloc)?;
-    let name = Name::new(alloc, name)?;
+fn called(
+    alloc: Global,
+    cells: &mut Cells,
+    name: &Name,
+    m: i64,
+    n: i64,
+) -> Result<Option<i64>, EvalStop> {
     let first = cells.num(m)?;
     let second = cells.num(n)?;
-    let cell = call(alloc, &name, &[first, second], SPAN, &mut cells)?;
+    let cell = call(alloc, name, &[first, second], SPAN, cells)?;
     match cells.get(cell) {
         View::Num(n) => Ok(Some(n)),
         _ => Ok(None),
     }
 }
 
-fn is_fault(given: Result<Option<i64>, EvalStop>, kind: FaultKind) -> bool {
-    given == Err(EvalStop::Fault(RunFault { kind, span: SPAN }))
-}
-
-#[test]
-fn calls_of_numbers(rt: HostRuntime) -> Result<(), Fail> {
-    let rows: [(&[u8], i64, i64, i64); 11] = [
-        (b"+", 2, 3, 5),
-        (b"/", -7, 2, -3),
-        (b"/", 7, -2, -3),
-        (b"mod", -7, 2, -1),
-        (b"mod", 7, -2, 1),
-        (b"mod", i64::MIN, -1, 0),
-        (b"^", 0, 0, 1),
-        (b"^", -2, 63, i64::MIN),
-        (b"^", -1, i64::MAX, -1),
-        (b"^", 3, 39, 4_052_555_153_018_976_267),
-        (b"max", -1, -2, -1),
-    ];
-    for (name, m, n, value) in rows {
-        assert!(rt; number_of(rt.alloc(), name, m, n) == Ok(Some(value)));
-    }
-    Ok(())
-}
-
-#[test]
-fn faults_of_calls(rt: HostRuntime) -> Result<(), Fail> {
-    let rows: [(&[u8], i64, i64, FaultKind); 7] = [
-        (b"+", i64::MAX, 1, FaultKind::Overflow),
-        (b"/", i64::MIN, -1, FaultKind::Overflow),
-        (b"/", 1, 0, FaultKind::ZeroDivisor),
-        (b"mod", 1, 0, FaultKind::ZeroDivisor),
-        (b"^", 2, 63, FaultKind::Overflow),
-        (b"^", 2, 64, FaultKind::Overflow),
-        (b"^", 1, -1, FaultKind::NegativePower),
-    ];
-    for (name, m, n, kind) in rows {
-        assert!(rt; is_fault(number_of(rt.alloc(), name, m, n), kind));
-    }
-    Ok(())
-}
-
-// The pattern (3).
-fn pattern(alloc: Global) -> Result<Pat, AllocError> {
-    let three = Pat {
-        span: SPAN,
-        kind: PatKind::Num(3),
-    };
-    Ok(Pat {
-        span: SPAN,
-        kind: PatKind::List(vec![in alloc; three]?, None),
-    })
-}
-
-// The atom (go (3)).
-fn atom(alloc: Global) -> Result<AtomPat, AllocError> {
-    let list = pattern(alloc)?;
-    Ok(AtomPat {
-        span: SPAN,
-        name: Name::new(alloc, b"go")?,
-        args: vec![in alloc; list]?,
-        tail: None,
-    })
-}
-
-fn depth_of_pattern(alloc: Global) -> Result<usize, EvalStop> {
+fn number_of(alloc: Global, name: &str, m: i64, n: i64) -> Result<Option<i64>, EvalStop> {
     let mut cells = Cells::new(alloc)?;
-    let slots = Slots::new(alloc, 0)?;
-    let pattern = pattern(alloc)?;
-    let cell = value(alloc, &pattern, &slots, &mut cells)?;
+    let name = Name::new(alloc, name.as_bytes())?;
+    called(alloc, &mut cells, &name, m, n)
+}
+
+fn show_rows(page: &mut Page, alloc: Global, rows: &[Row]) {
+    for (name, m, n) in rows {
+        page.row(name, *m, *n, &number_of(alloc, name, *m, *n));
+    }
+}
+
+// The depth of the value of (3).
+fn depth_of_pattern(alloc: Global, cells: &mut Cells, slots: &Slots) -> Result<usize, EvalStop>
+    requires { slots.now ≡ no_bindings 0 }
+{
+    let pattern = list_of(alloc, 3)?;
+    let cell = value(alloc, &pattern, slots, cells)?;
     Ok(cells.depth(cell))
 }
 
-fn depth_of_atom(alloc: Global) -> Result<usize, EvalStop> {
-    let mut cells = Cells::new(alloc)?;
-    let slots = Slots::new(alloc, 0)?;
-    let atom = atom(alloc)?;
-    let cell = atom_value(alloc, &atom, &slots, &mut cells)?;
+// The depth of the value of (go (3)).
+fn depth_of_atom(alloc: Global, cells: &mut Cells, slots: &Slots) -> Result<usize, EvalStop>
+    requires { slots.now ≡ no_bindings 0 }
+{
+    let atom = of_a_list(alloc)?;
+    let cell = atom_value(alloc, &atom, slots, cells)?;
     Ok(cells.depth(cell))
+}
+
+// An ordered list of one immediate task (go (3)).
+fn ordered_task(alloc: Global) -> Result<NetPat, AllocError> {
+    let task = NetPat::Task(TaskPat {
+        atom: of_a_list(alloc)?,
+        immediate: true,
+    });
+    Ok(NetPat::Ordered(vec![in alloc; task]?))
 }
 
 fn is_task(tree: &TaskTree) -> bool {
@@ -109,105 +97,60 @@ fn is_task(tree: &TaskTree) -> bool {
 }
 
 // The task in an ordered list stands in one.
-fn is_ordered(alloc: Global) -> Result<bool, EvalStop> {
-    let mut cells = Cells::new(alloc)?;
-    let slots = Slots::new(alloc, 0)?;
-    let task = TaskPat {
-        atom: atom(alloc)?,
-        immediate: true,
-    };
-    let tasks = NetPat::Ordered(vec![in alloc; NetPat::Task(task)]?);
-    let tree = tasks_value(alloc, &tasks, &slots, &mut cells)?;
+fn is_ordered(alloc: Global, cells: &mut Cells, slots: &Slots) -> Result<bool, EvalStop>
+    requires { slots.now ≡ no_bindings 0 }
+{
+    let tasks = ordered_task(alloc)?;
+    let tree = tasks_value(alloc, &tasks, slots, cells)?;
     Ok(matches!(&tree, TaskTree::Ordered(parts) if parts.len() == 1 && parts.iter().all(is_task)))
 }
 
-#[test]
-fn values_of_patterns_and_tasks(rt: HostRuntime) {
-    assert!(rt; depth_of_pattern(rt.alloc()) == Ok(1));
-    assert!(rt; depth_of_atom(rt.alloc()) == Ok(2));
-    assert!(rt; is_ordered(rt.alloc()) == Ok(true));
+fn show_patterns(page: &mut Page, alloc: Global, cells: &mut Cells, slots: &Slots)
+    requires { slots.now ≡ no_bindings 0 }
+{
+    page.title("Values of patterns and tasks");
+    page.line("depth of (3)", &depth_of_pattern(alloc, cells, slots));
+    page.line("depth of (go (3))", &depth_of_atom(alloc, cells, slots));
+    page.line(
+        "an ordered list of one immediate task",
+        &is_ordered(alloc, cells, slots),
+    );
 }
 
-#[test]
-fn slots_are_bound_and_undone(rt: HostRuntime) -> Result<(), Fail> {
-    let cells = Cells::new(rt.alloc())?;
-    let mut slots = Slots::new(rt.alloc(), 2)?;
+// A binding that is made and undone.
+fn show_binding(page: &mut Page, slots: &mut Slots, cell: Cell)
+    requires { slots.old ≡ no_bindings 2 }
+{
     let mark = slots.mark();
-    slots.bind(1, cells.nil());
-    assert_eq!(rt; slots.vars(), 2);
-    assert_eq!(rt; slots.mark(), 1);
-    assert!(rt; slots.get(0) == None && slots.get(1) == Some(cells.nil()));
+    slots.bind(1, cell);
+    page.line("variables", &slots.vars());
+    page.line("bindings", &slots.mark());
+    page.line("?0 is bound", &slots.get(0).is_some());
+    page.line("?1 is bound to its cell", &(slots.get(1) == Some(cell)));
     slots.undo_to(mark);
-    assert!(rt; slots.get(1) == None);
+    page.line("?1 is bound once that is undone", &slots.get(1).is_some());
+}
+
+fn show_slots(page: &mut Page, alloc: Global, cell: Cell) -> Result<(), AllocError> {
+    page.title("Slots are bound and undone");
+    let mut slots = Slots::new(alloc, 2)?;
+    show_binding(page, &mut slots, cell);
     Ok(())
 }
 
-// The atom (go ?0).
-fn open_atom(alloc: Global) -> Result<AtomPat, AllocError> {
-    let variable = Pat {
-        span: SPAN,
-        kind: PatKind::Var(0),
-    };
-    Ok(AtomPat {
-        span: SPAN,
-        name: Name::new(alloc, b"go")?,
-        args: vec![in alloc; variable]?,
-        tail: None,
-    })
+fn show_unbound(page: &mut Page, alloc: Global, cells: &mut Cells) -> Result<(), AllocError> {
+    let slots = Slots::new(alloc, 0)?;
+    show_patterns(page, alloc, cells, &slots);
+    Ok(())
 }
 
-fn stands_for(slots: &Slots, cell: Cell) -> bool {
-    slots.vars() == 1 && slots.get(0) == Some(cell)
-}
-
-// The head (go ?0) matches (go (3)).
-fn is_head_matched(alloc: Global) -> Result<bool, EvalStop> {
+/// Calls, values and slots.
+pub fn show_values(page: &mut Page, alloc: Global) -> Result<(), AllocError> {
+    page.title("Calls of numbers");
+    show_rows(page, alloc, &CALLS);
+    page.title("Faults of calls");
+    show_rows(page, alloc, &FAULTS);
     let mut cells = Cells::new(alloc)?;
-    let unbound = Slots::new(alloc, 0)?;
-    let (list, atom) = (pattern(alloc)?, atom(alloc)?);
-    let list = value(alloc, &list, &unbound, &mut cells)?;
-    let atom = atom_value(alloc, &atom, &unbound, &mut cells)?;
-    let head = open_atom(alloc)?;
-    let mut slots = Slots::new(alloc, 1)?;
-    let matches = match_atom(&head, atom, &cells, &mut slots);
-    Ok(matches && stands_for(&slots, list))
-}
-
-// The goal (go . ?0) matches (go (3)).
-fn is_goal_matched(alloc: Global) -> Result<bool, EvalStop> {
-    let mut cells = Cells::new(alloc)?;
-    let unbound = Slots::new(alloc, 0)?;
-    let atom = atom(alloc)?;
-    let atom = atom_value(alloc, &atom, &unbound, &mut cells)?;
-    let goal = Goal {
-        name: Name::new(alloc, b"go")?,
-        args: Vec::new(alloc),
-        tail: Some(0),
-    };
-    let mut slots = Slots::new(alloc, 1)?;
-    let matches = match_goal(&goal, atom, &cells, &mut slots);
-    match cells.get(atom) {
-        View::Cons(_, args) => Ok(matches && stands_for(&slots, args)),
-        _ => Ok(false),
-    }
-}
-
-// The head (go ?0) starts for the goal (go (3)).
-fn is_started(alloc: Global) -> Result<bool, EvalStop> {
-    let mut cells = Cells::new(alloc)?;
-    let unbound = Slots::new(alloc, 0)?;
-    let (list, atom) = (pattern(alloc)?, atom(alloc)?);
-    let list = value(alloc, &list, &unbound, &mut cells)?;
-    let goal = fill_goal(alloc, &atom, &unbound, &mut cells)?;
-    let head = open_atom(alloc)?;
-    let mut slots = Slots::new(alloc, 1)?;
-    let starts = start_goal(&head, &goal, &mut cells, &mut slots)?;
-    Ok(starts && stands_for(&slots, list))
-}
-
-#[test]
-fn heads_and_goals_bind_variables(rt: HostRuntime) {
-    assert!(rt; is_head_matched(rt.alloc()) == Ok(true));
-    assert!(rt; is_goal_matched(rt.alloc()) == Ok(true));
-    assert!(rt; is_started(rt.alloc()) == Ok(true));
+    show_slots(page, alloc, cells.nil())?;
+    show_unbound(page, alloc, &mut cells)
 }

@@ -32,7 +32,6 @@ pub enum Left {
 }
 
 /// Walks the tree of one task that is done in two ways.
-#[derive(Drop)]
 pub struct Twins {
     cells: Cells,
     world: World,
@@ -43,6 +42,22 @@ pub struct Twins {
     ghost world_is: { world ≡ record { past = []; now = record { places = []; guards = [] } } },
     ghost steps_are: { terms_at cells steps.items ≡ task ∷ [] },
     ghost below: { AllBelow (length cells) steps.items },
+}
+
+impl Drop for Twins {
+    fn drop(self) {
+        let Twins {
+            cells,
+            world,
+            steps,
+            at: _,
+            left: _,
+            at_did: _,
+        } = self;
+        drop(cells);
+        drop(world);
+        drop(steps);
+    }
 }
 
 // What a step meets, and where it leads.

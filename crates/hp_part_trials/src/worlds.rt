@@ -1,18 +1,15 @@
-//! Worlds that are changed and undone.
+//! Worlds that are changed and undone, and changes and costs.
+ghost use Rattle.std.specs.Prelude.{◌≡◌};
+ghost use Rattle.hp_eval.specs.Slotted.{no_bindings};
+
+use crate::fixtures::{of, of_a, symbol};
+use crate::page::Page;
 use hp_cells::{Cell, Cells};
 use hp_effect::{Changes, Part, cost};
 use hp_eval::{EvalStop, Slots};
-use hp_syntax::{AtomPat, Name, Pat, PatKind, Span};
+use hp_syntax::PatKind;
 use hp_world::{Applied, World};
 use std::alloc::{AllocError, Global};
-use std::test::Fail;
-
-const SPAN: Span = Span { from: 3, to: 19 };
-
-fn atom(alloc: Global, cells: &mut Cells, word: &[u8]) -> Result<Cell, AllocError> {
-    let name = Name::new(alloc, word)?;
-    cells.sym(&name)
-}
 
 // The world holds these atoms in this order, and no others.
 fn holds(world: &World, atoms: &[Cell]) -> bool {
@@ -34,111 +31,190 @@ fn undo(world: &mut World, mark: usize) {
     }
 }
 
-#[test]
-fn a_deleted_atom_comes_back_to_its_place(rt: HostRuntime) -> Result<(), Fail> {
-    let mut cells = Cells::new(rt.alloc())?;
-    let a = atom(rt.alloc(), &mut cells, b"a")?;
-    let b = atom(rt.alloc(), &mut cells, b"b")?;
-    let mut world = World::new(rt.alloc());
-    let first = world.apply(&[], &[], &[a, b], &[])?;
-    assert!(rt; first == Applied::Done && holds(&world, &[a, b]));
+fn apply(
+    world: &mut World,
+    unguard: &[Cell],
+    del: &[Cell],
+    add: &[Cell],
+    guard: &[Cell],
+) -> Result<Applied, AllocError> {
+    world.apply(unguard, del, add, guard)
+}
+
+// The atoms a and b.
+fn two_atoms(alloc: Global, cells: &mut Cells) -> Result<[Cell; 2], AllocError> {
+    let a = symbol(alloc, cells, b"a")?;
+    let b = symbol(alloc, cells, b"b")?;
+    Ok([a, b])
+}
+
+fn show_added(page: &mut Page, world: &mut World, a: Cell, b: Cell) -> Result<(), AllocError> {
+    page.line("a and b are added", &apply(world, &[], &[], &[a, b], &[])?);
+    page.line("a and b hold", &holds(world, &[a, b]));
+    Ok(())
+}
+
+// Of a and b, a is deleted and added again.
+fn show_moved(page: &mut Page, world: &mut World, a: Cell, b: Cell) -> Result<(), AllocError> {
+    page.line(
+        "a is deleted and added",
+        &apply(world, &[], &[a], &[a], &[])?,
+    );
+    page.line("b and a hold", &holds(world, &[b, a]));
+    Ok(())
+}
+
+// The copy has no trail and stays as it is, while the world goes back.
+fn show_undone(page: &mut Page, world: &mut World, copy: &World, mark: usize, a: Cell, b: Cell) {
+    undo(world, mark);
+    page.line("a and b hold once that is undone", &holds(world, &[a, b]));
+    page.line("b and a hold in a copy", &holds(copy, &[b, a]));
+    page.line("changes to undo in the copy", &copy.mark());
+}
+
+fn show_places(page: &mut Page, world: &mut World, a: Cell, b: Cell) -> Result<(), AllocError> {
+    page.title("A deleted atom comes back to its place");
+    show_added(page, world, a, b)?;
     let mark = world.mark();
-    let second = world.apply(&[], &[a], &[a], &[])?;
-    assert!(rt; second == Applied::Done && holds(&world, &[b, a]));
+    show_moved(page, world, a, b)?;
     let copy = world.copy()?;
-    undo(&mut world, mark);
-    assert!(rt; holds(&world, &[a, b]) && holds(&copy, &[b, a]) && copy.mark() == 0);
+    show_undone(page, world, &copy, mark, a, b);
     Ok(())
 }
 
-#[test]
-fn a_protected_atom_stays(rt: HostRuntime) -> Result<(), Fail> {
-    let mut cells = Cells::new(rt.alloc())?;
-    let a = atom(rt.alloc(), &mut cells, b"a")?;
-    let b = atom(rt.alloc(), &mut cells, b"b")?;
-    let mut world = World::new(rt.alloc());
-    let first = world.apply(&[], &[], &[a, b], &[a])?;
-    assert!(rt; first == Applied::Done);
-    let second = world.apply(&[], &[a], &[b], &[])?;
-    assert!(rt; second == Applied::Guarded(a) && holds(&world, &[a, b]));
-    assert!(rt; world.guards() == [a].as_slice());
-    let third = world.apply(&[a], &[a], &[], &[])?;
-    assert!(rt; third == Applied::Done && holds(&world, &[b]) && world.guards().is_empty());
+// The protected a is not deleted, before its protection is cancelled.
+fn show_guarded(page: &mut Page, world: &mut World, a: Cell, b: Cell) -> Result<(), AllocError> {
+    page.line(
+        "a and b are added, and a is guarded",
+        &apply(world, &[], &[], &[a, b], &[a])?,
+    );
+    let second = apply(world, &[], &[a], &[b], &[])?;
+    page.line(
+        "a is not deleted, being guarded",
+        &(second == Applied::Guarded(a)),
+    );
+    page.line("a and b hold", &holds(world, &[a, b]));
+    page.line("a alone is guarded", &(world.guards() == [a].as_slice()));
     Ok(())
 }
 
-#[test]
-fn a_cancelled_protection_comes_back(rt: HostRuntime) -> Result<(), Fail> {
-    let mut cells = Cells::new(rt.alloc())?;
-    let a = atom(rt.alloc(), &mut cells, b"a")?;
-    let mut world = World::new(rt.alloc());
-    let _ = world.apply(&[], &[], &[a], &[a, a])?;
+fn show_unguarded(page: &mut Page, world: &mut World, a: Cell, b: Cell) -> Result<(), AllocError> {
+    page.line(
+        "a is unguarded and deleted",
+        &apply(world, &[a], &[a], &[], &[])?,
+    );
+    page.line("b holds", &holds(world, &[b]));
+    page.line("nothing is guarded", &world.guards().is_empty());
+    Ok(())
+}
+
+// Of two protections of a, one is cancelled and comes back.
+fn show_twice_guarded(page: &mut Page, world: &mut World, a: Cell) -> Result<(), AllocError> {
+    page.line(
+        "a is added, and guarded twice",
+        &apply(world, &[], &[], &[a], &[a, a])?,
+    );
     let mark = world.mark();
-    let _ = world.apply(&[a], &[], &[], &[])?;
-    assert!(rt; world.guards() == [a].as_slice());
-    undo(&mut world, mark);
-    assert!(rt; world.guards() == [a, a].as_slice());
-    let last = world.apply(&[], &[a], &[], &[])?;
-    assert!(rt; last == Applied::Guarded(a));
+    page.line("a is unguarded", &apply(world, &[a], &[], &[], &[])?);
+    page.line("a is guarded once", &(world.guards() == [a].as_slice()));
+    undo(world, mark);
+    page.line(
+        "a is guarded twice once that is undone",
+        &(world.guards() == [a, a].as_slice()),
+    );
+    let last = apply(world, &[], &[a], &[], &[])?;
+    page.line(
+        "a is not deleted, being guarded",
+        &(last == Applied::Guarded(a)),
+    );
     Ok(())
 }
 
-fn numbers(alloc: Global, cells: &mut Cells, count: i64) -> Result<Vec<Cell>, AllocError> {
-    let mut numbers = Vec::new(alloc);
+fn show_moves(page: &mut Page, alloc: Global, a: Cell, b: Cell) -> Result<(), AllocError> {
+    show_places(page, &mut World::new(alloc), a, b)?;
+    page.title("A protected atom stays");
+    let mut world = World::new(alloc);
+    show_guarded(page, &mut world, a, b)?;
+    show_unguarded(page, &mut world, a, b)?;
+    page.title("A cancelled protection comes back");
+    show_twice_guarded(page, &mut World::new(alloc), a)
+}
+
+fn add_numbers(cells: &mut Cells, numbers: &mut Vec<Cell>, count: i64) -> Result<(), AllocError> {
     for n in 0..count {
         numbers.push(cells.num(n)?)?;
     }
-    Ok(numbers)
-}
-
-#[test]
-fn many_atoms_are_added_at_once(rt: HostRuntime) -> Result<(), Fail> {
-    let mut cells = Cells::new(rt.alloc())?;
-    let atoms = numbers(rt.alloc(), &mut cells, 80_000)?;
-    let mut world = World::new(rt.alloc());
-    let _ = world.apply(&[], &[], atoms.as_slice(), &[])?;
-    assert_eq!(rt; world.live(), 80_000);
     Ok(())
 }
 
-// The atom (p a).
-fn pattern(alloc: Global) -> Result<AtomPat, AllocError> {
-    let a = Pat {
-        span: SPAN,
-        kind: PatKind::Sym(Name::new(alloc, b"a")?),
-    };
-    Ok(AtomPat {
-        span: SPAN,
-        name: Name::new(alloc, b"p")?,
-        args: vec![in alloc; a]?,
-        tail: None,
-    })
-}
-
-// An atom that is put among the changes, and applied to an empty world.
-fn put_and_applied(alloc: Global) -> Result<bool, EvalStop> {
-    let mut cells = Cells::new(alloc)?;
-    let slots = Slots::new(alloc, 0)?;
-    let atom = pattern(alloc)?;
-    let mut changes = Changes::new(alloc);
-    changes.put(Part::Add, &atom, &slots, &mut cells)?;
+fn show_added_numbers(page: &mut Page, alloc: Global, numbers: &[Cell]) -> Result<(), AllocError> {
+    page.title("Many atoms are added at once");
     let mut world = World::new(alloc);
-    let applied = changes.apply_to(&mut world)?;
-    Ok(applied == Applied::Done && holds(&world, changes.list(Part::Add)))
+    let _ = apply(&mut world, &[], &[], numbers, &[])?;
+    page.line("atoms", &world.live());
+    Ok(())
 }
 
-fn cost_of_seven(alloc: Global) -> Result<i64, EvalStop> {
+fn show_many(page: &mut Page, alloc: Global, cells: &mut Cells) -> Result<(), AllocError> {
+    let mut numbers = Vec::new(alloc);
+    add_numbers(cells, &mut numbers, 80_000)?;
+    show_added_numbers(page, alloc, numbers.as_slice())
+}
+
+// An atom is put among the changes.
+fn put(
+    alloc: Global,
+    cells: &mut Cells,
+    slots: &Slots,
+    changes: &mut Changes,
+) -> Result<(), EvalStop>
+    requires { slots.now ≡ no_bindings 0 }
+{
+    let atom = of_a(alloc)?;
+    changes.put(Part::Add, &atom, slots, cells)
+}
+
+// The changes are applied to an empty world.
+fn show_applied(page: &mut Page, alloc: Global, changes: &Changes) -> Result<(), AllocError> {
+    let mut world = World::new(alloc);
+    page.line("they are applied", &changes.apply_to(&mut world)?);
+    page.line("(p a) holds", &holds(&world, changes.list(Part::Add)));
+    Ok(())
+}
+
+fn show_changes(
+    page: &mut Page,
+    alloc: Global,
+    cells: &mut Cells,
+    slots: &Slots,
+) -> Result<(), AllocError>
+    requires { slots.now ≡ no_bindings 0 }
+{
+    page.title("Changes are put and applied, and costs are told");
+    let mut changes = Changes::new(alloc);
+    page.line(
+        "(p a) is put among the atoms to add",
+        &put(alloc, cells, slots, &mut changes),
+    );
+    page.line("they are", &changes.list(Part::Add).len());
+    show_applied(page, alloc, &changes)?;
+    page.line(
+        "cost of 7",
+        &cost(alloc, &of(PatKind::Num(7)), slots, cells),
+    );
+    Ok(())
+}
+
+fn show_atoms(page: &mut Page, alloc: Global, cells: &mut Cells) -> Result<(), AllocError> {
+    let [a, b] = two_atoms(alloc, cells)?;
+    show_moves(page, alloc, a, b)?;
+    show_many(page, alloc, cells)
+}
+
+/// Worlds, changes and costs.
+pub fn show_worlds(page: &mut Page, alloc: Global) -> Result<(), AllocError> {
     let mut cells = Cells::new(alloc)?;
+    show_atoms(page, alloc, &mut cells)?;
     let slots = Slots::new(alloc, 0)?;
-    let seven = Pat {
-        span: SPAN,
-        kind: PatKind::Num(7),
-    };
-    cost(alloc, &seven, &slots, &mut cells)
-}
-
-#[test]
-fn changes_are_put_and_applied(rt: HostRuntime) {
-    assert!(rt; put_and_applied(rt.alloc()) == Ok(true));
-    assert!(rt; cost_of_seven(rt.alloc()) == Ok(7));
+    show_changes(page, alloc, &mut cells, &slots)
 }

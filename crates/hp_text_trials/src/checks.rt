@@ -1,97 +1,79 @@
 //! Domains and problems that are checked.
 
 use hp_check::{CheckFault, CheckKind, CheckRefusal, check, check_domain};
-use hp_syntax::{
-    AtomPat, Domain, Expr, ExprKind, Name, Operator, Pat, PatKind, Pre, Problem, Rule, Span,
-};
-use std::alloc::{AllocError, Global};
+use hp_forms::{domain, problem};
+use hp_syntax::{Domain, Problem, Span};
+use hp_text::read;
+use std::alloc::Global;
 use std::test::Fail;
 
-const RULE: Span = Span { from: 14, to: 52 };
-
-const COST: Span = Span { from: 40, to: 46 };
-
-const NAMED: Span = Span { from: 20, to: 25 };
-
-fn call(alloc: Global, name: &[u8]) -> Result<PatKind, AllocError> {
-    Ok(PatKind::Call(Name::new(alloc, name)?, Vec::new(alloc)))
+/// A domain of one operator with this cost.
+fn domain_of(alloc: Global, cost: &str) -> Result<Domain, Fail> {
+    let text = format!(in alloc; "(defdomain basic ((:operator (!go) () () () {cost})))")?;
+    let forest = read(alloc, text.as_bytes())?;
+    Ok(domain(alloc, &forest)?)
 }
 
-/// One operator without effects, of this cost.
-fn domain(alloc: Global, cost: PatKind) -> Result<Domain, AllocError> {
-    let operator = Operator {
-        span: RULE,
-        vars: Vec::new(alloc),
-        head: AtomPat {
-            span: RULE,
-            name: Name::new(alloc, b"!go")?,
-            args: Vec::new(alloc),
-            tail: None,
-        },
-        pre: Pre::Plain(Expr {
-            span: RULE,
-            kind: ExprKind::And(Vec::new(alloc)),
-        }),
-        dels: Vec::new(alloc),
-        adds: Vec::new(alloc),
-        cost: Pat {
-            span: COST,
-            kind: cost,
-        },
-    };
-    Ok(Domain {
-        name: Name::new(alloc, b"basic")?,
-        rules: vec![in alloc; Rule::Operator(operator)]?,
-    })
+/// A problem of the domain of this name.
+fn problem_of(alloc: Global, named: &str) -> Result<Problem, Fail> {
+    let text = format!(in alloc; "(defproblem problem {named} () ())")?;
+    let forest = read(alloc, text.as_bytes())?;
+    Ok(problem(alloc, &forest)?)
 }
 
-fn problem(alloc: Global, named: &[u8]) -> Result<Problem, AllocError> {
-    Ok(Problem {
-        name: Name::new(alloc, b"problem")?,
-        domain: Name::new(alloc, named)?,
-        domain_span: NAMED,
-        vars: Vec::new(alloc),
-        pairs: Vec::new(alloc),
-    })
+/// What the check finds in a domain with this cost.
+fn domain_fault(alloc: Global, cost: &str) -> Result<Option<CheckFault>, Fail> {
+    let domain = domain_of(alloc, cost)?;
+    Ok(check_domain(&domain))
 }
 
-fn fault(kind: CheckKind, in_problem: bool, span: Span) -> CheckFault {
+/// How many notes the check gives on a domain with this cost and a problem of the domain of this name.
+fn notes(alloc: Global, cost: &str, named: &str) -> Result<Result<usize, CheckRefusal>, Fail> {
+    let domain = domain_of(alloc, cost)?;
+    let problem = problem_of(alloc, named)?;
+    Ok(check(alloc, &domain, &problem).map(|notes| notes.list.len()))
+}
+
+fn fault(kind: CheckKind, in_problem: bool, from: u32, to: u32) -> CheckFault {
     CheckFault {
         kind,
         in_problem,
-        span,
+        span: Span { from, to },
     }
 }
 
 #[test]
 fn a_domain_is_checked(rt: HostRuntime) -> Result<(), Fail> {
-    let alloc = rt.alloc();
-    assert_eq!(rt; check_domain(&domain(alloc, PatKind::Num(1))?), None);
-    let unknown = fault(CheckKind::UnknownCall, false, COST);
-    assert_eq!(rt;
-        check_domain(&domain(alloc, call(alloc, b"sqrt")?)?),
-        Some(unknown)
-    );
-    let other_count = fault(CheckKind::CallArity, false, COST);
-    assert_eq!(rt;
-        check_domain(&domain(alloc, call(alloc, b"abs")?)?),
-        Some(other_count)
-    );
+    for (cost, want) in [
+        ("1", None),
+        (
+            "(call sqrt)",
+            Some(fault(CheckKind::UnknownCall, false, 44, 55)),
+        ),
+        (
+            "(call abs)",
+            Some(fault(CheckKind::CallArity, false, 44, 54)),
+        ),
+    ] {
+        assert_eq!(rt; domain_fault(rt.alloc(), cost)?, want, "at {cost}");
+    }
     Ok(())
 }
 
 #[test]
 fn a_problem_is_checked(rt: HostRuntime) -> Result<(), Fail> {
-    let alloc = rt.alloc();
-    let fine = domain(alloc, PatKind::Num(1))?;
-    let own = problem(alloc, b"basic")?;
-    let other = problem(alloc, b"basics")?;
-    assert!(rt; matches!(&check(alloc, &fine, &own), Ok(notes) if notes.list.is_empty()));
-    let refusal = check(alloc, &fine, &other).err();
-    let wanted = CheckRefusal::Fault(fault(CheckKind::OtherDomain, true, NAMED));
-    assert_eq!(rt; refusal, Some(wanted));
-    let refusal = check(alloc, &domain(alloc, call(alloc, b"sqrt")?)?, &other).err();
-    let wanted = CheckRefusal::Fault(fault(CheckKind::UnknownCall, false, COST));
-    assert_eq!(rt; refusal, Some(wanted));
+    let other = fault(CheckKind::OtherDomain, true, 20, 26);
+    let unknown = fault(CheckKind::UnknownCall, false, 44, 55);
+    for (cost, named, want) in [
+        ("1", "basic", Ok(0)),
+        ("1", "basics", Err(CheckRefusal::Fault(other))),
+        ("(call sqrt)", "basics", Err(CheckRefusal::Fault(unknown))),
+    ] {
+        assert_eq!(rt;
+            notes(rt.alloc(), cost, named)?,
+            want,
+            "at {cost} in {named}"
+        );
+    }
     Ok(())
 }

@@ -61,29 +61,48 @@ fn is_ordered(tasks: &NetPat) -> bool {
     matches!(tasks, NetPat::Ordered(parts) if parts.len() == 1 && parts.iter().all(is_immediate))
 }
 
-#[test]
-fn copies_show_the_same(rt: HostRuntime) -> Result<(), Fail> {
-    let alloc = rt.alloc();
-    assert!(rt; is_call(&call(alloc)?.copy(alloc)?));
-    assert!(rt; is_atom(&atom(alloc)?.copy(alloc)?));
-    let key = SortKey {
+fn key(alloc: Global) -> Result<SortKey, AllocError> {
+    Ok(SortKey {
         span: INNER,
         var: 4,
         order: SortOrder::Unknown(Name::new(alloc, b"up")?, OUTER),
-    };
-    let copy = key.copy(alloc)?;
-    assert!(rt; copy.span == INNER && copy.var == 4);
-    assert!(rt;
-        matches!(&copy.order, SortOrder::Unknown(name, span) if name.bytes() == b"up".as_slice() && *span == OUTER)
-    );
+    })
+}
+
+fn is_key(key: &SortKey) -> bool {
+    let is_up =
+        matches!(&key.order, SortOrder::Unknown(name, span) if name.bytes() == b"up".as_slice() && *span == OUTER);
+    key.span == INNER && key.var == 4 && is_up
+}
+
+/// An immediate task below an order, and below none.
+fn tasks(alloc: Global) -> Result<NetPat, AllocError> {
     let task = NetPat::Task(TaskPat {
         atom: atom(alloc)?,
         immediate: true,
     });
     let inner = NetPat::Ordered(vec![in alloc; task]?);
-    let copy = NetPat::Unordered(vec![in alloc; inner]?).copy(alloc)?;
-    assert!(rt;
-        matches!(&copy, NetPat::Unordered(parts) if parts.len() == 1 && parts.iter().all(is_ordered))
-    );
+    Ok(NetPat::Unordered(vec![in alloc; inner]?))
+}
+
+fn are_tasks(tasks: &NetPat) -> bool {
+    matches!(tasks, NetPat::Unordered(parts) if parts.len() == 1 && parts.iter().all(is_ordered))
+}
+
+#[test]
+fn copies_of_terms_show_the_same(rt: HostRuntime) -> Result<(), Fail> {
+    let call = call(rt.alloc())?;
+    let atom = atom(rt.alloc())?;
+    assert!(rt; is_call(&call.copy(rt.alloc())?));
+    assert!(rt; is_atom(&atom.copy(rt.alloc())?));
+    Ok(())
+}
+
+#[test]
+fn copies_of_keys_and_tasks_show_the_same(rt: HostRuntime) -> Result<(), Fail> {
+    let key = key(rt.alloc())?;
+    let tasks = tasks(rt.alloc())?;
+    assert!(rt; is_key(&key.copy(rt.alloc())?));
+    assert!(rt; are_tasks(&tasks.copy(rt.alloc())?));
     Ok(())
 }

@@ -1,121 +1,10 @@
-//! Where domains and problems are refused by the grammar, and how wide they may be.
+//! How wide domains and problems may be, and what is left out. What the grammar refuses is shown by `hp_trials`.
 
-use hp_forms::{FormRefusal, What, domain, into_domain, into_problem, problem};
-use hp_syntax::{PatKind, Rule, Span};
-use hp_text::read;
+use hp_forms::{domain, problem};
+use hp_syntax::{PatKind, Rule};
+use hp_text::{TextRefusal, read};
 use std::alloc::{AllocError, Global};
 use std::test::Fail;
-
-fn expected(what: What, from: u32, to: u32) -> Option<FormRefusal> {
-    Some(FormRefusal::Expected {
-        what,
-        span: Span { from, to },
-    })
-}
-
-#[test]
-fn domains_are_refused_where_the_grammar_stops(rt: HostRuntime) -> Result<(), Fail> {
-    for (text, want) in [
-        ("", expected(What::Domain, 0, 0)),
-        ("x", expected(What::Domain, 0, 1)),
-        ("(defdomain d ()) y", expected(What::End, 17, 18)),
-        ("(defdomain . ())", expected(What::Name, 11, 12)),
-        ("(defdomain d x)", expected(What::Rules, 13, 14)),
-        ("(defdomain d (x))", expected(What::Rule, 14, 15)),
-        (
-            "(defdomain d ((:operator (go) () () ())))",
-            expected(What::Head, 25, 29),
-        ),
-        (
-            "(defdomain d ((:operator (!go) x () ())))",
-            expected(What::Pre, 31, 32),
-        ),
-        (
-            "(defdomain d ((:operator (!go) (1) () ())))",
-            expected(What::Expr, 31, 34),
-        ),
-        (
-            "(defdomain d ((:operator (!go) (assign x 1) () ())))",
-            expected(What::Variable, 39, 40),
-        ),
-        (
-            "(defdomain d ((:operator (!go . x) () () ())))",
-            expected(What::Tail, 32, 33),
-        ),
-        (
-            "(defdomain d ((:operator (!go (. a)) () () ())))",
-            expected(What::Term, 31, 32),
-        ),
-        (
-            "(defdomain d ((:operator (!go) () (p) ())))",
-            expected(What::Atom, 35, 36),
-        ),
-        (
-            "(defdomain d ((:operator (!go) () p ())))",
-            expected(What::Effects, 34, 35),
-        ),
-        (
-            "(defdomain d ((:operator (!go) () () () 1 2)))",
-            expected(What::End, 42, 43),
-        ),
-        (
-            "(defdomain d ((:method (go) () p)))",
-            expected(What::Tasks, 31, 32),
-        ),
-        (
-            "(defdomain d ((:method (go) and and ())))",
-            expected(What::Pre, 32, 35),
-        ),
-        (
-            "(defdomain d ((:method (go))))",
-            expected(What::Pre, 27, 28),
-        ),
-        ("(defdomain d ((:- (p))))", expected(What::Expr, 21, 22)),
-        ("(defdomain d ((:- (p) nil nil)))", None),
-    ] {
-        let forest = read(rt.alloc(), text.as_bytes())?;
-        assert_eq!(rt; domain(rt.alloc(), &forest).err(), want, "in {text}");
-        assert_eq!(rt; into_domain(rt.alloc(), forest).err(), want, "in {text}");
-    }
-    Ok(())
-}
-
-#[test]
-fn problems_are_refused_where_the_grammar_stops(rt: HostRuntime) -> Result<(), Fail> {
-    let several = Some(FormRefusal::SeveralPairs {
-        span: Span { from: 22, to: 24 },
-    });
-    for (text, want) in [
-        ("x", expected(What::Problem, 0, 1)),
-        ("(defproblem p)", expected(What::Name, 13, 14)),
-        ("(defproblem p d (p) ())", expected(What::Atom, 17, 18)),
-        ("(defproblem p d x ())", expected(What::Atoms, 16, 17)),
-        (
-            "(defproblem p d ((q (call + 1 2))) ())",
-            expected(What::Ground, 20, 32),
-        ),
-        (
-            "(defproblem p d ((q a b . (c d))) (:immediate))",
-            expected(What::Name, 45, 46),
-        ),
-        ("(defproblem p d () ((a) 1))", expected(What::Tasks, 24, 25)),
-        (
-            "(defproblem p d () (:ordered (a) b))",
-            expected(What::Tasks, 33, 34),
-        ),
-        (
-            "(defproblem p d () (:unordered (a) (nil (b) c)))",
-            expected(What::Tasks, 44, 45),
-        ),
-        ("(defproblem p d () () ()) x", several),
-        ("(defproblem p d () ())", None),
-    ] {
-        let forest = read(rt.alloc(), text.as_bytes())?;
-        assert_eq!(rt; problem(rt.alloc(), &forest).err(), want, "in {text}");
-        assert_eq!(rt; into_problem(rt.alloc(), forest).err(), want, "in {text}");
-    }
-    Ok(())
-}
 
 /// A text of a front, a part many times, and an end.
 fn wide(
@@ -133,6 +22,18 @@ fn wide(
     Ok(text)
 }
 
+/// Whether a text is a domain.
+fn is_domain(alloc: Global, text: &[u8]) -> Result<bool, TextRefusal> {
+    let forest = read(alloc, text)?;
+    Ok(domain(alloc, &forest).is_ok())
+}
+
+/// Whether a text is a problem.
+fn is_problem(alloc: Global, text: &[u8]) -> Result<bool, TextRefusal> {
+    let forest = read(alloc, text)?;
+    Ok(problem(alloc, &forest).is_ok())
+}
+
 /// Lists may be as wide as a text is long: only nesting takes room on the stack.
 #[test]
 fn wide_lists_are_read_and_dropped(rt: HostRuntime) -> Result<(), Fail> {
@@ -145,13 +46,12 @@ fn wide_lists_are_read_and_dropped(rt: HostRuntime) -> Result<(), Fail> {
         ("(defdomain d (", "(:- (p) ())", 60_000, "))"),
     ] {
         let text = wide(rt.alloc(), front, part, count, end)?;
-        let forest = read(rt.alloc(), text.as_slice())?;
-        assert!(rt; domain(rt.alloc(), &forest).is_ok(), "in {front}");
+        assert!(rt; is_domain(rt.alloc(), text.as_slice())?, "in {front}");
     }
     Ok(())
 }
 
-/// So may those of a problem, whose nodes are let go one by one.
+/// So may those of a problem.
 #[test]
 fn wide_problems_are_read_and_dropped(rt: HostRuntime) -> Result<(), Fail> {
     for (front, part, count, end) in [
@@ -161,25 +61,26 @@ fn wide_problems_are_read_and_dropped(rt: HostRuntime) -> Result<(), Fail> {
         ("(defproblem p d () (:ordered (nil", " (q)", 60_000, ")))"),
     ] {
         let text = wide(rt.alloc(), front, part, count, end)?;
-        let forest = read(rt.alloc(), text.as_slice())?;
-        assert!(rt; into_problem(rt.alloc(), forest).is_ok(), "in {front}");
+        assert!(rt; is_problem(rt.alloc(), text.as_slice())?, "in {front}");
     }
     Ok(())
+}
+
+/// Whether a rule is an operator whose cost is one, and stands where the operator does.
+fn costs_one(rule: &Rule) -> bool {
+    match rule {
+        Rule::Operator(operator) => {
+            matches!(operator.cost.kind, PatKind::Num(1)) && operator.cost.span == operator.span
+        }
+        _ => false,
+    }
 }
 
 #[test]
 fn a_cost_that_is_left_out_is_one(rt: HostRuntime) -> Result<(), Fail> {
     let forest = read(rt.alloc(), b"(defdomain d ((:operator (!go) () () ())))")?;
-    let Ok(read) = domain(rt.alloc(), &forest) else {
-        panic!(rt; "not a domain");
-    };
+    let read = domain(rt.alloc(), &forest)?;
     assert_eq!(rt; read.rules.len(), 1);
-    match &read.rules[0] {
-        Rule::Operator(operator) => {
-            assert!(rt; matches!(operator.cost.kind, PatKind::Num(1)));
-            assert_eq!(rt; operator.cost.span, operator.span);
-        }
-        _ => panic!(rt; "not an operator"),
-    }
+    assert!(rt; costs_one(&read.rules[0]));
     Ok(())
 }

@@ -16,6 +16,12 @@ fn unknown_order() -> CheckFault {
     }
 }
 
+/// Whether a sink takes the whole line of a refusal.
+fn writes_refusal(sink: &mut MemSink, refusal: &Refusal, line: &[u8]) -> bool {
+    let mut pen = Pen::new(sink);
+    pen.refusal_line(refusal).is_ok() && sink.bytes() == line
+}
+
 #[test]
 fn refusals_have_a_line_each(rt: HostRuntime) -> Result<(), Fail> {
     for (refusal, line) in [
@@ -44,11 +50,15 @@ fn refusals_have_a_line_each(rt: HostRuntime) -> Result<(), Fail> {
         ),
     ] {
         let mut sink = MemSink::new(rt.alloc(), 100)?;
-        let mut pen = Pen::new(&mut sink);
-        assert!(rt; pen.refusal_line(&refusal).is_ok());
-        assert_eq!(rt; sink.bytes(), line);
+        assert!(rt; writes_refusal(&mut sink, &refusal, line));
     }
     Ok(())
+}
+
+/// Whether a sink takes an empty text and then the whole line of a note.
+fn writes_note(sink: &mut MemSink, note: &Note, line: &[u8]) -> bool {
+    let mut pen = Pen::new(sink);
+    pen.text(b"").is_ok() && pen.note_line(note).is_ok() && sink.bytes() == line
 }
 
 #[test]
@@ -66,10 +76,7 @@ fn notes_have_a_line_each(rt: HostRuntime) -> Result<(), Fail> {
             in_problem,
         };
         let mut sink = MemSink::new(rt.alloc(), 100)?;
-        let mut pen = Pen::new(&mut sink);
-        assert!(rt; pen.text(b"").is_ok());
-        assert!(rt; pen.note_line(&note).is_ok());
-        assert_eq!(rt; sink.bytes(), line);
+        assert!(rt; writes_note(&mut sink, &note, line));
     }
     Ok(())
 }
@@ -96,6 +103,12 @@ fn zero_divisor() -> RunFault {
     }
 }
 
+/// Whether a sink takes the whole line of an ending.
+fn writes_ending(sink: &mut MemSink, ending: &Ending, line: &[u8]) -> bool {
+    let mut pen = Pen::new(sink);
+    pen.ending_line(ending, 2, 12).is_ok() && sink.bytes() == line
+}
+
 #[test]
 fn endings_have_a_line_each(rt: HostRuntime) -> Result<(), Fail> {
     for (ending, line) in [
@@ -113,14 +126,10 @@ fn endings_have_a_line_each(rt: HostRuntime) -> Result<(), Fail> {
         // It goes out in one piece, since a second write would fail.
         let mut sink = MemSink::new(rt.alloc(), 100)?;
         sink.fail_at(1)?;
-        let mut pen = Pen::new(&mut sink);
-        assert!(rt; pen.ending_line(&ending, 2, 12).is_ok());
-        assert_eq!(rt; sink.bytes(), line);
+        assert!(rt; writes_ending(&mut sink, &ending, line));
         let mut slow = MemSink::new(rt.alloc(), 100)?;
         slow.take_at_most(3);
-        let mut pen = Pen::new(&mut slow);
-        assert!(rt; pen.ending_line(&ending, 2, 12).is_ok());
-        assert_eq!(rt; slow.bytes(), line);
+        assert!(rt; writes_ending(&mut slow, &ending, line));
     }
     Ok(())
 }

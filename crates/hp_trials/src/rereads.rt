@@ -1,9 +1,9 @@
 //! Canonical text reads back: what a text is read as, written and read again.
 
+use crate::trial::{repeated, tell};
 use hp_print::{domain_text, problem_text};
 use hp_top::rereading::{RereadError, reread_domain, reread_problem};
-use std::alloc::Global;
-use std::test::Fail;
+use std::alloc::{AllocError, Global};
 
 /// Operators, axioms and methods of a town, with each construct of the language.
 const ERRANDS: &str = "; a comment
@@ -30,65 +30,58 @@ const SATURDAY: &str = "(defproblem saturday errands
   ((at me home) (purse -20) (list (bread apples . (milk))))
   (:unordered (fetch-all (bread apples)) (leave front-door)))";
 
-#[test]
-fn domains_read_back(rt: HostRuntime) -> Result<(), Fail> {
+/// Tries domains, problems, and texts that are not read twice.
+pub fn try_all(alloc: Global, out: &mut Vec<u8>) -> Result<(), AllocError> {
     for text in [
         "(defdomain d ())",
         "(defdomain d nil) ; and no more",
         ERRANDS,
+        "(defdomain d",
+        "(defproblem p d () ())",
     ] {
-        let Ok(read) = reread_domain(rt.alloc(), text.as_bytes()) else {
-            panic!(rt; "not read twice: {text}");
-        };
-        let first = domain_text(rt.alloc(), &read.first)?;
-        let second = domain_text(rt.alloc(), &read.second)?;
-        assert!(rt; first.as_slice() == second.as_slice(), "in {text}");
+        tell_reread(out, domain_is_kept(alloc, text.as_bytes()))?;
     }
-    Ok(())
-}
-
-#[test]
-fn problems_read_back(rt: HostRuntime) -> Result<(), Fail> {
     for text in [
         "(defproblem p d () ())",
         "(defproblem p d ((a . nil)) (nil))",
         SATURDAY,
     ] {
-        let Ok(read) = reread_problem(rt.alloc(), text.as_bytes()) else {
-            panic!(rt; "not read twice: {text}");
-        };
-        let first = problem_text(rt.alloc(), &read.first)?;
-        let second = problem_text(rt.alloc(), &read.second)?;
-        assert!(rt; first.as_slice() == second.as_slice(), "in {text}");
+        tell_reread(out, problem_is_kept(alloc, text.as_bytes()))?;
     }
-    Ok(())
+    let deep = deep_domain(alloc)?;
+    tell_reread(out, domain_is_kept(alloc, deep.as_bytes()))
 }
 
-/// A text again and again.
-fn repeated(alloc: Global, text: &str, count: u32) -> Result<String, Fail> {
-    let mut all = String::new(alloc);
-    for _i in 0..count {
-        all.push_str(text)?;
-    }
-    Ok(all)
+fn tell_reread(out: &mut Vec<u8>, is_kept: Result<bool, RereadError>) -> Result<(), AllocError> {
+    let line = match is_kept {
+        Ok(true) => "# read back: the same",
+        Ok(false) => "# read back: another",
+        Err(RereadError::NoMemory) => "# not read back: no memory",
+        Err(RereadError::Unreadable) => "# not read back: unreadable",
+        Err(RereadError::TooLong) => "# not read back: too long",
+    };
+    tell(out, line)
 }
 
-/// Texts that have no form, and one whose brackets nest too deep once each `imply` is written as an `or` of a `not`.
-#[test]
-fn texts_are_not_read_twice(rt: HostRuntime) -> Result<(), Fail> {
-    let alloc = rt.alloc();
+/// Whether a domain and what is read of its canonical text have the same canonical text.
+fn domain_is_kept(alloc: Global, text: &[u8]) -> Result<bool, RereadError> {
+    let read = reread_domain(alloc, text)?;
+    let first = domain_text(alloc, &read.first)?;
+    let second = domain_text(alloc, &read.second)?;
+    Ok(first.as_slice() == second.as_slice())
+}
+
+/// Whether a problem and what is read of its canonical text have the same canonical text.
+fn problem_is_kept(alloc: Global, text: &[u8]) -> Result<bool, RereadError> {
+    let read = reread_problem(alloc, text)?;
+    let first = problem_text(alloc, &read.first)?;
+    let second = problem_text(alloc, &read.second)?;
+    Ok(first.as_slice() == second.as_slice())
+}
+
+/// Its brackets nest too deep once each `imply` is written as an `or` of a `not`.
+fn deep_domain(alloc: Global) -> Result<String, AllocError> {
     let open = repeated(alloc, "(imply ", 40)?;
     let close = repeated(alloc, " (q))", 40)?;
-    let deep = format!(in alloc; "(defdomain d ((:- (p) {open}(q){close})))")?;
-    for (text, want) in [
-        ("(defdomain d", RereadError::Unreadable),
-        ("(defproblem p d () ())", RereadError::Unreadable),
-        (deep.as_str(), RereadError::TooLong),
-    ] {
-        let Err(told) = reread_domain(alloc, text.as_bytes()) else {
-            panic!(rt; "read twice: {text}");
-        };
-        assert_eq!(rt; told, want, "in {text}");
-    }
-    Ok(())
+    format!(in alloc; "(defdomain d ((:- (p) {open}(q){close})))")
 }

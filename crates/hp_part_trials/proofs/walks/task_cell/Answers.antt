@@ -1,4 +1,4 @@
-use Rattle.std.proofs.Common.{sym, ap, Some, ◌∙◌}
+use Rattle.std.proofs.Common.{ap, Some, ◌∙◌}
 use Rattle.hp_syntax.specs.Terms.{Symbol, Listed, NoTerm, More}
 use Rattle.hp_part_trials.proofs.walks.task_cell.Goals as goal
 

@@ -1,4 +1,4 @@
-use Rattle.std.proofs.Common.{refl, ap, sym, subst, pos, ◌≡◌}
+use Rattle.std.proofs.Common.{ap, sym, pos, ◌≡◌}
 use Rattle.hp_part_trials.specs.Twins.{node_of}
 use Rattle.hp_part_trials.proofs.TwinLemmas.{at_node}
 use Rattle.hp_part_trials.proofs.walks.TwinsWalk.cost.Goals as goal

@@ -1,4 +1,4 @@
-use Rattle.std.proofs.Common.{refl, ap, sym, ◌∙◌, ◌≡◌, List, []}
+use Rattle.std.proofs.Common.{ap, sym, ◌∙◌, ◌≡◌, List, []}
 use Rattle.hp_syntax.specs.Terms.{Term}
 use Rattle.hp_world.specs.Stages.{terms_at}
 use Rattle.hp_part_trials.specs.Twins.{node_of}

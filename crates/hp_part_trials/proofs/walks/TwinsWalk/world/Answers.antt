@@ -1,4 +1,4 @@
-use Rattle.std.proofs.Common.{refl, ap, sym, ◌∙◌, ◌≡◌}
+use Rattle.std.proofs.Common.{ap, ◌∙◌, ◌≡◌}
 use Rattle.hp_world.specs.Stages.{state_of, guards_of}
 use Rattle.hp_part_trials.proofs.TwinLemmas.{at_node, no_state, no_guards}
 use Rattle.hp_part_trials.proofs.walks.TwinsWalk.world.Goals as goal
