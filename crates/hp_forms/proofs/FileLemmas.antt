@@ -1,11 +1,12 @@
 -- A file whose only node is read from no names on.
-use Rattle.std.proofs.Common.{◌≡◌, ◌∙◌, ap, sym, refl, ℕ, List, Result, Ok, Err, [], true, false, cond}
+use Rattle.std.proofs.Common.{◌≡◌, ◌∙◌, ap, sym, refl, ℕ, List, Result, Ok, Err, [], true, false, cond, bytes_eq, Bool, Some, None}
 use Rattle.hp_syntax.specs.declared.form.What.{What}
 use Rattle.hp_syntax.specs.declared.form.What.TheVariants as wants
 use Rattle.hp_syntax.specs.declared.pattern.Span.{Span}
 use Rattle.hp_syntax.specs.Forest.{Node, Forest, Word, Numeral, Group, Bare, Grow, span_of}
 use Rattle.hp_syntax.specs.Steps.{Misform, Expected, Names, Step, and_then, pure, ended, next, expected, is_word, ◌>>=◌, value_in, from_no_names}
-use Rattle.hp_syntax.specs.Grammar.{file, file_list}
+use Rattle.hp_syntax.specs.Grammar.{file, file_list, list, is_nil}
+use Rattle.hp_text.specs.Nodes.{parts_of}
 use Rattle.hp_forms.specs.FormReads.{Refuses, Reads, Gives}
 use Rattle.hp_forms.specs.declared.refusal.FormRefusal.{FormRefusal}
 use Rattle.hp_forms.specs.declared.refusal.FormRefusal.TheVariants as refusals
@@ -97,6 +98,49 @@ module _ {A : Type 0} (what : What) (key : List ℕ) (parts : Span → Forest �
   list_unnamed (Word t text) rest h = ap (λ b. cond b (parts s rest) (expected what s) names) h
   list_unnamed (Numeral t n) rest h = refl
   list_unnamed (Group t f) rest h = refl
+
+-- what has no parts begins with no word
+pub partless_refused : {A : Type 0} (what : What) (key : List ℕ) (parts : Span → Forest → Step A) (n : Node)
+    (names : Names) → parts_of n ≡ None → file_list what key parts n names ≡ Err (Expected what (span_of n))
+unfolding file_list
+partless_refused what key parts (Word s text) names h = refl
+partless_refused what key parts (Numeral s n) names h = refl
+partless_refused what key parts (Group s f) names h = cc
+
+-- the items of what has parts are the parts
+pub list-parts : (what : What) (n : Node) (f : Forest) (names : Names) → parts_of n ≡ Some f
+    → list what n names ≡ Ok (f, names)
+unfolding list
+list-parts what (Word s text) f names h = cc
+list-parts what (Numeral s n) f names h = cc
+list-parts what (Group s g) f names h = cc
+
+-- the items of what has no parts are none
+pub list-none : (what : What) (n : Node) (f : Forest) (names : Names) → parts_of n ≡ None
+    → list what n names ≡ Ok (f, names) → list what n names ≡ Ok (Bare, names)
+unfolding list
+list-none what (Word s text) f names h r = word (is_nil text) r
+  where
+    word : (b : Bool) → cond b (pure Bare) (expected what s) names ≡ Ok (f, names)
+        → cond b (pure Bare) (expected what s) names ≡ Ok (Bare, names)
+    word true r = refl
+    word false r = cc
+list-none what (Numeral s n) f names h r = cc
+list-none what (Group s g) f names h r = cc
+
+-- a list that begins with a word is read by what follows the word
+pub list_behind : {A : Type 0} (what : What) (key : List ℕ) (parts : Span → Forest → Step A) (n : Node) (names : Names)
+    → file_list what key parts n names
+    ≡ and_then (file_list what key (λ s rest. pure rest) n names) (parts (span_of n))
+unfolding file_list
+list_behind what key parts (Word s text) names = refl
+list_behind what key parts (Numeral s n) names = refl
+list_behind what key parts (Group s Bare) names = refl
+list_behind what key parts (Group s (Grow (Numeral t n) rest)) names = refl
+list_behind what key parts (Group s (Grow (Group t f) rest)) names = refl
+list_behind what key parts (Group s (Grow (Word t text) rest)) names = elim (bytes_eq text key) as
+    (λ b. cond b (parts s rest) (expected what s) names
+    ≡ and_then (cond b (pure rest) (expected what s) names) (parts s)) [ true ↦ refl | false ↦ refl ]
 
 -- what reading gives of a step it gives of one that gives the same
 pub reads_same : {X Y : Type 0} (view : X → Y) (r : Result X FormRefusal) (one other : Step Y) (before after : Names)

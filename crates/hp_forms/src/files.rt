@@ -4,21 +4,20 @@
 ghost use Rattle.std.specs.Prelude.{◌≡◌, ◌∷◌, [], codes, map, IfOk};
 ghost use Rattle.hp_syntax.specs.declared.form.What.TheVariants as wants;
 ghost use Rattle.hp_syntax.specs.Steps as steps;
-ghost use Rattle.hp_syntax.specs.Steps.{Names};
+ghost use Rattle.hp_syntax.specs.Steps.{Names, pure};
 ghost use Rattle.hp_syntax.specs.Grammar as grammar;
 ghost use Rattle.hp_syntax.specs.Views.{atom_of, domain_of, pair_of, problem_of, rule_of};
 ghost use Rattle.hp_text.specs.Nodes.{node_of, nodes_of, forest_of};
 ghost use Rattle.hp_forms.specs.FormReads.{Reads, Gives};
 
-use crate::names::is;
-use crate::nodes::{closing, ended, expected, is_word, name};
+use crate::nodes::{closing, ended, expected, is_word, list, name, next};
 use crate::refusal::FormRefusal;
 use crate::rules::rule;
 use crate::scope::Scope;
 use crate::tasks::tasks;
 use crate::terms::{Setting, atom};
 use hp_syntax::{AtomPat, Domain, Name, Pair, Problem, Rule, Span, What};
-use hp_text::{Forest, Node, NodeKind};
+use hp_text::{Forest, Node};
 use std::alloc::{AllocError, Global};
 
 /// The empty span at the end of a file.
@@ -43,16 +42,31 @@ fn take_next(what: What, end: Span, nodes: &mut Vec<Node>) -> Result<Node, FormR
 }
 
 /// The items of a list, taken out of it; `nil` has none.
-#[tactic(auto, unfolding(hp_syntax::specs::Grammar::list))]
 fn into_list(alloc: Global, what: What, node: Node) -> Result<Vec<Node>, FormRefusal>
     ensures { (names : Names) → Reads (λ nodes. nodes_of nodes.items) result (grammar.list what (node_of node))
         names names }
 {
-    match node.kind {
-        NodeKind::List(nodes) => Ok(nodes),
-        NodeKind::Name(name) if is(&name, b"nil") => Ok(Vec::new(alloc)),
-        _ => expected(what, node.span),
+    list(what, &node)?;
+    match node.into_parts() {
+        Some(parts) => Ok(parts),
+        None => Ok(Vec::new(alloc)),
     }
+}
+
+/// What follows the word in a list that begins with it; else this is wanted.
+fn behind_word(what: What, word: &[u8], node: Node) -> Result<Vec<Node>, FormRefusal>
+    ensures { (names : Names) → Reads (λ rest. nodes_of rest.items) result
+        (grammar.file_list what word.now (λ span rest. pure rest) (node_of node)) names names }
+{
+    let span = node.span;
+    let Some(mut parts) = node.into_parts() else {
+        return expected(what, span);
+    };
+    let first = take_next(what, span, &mut parts)?;
+    if !is_word(&first, word) {
+        return expected(what, span);
+    }
+    Ok(parts)
 }
 
 /// The domain of this name and these rules.
@@ -92,20 +106,13 @@ fn domain_list(alloc: Global, span: Span, mut rest: Vec<Node>) -> Result<Domain,
 }
 
 /// The domain that a node is.
-#[tactic(auto, unfolding(hp_syntax::specs::Grammar::file_list))]
 fn domain_of_node(alloc: Global, node: Node) -> Result<Domain, FormRefusal>
     ensures { (names : Names) → Reads domain_of result
         (grammar.file_list wants.Domain (codes "defdomain") grammar.domain_list (node_of node)) names names }
 {
-    let Node { span, kind } = node;
-    let NodeKind::List(mut parts) = kind else {
-        return expected(What::Domain, span);
-    };
-    let first = take_next(What::Domain, span, &mut parts)?;
-    if !is_word(&first, b"defdomain") {
-        return expected(What::Domain, span);
-    }
-    domain_list(alloc, span, parts)
+    let span = node.span;
+    let rest = behind_word(What::Domain, b"defdomain", node)?;
+    domain_list(alloc, span, rest)
 }
 
 /// The domain that a forest is the form of. The nodes of a rule are let go once the rule is formed.
@@ -153,9 +160,9 @@ fn pair(scope: &mut Scope, end: Span, mut nodes: Vec<Node>) -> Result<Pair, Form
     let first = take_next(What::Atoms, end, &mut nodes)?;
     let state = into_list(scope.alloc, What::Atoms, first)?;
     let state = atoms(scope, state)?;
-    let second = take_next(What::Tasks, end, &mut nodes)?;
-    let tasks = tasks(scope, Setting::Problem, &second)?;
-    no_more_pairs(nodes.as_slice())?;
+    let (second, rest) = next(What::Tasks, end, nodes.as_slice())?;
+    let tasks = tasks(scope, Setting::Problem, second)?;
+    no_more_pairs(rest)?;
     Ok(Pair { state, tasks })
 }
 
@@ -212,20 +219,13 @@ fn problem_list(alloc: Global, span: Span, mut rest: Vec<Node>) -> Result<Proble
 }
 
 /// The problem that a node is.
-#[tactic(auto, unfolding(hp_syntax::specs::Grammar::file_list))]
 fn problem_of_node(alloc: Global, node: Node) -> Result<Problem, FormRefusal>
     ensures { Gives problem_of result (steps.from_no_names
         (grammar.file_list wants.Problem (codes "defproblem") grammar.problem_list (node_of node))) }
 {
-    let Node { span, kind } = node;
-    let NodeKind::List(mut parts) = kind else {
-        return expected(What::Problem, span);
-    };
-    let first = take_next(What::Problem, span, &mut parts)?;
-    if !is_word(&first, b"defproblem") {
-        return expected(What::Problem, span);
-    }
-    problem_list(alloc, span, parts)
+    let span = node.span;
+    let rest = behind_word(What::Problem, b"defproblem", node)?;
+    problem_list(alloc, span, rest)
 }
 
 /// The problem that a forest is the form of. The nodes of an atom or a task are let go once it is formed.

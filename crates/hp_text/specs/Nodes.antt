@@ -1,5 +1,5 @@
 -- The plain forest that a forest in memory stands for.
-use Rattle.std.specs.Prelude.{List, [], ◌∷◌, map}
+use Rattle.std.specs.Prelude.{List, [], ◌∷◌, Option, Some, None, map}
 use Rattle.hp_syntax.specs.declared.pattern.Span.{Span}
 use Rattle.hp_syntax.specs.Forest as plain
 use Rattle.hp_text.specs.declared.forest.Forest.{Forest}
@@ -29,3 +29,9 @@ nodes_of ns = grown (map node_of ns)
 
 abbrev pub forest_of : Forest → plain.Forest
 forest_of f = nodes_of f.nodes.items
+
+-- the parts of a list
+abbrev pub parts_of : plain.Node → Option plain.Forest
+parts_of (plain.Word s name) = None
+parts_of (plain.Numeral s n) = None
+parts_of (plain.Group s parts) = Some parts

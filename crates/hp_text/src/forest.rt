@@ -1,4 +1,6 @@
-ghost use Rattle.std.specs.Prelude.{◌≡◌};
+ghost use Rattle.std.specs.Prelude.{◌≡◌, option_map};
+ghost use Rattle.hp_syntax.specs.declared.pattern.Span.{Span};
+ghost use Rattle.hp_text.specs.Nodes.{node_of, nodes_of, parts_of};
 ghost use Rattle.hp_text.specs.declared.forest.TextRefusal.TheVariants.{NoMemory};
 
 use hp_syntax::{Name, Span, TextKind};
@@ -14,20 +16,59 @@ pub struct Forest {
 
 /// A part of a text, with the span of its bytes.
 #[cycle(node)]
-#[derive(Drop)]
 pub struct Node {
     pub span: Span,
     pub kind: NodeKind,
 }
 
+impl Drop for Node {
+    #[cycle(node)]
+    fn drop(self) {
+        let Node { span: _, kind } = self;
+        drop(kind);
+    }
+}
+
 /// What a part of a text is. The span of a list goes from its opening bracket to the byte past its
 /// closing one.
 #[cycle(node)]
-#[derive(Drop)]
 pub enum NodeKind {
     Name(Name),
     Num(i64),
     List(Vec<Node>),
+}
+
+impl Drop for NodeKind {
+    #[cycle(node)]
+    fn drop(self) {
+        match self {
+            NodeKind::Name(name) => drop(name),
+            NodeKind::Num(_) => {}
+            NodeKind::List(parts) => drop(parts),
+        }
+    }
+}
+
+impl Node {
+    /// The parts of a list, taken out of it.
+    pub fn into_parts(self) -> Option<Vec<Node>>
+        ensures { option_map (λ parts. nodes_of parts.items) result ≡ parts_of (node_of self) }
+    {
+        let Node { span: _, kind } = self;
+        kind.into_parts()
+    }
+}
+
+impl NodeKind {
+    fn into_parts(self) -> Option<Vec<Node>>
+        ensures { (span : Span) → option_map (λ parts. nodes_of parts.items) result
+            ≡ parts_of (node_of (record { span = span; kind = self })) }
+    {
+        match self {
+            NodeKind::List(parts) => Some(parts),
+            NodeKind::Name(_) | NodeKind::Num(_) => None,
+        }
+    }
 }
 
 /// Why a text has no forest.
