@@ -6,3 +6,4 @@ pub mod PartLemmas
 pub mod RuleLemmas
 pub mod FileLemmas
 pub mod NumberedForms
+pub mod WordLemmas

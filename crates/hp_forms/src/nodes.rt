@@ -1,12 +1,13 @@
 //! The nodes of a list, one after the other.
 
-ghost use Rattle.std.specs.Prelude.{◌≡◌, ◌<◌, length, IfOk, IfErr};
+ghost use Rattle.std.specs.Prelude.{◌≡◌, ◌<◌, length, option_map, IfOk, IfErr};
 ghost use Rattle.hp_syntax.specs.Forest.{Bare, Grow};
 ghost use Rattle.hp_syntax.specs.Steps as steps;
 ghost use Rattle.hp_syntax.specs.Steps.{Names};
 ghost use Rattle.hp_syntax.specs.Grammar as grammar;
 ghost use Rattle.hp_text.specs.Nodes.{node_of, nodes_of};
 ghost use Rattle.hp_forms.specs.FormReads.{Reads};
+ghost use Rattle.hp_forms.specs.Words.{behind};
 
 use crate::names::is;
 use crate::refusal::FormRefusal;
@@ -62,6 +63,16 @@ pub fn is_word(node: &Node, word: &[u8]) -> bool
     match &node.kind {
         NodeKind::Name(name) => is(name, word),
         NodeKind::Num(_) | NodeKind::List(_) => false,
+    }
+}
+
+/// What follows the word that nodes begin with, where it is this word.
+pub fn behind<'a>(word: &[u8], nodes: &'a [Node]) -> Option<&'a [Node]>
+    ensures { option_map (λ rest. nodes_of rest.now) result ≡ behind word.now (nodes_of nodes.now) }
+{
+    match nodes {
+        [first, rest @ ..] if is_word(first, word) => Some(rest),
+        _ => None,
     }
 }
 

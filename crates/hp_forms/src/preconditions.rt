@@ -1,6 +1,8 @@
 //! Preconditions.
 
 ghost use Rattle.std.specs.Prelude.{◌≡◌, Ok};
+ghost use Rattle.hp_syntax.specs.Steps.{◌<$>◌};
+ghost use Rattle.hp_syntax.specs.Syntax.{First};
 ghost use Rattle.hp_syntax.specs.Grammar as grammar;
 ghost use Rattle.hp_syntax.specs.Views.{expression_of, expressions_of, order_of, precondition_of};
 ghost use Rattle.hp_text.specs.Nodes.{node_of, nodes_of};
@@ -8,7 +10,7 @@ ghost use Rattle.hp_forms.specs.FormReads.{Reads, Gives};
 
 use crate::expressions::{expressions, list_expression};
 use crate::names::is;
-use crate::nodes::{closing, expected, next};
+use crate::nodes::{behind, closing, expected, next};
 use crate::refusal::FormRefusal;
 use crate::scope::Scope;
 use hp_syntax::{Expr, ExprKind, Name, Pre, SortKey, SortOrder, Span, What};
@@ -76,21 +78,24 @@ fn sorted(scope: &mut Scope, span: Span, rest: &[Node]) -> Result<Pre, FormRefus
     Ok(Pre::Sorted(key, gathered(span, parts)))
 }
 
+/// `(:first expression ..)`
+fn first(scope: &mut Scope, span: Span, rest: &[Node]) -> Result<Pre, FormRefusal>
+    ensures { Reads precondition_of result ((λ es. First (grammar.gathered span es))
+        <$> grammar.expressions (nodes_of rest.now)) scope.old.names.keys scope.new.names.keys }
+{
+    Ok(Pre::First(gathered(span, expressions(scope, rest)?)))
+}
+
 /// A list as a precondition.
-#[tactic(auto, unfolding(hp_syntax::specs::Grammar::list_precondition))]
 fn list_precondition(scope: &mut Scope, span: Span, nodes: &[Node]) -> Result<Pre, FormRefusal>
     ensures { Reads precondition_of result (grammar.list_precondition span (nodes_of nodes.now))
         scope.old.names.keys scope.new.names.keys }
 {
-    if let [first, rest @ ..] = nodes
-        && let NodeKind::Name(key) = &first.kind
-    {
-        if is(key, b":first") {
-            return Ok(Pre::First(gathered(span, expressions(scope, rest)?)));
-        }
-        if is(key, b":sort-by") {
-            return sorted(scope, span, rest);
-        }
+    if let Some(rest) = behind(b":first", nodes) {
+        return first(scope, span, rest);
+    }
+    if let Some(rest) = behind(b":sort-by", nodes) {
+        return sorted(scope, span, rest);
     }
     Ok(Pre::Plain(list_expression(scope, span, nodes)?))
 }

@@ -9,7 +9,7 @@ ghost use Rattle.hp_forms.specs.FormReads.{Reads, Adds, setting_of};
 ghost use Rattle.hp_forms.specs.Heads.{fits_of};
 
 use crate::names::{HeadKind, is, is_variable};
-use crate::nodes::{closing, ended, expected, is_word, list, name, next};
+use crate::nodes::{behind, closing, ended, expected, is_word, list, name, next};
 use crate::refusal::FormRefusal;
 use crate::scope::Scope;
 use hp_syntax::{AtomPat, Name, Pat, PatKind, Span, Tail, What};
@@ -57,7 +57,6 @@ pub fn term(scope: &mut Scope, setting: Setting, node: &Node) -> Result<Pat, For
 }
 
 #[cycle(term)]
-#[tactic(auto, unfolding(hp_syntax::specs::Grammar::list_term, hp_syntax::specs::Views::pattern_of))]
 fn list_term(
     scope: &mut Scope,
     setting: Setting,
@@ -67,19 +66,12 @@ fn list_term(
     ensures { Reads pattern_of result (grammar.list_term (setting_of setting) span (nodes_of nodes.now))
         scope.old.names.keys scope.new.names.keys }
 {
-    if let [first, rest @ ..] = nodes
-        && is_word(first, b"call")
-    {
+    if let Some(rest) = behind(b"call", nodes) {
         return called(scope, setting, span, rest);
     }
+    // What is no call has the parts and the tail that it would have behind a dot.
     let mut parts = Vec::with_capacity(scope.alloc, parts_room(nodes))?;
-    let tail = match nodes {
-        [] => None,
-        [first, rest @ ..] => {
-            parts.push(term(scope, setting, first)?)?;
-            items(scope, setting, closing(span), rest, &mut parts)?
-        }
-    };
+    let tail = list_tail(scope, setting, span, nodes, &mut parts)?;
     Ok(Pat {
         span,
         kind: PatKind::List(parts, tail),

@@ -1,4 +1,4 @@
-use Rattle.std.proofs.Common.{◌≡◌, ◌+◌, ◌≤◌, length, map}
+use Rattle.std.proofs.Common.{◌≡◌, ◌+◌, ◌*◌, ◌≤◌, length, map}
 use Rattle.hp_syntax.specs.Steps as steps
 use Rattle.hp_syntax.specs.Grammar as grammar
 use Rattle.hp_syntax.specs.Views.{pattern_of}
@@ -10,31 +10,31 @@ use Rattle.hp_forms.proofs.Sizes.{node_size, forest_size}
 use Rattle.hp_forms.proofs.terms.+term.Given as goal
 
 abbrev pub decreases-term : goal.decreases-term
-decreases-term l = node_size (node_of l.node.now)
+decreases-term l = 2 * node_size (node_of l.node.now)
 
 abbrev pub decreases-list_term : goal.decreases-list_term
-decreases-list_term l = forest_size (nodes_of l.nodes.now)
+decreases-list_term l = 2 * forest_size (nodes_of l.nodes.now) + 1
 
 abbrev pub decreases-items : goal.decreases-items
-decreases-items l = forest_size (nodes_of l.nodes.now)
+decreases-items l = 2 * forest_size (nodes_of l.nodes.now)
 
 abbrev pub decreases-dotted : goal.decreases-dotted
-decreases-dotted l = forest_size (nodes_of l.nodes.now)
+decreases-dotted l = 2 * forest_size (nodes_of l.nodes.now)
 
 abbrev pub decreases-tail : goal.decreases-tail
-decreases-tail l = node_size (node_of l.node.now)
+decreases-tail l = 2 * node_size (node_of l.node.now)
 
 abbrev pub decreases-list_tail : goal.decreases-list_tail
-decreases-list_tail l = forest_size (nodes_of l.nodes.now)
+decreases-list_tail l = 2 * forest_size (nodes_of l.nodes.now)
 
 abbrev pub decreases-called : goal.decreases-called
-decreases-called l = forest_size (nodes_of l.nodes.now) + 1
+decreases-called l = 2 * forest_size (nodes_of l.nodes.now) + 1
 
 abbrev pub decreases-call : goal.decreases-call
-decreases-call l = forest_size (nodes_of l.nodes.now)
+decreases-call l = 2 * forest_size (nodes_of l.nodes.now)
 
 abbrev pub decreases-terms : goal.decreases-terms
-decreases-terms l = forest_size (nodes_of l.nodes.now)
+decreases-terms l = 2 * forest_size (nodes_of l.nodes.now)
 
 -- what was added so far, and what is read from here on, is what is read of all
 abbrev pub invariant-items-loop-first : goal.invariant-items-loop-first
