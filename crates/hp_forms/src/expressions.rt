@@ -127,10 +127,14 @@ fn one_expression(scope: &mut Scope, end: Span, nodes: &[Node]) -> Result<Expr, 
     ensures { Reads expression_of result (grammar.one_expression end (nodes_of nodes.now))
         scope.old.names.keys scope.new.names.keys }
 {
-    let (first, rest) = next(What::Expr, end, nodes)?;
-    let only = expression(scope, first)?;
-    ended(rest)?;
-    Ok(only)
+    match nodes {
+        [] => expected(What::Expr, end),
+        [only] => expression(scope, only),
+        [first, second, ..] => {
+            expression(scope, first)?;
+            expected(What::End, second.span)
+        }
+    }
 }
 
 #[cycle(expression)]

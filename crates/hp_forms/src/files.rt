@@ -1,5 +1,6 @@
 //! A file's only node. The forest is needed no more: the nodes of a rule or an atom are let go once it is formed, so
-//! that a large forest and what is formed of it are never there whole at once.
+//! that many of them are never there whole beside what is formed of them. The task list of a problem is one node, which
+//! is let go when it is formed whole.
 
 ghost use Rattle.std.specs.Prelude.{◌≡◌, ◌∷◌, [], codes, map, IfOk};
 ghost use Rattle.hp_syntax.specs.declared.form.What.TheVariants as wants;
@@ -228,7 +229,8 @@ fn problem_of_node(alloc: Global, node: Node) -> Result<Problem, FormRefusal>
     problem_list(alloc, span, rest)
 }
 
-/// The problem that a forest is the form of. The nodes of an atom or a task are let go once it is formed.
+/// The problem that a forest is the form of. The nodes of an atom are let go once it is formed, and those of the tasks
+/// once all are.
 #[tactic(auto, unfolding(hp_syntax::specs::Grammar::file))]
 pub fn problem(alloc: Global, forest: Forest) -> Result<Problem, FormRefusal>
     ensures { Gives problem_of result (grammar.problem_form forest.len (forest_of forest)) }

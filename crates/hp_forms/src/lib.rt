@@ -39,8 +39,8 @@ pub fn domain(alloc: Global, forest: &Forest) -> Result<Domain, FormRefusal>
     into_domain(alloc, forest.copy(alloc)?)
 }
 
-/// The domain that a forest is the form of. The nodes of a rule are let go once it is formed, so that the forest and
-/// the domain are never there whole at once.
+/// The domain that a forest is the form of. The nodes of a rule are let go once it is formed, so that a forest of many
+/// rules and the domain are never there whole at once.
 pub fn into_domain(alloc: Global, forest: Forest) -> Result<Domain, FormRefusal>
     ensures form { Gives domain_of result (grammar.domain_form forest.len (forest_of forest)) }
     ensures numbered { IfOk result (λ d. IsNumberedDomain (domain_of d)) }
@@ -58,8 +58,8 @@ pub fn problem(alloc: Global, forest: &Forest) -> Result<Problem, FormRefusal>
     into_problem(alloc, forest.copy(alloc)?)
 }
 
-/// The problem that a forest is the form of. The nodes of an atom of the state are let go once it is formed, so that
-/// the forest and the problem are never there whole at once.
+/// The problem that a forest is the form of. The nodes of an atom of the state are let go once it is formed, so that a
+/// large state and its nodes are never there whole at once. A task list is formed beside all its nodes.
 pub fn into_problem(alloc: Global, forest: Forest) -> Result<Problem, FormRefusal>
     ensures form { Gives problem_of result (grammar.problem_form forest.len (forest_of forest)) }
     ensures numbered { IfOk result (λ p. IsNumberedProblem (problem_of p)) }

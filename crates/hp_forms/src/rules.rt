@@ -13,7 +13,7 @@ ghost use Rattle.hp_forms.specs.Operators as operators;
 use crate::effects::effects;
 use crate::expressions::expression;
 use crate::names::{HeadKind, is, is_branch_name};
-use crate::nodes::{closing, ended, expected, next};
+use crate::nodes::{closing, expected, next};
 use crate::preconditions::precondition;
 use crate::refusal::FormRefusal;
 use crate::scope::Scope;
@@ -32,15 +32,17 @@ fn cost(scope: &mut Scope, span: Span, rest: &[Node]) -> Result<Pat, FormRefusal
     ensures { Reads pattern_of result (grammar.cost span (nodes_of rest.now))
         scope.old.names.keys scope.new.names.keys }
 {
-    let [first, rest @ ..] = rest else {
-        return Ok(Pat {
+    match rest {
+        [] => Ok(Pat {
             span,
             kind: PatKind::Num(1),
-        });
-    };
-    let written = term(scope, Setting::Rule, first)?;
-    ended(rest)?;
-    Ok(written)
+        }),
+        [only] => term(scope, Setting::Rule, only),
+        [first, second, ..] => {
+            term(scope, Setting::Rule, first)?;
+            expected(What::End, second.span)
+        }
+    }
 }
 
 /// The head and the precondition of an operator, and what follows them.

@@ -9,7 +9,7 @@ ghost use Rattle.hp_forms.specs.FormReads.{Reads, Adds, setting_of};
 ghost use Rattle.hp_forms.specs.Heads.{fits_of};
 
 use crate::names::{HeadKind, is, is_variable};
-use crate::nodes::{behind, closing, ended, expected, is_word, list, name, next};
+use crate::nodes::{behind, closing, expected, is_word, list, name, next};
 use crate::refusal::FormRefusal;
 use crate::scope::Scope;
 use hp_syntax::{AtomPat, Name, Pat, PatKind, Span, Tail, What};
@@ -123,10 +123,14 @@ fn dotted(
     ensures { Adds result (grammar.dotted (setting_of setting) end (nodes_of nodes.now))
         parts.old.items parts.new.items scope.old.names.keys scope.new.names.keys }
 {
-    let (first, rest) = next(What::Tail, end, nodes)?;
-    let tail = tail(scope, setting, first, parts)?;
-    ended(rest)?;
-    Ok(tail)
+    match nodes {
+        [] => expected(What::Tail, end),
+        [only] => tail(scope, setting, only, parts),
+        [first, second, ..] => {
+            tail(scope, setting, first, parts)?;
+            expected(What::End, second.span)
+        }
+    }
 }
 
 /// A tail is a variable, or a list whose parts and tail take its place.
