@@ -1,7 +1,7 @@
 //! Preconditions.
 
 ghost use Rattle.std.specs.Prelude.{◌≡◌, Ok};
-ghost use Rattle.hp_syntax.specs.Steps.{◌<$>◌};
+ghost use Rattle.hp_syntax.specs.Steps.{and_then, pure};
 ghost use Rattle.hp_syntax.specs.Syntax.{First};
 ghost use Rattle.hp_syntax.specs.Grammar as grammar;
 ghost use Rattle.hp_syntax.specs.Views.{expression_of, expressions_of, order_of, precondition_of};
@@ -80,8 +80,10 @@ fn sorted(scope: &mut Scope, span: Span, rest: &[Node]) -> Result<Pre, FormRefus
 
 /// `(:first expression ..)`
 fn first(scope: &mut Scope, span: Span, rest: &[Node]) -> Result<Pre, FormRefusal>
-    ensures { Reads precondition_of result ((λ es. First (grammar.gathered span es))
-        <$> grammar.expressions (nodes_of rest.now)) scope.old.names.keys scope.new.names.keys }
+    ensures { Reads precondition_of result
+        (λ names. and_then (grammar.expressions (nodes_of rest.now) names)
+        (λ all. pure (First (grammar.gathered span all))))
+        scope.old.names.keys scope.new.names.keys }
 {
     Ok(Pre::First(gathered(span, expressions(scope, rest)?)))
 }
