@@ -14,7 +14,7 @@ ghost use Rattle.hp_forms.specs.FormReads.{Reads, Gives};
 use crate::nodes::{closing, ended, expected, is_word, list, name, next};
 use crate::refusal::FormRefusal;
 use crate::rules::rule;
-use crate::scope::Scope;
+use crate::scope::{Scope, only};
 use crate::tasks::tasks;
 use crate::terms::{Setting, atom};
 use hp_syntax::{AtomPat, Domain, Name, Pair, Problem, Rule, Span, What};
@@ -167,31 +167,23 @@ fn pair(scope: &mut Scope, end: Span, mut nodes: Vec<Node>) -> Result<Pair, Form
     Ok(Pair { state, tasks })
 }
 
-/// The list of a problem's one pair.
-fn only(alloc: Global, pair: Pair) -> Result<Vec<Pair>, AllocError>
-    ensures { IfOk result (λ pairs. map pair_of pairs.items ≡ pair_of pair ∷ []) }
-{
-    let mut pairs = Vec::with_capacity(alloc, 1)?;
-    pairs.push(pair)?;
-    Ok(pairs)
-}
-
-/// The problem of these names and pairs, whose variables have the names of the scope.
+/// The problem of these names and its one pair, whose variables have the names of the scope.
 fn named_problem(
     scope: &Scope,
     own: &Name,
     domain: &Name,
     domain_span: Span,
-    pairs: Vec<Pair>,
+    pair: Pair,
 ) -> Result<Problem, AllocError>
     ensures { IfOk result (λ p. problem_of p ≡ record {
       name = own.now;
       domain = domain.now;
       domain_span = domain_span;
       vars = scope.now.names.keys;
-      pairs = map pair_of pairs.items;
+      pairs = pair_of pair ∷ [];
     }) }
 {
+    let pairs = only(scope.alloc, pair)?;
     let vars = scope.all_names()?;
     let name = own.copy(scope.alloc)?;
     let domain = domain.copy(scope.alloc)?;
@@ -215,8 +207,7 @@ fn problem_list(alloc: Global, span: Span, mut rest: Vec<Node>) -> Result<Proble
     let domain = name(&second)?;
     let mut scope = Scope::new(alloc);
     let pair = pair(&mut scope, closing(span), rest)?;
-    let pairs = only(alloc, pair)?;
-    Ok(named_problem(&scope, own, domain, second.span, pairs)?)
+    Ok(named_problem(&scope, own, domain, second.span, pair)?)
 }
 
 /// The problem that a node is.

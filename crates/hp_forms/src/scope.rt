@@ -1,6 +1,6 @@
 //! The variables of a rule, or of a problem, while it is read.
 
-ghost use Rattle.std.specs.Prelude.{◌≡◌, [], IfOk, bytes_eq, is_some};
+ghost use Rattle.std.specs.Prelude.{◌≡◌, [], ◌∷◌, IfOk, bytes_eq, is_some};
 ghost use Rattle.std.specs.List.{list_any, position};
 ghost use Rattle.hp_syntax.specs.Steps as steps;
 ghost use Rattle.hp_syntax.specs.Grammar as grammar;
@@ -31,6 +31,15 @@ impl Drop for Scope {
         let Scope { alloc: _, names } = self;
         drop(names);
     }
+}
+
+/// A list of one item.
+pub fn only<T: Drop>(alloc: Global, item: T) -> Result<Vec<T>, AllocError>
+    ensures { IfOk result (λ list. list.items ≡ item ∷ []) }
+{
+    let mut list = Vec::with_capacity(alloc, 1)?;
+    list.push(item)?;
+    Ok(list)
 }
 
 fn place_among(names: &[Name], name: &Name) -> Option<usize>
@@ -80,8 +89,11 @@ impl Scope {
             Some(index) => index,
             None => self.names.insert_full(name.copy(self.alloc)?)?.0,
         };
-        // No forest has so many names that this fails.
-        u32::try_from(index).map_err(|_| FormRefusal::NoMemory)
+        match u32::try_from(index) {
+            Ok(number) => Ok(number),
+            // No forest has so many names.
+            Err(_) => Err(FormRefusal::NoMemory),
+        }
     }
 
     /// The variable that a node is.
@@ -111,9 +123,8 @@ impl Scope {
         ensures { Reads (λ vs. vs.items) result (grammar.one_variable name.now)
             self.old.names.keys self.new.names.keys }
     {
-        let mut variables = Vec::with_capacity(self.alloc, 1)?;
-        variables.push(self.number(name)?)?;
-        Ok(variables)
+        let variable = self.number(name)?;
+        Ok(only(self.alloc, variable)?)
     }
 
     /// The variables that a node is: one, or a list of them.
