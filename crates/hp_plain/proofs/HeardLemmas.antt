@@ -1,7 +1,7 @@
 -- Lists of which the same is heard.
 use Rattle.std.proofs.Common.{append_assoc, ◌≡◌, ℕ, suc, ◌+◌, ◌-◌, ◌<◌, ◌≤◌, Bool, true, false, List, [], ◌∷◌, ◌++◌, length, drop, get_or, slice_get, refl, sym, ◌∙◌, ap, subst, arith}
 use Rattle.std.proofs.lemmas.List.{map-append, append-nil, drop_all}
-use Rattle.std.proofs.lemmas.List.Elements.{All-append, All-same}
+use Rattle.std.proofs.lemmas.List.Elements.{All-nil, All-append, All-same}
 use Rattle.hp_syntax.specs.Terms.{Term}
 use Rattle.hp_syntax.specs.Values.{Bindings}
 use Rattle.hp_syntax.specs.Events as plain
@@ -106,6 +106,14 @@ hears_same terms vars found events others e h = record { stand = h.stand ∙ e; 
 pub hears_vars : (terms : List Term) (m n : ℕ) (found : List Found) (events : List Event) → m ≡ n
     → Hears terms m found events → Hears terms n found events
 hears_vars terms m n found events e h = subst (λ k. Hears terms k found events) e h
+
+-- before anything is found, all is left
+pub hears_begin : (terms : List Term) (vars : ℕ) (found : List Found) (whole : List Event) → found ≡ []
+    → HearsUpTo terms vars found whole whole
+hears_begin terms vars found whole is = record {
+  so_far = ap (λ xs. heard (found_events terms xs ++ whole)) (sym is);
+  fit = All-same (Fits vars (length terms)) found [] is (All-nil (Fits vars (length terms)));
+}
 
 module _ (terms : List Term) (vars : ℕ) (found : List Found) (whole : List Event) where
   -- what is left is as well told by equal events

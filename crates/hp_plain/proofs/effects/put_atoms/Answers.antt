@@ -63,4 +63,5 @@ returns-in_err-put_atom-clause-puts c =
 
 pub returns-in_err-put_atom-clause-cells : goal.returns-in_err-put_atom-clause-cells
 returns-in_err-put_atom-clause-cells c =
-    grows_on c.args.cells.now c.loop-atom.cells c.put_atom.new.cells c.loop-atom.invariant.grows c.put_atom.ensures.cells
+    grows_on c.args.cells.now c.loop-atom.cells c.put_atom.new.cells c.loop-atom.invariant.grows
+    c.put_atom.ensures.cells

@@ -14,17 +14,19 @@ use Rattle.hp_eval.specs.GoalViews.{goal_of}
 use Rattle.hp_eval.specs.Slotted.{bindings_of}
 use Rattle.hp_eval.proofs.GrowthLemmas.{grows_self, grows_on, bindings_stay, below_grows}
 use Rattle.hp_syntax.specs.Preconditions.{heard}
-use Rattle.hp_plain.specs.Founds.{found_events, Fits, AllFit, AreHeardAlike}
+use Rattle.std.specs.List.{All}
+use Rattle.std.proofs.lemmas.List.Elements.{All-weaker}
+use Rattle.hp_plain.specs.Founds.{found_events, Fits, AllFit, BindsBelow, AreHeardAlike}
 use Rattle.hp_plain.specs.Rulebooks.{concluding, axiom_at}
 use Rattle.hp_plain.specs.Turns.{MeetsHead}
 use Rattle.hp_plain.specs.Scenes.{rules_in, axioms_in, stage_in, state_in, branches_at, placed_events}
-use Rattle.hp_plain.proofs.FoundLemmas.{finds_none, sat_replaced, fits_grow, goal_below_grows, stage_below_grows, state_stays, goal_stays, item_holds, sat_fits}
+use Rattle.hp_plain.proofs.FoundLemmas.{finds_none, sat_replaced, fits_below, fits_grow, goal_below_grows, stage_below_grows, state_stays, goal_stays, item_holds, sat_fits}
 use Rattle.hp_plain.proofs.Sizes.{size, sizes, left_to_do, less_to_do_below, branch_size, size_of-atom, size_of-and, size_of-or, size_of-not, size_of-forall, part_size}
 use Rattle.hp_plain.proofs.SearchSteps.{sat_of-atom, sat_of-and, sat_of-or, sat_of-not, sat_of-forall, sat_of-assign, sat_of-call, forall_sat, all_of, all_begin, all_go_on, all_end, any_of, any_end}
 use Rattle.hp_plain.proofs.AxiomSteps.{goal_begins, axioms_end, placed_axiom, few_at, axiom_among, axiom_unstarted, axiom_started, branch_left, first_found, first_passes}
 use Rattle.hp_plain.proofs.SceneGrowth.{turned_sat, turned_stays, sat_stays, turn_gives, negation_gives, finds_vars}
-use Rattle.hp_plain.proofs.HeardLemmas.{alike_through, hears_found, hears_same, hears_vars, hears_all, hears_over, hears_replaced_all}
-use Rattle.hp_plain.proofs.HeardSteps.{any_next, each_next, goal_next}
+use Rattle.hp_plain.proofs.HeardLemmas.{alike_through, hears_found, hears_begin, hears_same, hears_vars, hears_all, hears_over, hears_replaced_all}
+use Rattle.hp_plain.proofs.HeardSteps.{cut_stays, fault_stays, any_next, each_next, goal_next}
 use Rattle.std.proofs.lemmas.Bool.{eqb-true, eqb-false}
 use Rattle.hp_plain.proofs.expressions.Scene.+events.Goals as goal
 
@@ -605,7 +607,8 @@ axiom_events-conclusions-requires-clause-goal t c =
     goal_below_grows old new (grows_on old mid new c.in_ok-started.ensures.cells c.branch_events.ensures.cells)
     c.args.goal.now c.requires.goal
 
-pub axiom_events-returns-in_ok-found-in-Some-started-clause-finds : goal.axiom_events-returns-in_ok-found-in-Some-started-clause-finds
+pub axiom_events-returns-in_ok-found-in-Some-started-clause-finds :
+    goal.axiom_events-returns-in_ok-found-in-Some-started-clause-finds
 axiom_events-returns-in_ok-found-in-Some-started-clause-finds t c =
     let scene = c.args.self.now in
     let axioms = axioms_in scene in
@@ -755,7 +758,8 @@ branch_events-loop-clause-preserved t c =
 
 pub all_events-returns-in_err-found-2-clause-cells : goal.all_events-returns-in_err-found-2-clause-cells
 all_events-returns-in_err-found-2-clause-cells t c =
-    grows_on c.args.cells.now c.loop-part.cells c.each_events.new.cells c.loop-part.invariant.grows c.each_events.ensures.cells
+    grows_on c.args.cells.now c.loop-part.cells c.each_events.new.cells c.loop-part.invariant.grows
+    c.each_events.ensures.cells
 
 pub any_events-returns-in_err-more-clause-cells : goal.any_events-returns-in_err-more-clause-cells
 any_events-returns-in_err-more-clause-cells t c =
@@ -783,23 +787,28 @@ each_events-returns-then-over-clause-cells t c =
 
 pub goal_events-returns-in_err-more-clause-cells : goal.goal_events-returns-in_err-more-clause-cells
 goal_events-returns-in_err-more-clause-cells t c =
-    grows_on c.args.cells.now c.loop-place.cells c.axiom_events.new.cells c.loop-place.invariant.grows c.axiom_events.ensures.cells
+    grows_on c.args.cells.now c.loop-place.cells c.axiom_events.new.cells c.loop-place.invariant.grows
+    c.axiom_events.ensures.cells
 
 pub goal_events-returns-in_err-over-clause-cells : goal.goal_events-returns-in_err-over-clause-cells
 goal_events-returns-in_err-over-clause-cells t c =
-    grows_on c.args.cells.now c.loop-place.cells c.axiom_events.new.cells c.loop-place.invariant.grows c.axiom_events.ensures.cells
+    grows_on c.args.cells.now c.loop-place.cells c.axiom_events.new.cells c.loop-place.invariant.grows
+    c.axiom_events.ensures.cells
 
 pub goal_events-returns-then-over-clause-cells : goal.goal_events-returns-then-over-clause-cells
 goal_events-returns-then-over-clause-cells t c =
-    grows_on c.args.cells.now c.loop-place.cells c.axiom_events.new.cells c.loop-place.invariant.grows c.axiom_events.ensures.cells
+    grows_on c.args.cells.now c.loop-place.cells c.axiom_events.new.cells c.loop-place.invariant.grows
+    c.axiom_events.ensures.cells
 
 pub branch_events-returns-in_err-found-clause-cells : goal.branch_events-returns-in_err-found-clause-cells
 branch_events-returns-in_err-found-clause-cells t c =
-    grows_on c.args.cells.now c.loop-clause.cells c.events.new.cells c.loop-clause.invariant.grows c.events.ensures.cells
+    grows_on c.args.cells.now c.loop-clause.cells c.events.new.cells c.loop-clause.invariant.grows
+    c.events.ensures.cells
 
 pub branch_events-returns-then-not-is_empty-clause-cells : goal.branch_events-returns-then-not-is_empty-clause-cells
 branch_events-returns-then-not-is_empty-clause-cells t c =
-    grows_on c.args.cells.now c.loop-clause.cells c.events.new.cells c.loop-clause.invariant.grows c.events.ensures.cells
+    grows_on c.args.cells.now c.loop-clause.cells c.events.new.cells c.loop-clause.invariant.grows
+    c.events.ensures.cells
 
 pub forall_events-returns-in_err-refuted-clause-cells : goal.forall_events-returns-in_err-refuted-clause-cells
 forall_events-returns-in_err-refuted-clause-cells t c =
@@ -816,15 +825,204 @@ atom_events-returns-in-Ok-clause-cells t c =
     grows_on c.args.cells.now c.fill_goal.new.cells c.goal_events.new.cells c.fill_goal.ensures.cells
     c.goal_events.ensures.cells
 
-pub axiom_events-returns-in_err-found-in-Some-started-clause-cells : goal.axiom_events-returns-in_err-found-in-Some-started-clause-cells
+pub axiom_events-returns-in_err-found-in-Some-started-clause-cells :
+    goal.axiom_events-returns-in_err-found-in-Some-started-clause-cells
 axiom_events-returns-in_err-found-in-Some-started-clause-cells t c =
     grows_on c.args.cells.now c.own_slots.new.cells c.branch_events.new.cells c.own_slots.ensures.cells
     c.branch_events.ensures.cells
 
-pub axiom_events-returns-in_ok-found-in-Some-started-clause-cells : goal.axiom_events-returns-in_ok-found-in-Some-started-clause-cells
+pub axiom_events-returns-in_ok-found-in-Some-started-clause-cells :
+    goal.axiom_events-returns-in_ok-found-in-Some-started-clause-cells
 axiom_events-returns-in_ok-found-in-Some-started-clause-cells t c =
     let old = c.args.cells.now in
     let mid = c.own_slots.new.cells in
     let new = c.branch_events.new.cells in
     grows_on old new c.conclusions.new.cells
     (grows_on old mid new c.own_slots.ensures.cells c.branch_events.ensures.cells) c.conclusions.ensures.cells
+
+-- ---- what an expression meets fits, and only adds cells
+
+pub events-returns-in-Atom-clause-fit : goal.events-returns-in-Atom-clause-fit
+events-returns-in-Atom-clause-fit t c =
+    IfOk-weaker c.atom_events.result _ _ (λ v h. h.fit) c.atom_events.ensures.finds
+
+pub events-returns-in-Atom-clause-cells : goal.events-returns-in-Atom-clause-cells
+events-returns-in-Atom-clause-cells t c = c.atom_events.ensures.cells
+
+pub events-returns-in-And-clause-fit : goal.events-returns-in-And-clause-fit
+events-returns-in-And-clause-fit t c =
+    IfOk-weaker c.all_events.result _ _ (λ v h. h.fit) c.all_events.ensures.finds
+
+pub events-returns-in-And-clause-cells : goal.events-returns-in-And-clause-cells
+events-returns-in-And-clause-cells t c = c.all_events.ensures.cells
+
+pub events-returns-in-Or-clause-fit : goal.events-returns-in-Or-clause-fit
+events-returns-in-Or-clause-fit t c =
+    IfOk-weaker c.any_events.result _ _ (λ v h. h.fit) c.any_events.ensures.finds
+
+pub events-returns-in-Or-clause-cells : goal.events-returns-in-Or-clause-cells
+events-returns-in-Or-clause-cells t c = c.any_events.ensures.cells
+
+pub events-returns-in-Forall-clause-fit : goal.events-returns-in-Forall-clause-fit
+events-returns-in-Forall-clause-fit t c =
+    IfOk-weaker c.forall_events.result _ _ (λ v h. h.fit) c.forall_events.ensures.finds
+
+pub events-returns-in-Forall-clause-cells : goal.events-returns-in-Forall-clause-cells
+events-returns-in-Forall-clause-cells t c = c.forall_events.ensures.cells
+
+pub events-returns-in-Assign-clause-fit : goal.events-returns-in-Assign-clause-fit
+events-returns-in-Assign-clause-fit t c =
+    IfOk-weaker c.assigned.result _ _ (λ v h. h.fit) c.assigned.ensures.found
+
+pub events-returns-in-Assign-clause-cells : goal.events-returns-in-Assign-clause-cells
+events-returns-in-Assign-clause-cells t c = c.assigned.ensures.cells
+
+pub events-returns-in-Call-clause-fit : goal.events-returns-in-Call-clause-fit
+events-returns-in-Call-clause-fit t c =
+    IfOk-weaker c.tested.result _ _ (λ v h. h.fit) c.tested.ensures.found
+
+pub events-returns-in-Call-clause-cells : goal.events-returns-in-Call-clause-cells
+events-returns-in-Call-clause-cells t c = c.tested.ensures.cells
+
+pub events-returns-in_err-found-in-Not-clause-cells : goal.events-returns-in_err-found-in-Not-clause-cells
+events-returns-in_err-found-in-Not-clause-cells t c = c.events.ensures.cells
+
+pub events-returns-in_ok-found-in-Not-clause-cells : goal.events-returns-in_ok-found-in-Not-clause-cells
+events-returns-in_ok-found-in-Not-clause-cells t c = c.events.ensures.cells
+
+-- ---- before the first
+
+pub any_events-loop-part-init : goal.any_events-loop-part-init
+any_events-loop-part-init t c =
+    let old = c.args.cells.now in
+    let vars = length c.args.slots.now.values in
+    record { grows = grows_self old; found = hears_begin old vars c.new-found.result.items _ c.new-found.ensures.items }
+
+pub each_events-loop-x-init : goal.each_events-loop-x-init
+each_events-loop-x-init t c =
+    let old = c.args.cells.now in
+    record { grows = grows_self old; found = hears_begin old c.args.vars c.new-all.result.items _ c.new-all.ensures.items }
+
+pub forall_events-events-requires : goal.forall_events-events-requires
+forall_events-events-requires t c =
+    (omega (arith, c.decreases), (c.requires.few, (c.requires.slots, c.requires.world)))
+
+pub forall_events-each_events-requires : goal.forall_events-each_events-requires
+forall_events-each_events-requires t c =
+    let old = c.args.cells.now in
+    let mid = c.events.new.cells in
+    let met = c.in_ok-found.ensures in
+    let found = c.in_ok-found.found.items in (
+      omega (arith, c.decreases),
+      (
+        omega (arith, c.vars.ensures, c.requires.few),
+        (
+          subst (AllFit c.vars.result (length mid)) (sym c.as_slice.ensures.value)
+              (subst (λ n. AllFit n (length mid) found) (sym c.vars.ensures) met.fit),
+          stage_below_grows old mid met.cells (stage_in c.args.self.now) c.requires.world,
+        ),
+      ),
+    )
+
+pub axiom_events-conclusions-requires-clause-found : goal.axiom_events-conclusions-requires-clause-found
+axiom_events-conclusions-requires-clause-found t c =
+    let n = length c.branch_events.new.cells in
+    let vars = length c.in-Some-started.own.values in
+    subst (All (BindsBelow n)) (sym c.as_slice.ensures.value)
+    (All-weaker (Fits vars n) (BindsBelow n) (fits_below vars n) c.in_ok-found-in-Some-started.found.items
+    c.in_ok-found-in-Some-started.ensures.finds.fit)
+
+-- ---- behind the last
+
+pub all_events-returns-clause-cells : goal.all_events-returns-clause-cells
+all_events-returns-clause-cells t c = c.loop-part.invariant.grows
+
+pub any_events-returns-clause-cells : goal.any_events-returns-clause-cells
+any_events-returns-clause-cells t c = c.loop-part.invariant.grows
+
+pub each_events-returns-clause-cells : goal.each_events-returns-clause-cells
+each_events-returns-clause-cells t c = c.loop-x.invariant.grows
+
+pub goal_events-returns-clause-cells : goal.goal_events-returns-clause-cells
+goal_events-returns-clause-cells t c = c.loop-place.invariant.grows
+
+pub branch_events-returns-clause-cells : goal.branch_events-returns-clause-cells
+branch_events-returns-clause-cells t c = c.loop-clause.invariant.grows
+
+pub all_events-returns-in_err-found-clause-cells : goal.all_events-returns-in_err-found-clause-cells
+all_events-returns-in_err-found-clause-cells t c = grows_self c.args.cells.now
+
+pub goal_events-returns-in_err-found-clause-cells : goal.goal_events-returns-in_err-found-clause-cells
+goal_events-returns-in_err-found-clause-cells t c = grows_self c.args.cells.now
+
+-- ---- where one call is all
+
+pub forall_events-returns-in_err-found-clause-cells : goal.forall_events-returns-in_err-found-clause-cells
+forall_events-returns-in_err-found-clause-cells t c = c.events.ensures.cells
+
+pub atom_events-returns-in-Err-clause-cells : goal.atom_events-returns-in-Err-clause-cells
+atom_events-returns-in-Err-clause-cells t c = c.fill_goal.ensures.cells
+
+pub axiom_events-returns-in-None-clause-cells : goal.axiom_events-returns-in-None-clause-cells
+axiom_events-returns-in-None-clause-cells t c = c.own_slots.ensures.cells
+
+pub axiom_events-returns-in_err-started-clause-cells : goal.axiom_events-returns-in_err-started-clause-cells
+axiom_events-returns-in_err-started-clause-cells t c = c.own_slots.ensures.cells
+
+pub axiom_events-returns-in_default-clause-cells : goal.axiom_events-returns-in_default-clause-cells
+axiom_events-returns-in_default-clause-cells t c = grows_self c.args.cells.now
+
+pub branch_events-returns-then-level-eq0-clause-cells : goal.branch_events-returns-then-level-eq0-clause-cells
+branch_events-returns-then-level-eq0-clause-cells t c = grows_self c.args.cells.now
+
+pub one_events-returns-in-Cut-clause-cells : goal.one_events-returns-in-Cut-clause-cells
+one_events-returns-in-Cut-clause-cells t c = grows_self c.args.cells.now
+
+pub one_events-returns-in-Fault-clause-cells : goal.one_events-returns-in-Fault-clause-cells
+one_events-returns-in-Fault-clause-cells t c = grows_self c.args.cells.now
+
+pub one_events-returns-in_err-more-in-Sat-clause-cells : goal.one_events-returns-in_err-more-in-Sat-clause-cells
+one_events-returns-in_err-more-in-Sat-clause-cells t c = c.events.ensures.cells
+
+pub one_events-returns-in_ok-more-in-Sat-clause-cells : goal.one_events-returns-in_ok-more-in-Sat-clause-cells
+one_events-returns-in_ok-more-in-Sat-clause-cells t c = c.events.ensures.cells
+
+pub one_events-events-requires : goal.one_events-events-requires
+one_events-events-requires t c =
+    let fits =
+    sat_fits c.args.vars (length c.args.cells.now) c.args.found.now c.in-Sat.slots c.in-Sat.is c.requires.found in
+    (omega (arith, c.decreases), (omega (arith, fits.0, c.requires.few), (fits.1, c.requires.world)))
+
+pub one_events-returns-in-Cut-clause-finds : goal.one_events-returns-in-Cut-clause-finds
+one_events-returns-in-Cut-clause-finds t c =
+    let old = c.args.cells.now in
+    let f =
+    turned_sat (axioms_in c.args.self.now) (state_in old c.args.self.now) c.args.level c.args.part.now c.args.negate in
+    IfOk-weaker c.only.result _ _
+    (λ v is. cut_stays old c.args.vars f c.args.found.now v.items c.in-Cut.is is) c.only.ensures
+
+pub one_events-returns-in-Fault-clause-finds : goal.one_events-returns-in-Fault-clause-finds
+one_events-returns-in-Fault-clause-finds t c =
+    let old = c.args.cells.now in
+    let f =
+    turned_sat (axioms_in c.args.self.now) (state_in old c.args.self.now) c.args.level c.args.part.now c.args.negate in
+    IfOk-weaker c.only-in-Fault.result _ _
+    (λ v is. fault_stays old c.args.vars f c.args.found.now v.items c.in-Fault.fault c.in-Fault.is is) c.only-in-Fault.ensures
+
+pub atom_events-goal_events-requires : goal.atom_events-goal_events-requires
+atom_events-goal_events-requires t c =
+    let old = c.args.cells.now in
+    let mid = c.fill_goal.new.cells in
+    let filled = c.in-Ok.ensures in (
+      omega (arith, c.decreases),
+      (
+        c.requires.few,
+        (
+          below_grows old mid filled.cells c.args.slots.now c.requires.slots,
+          (
+            filled.below,
+            stage_below_grows old mid filled.cells (stage_in c.args.self.now) c.requires.world,
+          ),
+        ),
+      ),
+    )

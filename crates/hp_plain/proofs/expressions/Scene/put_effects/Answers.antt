@@ -82,7 +82,8 @@ returns-in_err-put_effect-clause-puts c =
 
 pub returns-in_err-put_effect-clause-cells : goal.returns-in_err-put_effect-clause-cells
 returns-in_err-put_effect-clause-cells c =
-    grows_on c.args.cells.now c.loop-effect.cells c.put_effect.new.cells c.loop-effect.invariant.grows c.put_effect.ensures.cells
+    grows_on c.args.cells.now c.loop-effect.cells c.put_effect.new.cells c.loop-effect.invariant.grows
+    c.put_effect.ensures.cells
 
 pub put_effect-requires : goal.put_effect-requires
 put_effect-requires c =
