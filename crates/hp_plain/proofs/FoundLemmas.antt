@@ -195,6 +195,13 @@ module _ (terms : List Term) (vars : ℕ) (found : List Found) (whole : List Eve
       → FindsUpTo terms vars found whole others
   upto_same left others e h = subst (FindsUpTo terms vars found whole) e h
 
+  -- before anything is found, all is left
+  pub upto_none : found ≡ [] → FindsUpTo terms vars found whole whole
+  upto_none is = record {
+    so_far = ap (λ xs. found_events terms xs ++ whole) (sym is);
+    fit = All-same (Fits vars (length terms)) found [] is (All-nil (Fits vars (length terms)));
+  }
+
   -- where nothing is left, all is found
   pub upto_all : (left : List Event) → left ≡ [] → FindsUpTo terms vars found whole left → Finds terms vars found whole
   upto_all left e h = record {
@@ -208,6 +215,20 @@ module _ (terms : List Term) (f : Bindings → List Event) (x : Found) where
   -- what takes the place of a Sat is met under its bindings
   pub sat_replaced : (s : Slotted) → x ≡ Sat s → f (bindings_of terms s) ≡ plain.in_place f (found_event terms x)
   sat_replaced s h = ap (λ y. plain.in_place f (found_event terms y)) (sym h)
+
+  -- a cut stands in its own place
+  pub cut_replaced : (vars : ℕ) (found : List Found) → x ≡ Cut → found ≡ Cut ∷ []
+      → Finds terms vars found (plain.in_place f (found_event terms x))
+  cut_replaced vars found h is =
+      finds_same terms vars found _ _ (ap (λ y. plain.in_place f (found_event terms y)) (sym h))
+      (finds_one terms vars Cut found is tt)
+
+  -- a fault stands in its own place
+  pub fault_replaced : (vars : ℕ) (k : RunFault) (found : List Found) → x ≡ Fault k → found ≡ Fault k ∷ []
+      → Finds terms vars found (plain.in_place f (found_event terms x))
+  fault_replaced vars k found h is =
+      finds_same terms vars found _ _ (ap (λ y. plain.in_place f (found_event terms y)) (sym h))
+      (finds_one terms vars (Fault k) found is tt)
 
 -- the slots of a Sat that fits fit
 pub sat_fits : (vars n : ℕ) (x : Found) (s : Slotted) → x ≡ Sat s → Fits vars n x

@@ -1,12 +1,10 @@
 -- What is heard so far where one list is met behind another.
-use Rattle.std.proofs.Common.{◌≡◌, ℕ, ◌+◌, ◌<◌, Bool, List, [], ◌∷◌, ◌++◌, length, drop, get_or, map, slice_get, Some, Ok, sym, ◌∙◌, ap, ap₂}
+use Rattle.std.proofs.Common.{◌≡◌, ℕ, ◌+◌, ◌<◌, Bool, List, ◌++◌, length, drop, get_or, map, slice_get, Some, Ok, ◌∙◌, ap, ap₂}
 use Rattle.std.specs.Prelude.{flat_map}
 use Rattle.hp_syntax.specs.declared.expression.Expr.{Expr}
 use Rattle.hp_syntax.specs.Syntax.{Axiom, Rule}
 use Rattle.hp_syntax.specs.Terms.{Term}
-use Rattle.hp_syntax.specs.declared.fault.RunFault.{RunFault}
-use Rattle.hp_syntax.specs.Values.{Bindings}
-use Rattle.hp_syntax.specs.Events.{Event, through, in_place, sat, axiom_events, goal_events, axioms_of}
+use Rattle.hp_syntax.specs.Events.{through, in_place, sat, axiom_events, goal_events, axioms_of}
 use Rattle.hp_syntax.specs.Preconditions.{heard}
 use Rattle.hp_syntax.specs.Views.{expression_of}
 use Rattle.hp_eval.specs.GoalViews.{goal_of, GoalBelow}
@@ -15,12 +13,11 @@ use Rattle.hp_eval.specs.Slotted.{Slotted, AreBelow, bindings_of}
 use Rattle.hp_eval.specs.declared.goals.Goal as open_goal
 use Rattle.hp_world.specs.Stages.{Stage, StageBelow, state_of}
 use Rattle.hp_plain.specs.declared.found.Found.{Found}
-use Rattle.hp_plain.specs.declared.found.Found.TheVariants.{Cut, Fault}
 use Rattle.hp_plain.specs.Founds.{found_event, found_events, Fits, AllFit, AreHeardAlike, Hears, HearsUpTo}
 use Rattle.hp_plain.specs.Rulebooks.{concluding, axiom_at}
 use Rattle.hp_plain.specs.Scenes.{branches_at, placed_events}
-use Rattle.hp_plain.proofs.FoundLemmas.{finds_one, finds_same, fits_below, event_stays}
-use Rattle.hp_plain.proofs.HeardLemmas.{hears_found, hears_same, hears_left, hears_next, hears_replaced}
+use Rattle.hp_plain.proofs.FoundLemmas.{fits_below, event_stays}
+use Rattle.hp_plain.proofs.HeardLemmas.{hears_same, hears_left, hears_next, hears_replaced}
 use Rattle.hp_plain.proofs.SearchSteps.{any_of, any_left}
 use Rattle.hp_plain.proofs.AxiomSteps.{axioms_left}
 use Rattle.hp_plain.proofs.SceneGrowth.{turned_sat, turned_stays, sat_stays, placed_stays}
@@ -101,19 +98,3 @@ module _ (old mid new : List Term) (held : Grows old mid) (g : Grows mid new) (s
         (hears_same new vars more _ piece
         (ap heard (placed_stays old mid held stage there s below axioms level q goal_below (axiom_at rules place))) m)
         behind
-
-module _ (terms : List Term) (vars : ℕ) (f : Bindings → List Event) (x : Found) (found : List Found) where
-  -- a cut stands in its own place
-  pub cut_stays : x ≡ Cut → found ≡ Cut ∷ [] → Hears terms vars found (in_place f (found_event terms x))
-  cut_stays h is =
-      hears_found terms vars found _
-      (finds_same terms vars found _ _ (ap (λ y. in_place f (found_event terms y)) (sym h))
-      (finds_one terms vars Cut found is tt))
-
-  -- a fault stands in its own place
-  pub fault_stays : (k : RunFault) → x ≡ Fault k → found ≡ Fault k ∷ []
-      → Hears terms vars found (in_place f (found_event terms x))
-  fault_stays k h is =
-      hears_found terms vars found _
-      (finds_same terms vars found _ _ (ap (λ y. in_place f (found_event terms y)) (sym h))
-      (finds_one terms vars (Fault k) found is tt))

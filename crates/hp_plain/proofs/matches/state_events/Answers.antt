@@ -5,7 +5,7 @@ use Rattle.hp_eval.specs.Slotted.{named, bindings_of}
 use Rattle.hp_world.specs.Stages.{live_atoms, terms_at, state_of}
 use Rattle.hp_plain.specs.Founds.{Finds}
 use Rattle.hp_plain.specs.Places.{place_events}
-use Rattle.hp_plain.proofs.FoundLemmas.{upto_more, upto_same}
+use Rattle.hp_plain.proofs.FoundLemmas.{upto_none, upto_more, upto_same}
 use Rattle.hp_plain.proofs.MatchSteps.{left_at, live_at, places_step}
 use Rattle.std.specs.Prelude.{slice_get}
 use Rattle.hp_plain.proofs.matches.state_events.Goals as goal
@@ -49,3 +49,14 @@ at_place-requires-clause-few c =
 pub at_place-requires-clause-slots : goal.at_place-requires-clause-slots
 at_place-requires-clause-slots c = λ v cell k.
     c.requires.slots v cell (ap (λ vs. slice_get vs v) (sym c.loop-place.invariant.same) ∙ k)
+
+pub loop-place-init : goal.loop-place-init
+loop-place-init c =
+    let terms = c.args.cells.now in
+    let s = c.args.slots.now in
+    let whole =
+    state_events (state_of terms c.args.world.now.now) (goal_of terms c.args.goal.now) (bindings_of terms s) in
+    record {
+      same = c.in_ok-own.ensures;
+      found = upto_none terms (length s.values) c.new-found.result.items whole c.new-found.ensures.items;
+    }

@@ -20,13 +20,13 @@ use Rattle.hp_plain.specs.Founds.{found_events, Fits, AllFit, BindsBelow, AreHea
 use Rattle.hp_plain.specs.Rulebooks.{concluding, axiom_at}
 use Rattle.hp_plain.specs.Turns.{MeetsHead}
 use Rattle.hp_plain.specs.Scenes.{rules_in, axioms_in, stage_in, state_in, branches_at, placed_events}
-use Rattle.hp_plain.proofs.FoundLemmas.{finds_none, sat_replaced, fits_below, fits_grow, goal_below_grows, stage_below_grows, state_stays, goal_stays, item_holds, sat_fits}
+use Rattle.hp_plain.proofs.FoundLemmas.{finds_none, sat_replaced, cut_replaced, fault_replaced, fits_below, fits_grow, goal_below_grows, stage_below_grows, state_stays, goal_stays, item_holds, sat_fits}
 use Rattle.hp_plain.proofs.Sizes.{size, sizes, left_to_do, less_to_do_below, branch_size, size_of-atom, size_of-and, size_of-or, size_of-not, size_of-forall, part_size}
 use Rattle.hp_plain.proofs.SearchSteps.{sat_of-atom, sat_of-and, sat_of-or, sat_of-not, sat_of-forall, sat_of-assign, sat_of-call, forall_sat, all_of, all_begin, all_go_on, all_end, any_of, any_end}
 use Rattle.hp_plain.proofs.AxiomSteps.{goal_begins, axioms_end, placed_axiom, few_at, axiom_among, axiom_unstarted, axiom_started, branch_left, first_found, first_passes}
 use Rattle.hp_plain.proofs.SceneGrowth.{turned_sat, turned_stays, sat_stays, turn_gives, negation_gives, finds_vars}
 use Rattle.hp_plain.proofs.HeardLemmas.{alike_through, hears_found, hears_begin, hears_same, hears_vars, hears_all, hears_over, hears_replaced_all}
-use Rattle.hp_plain.proofs.HeardSteps.{cut_stays, fault_stays, any_next, each_next, goal_next}
+use Rattle.hp_plain.proofs.HeardSteps.{any_next, each_next, goal_next}
 use Rattle.std.proofs.lemmas.Bool.{eqb-true, eqb-false}
 use Rattle.hp_plain.proofs.expressions.Scene.+events.Goals as goal
 
@@ -996,18 +996,24 @@ one_events-events-requires t c =
 pub one_events-returns-in-Cut-clause-finds : goal.one_events-returns-in-Cut-clause-finds
 one_events-returns-in-Cut-clause-finds t c =
     let old = c.args.cells.now in
+    let vars = c.args.vars in
+    let x = c.args.found.now in
     let f =
     turned_sat (axioms_in c.args.self.now) (state_in old c.args.self.now) c.args.level c.args.part.now c.args.negate in
     IfOk-weaker c.only.result _ _
-    (λ v is. cut_stays old c.args.vars f c.args.found.now v.items c.in-Cut.is is) c.only.ensures
+    (λ v is. hears_found old vars v.items _ (cut_replaced old f x vars v.items c.in-Cut.is is)) c.only.ensures
 
 pub one_events-returns-in-Fault-clause-finds : goal.one_events-returns-in-Fault-clause-finds
 one_events-returns-in-Fault-clause-finds t c =
     let old = c.args.cells.now in
+    let vars = c.args.vars in
+    let x = c.args.found.now in
     let f =
     turned_sat (axioms_in c.args.self.now) (state_in old c.args.self.now) c.args.level c.args.part.now c.args.negate in
     IfOk-weaker c.only-in-Fault.result _ _
-    (λ v is. fault_stays old c.args.vars f c.args.found.now v.items c.in-Fault.fault c.in-Fault.is is) c.only-in-Fault.ensures
+    (λ v is.
+    hears_found old vars v.items _ (fault_replaced old f x vars c.in-Fault.fault v.items c.in-Fault.is is))
+    c.only-in-Fault.ensures
 
 pub atom_events-goal_events-requires : goal.atom_events-goal_events-requires
 atom_events-goal_events-requires t c =

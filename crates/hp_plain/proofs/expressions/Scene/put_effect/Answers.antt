@@ -1,16 +1,16 @@
 use Rattle.std.proofs.Common.{length, sym, ◌∙◌, ap, subst}
 use Rattle.std.specs.List.{All}
 use Rattle.std.proofs.lemmas.List.Elements.{All-weaker}
-use Rattle.hp_syntax.specs.Changes.{values_for_each}
+use Rattle.hp_syntax.specs.Changes.{values_for_each, effect_values}
 use Rattle.hp_syntax.specs.Events.{sat}
-use Rattle.hp_syntax.specs.Views.{atoms_of, expression_of}
+use Rattle.hp_syntax.specs.Views.{atoms_of, effect_of, expression_of}
 use Rattle.hp_eval.specs.Slotted.{bindings_of}
 use Rattle.hp_world.specs.Stages.{changes_of}
 use Rattle.hp_plain.specs.Founds.{Hears, Fits, BindsBelow}
 use Rattle.hp_plain.specs.Scenes.{axioms_in, state_in}
 use Rattle.hp_plain.specs.Effected.{only_atoms, PutsAll}
 use Rattle.hp_plain.proofs.FoundLemmas.{fits_below}
-use Rattle.hp_plain.proofs.EffectLemmas.{changes_stay, each_going, each_effect}
+use Rattle.hp_plain.proofs.EffectLemmas.{changes_stay, changes_grow, each_going, each_effect}
 use Rattle.hp_eval.proofs.GrowthLemmas.{grows_on}
 use Rattle.hp_plain.proofs.expressions.Scene.put_effect.Goals as goal
 
@@ -59,3 +59,36 @@ returns-in_ok-events-in-Forall-clause-puts c =
 pub returns-in_ok-events-in-Forall-clause-cells : goal.returns-in_ok-events-in-Forall-clause-cells
 returns-in_ok-events-in-Forall-clause-cells c =
     grows_on c.args.cells.now c.events.new.cells c.put_each.new.cells c.events.ensures.cells c.put_each.ensures.cells
+
+pub put_each-requires-clause-below : goal.put_each-requires-clause-below
+put_each-requires-clause-below c =
+    changes_grow c.args.cells.now c.events.new.cells c.events.ensures.cells c.args.changes.now c.requires.below
+
+pub returns-in-Atom-clause-puts : goal.returns-in-Atom-clause-puts
+returns-in-Atom-clause-puts c =
+    let old = c.args.cells.now in
+    let state = state_in old c.args.self.now in
+    let e = bindings_of old c.args.slots.now in
+    subst
+        (λ x. PutsAll {A = Unit {0}} c.args.side c.put_atom.result
+        (effect_values (axioms_in c.args.self.now) c.args.nest state (effect_of x) e) c.put_atom.new.cells
+        (changes_of old c.args.changes.now) c.put_atom.new.changes) (sym c.in-Atom.is) c.put_atom.ensures.puts
+
+pub returns-in-Atom-clause-cells : goal.returns-in-Atom-clause-cells
+returns-in-Atom-clause-cells c = c.put_atom.ensures.cells
+
+pub returns-in-Protection-clause-puts : goal.returns-in-Protection-clause-puts
+returns-in-Protection-clause-puts c =
+    let old = c.args.cells.now in
+    let state = state_in old c.args.self.now in
+    let e = bindings_of old c.args.slots.now in
+    subst
+        (λ x. PutsAll {A = Unit {0}} c.args.side c.put_protection.result
+        (effect_values (axioms_in c.args.self.now) c.args.nest state (effect_of x) e) c.put_protection.new.cells
+        (changes_of old c.args.changes.now) c.put_protection.new.changes) (sym c.in-Protection.is) c.put_protection.ensures.puts
+
+pub returns-in-Protection-clause-cells : goal.returns-in-Protection-clause-cells
+returns-in-Protection-clause-cells c = c.put_protection.ensures.cells
+
+pub returns-in_err-events-in-Forall-clause-cells : goal.returns-in_err-events-in-Forall-clause-cells
+returns-in_err-events-in-Forall-clause-cells c = c.events.ensures.cells

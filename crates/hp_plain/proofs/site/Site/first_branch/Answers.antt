@@ -4,8 +4,10 @@ use Rattle.std.proofs.lemmas.List.{length-map}
 use Rattle.hp_syntax.specs.Views.{branch_of}
 use Rattle.hp_plain.specs.Founds.{found_event}
 use Rattle.hp_eval.specs.Slotted.{bindings_of}
-use Rattle.hp_eval.proofs.GrowthLemmas.{grows_on}
+use Rattle.hp_eval.proofs.GrowthLemmas.{below_grows, grows_on}
 use Rattle.hp_syntax.specs.Walk.{child_of}
+use Rattle.hp_world.specs.Stages.{StageBelow}
+use Rattle.hp_plain.proofs.FoundLemmas.{stage_below_grows}
 use Rattle.hp_plain.specs.Sites.{branch_done, rules_at, node_at_site, place_at}
 use Rattle.hp_plain.proofs.SiteSteps.{precondition_stays, branch_chosen, branch_passed, branch_next, branch_there, finds_few}
 use Rattle.hp_plain.proofs.site.Site.first_branch.Goals as goal
@@ -74,3 +76,18 @@ pub returns-then-not-is_empty-clause-cells : goal.returns-then-not-is_empty-clau
 returns-then-not-is_empty-clause-cells c =
     grows_on c.args.cells.now c.loop-i.cells c.precondition.new.cells c.loop-i.invariant.grows
     c.precondition.ensures.cells
+
+pub precondition-requires-clause-slots : goal.precondition-requires-clause-slots
+precondition-requires-clause-slots c =
+    below_grows c.args.cells.now c.loop-i.cells c.loop-i.invariant.grows c.args.slots.now c.requires.slots
+
+pub precondition-requires-clause-world : goal.precondition-requires-clause-world
+precondition-requires-clause-world c =
+    let old = c.args.cells.now in
+    let mid = c.loop-i.cells in
+    let world = c.args.self.now.spot.now.world in
+    subst (λ w. StageBelow (length mid) w.now) (sym c.scene.ensures.world)
+    (stage_below_grows old mid c.loop-i.invariant.grows world.now c.requires.site.spot.world)
+
+pub returns-clause-cells : goal.returns-clause-cells
+returns-clause-cells c = c.loop-i.invariant.grows

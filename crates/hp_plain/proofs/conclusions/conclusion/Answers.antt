@@ -1,0 +1,40 @@
+use Rattle.std.proofs.Common.{length, subst}
+use Rattle.std.proofs.lemmas.Result.{IfOk-weaker}
+use Rattle.hp_syntax.specs.Events.{concluded}
+use Rattle.hp_syntax.specs.Views.{atom_of}
+use Rattle.hp_eval.specs.GoalViews.{goal_of}
+use Rattle.hp_eval.specs.Slotted.{bindings_of}
+use Rattle.hp_plain.specs.Founds.{BindsBelow}
+use Rattle.hp_plain.proofs.FoundLemmas.{finds_same, sat_replaced, cut_replaced, fault_replaced}
+use Rattle.hp_plain.proofs.conclusions.conclusion.Goals as goal
+
+pub concluded-requires-clause-own : goal.concluded-requires-clause-own
+concluded-requires-clause-own c = subst (BindsBelow (length c.args.cells.now)) c.in-Sat.is c.requires.found
+
+pub returns-in-Sat-clause-found : goal.returns-in-Sat-clause-found
+returns-in-Sat-clause-found c =
+    let old = c.args.cells.now in
+    let s = c.args.slots.now in
+    let f = concluded (atom_of c.args.head.now) (goal_of old c.args.goal.now) (bindings_of old s) in
+    IfOk-weaker c.concluded.result _ _
+    (λ v h.
+    finds_same c.concluded.new.cells (length s.values) v.items _ _
+    (sat_replaced old f c.args.found.now c.in-Sat.own c.in-Sat.is) h)
+    c.concluded.ensures.found
+
+pub returns-in-Cut-clause-found : goal.returns-in-Cut-clause-found
+returns-in-Cut-clause-found c =
+    let old = c.args.cells.now in
+    let s = c.args.slots.now in
+    let f = concluded (atom_of c.args.head.now) (goal_of old c.args.goal.now) (bindings_of old s) in
+    IfOk-weaker c.only.result _ _
+    (λ v is. cut_replaced old f c.args.found.now (length s.values) v.items c.in-Cut.is is) c.only.ensures
+
+pub returns-in-Fault-clause-found : goal.returns-in-Fault-clause-found
+returns-in-Fault-clause-found c =
+    let old = c.args.cells.now in
+    let s = c.args.slots.now in
+    let f = concluded (atom_of c.args.head.now) (goal_of old c.args.goal.now) (bindings_of old s) in
+    IfOk-weaker c.only-in-Fault.result _ _
+    (λ v is. fault_replaced old f c.args.found.now (length s.values) c.in-Fault.fault v.items c.in-Fault.is is)
+    c.only-in-Fault.ensures
