@@ -19,3 +19,6 @@ loop-atom-preserved c =
           c.atom-item.result c.put.result c.loop-atom.changes c.put.new.self c.requires.slots c.requires.atoms
           c.loop-atom-test.true c.atom-item.is held.below held.adds well c.put.ensures.puts;
     }
+
+pub returns-clause-cells : goal.returns-clause-cells
+returns-clause-cells c = c.loop-atom.invariant.grows

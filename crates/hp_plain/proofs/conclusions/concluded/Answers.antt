@@ -6,7 +6,7 @@ use Rattle.hp_syntax.specs.Events.{sat_if}
 use Rattle.hp_syntax.specs.Views.{atom_of}
 use Rattle.hp_eval.specs.GoalViews.{term_at, goal_of}
 use Rattle.hp_eval.specs.Slotted.{bindings_of}
-use Rattle.hp_eval.proofs.GrowthLemmas.{bindings_stay}
+use Rattle.hp_eval.proofs.GrowthLemmas.{bindings_stay, grows_self}
 use Rattle.hp_plain.proofs.FoundLemmas.{finds_same, goal_below_grows, goal_stays}
 use Rattle.hp_plain.proofs.ConclusionSteps.{concluded_term}
 use Rattle.hp_plain.proofs.conclusions.concluded.Goals as goal
@@ -37,3 +37,6 @@ returns-in-Ok-clause-found c =
     ∙ concluded_term (atom_of c.args.head.now) (goal_of old q) (bindings_of old s) (bindings_of old own)
     (sym (c.is_head_bound.ensures old c.requires.own) ∙ bound) new c.in-Ok.atom c.in-Ok.ensures.gives) h)
     c.value_matched.ensures
+
+pub returns-then-not-is_head_bound-clause-cells : goal.returns-then-not-is_head_bound-clause-cells
+returns-then-not-is_head_bound-clause-cells c = grows_self c.args.cells.now

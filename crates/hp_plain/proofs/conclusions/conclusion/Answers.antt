@@ -6,6 +6,7 @@ use Rattle.hp_eval.specs.GoalViews.{goal_of}
 use Rattle.hp_eval.specs.Slotted.{bindings_of}
 use Rattle.hp_plain.specs.Founds.{BindsBelow}
 use Rattle.hp_plain.proofs.FoundLemmas.{finds_same, sat_replaced, cut_replaced, fault_replaced}
+use Rattle.hp_eval.proofs.GrowthLemmas.{grows_self}
 use Rattle.hp_plain.proofs.conclusions.conclusion.Goals as goal
 
 pub concluded-requires-clause-own : goal.concluded-requires-clause-own
@@ -38,3 +39,9 @@ returns-in-Fault-clause-found c =
     IfOk-weaker c.only-in-Fault.result _ _
     (λ v is. fault_replaced old f c.args.found.now (length s.values) c.in-Fault.fault v.items c.in-Fault.is is)
     c.only-in-Fault.ensures
+
+pub returns-in-Cut-clause-cells : goal.returns-in-Cut-clause-cells
+returns-in-Cut-clause-cells c = grows_self c.args.cells.now
+
+pub returns-in-Fault-clause-cells : goal.returns-in-Fault-clause-cells
+returns-in-Fault-clause-cells c = grows_self c.args.cells.now

@@ -3,10 +3,10 @@ use Rattle.hp_syntax.specs.Events.{concluded, through}
 use Rattle.hp_syntax.specs.Views.{atom_of}
 use Rattle.hp_eval.specs.GoalViews.{goal_of}
 use Rattle.hp_eval.specs.Slotted.{bindings_of}
-use Rattle.hp_eval.proofs.GrowthLemmas.{below_grows, grows_on}
+use Rattle.hp_eval.proofs.GrowthLemmas.{below_grows, grows_on, grows_self}
 use Rattle.hp_plain.specs.Founds.{BindsBelow, found_events}
 use Rattle.hp_plain.proofs.FoundLemmas.{binds_grow, goal_below_grows, item_holds}
-use Rattle.hp_plain.proofs.HeardLemmas.{hears_replaced, hears_replaced_all, hears_over}
+use Rattle.hp_plain.proofs.HeardLemmas.{hears_replaced, hears_replaced_all, hears_over, hears_begin}
 use Rattle.hp_plain.proofs.ConclusionSteps.{conclusion_heard}
 use Rattle.hp_plain.proofs.conclusions.conclusions.Goals as goal
 
@@ -99,3 +99,12 @@ returns-in_err-over-clause-cells c =
 pub returns-then-over-clause-cells : goal.returns-then-over-clause-cells
 returns-then-over-clause-cells c =
     grows_on c.args.cells.now c.loop-x.cells c.conclusion.new.cells c.loop-x.invariant.grows c.conclusion.ensures.cells
+
+pub loop-x-init : goal.loop-x-init
+loop-x-init c =
+    let old = c.args.cells.now in
+    let vars = length c.args.slots.now.values in
+    record { grows = grows_self old; found = hears_begin old vars c.new-all.result.items _ c.new-all.ensures.items }
+
+pub returns-clause-cells : goal.returns-clause-cells
+returns-clause-cells c = c.loop-x.invariant.grows

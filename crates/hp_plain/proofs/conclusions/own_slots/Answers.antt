@@ -7,6 +7,7 @@ use Rattle.hp_eval.specs.GoalViews.{goal_of}
 use Rattle.hp_eval.specs.Slotted.{bindings_of}
 use Rattle.hp_plain.proofs.AxiomSteps.{none_bound}
 use Rattle.hp_plain.proofs.MatchSteps.{binds_vars, match_failed, match_made}
+use Rattle.hp_eval.proofs.GrowthLemmas.{grows_self}
 use Rattle.hp_plain.proofs.conclusions.own_slots.Goals as goal
 
 pub new-requires : goal.new-requires
@@ -46,3 +47,9 @@ returns-else-starts-clause-starts c =
     match_failed c.in_ok-starts.starts _ new own c.start_goal.new.slots c.if-starts.false
     c.in_ok-starts.ensures.started in
     ap (start_goal x.head (goal_of old c.args.goal.now)) (sym begin) ∙ m.0
+
+pub returns-in_err-own-clause-cells : goal.returns-in_err-own-clause-cells
+returns-in_err-own-clause-cells c = grows_self c.args.cells.now
+
+pub returns-in_err-starts-clause-cells : goal.returns-in_err-starts-clause-cells
+returns-in_err-starts-clause-cells c = c.start_goal.ensures.cells

@@ -65,3 +65,6 @@ pub returns-in_err-put_atom-clause-cells : goal.returns-in_err-put_atom-clause-c
 returns-in_err-put_atom-clause-cells c =
     grows_on c.args.cells.now c.loop-atom.cells c.put_atom.new.cells c.loop-atom.invariant.grows
     c.put_atom.ensures.cells
+
+pub returns-clause-cells : goal.returns-clause-cells
+returns-clause-cells c = c.loop-atom.invariant.grows

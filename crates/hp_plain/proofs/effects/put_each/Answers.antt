@@ -73,3 +73,6 @@ returns-in_err-put_found-clause-puts c =
 pub returns-in_err-put_found-clause-cells : goal.returns-in_err-put_found-clause-cells
 returns-in_err-put_found-clause-cells c =
     grows_on c.args.cells.now c.loop-x.cells c.put_found.new.cells c.loop-x.invariant.grows c.put_found.ensures.cells
+
+pub returns-clause-cells : goal.returns-clause-cells
+returns-clause-cells c = c.loop-x.invariant.grows

@@ -5,6 +5,7 @@ use Rattle.hp_syntax.specs.Preconditions.{heard, up_to_sat}
 use Rattle.hp_plain.specs.Founds.{Finds, found_events}
 use Rattle.hp_plain.proofs.FoundLemmas.{finds_same}
 use Rattle.hp_plain.proofs.PreconditionLemmas.{first_heard_whole}
+use Rattle.hp_eval.proofs.GrowthLemmas.{grows_self}
 use Rattle.hp_plain.proofs.preconditions.first.Goals as goal
 
 pub returns-clause-finds : goal.returns-clause-finds
@@ -22,3 +23,6 @@ returns-clause-finds c =
     subst (λ n. Finds c.drained.new.cells n v.items (up_to_sat (heard xs))) vars
     (finds_same c.drained.new.cells (length slots.values) v.items _ _ rest h))
     c.drained.ensures.finds
+
+pub returns-in_err-slots-clause-cells : goal.returns-in_err-slots-clause-cells
+returns-in_err-slots-clause-cells c = grows_self c.args.cells.now

@@ -6,6 +6,7 @@ use Rattle.hp_syntax.specs.Views.{key_of}
 use Rattle.hp_plain.specs.Founds.{Finds, found_events}
 use Rattle.hp_plain.proofs.FoundLemmas.{finds_same}
 use Rattle.hp_plain.proofs.PreconditionLemmas.{sorted_heard_whole}
+use Rattle.hp_eval.proofs.GrowthLemmas.{grows_self}
 use Rattle.hp_plain.proofs.preconditions.sorted.Goals as goal
 
 pub returns-clause-finds : goal.returns-clause-finds
@@ -27,3 +28,9 @@ returns-clause-finds c =
     subst (λ n. Finds c.drained.new.cells n v.items (sorted_events k.order (keyed k xs))) vars
     (finds_same c.drained.new.cells (length slots.values) v.items _ _ rest h))
     c.drained.ensures.finds
+
+pub returns-in_err-slots-clause-cells : goal.returns-in_err-slots-clause-cells
+returns-in_err-slots-clause-cells c = grows_self c.args.cells.now
+
+pub returns-in_err-copy-clause-cells : goal.returns-in_err-copy-clause-cells
+returns-in_err-copy-clause-cells c = grows_self c.args.cells.now

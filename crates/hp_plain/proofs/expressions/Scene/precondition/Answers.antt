@@ -1,10 +1,10 @@
-use Rattle.std.proofs.Common.{length, ◌∙◌, ap}
+use Rattle.std.proofs.Common.{length, ◌∙◌, ap, sym, subst}
 use Rattle.std.proofs.lemmas.Result.{IfOk-weaker}
 use Rattle.hp_syntax.specs.Events.{sat}
 use Rattle.hp_syntax.specs.Preconditions.{up_to_sat, keyed, sorted_events}
 use Rattle.hp_syntax.specs.Views.{key_of, expression_of}
 use Rattle.hp_eval.specs.Slotted.{bindings_of}
-use Rattle.hp_plain.specs.Founds.{Hears}
+use Rattle.hp_plain.specs.Founds.{Hears, AllFit}
 use Rattle.hp_plain.specs.Scenes.{axioms_in, state_in}
 use Rattle.hp_plain.proofs.FoundLemmas.{finds_same}
 use Rattle.hp_plain.proofs.PreconditionLemmas.{plain_events, first_events, ordered_events, finds_vars}
@@ -67,3 +67,13 @@ pub returns-in_ok-found-in-Sorted-clause-cells : goal.returns-in_ok-found-in-Sor
 returns-in_ok-found-in-Sorted-clause-cells c =
     let mid = c.in_ok-found-in-Sorted.ensures.cells in
     grows_on c.args.cells.now _ c.sorted.new.cells mid c.sorted.ensures.cells
+
+pub first-requires-clause-fit : goal.first-requires-clause-fit
+first-requires-clause-fit c =
+    let n = length c.events-in-First.new.cells in
+    subst (λ m. AllFit m n c.in_ok-found-in-First.found.items) (sym c.vars.ensures) c.in_ok-found-in-First.ensures.fit
+
+pub sorted-requires-clause-fit : goal.sorted-requires-clause-fit
+sorted-requires-clause-fit c =
+    let n = length c.events-in-Sorted.new.cells in
+    subst (λ m. AllFit m n c.in_ok-found-in-Sorted.found.items) (sym c.vars-in-Sorted.ensures) c.in_ok-found-in-Sorted.ensures.fit

@@ -96,3 +96,6 @@ put_effect-requires c =
       world = stage_below_grows old now grows (stage_in c.args.self.now) c.requires.world;
       below = c.loop-effect.invariant.along.below;
     }
+
+pub returns-clause-cells : goal.returns-clause-cells
+returns-clause-cells c = c.loop-effect.invariant.grows

@@ -7,6 +7,7 @@ use Rattle.hp_plain.specs.Rulebooks.{relevant_to}
 use Rattle.hp_plain.specs.Spots.{node_of}
 use Rattle.hp_plain.proofs.RestSteps.{candidate_next, candidate_done, queue_stays}
 use Rattle.hp_plain.proofs.RulebookLemmas.{rule_at_place, no_place, relevant_few}
+use Rattle.hp_eval.proofs.GrowthLemmas.{grows_self}
 use Rattle.hp_plain.proofs.rest.Queue.start.Goals as goal
 
 pub started-requires-clause-candidate : goal.started-requires-clause-candidate
@@ -70,3 +71,6 @@ relevant_rule-requires-clause-candidate c =
     subst (IsCandidate net) (sym c.index-id.ensures)
     (All-get_or (IsCandidate net) q.candidates.items q.at c.index-id.result.now c.requires.some
     c.requires.queue.candidates)
+
+pub returns-in-None-clause-cells : goal.returns-in-None-clause-cells
+returns-in-None-clause-cells c = grows_self c.args.cells.now

@@ -1,5 +1,5 @@
-use Rattle.std.proofs.Common.{◌≡◌, true, false, ◌∙◌, sym, subst, ◌<◌, rules}
-use Rattle.hp_eval.proofs.GrowthLemmas.{grows_on}
+use Rattle.std.proofs.Common.{◌≡◌, true, false, ◌∙◌, sym, subst, ◌<◌, rules, refl}
+use Rattle.hp_eval.proofs.GrowthLemmas.{grows_on, grows_self}
 use Rattle.hp_plain.specs.Rests.{rules_of, is_none, IsQueue, work_left}
 use Rattle.hp_plain.proofs.NodeLemmas.{spot_grows}
 use Rattle.hp_plain.proofs.RestSteps.{rest_takes, rest_passes}
@@ -94,3 +94,18 @@ returns-in_err-go_on-clause-cells c =
     let new = c.turn.new.cells in
     grows_on old new c.go_on.new.cells (grows_on old mid new c.loop-turn.invariant.grows c.turn.ensures.cells)
     c.go_on.ensures.cells
+
+pub loop-turn-init : goal.loop-turn-init
+loop-turn-init c = record { grows = grows_self c.args.cells.now; rest = c.requires.rest; left = refl }
+
+pub returns-then-self-len-clause-cells : goal.returns-then-self-len-clause-cells
+returns-then-self-len-clause-cells c =
+    grows_on c.args.cells.now c.loop-turn.cells c.turn.new.cells c.loop-turn.invariant.grows c.turn.ensures.cells
+
+pub returns-then-self-len-clause-rest : goal.returns-then-self-len-clause-rest
+returns-then-self-len-clause-rest c = record {
+  run = c.in_ok-turn.ensures.run;
+  queue =
+      subst (IsQueue (rules_of c.args.base.now) c.args.spot.now) (sym c.turn.ensures.queue)
+      c.loop-turn.invariant.rest.queue;
+}

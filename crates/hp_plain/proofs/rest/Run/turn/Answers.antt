@@ -1,5 +1,5 @@
-use Rattle.std.proofs.Common.{◌≡◌, ◌+◌, true, false, length, arith, sym, ◌∙◌}
-use Rattle.hp_eval.proofs.GrowthLemmas.{grows_on}
+use Rattle.std.proofs.Common.{◌≡◌, ◌+◌, true, false, length, arith, sym, ◌∙◌, refl}
+use Rattle.hp_eval.proofs.GrowthLemmas.{grows_on, grows_self}
 use Rattle.hp_plain.specs.Rests.{rules_of, is_none}
 use Rattle.hp_plain.proofs.NodeLemmas.{spot_grows}
 use Rattle.hp_plain.proofs.RestSteps.{run_grows, run_from, run_takes, run_passes}
@@ -50,3 +50,12 @@ returns-in_err-turn-clause-cells c =
 pub returns-then-not-is_none-clause-cells : goal.returns-then-not-is_none-clause-cells
 returns-then-not-is_none-clause-cells c =
     grows_on c.args.cells.now c.loop-self.cells c.met.new.cells c.loop-self.invariant.grows c.met.ensures.cells
+
+pub loop-self-init : goal.loop-self-init
+loop-self-init c = record { grows = grows_self c.args.cells.now; run = c.requires.run; left = refl }
+
+pub returns-clause-cells : goal.returns-clause-cells
+returns-clause-cells c = c.loop-self.invariant.grows
+
+pub returns-clause-run : goal.returns-clause-run
+returns-clause-run c = c.loop-self.invariant.run

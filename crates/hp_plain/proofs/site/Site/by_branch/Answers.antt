@@ -5,6 +5,7 @@ use Rattle.hp_eval.specs.Slotted.{bindings_of}
 use Rattle.hp_syntax.specs.Views.{branch_of}
 use Rattle.hp_plain.specs.Sites.{branch_done, node_at_site, place_at}
 use Rattle.hp_plain.proofs.SiteSteps.{branch_there, turns_same}
+use Rattle.hp_eval.proofs.GrowthLemmas.{grows_self}
 use Rattle.hp_plain.proofs.site.Site.by_branch.Goals as goal
 
 pub returns-in-Some-clause-turns : goal.returns-in-Some-clause-turns
@@ -20,3 +21,6 @@ returns-in-Some-clause-turns c =
     (λ turn h. turns_same c.refined.new.cells turn _ _
     (ap (λ o. branch_done (node_at_site old s) (place_at s) o (bindings_of old c.args.slots.now)) (sym there)) h)
     c.refined.ensures.turns
+
+pub returns-in-None-clause-cells : goal.returns-in-None-clause-cells
+returns-in-None-clause-cells c = grows_self c.args.cells.now

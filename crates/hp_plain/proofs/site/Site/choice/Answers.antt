@@ -6,6 +6,7 @@ use Rattle.hp_syntax.specs.declared.domain.Rule.TheVariants as rules
 use Rattle.hp_plain.specs.Sites.{children_by, node_at_site, place_at, rules_at, term_at_site}
 use Rattle.hp_plain.specs.Spots.{HasFew}
 use Rattle.hp_plain.proofs.SiteSteps.{rule_there, rule_missing, holds_there, chooses_operator, chooses_method, chooses_nothing}
+use Rattle.hp_eval.proofs.GrowthLemmas.{grows_self}
 use Rattle.hp_plain.proofs.site.Site.choice.Goals as goal
 
 pub by_operator-requires-clause-few : goal.by_operator-requires-clause-few
@@ -66,3 +67,9 @@ returns-in-None-clause-chooses c =
     c.in-None.ensures.lookup.3 in
     chooses_nothing terms s c.args.rule c.no_choice-in-None.result c.no_choice-in-None.ensures
     (ap (children_by (rules_at s) s.nest (node_at_site terms s) (place_at s) (term_at_site terms s)) there)
+
+pub returns-in-None-clause-cells : goal.returns-in-None-clause-cells
+returns-in-None-clause-cells c = grows_self c.args.cells.now
+
+pub returns-in-Some-Axiom-clause-cells : goal.returns-in-Some-Axiom-clause-cells
+returns-in-Some-Axiom-clause-cells c = grows_self c.args.cells.now

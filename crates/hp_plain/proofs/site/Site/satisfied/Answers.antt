@@ -2,6 +2,7 @@ use Rattle.std.proofs.lemmas.Result.{IfOk-weaker}
 use Rattle.hp_eval.specs.Slotted.{bindings_of}
 use Rattle.hp_syntax.specs.declared.domain.Rule.TheVariants as rules
 use Rattle.hp_plain.proofs.SiteSteps.{rule_there, rule_missing, done_there, turns_same}
+use Rattle.hp_eval.proofs.GrowthLemmas.{grows_self}
 use Rattle.hp_plain.proofs.site.Site.satisfied.Goals as goal
 
 pub returns-in-Some-Operator-clause-turns : goal.returns-in-Some-Operator-clause-turns
@@ -52,3 +53,9 @@ returns-in-None-clause-turns c =
       stand = done_there old s c.args.rule c.args.branch (bindings_of old c.args.slots.now) _ there;
       fits = tt;
     }
+
+pub returns-in-None-clause-cells : goal.returns-in-None-clause-cells
+returns-in-None-clause-cells c = grows_self c.args.cells.now
+
+pub returns-in-Some-Axiom-clause-cells : goal.returns-in-Some-Axiom-clause-cells
+returns-in-Some-Axiom-clause-cells c = grows_self c.args.cells.now

@@ -5,6 +5,7 @@ use Rattle.hp_plain.specs.Founds.{found_event}
 use Rattle.hp_plain.specs.Sites.{done_at}
 use Rattle.hp_plain.specs.Turns.{BindsFew}
 use Rattle.hp_plain.proofs.SiteSteps.{turns_same}
+use Rattle.hp_eval.proofs.GrowthLemmas.{grows_self}
 use Rattle.hp_plain.proofs.site.Site.turn.Goals as goal
 
 pub satisfied-requires-clause-few : goal.satisfied-requires-clause-few
@@ -33,3 +34,9 @@ returns-in-Fault-clause-turns c =
     let old = c.args.cells.now in
     let done = done_at old c.args.self.now c.args.rule c.args.branch in
     record { stand = ap (λ x. child_of done (found_event old x)) (sym c.in-Fault.is); fits = tt }
+
+pub returns-in-Cut-clause-cells : goal.returns-in-Cut-clause-cells
+returns-in-Cut-clause-cells c = grows_self c.args.cells.now
+
+pub returns-in-Fault-clause-cells : goal.returns-in-Fault-clause-cells
+returns-in-Fault-clause-cells c = grows_self c.args.cells.now
