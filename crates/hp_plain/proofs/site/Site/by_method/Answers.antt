@@ -1,4 +1,13 @@
 use Rattle.hp_eval.proofs.GrowthLemmas.{grows_self}
+use Rattle.std.proofs.Common.{◌≡◌, ℕ, length, map, ◌∙◌, ap, sym, subst, arith}
+use Rattle.std.proofs.lemmas.Result.{IfOk-weaker}
+use Rattle.hp_syntax.specs.Matching.{match_atom}
+use Rattle.hp_syntax.specs.Values.{unbound}
+use Rattle.hp_syntax.specs.Views.{atom_of, branch_of, method_of}
+use Rattle.hp_syntax.specs.Walk.{chosen, choice_children, method_children}
+use Rattle.hp_eval.specs.Slotted.{bindings_of}
+use Rattle.hp_plain.specs.Sites.{rules_at, node_at_site, place_at, term_at_site}
+use Rattle.hp_plain.specs.Turns.{MeetsHead, ChoosesBranch}
 use Rattle.hp_plain.proofs.site.Site.by_method.Goals as goal
 
 pub returns-in-None-clause-cells : goal.returns-in-None-clause-cells
@@ -6,3 +15,25 @@ returns-in-None-clause-cells c = grows_self c.args.cells.now
 
 pub returns-in_err-slots-clause-cells : goal.returns-in_err-slots-clause-cells
 returns-in_err-slots-clause-cells c = grows_self c.args.cells.now
+
+pub returns-in-Some-clause-chooses : goal.returns-in-Some-clause-chooses
+returns-in-Some-clause-chooses c =
+    let s = c.args.self.now in
+    let old = c.args.cells.now in
+    let new = c.first_branch.new.cells in
+    let m = c.args.method.now in
+    let n = node_at_site old s in
+    let p = place_at s in
+    let e = bindings_of old c.in-Some.slots in
+    let found = λ (k : ℕ). match_atom (atom_of m.head) (term_at_site old s) (unbound k) in
+    let long : c.len.result ≡ length m.vars.items = omega (arith, c.len.ensures, m.vars.ok.0) in
+    let met = subst (λ x. MeetsHead old c.len.result x (found c.len.result)) c.in-Some.is c.in_ok-slots.ensures in
+    let branches = (method_of m).branches in
+    IfOk-weaker c.first_branch.result _ _
+    (λ x h.
+    subst (λ o. ChoosesBranch new n p branches x (method_children (rules_at s) s.nest n p (method_of m) o))
+    (sym (ap found (sym long) ∙ met.0))
+    (subst
+    (λ bs. ChoosesBranch new n p (map branch_of bs) x
+    (choice_children n p (chosen (rules_at s) s.nest n.state (map branch_of bs) e))) c.as_slice.ensures.value h))
+    c.first_branch.ensures.chooses

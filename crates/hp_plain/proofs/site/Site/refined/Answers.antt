@@ -4,7 +4,7 @@ use Rattle.hp_syntax.specs.Views.{tasks_of}
 use Rattle.hp_eval.specs.GoalViews.{network_of}
 use Rattle.hp_eval.specs.Slotted.{bindings_of}
 use Rattle.hp_plain.specs.Sites.{node_at_site, place_at}
-use Rattle.hp_plain.proofs.NodeLemmas.{node_stays}
+use Rattle.hp_plain.proofs.NodeLemmas.{node_stays, site_grows}
 use Rattle.hp_plain.proofs.SiteSteps.{turns_same, decomposed_value}
 use Rattle.hp_plain.proofs.site.Site.refined.Goals as goal
 
@@ -19,3 +19,16 @@ returns-in-Ok-clause-turns c =
     (node_stays old new c.in-Ok.ensures.cells s.spot.now c.requires.site.spot) (network_of new c.in-Ok.tree)
     (tasks_value (tasks_of c.args.tasks.now) (bindings_of old c.args.slots.now)) c.in-Ok.ensures.gives) h)
     c.expanded.ensures
+
+pub expanded-requires-clause-site : goal.expanded-requires-clause-site
+expanded-requires-clause-site c =
+    site_grows c.args.cells.now c.tasks_value.new.cells c.in-Ok.ensures.cells c.args.self.now c.requires.site
+
+pub returns-in-Ok-clause-cells : goal.returns-in-Ok-clause-cells
+returns-in-Ok-clause-cells c = c.tasks_value.ensures.cells
+
+pub returns-in-Err-Fault-clause-cells : goal.returns-in-Err-Fault-clause-cells
+returns-in-Err-Fault-clause-cells c = c.tasks_value.ensures.cells
+
+pub returns-in-Err-NoMemory-clause-cells : goal.returns-in-Err-NoMemory-clause-cells
+returns-in-Err-NoMemory-clause-cells c = c.tasks_value.ensures.cells
