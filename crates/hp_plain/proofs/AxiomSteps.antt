@@ -12,7 +12,7 @@ use Rattle.hp_syntax.specs.Events.{Event, State, through, or_else, state_events,
 use Rattle.hp_syntax.specs.Views.{axiom_of, clause_of, expression_of}
 use Rattle.hp_syntax.specs.declared.domain.Clause as public_clause
 use Rattle.hp_syntax.specs.declared.domain.Axiom as public_axiom
-use Rattle.hp_eval.specs.Slotted.{no_bindings, bindings_of}
+use Rattle.hp_eval.specs.Slotted.{Slotted, no_bindings, bindings_of}
 use Rattle.hp_eval.proofs.Loops.{left_more}
 use Rattle.hp_plain.specs.Rulebooks.{concluding, axiom_at, AreFew}
 use Rattle.hp_plain.specs.Scenes.{placed_events}
@@ -107,6 +107,11 @@ axiom_among (Refines m ∷ rs) (suc i) x h = axiom_among rs i x h
 pub none_bound : (terms : List Term) (n : ℕ) → bindings_of terms (no_bindings n) ≡ unbound n
 none_bound terms zero = refl
 none_bound terms (suc n) = ap (λ os. None ∷ os) (none_bound terms n)
+
+-- slots that are new bind none of so many variables
+pub new_bind_none : (terms : List Term) (own : Slotted) (n many : ℕ) → own ≡ no_bindings n → n ≡ many
+    → bindings_of terms own ≡ unbound many
+new_bind_none terms own n many is e = ap (bindings_of terms) is ∙ (none_bound terms n ∙ ap unbound e)
 
 -- ---- branches
 

@@ -6,7 +6,7 @@ use Rattle.hp_syntax.specs.Events.{sat_if}
 use Rattle.hp_syntax.specs.Views.{atom_of}
 use Rattle.hp_eval.specs.GoalViews.{term_at, goal_of}
 use Rattle.hp_eval.specs.Slotted.{bindings_of}
-use Rattle.hp_eval.proofs.GrowthLemmas.{bindings_stay, grows_self}
+use Rattle.hp_eval.proofs.GrowthLemmas.{bindings_stay, grows_self, below_grows}
 use Rattle.hp_plain.proofs.FoundLemmas.{finds_same, goal_below_grows, goal_stays}
 use Rattle.hp_plain.proofs.ConclusionSteps.{concluded_term}
 use Rattle.hp_plain.proofs.conclusions.concluded.Goals as goal
@@ -40,3 +40,13 @@ returns-in-Ok-clause-found c =
 
 pub returns-then-not-is_head_bound-clause-cells : goal.returns-then-not-is_head_bound-clause-cells
 returns-then-not-is_head_bound-clause-cells c = grows_self c.args.cells.now
+
+pub value_matched-requires-clause-slots : goal.value_matched-requires-clause-slots
+value_matched-requires-clause-slots c =
+    below_grows c.args.cells.now c.atom_value.new.cells c.atom_value.ensures.cells c.args.slots.now c.requires.slots
+
+pub returns-in-Ok-clause-cells : goal.returns-in-Ok-clause-cells
+returns-in-Ok-clause-cells c = c.atom_value.ensures.cells
+
+pub returns-in-Err-clause-cells : goal.returns-in-Err-clause-cells
+returns-in-Err-clause-cells c = c.atom_value.ensures.cells

@@ -1,11 +1,9 @@
 use Rattle.std.proofs.Common.{◌≡◌, ℕ, length, Option, None, ap, sym, ◌∙◌, arith}
 use Rattle.std.proofs.lemmas.List.{length-replicate}
-use Rattle.hp_syntax.specs.Values.{unbound}
 use Rattle.hp_syntax.specs.Goals.{start_goal}
 use Rattle.hp_syntax.specs.Views.{axiom_of}
 use Rattle.hp_eval.specs.GoalViews.{goal_of}
-use Rattle.hp_eval.specs.Slotted.{bindings_of}
-use Rattle.hp_plain.proofs.AxiomSteps.{none_bound}
+use Rattle.hp_plain.proofs.AxiomSteps.{new_bind_none}
 use Rattle.hp_plain.proofs.MatchSteps.{binds_vars, match_failed, match_made}
 use Rattle.hp_eval.proofs.GrowthLemmas.{grows_self}
 use Rattle.hp_plain.proofs.conclusions.own_slots.Goals as goal
@@ -21,8 +19,7 @@ returns-then-starts-clause-starts c =
     let x = axiom_of a in
     let own = c.in_ok-own.own in
     let long : c.len.result ≡ length x.vars = omega (arith, c.len.ensures, a.vars.ok.0) in
-    let begin : bindings_of old own ≡ unbound (length x.vars)
-    = ap (bindings_of old) c.in_ok-own.ensures ∙ (none_bound old c.len.result ∙ ap unbound long) in
+    let begin = new_bind_none old own c.len.result (length x.vars) c.in_ok-own.ensures long in
     let m =
     match_made c.in_ok-starts.starts _ new own c.start_goal.new.slots c.if-starts.true c.in_ok-starts.ensures.started in
     let vars = binds_vars own c.start_goal.new.slots m.1 in
@@ -41,8 +38,7 @@ returns-else-starts-clause-starts c =
     let x = axiom_of a in
     let own = c.in_ok-own.own in
     let long : c.len.result ≡ length x.vars = omega (arith, c.len.ensures, a.vars.ok.0) in
-    let begin : bindings_of old own ≡ unbound (length x.vars)
-    = ap (bindings_of old) c.in_ok-own.ensures ∙ (none_bound old c.len.result ∙ ap unbound long) in
+    let begin = new_bind_none old own c.len.result (length x.vars) c.in_ok-own.ensures long in
     let m =
     match_failed c.in_ok-starts.starts _ new own c.start_goal.new.slots c.if-starts.false
     c.in_ok-starts.ensures.started in

@@ -3,7 +3,7 @@ use Rattle.std.proofs.lemmas.Result.{err_from_is_err_and}
 use Rattle.hp_syntax.specs.Values.{atom_value}
 use Rattle.hp_syntax.specs.Views.{atom_of}
 use Rattle.hp_eval.specs.Slotted.{bindings_of}
-use Rattle.hp_eval.proofs.GrowthLemmas.{grows_self, grows_on, bindings_stay}
+use Rattle.hp_eval.proofs.GrowthLemmas.{grows_self, grows_on, bindings_stay, below_grows}
 use Rattle.hp_world.specs.Stages.{changes_of}
 use Rattle.hp_plain.specs.Effected.{of_atom, HasPut, StopsHere}
 use Rattle.hp_plain.proofs.EffectLemmas.{atoms_going, along_none, along_more, along_stops, atoms_left}
@@ -68,3 +68,10 @@ returns-in_err-put_atom-clause-cells c =
 
 pub returns-clause-cells : goal.returns-clause-cells
 returns-clause-cells c = c.loop-atom.invariant.grows
+
+pub put_atom-requires-clause-slots : goal.put_atom-requires-clause-slots
+put_atom-requires-clause-slots c =
+    below_grows c.args.cells.now c.loop-atom.cells c.loop-atom.invariant.grows c.args.slots.now c.requires.slots
+
+pub put_atom-requires-clause-below : goal.put_atom-requires-clause-below
+put_atom-requires-clause-below c = c.loop-atom.invariant.along.below

@@ -76,3 +76,6 @@ returns-in_err-put_found-clause-cells c =
 
 pub returns-clause-cells : goal.returns-clause-cells
 returns-clause-cells c = c.loop-x.invariant.grows
+
+pub put_found-requires-clause-below : goal.put_found-requires-clause-below
+put_found-requires-clause-below c = c.loop-x.invariant.along.below

@@ -1,12 +1,13 @@
-use Rattle.std.proofs.Common.{length, Option, ℕ, None, ◌∙◌, ap, subst}
+use Rattle.std.proofs.Common.{length, Option, ℕ, None, ◌∙◌, ap, subst, ◌≤◌, sym}
 use Rattle.std.proofs.lemmas.List.{length-replicate}
 use Rattle.std.proofs.lemmas.Result.{IfOk-weaker}
 use Rattle.hp_syntax.specs.Preconditions.{heard, keyed, sorted_events}
 use Rattle.hp_syntax.specs.Views.{key_of}
-use Rattle.hp_plain.specs.Founds.{Finds, found_events}
+use Rattle.hp_plain.specs.Founds.{Finds, found_events, AllFit}
 use Rattle.hp_plain.proofs.FoundLemmas.{finds_same}
 use Rattle.hp_plain.proofs.PreconditionLemmas.{sorted_heard_whole}
 use Rattle.hp_eval.proofs.GrowthLemmas.{grows_self}
+use Rattle.hp_eval.specs.Slotted.{no_bindings}
 use Rattle.hp_plain.proofs.preconditions.sorted.Goals as goal
 
 pub returns-clause-finds : goal.returns-clause-finds
@@ -34,3 +35,27 @@ returns-in_err-slots-clause-cells c = grows_self c.args.cells.now
 
 pub returns-in_err-copy-clause-cells : goal.returns-in_err-copy-clause-cells
 returns-in_err-copy-clause-cells c = grows_self c.args.cells.now
+
+pub new-listed-requires-clause-fit : goal.new-listed-requires-clause-fit
+new-listed-requires-clause-fit c =
+    let vars =
+    ap (λ s. length s.values) c.in_ok-slots.ensures ∙ length-replicate {A = Option ℕ} c.args.vars None in
+    subst (λ n. AllFit n (length c.args.cells.now) c.args.found.items) (sym vars) c.requires.fit
+
+pub new-listed-requires-clause-few : goal.new-listed-requires-clause-few
+new-listed-requires-clause-few c =
+    let vars =
+    ap (λ s. length s.values) c.in_ok-slots.ensures ∙ length-replicate {A = Option ℕ} c.args.vars None in subst (λ n. n ≤ 256) (sym vars) c.requires.few
+
+pub new-listed-requires-clause-blank : goal.new-listed-requires-clause-blank
+new-listed-requires-clause-blank c =
+    let vars =
+    ap (λ s. length s.values) c.in_ok-slots.ensures ∙ length-replicate {A = Option ℕ} c.args.vars None in c.in_ok-slots.ensures ∙ ap no_bindings (sym vars)
+
+pub drained-requires-clause-few : goal.drained-requires-clause-few
+drained-requires-clause-few c =
+    let vars =
+    ap (λ s. length s.values) c.in_ok-slots.ensures ∙ length-replicate {A = Option ℕ} c.args.vars None in subst (λ n. n ≤ 256) (sym vars) c.requires.few
+
+pub returns-clause-cells : goal.returns-clause-cells
+returns-clause-cells c = c.drained.ensures.cells

@@ -40,3 +40,9 @@ returns-clause-run c =
       deep = c.requires.deep;
       few = c.in_ok-choice.ensures.chooses.few;
     }
+
+pub returns-clause-cells : goal.returns-clause-cells
+returns-clause-cells c = c.choice.ensures.cells
+
+pub returns-in_err-choice-clause-cells : goal.returns-in_err-choice-clause-cells
+returns-in_err-choice-clause-cells c = c.choice.ensures.cells

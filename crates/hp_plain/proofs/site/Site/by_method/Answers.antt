@@ -37,3 +37,25 @@ returns-in-Some-clause-chooses c =
     (λ bs. ChoosesBranch new n p (map branch_of bs) x
     (choice_children n p (chosen (rules_at s) s.nest n.state (map branch_of bs) e))) c.as_slice.ensures.value h))
     c.first_branch.ensures.chooses
+
+pub first_branch-requires-clause-few : goal.first_branch-requires-clause-few
+first_branch-requires-clause-few c =
+    let s = c.args.self.now in
+    let x = c.args.method.now in
+    let found = λ (n : ℕ). match_atom (atom_of x.head) (term_at_site c.args.cells.now s) (unbound n) in
+    let met =
+    subst (λ o. MeetsHead c.args.cells.now c.len.result o (found c.len.result)) c.in-Some.is c.in_ok-slots.ensures in
+    let many = met.1 in
+    omega (arith, many, c.len.ensures, x.vars.ok.0, c.requires.few)
+
+pub first_branch-requires-clause-slots : goal.first_branch-requires-clause-slots
+first_branch-requires-clause-slots c =
+    let s = c.args.self.now in
+    let x = c.args.method.now in
+    let found = λ (n : ℕ). match_atom (atom_of x.head) (term_at_site c.args.cells.now s) (unbound n) in
+    let met =
+    subst (λ o. MeetsHead c.args.cells.now c.len.result o (found c.len.result)) c.in-Some.is c.in_ok-slots.ensures in
+    met.2
+
+pub returns-in-Some-clause-cells : goal.returns-in-Some-clause-cells
+returns-in-Some-clause-cells c = c.first_branch.ensures.cells

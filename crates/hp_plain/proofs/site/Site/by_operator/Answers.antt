@@ -42,3 +42,25 @@ returns-in-Some-clause-finds c =
     IfOk-weaker c.precondition.result _ _
     (λ v h. finds_few c.precondition.new.cells (length slots.values) v.items _ _ few same h)
     c.precondition.ensures.finds
+
+pub precondition-requires-clause-few : goal.precondition-requires-clause-few
+precondition-requires-clause-few c =
+    let s = c.args.self.now in
+    let x = c.args.operator.now in
+    let found = λ (n : ℕ). match_atom (atom_of x.head) (term_at_site c.args.cells.now s) (unbound n) in
+    let met =
+    subst (λ o. MeetsHead c.args.cells.now c.len.result o (found c.len.result)) c.in-Some.is c.in_ok-slots.ensures in
+    let many = met.1 in
+    omega (arith, many, c.len.ensures, x.vars.ok.0, c.requires.few)
+
+pub precondition-requires-clause-slots : goal.precondition-requires-clause-slots
+precondition-requires-clause-slots c =
+    let s = c.args.self.now in
+    let x = c.args.operator.now in
+    let found = λ (n : ℕ). match_atom (atom_of x.head) (term_at_site c.args.cells.now s) (unbound n) in
+    let met =
+    subst (λ o. MeetsHead c.args.cells.now c.len.result o (found c.len.result)) c.in-Some.is c.in_ok-slots.ensures in
+    met.2
+
+pub returns-in-Some-clause-cells : goal.returns-in-Some-clause-cells
+returns-in-Some-clause-cells c = c.precondition.ensures.cells

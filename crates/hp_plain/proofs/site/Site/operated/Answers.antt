@@ -1,10 +1,10 @@
-use Rattle.std.proofs.Common.{w64, FitsSigned, rules, ap, sym, subst, ◌∙◌}
+use Rattle.std.proofs.Common.{w64, FitsSigned, rules, ap, sym, subst, ◌∙◌, length}
 use Rattle.std.proofs.lemmas.Int.{to_z-of_z}
 use Rattle.std.proofs.lemmas.Result.{IfOk-weaker}
 use Rattle.hp_syntax.specs.Changes.{apply, effects}
 use Rattle.hp_syntax.specs.Views.{operator_of}
 use Rattle.hp_eval.specs.Slotted.{bindings_of}
-use Rattle.hp_world.specs.Stages.{changes_of}
+use Rattle.hp_world.specs.Stages.{changes_of, StageBelow}
 use Rattle.hp_plain.specs.Effected.{ComesTo}
 use Rattle.hp_plain.specs.Scenes.{axioms_in, state_in}
 use Rattle.hp_syntax.specs.Walk.{operated}
@@ -40,3 +40,19 @@ returns-in-Went-clause-turns c =
     (term_at_site new s) (term_at_site old s) (changes_of new c.in-Went.changes) cost _
     (term_stays old new g s.task site.task) went) h)
     c.applied.ensures
+
+pub effects-requires-clause-world : goal.effects-requires-clause-world
+effects-requires-clause-world c =
+    subst (λ w. StageBelow (length c.args.cells.now) w.now) (sym c.scene.ensures.world) c.requires.site.spot.world
+
+pub returns-in-Cut-clause-cells : goal.returns-in-Cut-clause-cells
+returns-in-Cut-clause-cells c = c.effects.ensures.cells
+
+pub returns-in-Fault-clause-cells : goal.returns-in-Fault-clause-cells
+returns-in-Fault-clause-cells c = c.effects.ensures.cells
+
+pub returns-in-Went-clause-cells : goal.returns-in-Went-clause-cells
+returns-in-Went-clause-cells c = c.effects.ensures.cells
+
+pub returns-in_err-changes-clause-cells : goal.returns-in_err-changes-clause-cells
+returns-in_err-changes-clause-cells c = c.effects.ensures.cells
