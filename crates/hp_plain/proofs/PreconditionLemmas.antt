@@ -1,6 +1,6 @@
 -- What is heard of lists, and events that are taken one by one.
-use Rattle.std.proofs.Common.{append_assoc, ◌≡◌, ℕ, ◌+◌, ◌<◌, ◌≤◌, Bool, true, false, cond, ℤ, List, [], ◌∷◌, ◌++◌, length, map, take, drop, get_or, refl, sym, ◌∙◌, ap, subst, arith}
-use Rattle.std.proofs.lemmas.List.{map-append, append-nil, length-take-le, take_more, take_all, drop_all}
+use Rattle.std.proofs.Common.{append_assoc, ◌≡◌, ℕ, ◌+◌, ◌<◌, ◌≤◌, Bool, true, false, cond, ℤ, List, [], ◌∷◌, ◌++◌, length, map, take, drop, get_or, Option, None, refl, sym, ◌∙◌, ap, subst, arith}
+use Rattle.std.proofs.lemmas.List.{length-replicate, map-append, append-nil, length-take-le, take_more, take_all, drop_all}
 use Rattle.std.proofs.lemmas.List.Elements.{All-take}
 use Rattle.hp_syntax.specs.Terms.{Term}
 use Rattle.hp_syntax.specs.Events as plain
@@ -13,7 +13,7 @@ use Rattle.hp_syntax.specs.declared.expression.Expr.{Expr}
 use Rattle.hp_syntax.specs.declared.expression.SortKey.{SortKey}
 use Rattle.hp_syntax.specs.declared.expression.Pre.{Pre}
 use Rattle.hp_syntax.specs.declared.expression.Pre.TheVariants as pres
-use Rattle.hp_eval.specs.Slotted.{Slotted, AreBelow, Binds, undone, bindings_of}
+use Rattle.hp_eval.specs.Slotted.{Slotted, AreBelow, Binds, no_bindings, undone, bindings_of}
 use Rattle.hp_eval.specs.declared.event.Event.TheVariants as events
 use Rattle.hp_eval.specs.Events.{event_of, left_after, AreOfFirst}
 use Rattle.hp_plain.specs.Listed.{FindsMore}
@@ -89,6 +89,10 @@ heard_found terms vars n found events e h = record {
 }
 
 -- ---- events that are taken one by one
+
+-- slots that are new are of so many variables
+pub new_vars : (own : Slotted) (n : ℕ) → own ≡ no_bindings n → length own.values ≡ n
+new_vars own n is = ap (λ s. length s.values) is ∙ length-replicate {A = Option ℕ} n None
 
 -- bindings above those of a mark are of as many variables
 pub vars_above : (mark : ℕ) (old new : Slotted) → mark ≤ length old.trail → Binds (undone mark old) new

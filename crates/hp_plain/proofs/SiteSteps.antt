@@ -310,9 +310,9 @@ precondition_stays s scene old mid g site pre slots below book world =
 -- ---- rules
 
 -- a rule of the domain stands at its number
-pub rule_there : (list items : List public_rule.Rule) (i : ℕ) (x r : public_rule.Rule) → list ≡ items → i < length list
-    → x ≡ get_or list i x → x ≡ r → slice_get (map rule_of items) i ≡ Some (rule_of r)
-rule_there list items i x r same l is e =
+pub rule_there : {list items : List public_rule.Rule} {x r : public_rule.Rule} (i : ℕ) → list ≡ items
+    → i < length list → x ≡ get_or list i x → x ≡ r → slice_get (map rule_of items) i ≡ Some (rule_of r)
+rule_there {list = list} {x = x} i same l is e =
     ap (λ xs. slice_get (map rule_of xs) i) (sym same)
     ∙ (slice_get-map rule_of list i
     ∙ ap (option_map rule_of) (slice_get-get_or list i x l ∙ ap Some (sym is ∙ e)))
@@ -326,9 +326,9 @@ done_there terms s rule branch e o h =
     ap (λ r. done_by (rules_at s) s.nest (node_at_site terms s) (place_at s) (term_at_site terms s) r branch e) (sym h)
 
 -- beyond the rules there is none
-pub rule_missing : (list items : List public_rule.Rule) (i : ℕ) → list ≡ items → length list ≤ i
+pub rule_missing : {list items : List public_rule.Rule} (i : ℕ) → list ≡ items → length list ≤ i
     → slice_get (map rule_of items) i ≡ None
-rule_missing list items i same l =
+rule_missing {list = list} i same l =
     ap (λ xs. slice_get (map rule_of xs) i) (sym same)
     ∙ (slice_get-map rule_of list i ∙ ap (option_map rule_of) (slice_get_past list i l))
 

@@ -1,6 +1,6 @@
-use Rattle.hp_eval.proofs.GrowthLemmas.{grows_self}
 use Rattle.std.proofs.Common.{length, ap, sym, subst}
 use Rattle.hp_syntax.specs.Views.{atoms_of}
+use Rattle.hp_eval.proofs.GrowthLemmas.{grows_self}
 use Rattle.hp_world.specs.Stages.{changes_of}
 use Rattle.hp_plain.specs.Founds.{found_event, BindsBelow}
 use Rattle.hp_plain.specs.Effected.{values_at, PutsAll}
@@ -20,9 +20,9 @@ returns-in-Sat-clause-puts c =
     let old = c.args.cells.now in
     let as' = atoms_of c.args.atoms.now in
     subst
-        (λ x. PutsAll {A = Unit {0}} c.args.side c.put_atoms.result (values_at as' (found_event old x))
-        c.put_atoms.new.cells (changes_of old c.args.changes.now) c.put_atoms.new.changes) (sym c.in-Sat.is)
-        c.put_atoms.ensures.puts
+    (λ x. PutsAll {A = Unit {0}} c.args.side c.put_atoms.result (values_at as' (found_event old x))
+    c.put_atoms.new.cells (changes_of old c.args.changes.now) c.put_atoms.new.changes) (sym c.in-Sat.is)
+    c.put_atoms.ensures.puts
 
 pub returns-in-Cut-clause-puts : goal.returns-in-Cut-clause-puts
 returns-in-Cut-clause-puts c =

@@ -18,3 +18,13 @@ returns-then-negate c =
     ∙ ap (λ b. turned b (found_events terms found) e) (sym c.if-negate.true) in
     subst (Finds terms (length s.values) v.items) same (h terms below))
     c.negated.ensures
+
+pub returns-else-negate : goal.returns-else-negate
+returns-else-negate c =
+    let s = c.args.slots.now in
+    let found = c.args.found.items in
+    λ terms below fit.
+    record {
+      stand = ap (λ b. turned b (found_events terms found) (bindings_of terms s)) (sym c.if-negate.false);
+      fit = fit;
+    }

@@ -1,11 +1,10 @@
-use Rattle.std.proofs.Common.{length, Option, ℕ, None, ◌∙◌, ap, subst, ◌≤◌, sym}
-use Rattle.std.proofs.lemmas.List.{length-replicate}
+use Rattle.std.proofs.Common.{◌≤◌, length, sym, ◌∙◌, ap, subst}
 use Rattle.std.proofs.lemmas.Result.{IfOk-weaker}
 use Rattle.hp_syntax.specs.Preconditions.{heard, keyed, sorted_events}
 use Rattle.hp_syntax.specs.Views.{key_of}
 use Rattle.hp_plain.specs.Founds.{Finds, found_events, AllFit}
 use Rattle.hp_plain.proofs.FoundLemmas.{finds_same}
-use Rattle.hp_plain.proofs.PreconditionLemmas.{sorted_heard_whole}
+use Rattle.hp_plain.proofs.PreconditionLemmas.{new_vars, sorted_heard_whole}
 use Rattle.hp_eval.proofs.GrowthLemmas.{grows_self}
 use Rattle.hp_eval.specs.Slotted.{no_bindings}
 use Rattle.hp_plain.proofs.preconditions.sorted.Goals as goal
@@ -17,8 +16,7 @@ returns-clause-finds c =
     let k = key_of c.args.key.now in
     let copy = key_of c.in_ok-copy.field-0 in
     let xs = heard (found_events cells c.args.found.items) in
-    let vars =
-    ap (λ s. length s.values) c.in_ok-slots.ensures ∙ length-replicate {A = Option ℕ} c.args.vars None in
+    let vars = new_vars c.in_ok-slots.slots c.args.vars c.in_ok-slots.ensures in
     let rest =
     ap heard (c.new-sats.ensures.rest tt cells slots
     ∙ (ap (λ ys. sorted_events copy.order (keyed copy ys)) (c.new-listed.ensures.rest cells slots)
@@ -38,24 +36,23 @@ returns-in_err-copy-clause-cells c = grows_self c.args.cells.now
 
 pub new-listed-requires-clause-fit : goal.new-listed-requires-clause-fit
 new-listed-requires-clause-fit c =
-    let vars =
-    ap (λ s. length s.values) c.in_ok-slots.ensures ∙ length-replicate {A = Option ℕ} c.args.vars None in
+    let vars = new_vars c.in_ok-slots.slots c.args.vars c.in_ok-slots.ensures in
     subst (λ n. AllFit n (length c.args.cells.now) c.args.found.items) (sym vars) c.requires.fit
 
 pub new-listed-requires-clause-few : goal.new-listed-requires-clause-few
 new-listed-requires-clause-few c =
-    let vars =
-    ap (λ s. length s.values) c.in_ok-slots.ensures ∙ length-replicate {A = Option ℕ} c.args.vars None in subst (λ n. n ≤ 256) (sym vars) c.requires.few
+    let vars = new_vars c.in_ok-slots.slots c.args.vars c.in_ok-slots.ensures in
+    subst (λ n. n ≤ 256) (sym vars) c.requires.few
 
 pub new-listed-requires-clause-blank : goal.new-listed-requires-clause-blank
 new-listed-requires-clause-blank c =
-    let vars =
-    ap (λ s. length s.values) c.in_ok-slots.ensures ∙ length-replicate {A = Option ℕ} c.args.vars None in c.in_ok-slots.ensures ∙ ap no_bindings (sym vars)
+    let vars = new_vars c.in_ok-slots.slots c.args.vars c.in_ok-slots.ensures in
+    c.in_ok-slots.ensures ∙ ap no_bindings (sym vars)
 
 pub drained-requires-clause-few : goal.drained-requires-clause-few
 drained-requires-clause-few c =
-    let vars =
-    ap (λ s. length s.values) c.in_ok-slots.ensures ∙ length-replicate {A = Option ℕ} c.args.vars None in subst (λ n. n ≤ 256) (sym vars) c.requires.few
+    let vars = new_vars c.in_ok-slots.slots c.args.vars c.in_ok-slots.ensures in
+    subst (λ n. n ≤ 256) (sym vars) c.requires.few
 
 pub returns-clause-cells : goal.returns-clause-cells
 returns-clause-cells c = c.drained.ensures.cells

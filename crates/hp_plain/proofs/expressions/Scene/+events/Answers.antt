@@ -901,7 +901,10 @@ any_events-loop-part-init t c =
 pub each_events-loop-x-init : goal.each_events-loop-x-init
 each_events-loop-x-init t c =
     let old = c.args.cells.now in
-    record { grows = grows_self old; found = hears_begin old c.args.vars c.new-all.result.items _ c.new-all.ensures.items }
+    record {
+      grows = grows_self old;
+      found = hears_begin old c.args.vars c.new-all.result.items _ c.new-all.ensures.items;
+    }
 
 pub forall_events-events-requires : goal.forall_events-events-requires
 forall_events-events-requires t c =

@@ -76,4 +76,5 @@ first-requires-clause-fit c =
 pub sorted-requires-clause-fit : goal.sorted-requires-clause-fit
 sorted-requires-clause-fit c =
     let n = length c.events-in-Sorted.new.cells in
-    subst (λ m. AllFit m n c.in_ok-found-in-Sorted.found.items) (sym c.vars-in-Sorted.ensures) c.in_ok-found-in-Sorted.ensures.fit
+    subst (λ m. AllFit m n c.in_ok-found-in-Sorted.found.items) (sym c.vars-in-Sorted.ensures)
+    c.in_ok-found-in-Sorted.ensures.fit

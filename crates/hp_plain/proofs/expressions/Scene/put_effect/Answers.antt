@@ -70,9 +70,10 @@ returns-in-Atom-clause-puts c =
     let state = state_in old c.args.self.now in
     let e = bindings_of old c.args.slots.now in
     subst
-        (λ x. PutsAll {A = Unit {0}} c.args.side c.put_atom.result
-        (effect_values (axioms_in c.args.self.now) c.args.nest state (effect_of x) e) c.put_atom.new.cells
-        (changes_of old c.args.changes.now) c.put_atom.new.changes) (sym c.in-Atom.is) c.put_atom.ensures.puts
+    (λ x. PutsAll {A = Unit {0}} c.args.side c.put_atom.result
+    (effect_values (axioms_in c.args.self.now) c.args.nest state (effect_of x) e) c.put_atom.new.cells
+    (changes_of old c.args.changes.now) c.put_atom.new.changes) (sym c.in-Atom.is)
+    c.put_atom.ensures.puts
 
 pub returns-in-Atom-clause-cells : goal.returns-in-Atom-clause-cells
 returns-in-Atom-clause-cells c = c.put_atom.ensures.cells
@@ -83,9 +84,10 @@ returns-in-Protection-clause-puts c =
     let state = state_in old c.args.self.now in
     let e = bindings_of old c.args.slots.now in
     subst
-        (λ x. PutsAll {A = Unit {0}} c.args.side c.put_protection.result
-        (effect_values (axioms_in c.args.self.now) c.args.nest state (effect_of x) e) c.put_protection.new.cells
-        (changes_of old c.args.changes.now) c.put_protection.new.changes) (sym c.in-Protection.is) c.put_protection.ensures.puts
+    (λ x. PutsAll {A = Unit {0}} c.args.side c.put_protection.result
+    (effect_values (axioms_in c.args.self.now) c.args.nest state (effect_of x) e) c.put_protection.new.cells
+    (changes_of old c.args.changes.now) c.put_protection.new.changes) (sym c.in-Protection.is)
+    c.put_protection.ensures.puts
 
 pub returns-in-Protection-clause-cells : goal.returns-in-Protection-clause-cells
 returns-in-Protection-clause-cells c = c.put_protection.ensures.cells

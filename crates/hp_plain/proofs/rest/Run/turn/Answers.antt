@@ -59,3 +59,10 @@ returns-clause-cells c = c.loop-self.invariant.grows
 
 pub returns-clause-run : goal.returns-clause-run
 returns-clause-run c = c.loop-self.invariant.run
+
+pub met-requires-clause-spot : goal.met-requires-clause-spot
+met-requires-clause-spot c =
+    spot_grows c.args.cells.now c.loop-self.cells c.loop-self.invariant.grows c.args.spot.now c.requires.spot
+
+pub met-requires-clause-run : goal.met-requires-clause-run
+met-requires-clause-run c = c.loop-self.invariant.run

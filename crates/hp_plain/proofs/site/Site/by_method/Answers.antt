@@ -1,4 +1,3 @@
-use Rattle.hp_eval.proofs.GrowthLemmas.{grows_self}
 use Rattle.std.proofs.Common.{◌≡◌, ℕ, length, map, ◌∙◌, ap, sym, subst, arith}
 use Rattle.std.proofs.lemmas.Result.{IfOk-weaker}
 use Rattle.hp_syntax.specs.Matching.{match_atom}
@@ -6,6 +5,7 @@ use Rattle.hp_syntax.specs.Values.{unbound}
 use Rattle.hp_syntax.specs.Views.{atom_of, branch_of, method_of}
 use Rattle.hp_syntax.specs.Walk.{chosen, choice_children, method_children}
 use Rattle.hp_eval.specs.Slotted.{bindings_of}
+use Rattle.hp_eval.proofs.GrowthLemmas.{grows_self}
 use Rattle.hp_plain.specs.Sites.{rules_at, node_at_site, place_at, term_at_site}
 use Rattle.hp_plain.specs.Turns.{MeetsHead, ChoosesBranch}
 use Rattle.hp_plain.proofs.site.Site.by_method.Goals as goal

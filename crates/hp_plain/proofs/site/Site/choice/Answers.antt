@@ -2,7 +2,6 @@ use Rattle.std.proofs.Common.{ap}
 use Rattle.std.proofs.lemmas.Result.{IfOk-weaker}
 use Rattle.hp_syntax.specs.Syntax.{Does, Refines}
 use Rattle.hp_syntax.specs.Views.{method_of, operator_of}
-use Rattle.hp_syntax.specs.declared.domain.Rule.TheVariants as rules
 use Rattle.hp_plain.specs.Sites.{children_by, node_at_site, place_at, rules_at, term_at_site}
 use Rattle.hp_plain.specs.Spots.{HasFew}
 use Rattle.hp_plain.proofs.SiteSteps.{rule_there, rule_missing, holds_there, chooses_operator, chooses_method, chooses_nothing}
@@ -14,8 +13,7 @@ by_operator-requires-clause-few c =
     let s = c.args.self.now in
     let at = c.in-Some-Operator.ensures.lookup in
     let o = c.in-Some-Operator.operator in
-    let there = rule_there c.deref.result.now s.book.now.domain.now.rules.items c.args.rule
-    c.in-Some-Operator.field-0.now (rules.Operator o) c.deref.ensures.value at.3.0 at.1 c.in-Some-Operator.field-0-is in
+    let there = rule_there c.args.rule c.deref.ensures.value at.3.0 at.1 c.in-Some-Operator.field-0-is in
     holds_there HasFew (rules_at s) c.args.rule (Does (operator_of o)) c.requires.site.few there
 
 pub by_method-requires-clause-few : goal.by_method-requires-clause-few
@@ -23,8 +21,7 @@ by_method-requires-clause-few c =
     let s = c.args.self.now in
     let at = c.in-Some-Method.ensures.lookup in
     let m = c.in-Some-Method.method in
-    let there = rule_there c.deref.result.now s.book.now.domain.now.rules.items c.args.rule
-    c.in-Some-Method.field-0.now (rules.Method m) c.deref.ensures.value at.3.0 at.1 c.in-Some-Method.field-0-is in
+    let there = rule_there c.args.rule c.deref.ensures.value at.3.0 at.1 c.in-Some-Method.field-0-is in
     holds_there HasFew (rules_at s) c.args.rule (Refines (method_of m)) c.requires.site.few there
 
 pub returns-in_ok-found-in-Some-Operator-clause-chooses : goal.returns-in_ok-found-in-Some-Operator-clause-chooses
@@ -32,8 +29,7 @@ returns-in_ok-found-in-Some-Operator-clause-chooses c =
     let s = c.args.self.now in
     let at = c.in-Some-Operator.ensures.lookup in
     let o = c.in-Some-Operator.operator in
-    let there = rule_there c.deref.result.now s.book.now.domain.now.rules.items c.args.rule
-    c.in-Some-Operator.field-0.now (rules.Operator o) c.deref.ensures.value at.3.0 at.1 c.in-Some-Operator.field-0-is in
+    let there = rule_there c.args.rule c.deref.ensures.value at.3.0 at.1 c.in-Some-Operator.field-0-is in
     chooses_operator c.args.cells.now c.by_operator.new.cells c.in_ok-found-in-Some-Operator.ensures.cells s
     c.requires.site c.args.rule (operator_of o) _ there c.in_ok-found-in-Some-Operator.ensures.finds
 
@@ -42,8 +38,7 @@ returns-in-Some-Method-clause-chooses c =
     let s = c.args.self.now in
     let at = c.in-Some-Method.ensures.lookup in
     let m = c.in-Some-Method.method in
-    let there = rule_there c.deref.result.now s.book.now.domain.now.rules.items c.args.rule
-    c.in-Some-Method.field-0.now (rules.Method m) c.deref.ensures.value at.3.0 at.1 c.in-Some-Method.field-0-is in
+    let there = rule_there c.args.rule c.deref.ensures.value at.3.0 at.1 c.in-Some-Method.field-0-is in
     IfOk-weaker c.by_method.result _ _
     (λ x h. chooses_method c.args.cells.now c.by_method.new.cells c.by_method.ensures.cells s c.requires.site
     c.args.rule (method_of m) x there h)
@@ -54,8 +49,7 @@ returns-in-Some-Axiom-clause-chooses c =
     let s = c.args.self.now in
     let terms = c.args.cells.now in
     let at = c.in-Some-Axiom.ensures.lookup in
-    let there = rule_there c.deref.result.now s.book.now.domain.now.rules.items c.args.rule
-    c.in-Some-Axiom.field-0.now _ c.deref.ensures.value at.3.0 at.1 c.in-Some-Axiom.field-0-is in
+    let there = rule_there c.args.rule c.deref.ensures.value at.3.0 at.1 c.in-Some-Axiom.field-0-is in
     chooses_nothing terms s c.args.rule c.no_choice.result c.no_choice.ensures
     (ap (children_by (rules_at s) s.nest (node_at_site terms s) (place_at s) (term_at_site terms s)) there)
 
@@ -63,8 +57,7 @@ pub returns-in-None-clause-chooses : goal.returns-in-None-clause-chooses
 returns-in-None-clause-chooses c =
     let s = c.args.self.now in
     let terms = c.args.cells.now in
-    let there = rule_missing c.deref.result.now s.book.now.domain.now.rules.items c.args.rule c.deref.ensures.value
-    c.in-None.ensures.lookup.3 in
+    let there = rule_missing c.args.rule c.deref.ensures.value c.in-None.ensures.lookup.3 in
     chooses_nothing terms s c.args.rule c.no_choice-in-None.result c.no_choice-in-None.ensures
     (ap (children_by (rules_at s) s.nest (node_at_site terms s) (place_at s) (term_at_site terms s)) there)
 

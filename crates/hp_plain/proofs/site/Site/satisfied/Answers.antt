@@ -1,6 +1,5 @@
 use Rattle.std.proofs.lemmas.Result.{IfOk-weaker}
 use Rattle.hp_eval.specs.Slotted.{bindings_of}
-use Rattle.hp_syntax.specs.declared.domain.Rule.TheVariants as rules
 use Rattle.hp_plain.proofs.SiteSteps.{rule_there, rule_missing, done_there, turns_same}
 use Rattle.hp_eval.proofs.GrowthLemmas.{grows_self}
 use Rattle.hp_plain.proofs.site.Site.satisfied.Goals as goal
@@ -10,9 +9,7 @@ returns-in-Some-Operator-clause-turns c =
     let s = c.args.self.now in
     let old = c.args.cells.now in
     let at = c.in-Some-Operator.ensures.lookup in
-    let there = rule_there c.deref.result.now s.book.now.domain.now.rules.items c.args.rule
-    c.in-Some-Operator.field-0.now (rules.Operator c.in-Some-Operator.operator) c.deref.ensures.value at.3.0 at.1
-    c.in-Some-Operator.field-0-is in
+    let there = rule_there c.args.rule c.deref.ensures.value at.3.0 at.1 c.in-Some-Operator.field-0-is in
     IfOk-weaker c.operated.result _ _
     (λ turn h. turns_same c.operated.new.cells turn _ _
     (done_there old s c.args.rule c.args.branch (bindings_of old c.args.slots.now) _ there) h)
@@ -23,9 +20,7 @@ returns-in-Some-Method-clause-turns c =
     let s = c.args.self.now in
     let old = c.args.cells.now in
     let at = c.in-Some-Method.ensures.lookup in
-    let there = rule_there c.deref.result.now s.book.now.domain.now.rules.items c.args.rule
-    c.in-Some-Method.field-0.now (rules.Method c.in-Some-Method.method) c.deref.ensures.value at.3.0 at.1
-    c.in-Some-Method.field-0-is in
+    let there = rule_there c.args.rule c.deref.ensures.value at.3.0 at.1 c.in-Some-Method.field-0-is in
     IfOk-weaker c.by_branch.result _ _
     (λ turn h. turns_same c.by_branch.new.cells turn _ _
     (done_there old s c.args.rule c.args.branch (bindings_of old c.args.slots.now) _ there) h)
@@ -36,8 +31,7 @@ returns-in-Some-Axiom-clause-turns c =
     let s = c.args.self.now in
     let old = c.args.cells.now in
     let at = c.in-Some-Axiom.ensures.lookup in
-    let there = rule_there c.deref.result.now s.book.now.domain.now.rules.items c.args.rule
-    c.in-Some-Axiom.field-0.now _ c.deref.ensures.value at.3.0 at.1 c.in-Some-Axiom.field-0-is in
+    let there = rule_there c.args.rule c.deref.ensures.value at.3.0 at.1 c.in-Some-Axiom.field-0-is in
     record {
       stand = done_there old s c.args.rule c.args.branch (bindings_of old c.args.slots.now) _ there;
       fits = tt;
@@ -47,8 +41,7 @@ pub returns-in-None-clause-turns : goal.returns-in-None-clause-turns
 returns-in-None-clause-turns c =
     let s = c.args.self.now in
     let old = c.args.cells.now in
-    let there = rule_missing c.deref.result.now s.book.now.domain.now.rules.items c.args.rule c.deref.ensures.value
-    c.in-None.ensures.lookup.3 in
+    let there = rule_missing c.args.rule c.deref.ensures.value c.in-None.ensures.lookup.3 in
     record {
       stand = done_there old s c.args.rule c.args.branch (bindings_of old c.args.slots.now) _ there;
       fits = tt;
