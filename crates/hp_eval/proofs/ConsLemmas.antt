@@ -1,6 +1,7 @@
 -- A list that grows at its front.
-use Rattle.std.proofs.Common.{◌≡◌, ℕ, ◌<◌, Bool, true, false, cond, List, [], ◌∷◌, ◌++◌, length, map, slice_get, Some, refl, ap, ap₂, sym, ◌∙◌, subst}
+use Rattle.std.proofs.Common.{◌≡◌, ℕ, ◌<◌, Bool, true, false, cond, List, [], ◌∷◌, ◌++◌, length, map, slice_get, Some, Result, Ok, Err, refl, ap, ap₂, sym, ◌∙◌, subst}
 use Rattle.std.specs.List.{All}
+use Rattle.std.specs.Result.{IfOk, OnErr}
 use Rattle.std.proofs.lemmas.List.{map_push}
 use Rattle.std.proofs.lemmas.List.Elements.{All-pop}
 use Rattle.hp_cells.specs.Cells.{Interns}
@@ -10,7 +11,7 @@ use Rattle.hp_eval.specs.Growth.{Grows}
 use Rattle.hp_eval.specs.Steps.{onto}
 use Rattle.hp_eval.proofs.Loops.{in_front_push}
 use Rattle.hp_eval.proofs.CellViews.{named_at}
-use Rattle.hp_eval.proofs.GrowthLemmas.{grows_self, grows_behind, grows_on, terms_stay, still_names}
+use Rattle.hp_eval.proofs.GrowthLemmas.{grows_self, grows_same, grows_behind, grows_on, terms_stay, still_names}
 
 -- a term that is interned leaves the terms before
 pub interns_grows : (t : Term) (cell : ℕ) (old new : List Term) → Interns t cell old new → Grows old new
@@ -19,6 +20,12 @@ interns_grows t cell old new i = subst (Grows old) (sym i.only) (by_case (member
     by_case : (b : Bool) → Grows old (cond b old (old ++ t ∷ []))
     by_case true = grows_self old
     by_case false = grows_behind old (t ∷ [])
+
+-- terms grow where a term is interned, and stay where the memory doesn't suffice
+pub intern_grows : {E : Type 0} (t : Term) (old new : List Term) (r : Result ℕ E)
+    → IfOk r (λ cell. Interns t cell old new) → OnErr r (new ≡ old) → Grows old new
+intern_grows t old new (Ok cell) ok err = interns_grows t cell old new ok
+intern_grows t old new (Err e) ok err = grows_same old new err
 
 -- a list without elements is empty
 pub no_element : {X : Type 0} (xs : List X) → length xs ≡ 0 → xs ≡ []

@@ -1,5 +1,5 @@
 -- Terms that are added leave those before at their places.
-use Rattle.std.proofs.Common.{◌≡◌, ℕ, suc, ◌<◌, ◌≤◌, List, [], ◌∷◌, ◌++◌, length, map, take, drop, slice_get, Option, Some, None, refl, ap, ap₂, sym, ◌∙◌, arith, append_assoc, length-append}
+use Rattle.std.proofs.Common.{◌≡◌, ℕ, suc, ◌<◌, ◌≤◌, List, [], ◌∷◌, ◌++◌, length, map, take, drop, slice_get, Option, Some, None, refl, ap, ap₂, sym, ◌∙◌, subst, arith, append_assoc, length-append}
 use Rattle.std.specs.List.{All}
 use Rattle.std.proofs.Math.Seq.{take-append_seam, take-length}
 use Rattle.std.proofs.lemmas.List.{take-append-drop}
@@ -14,6 +14,10 @@ use Rattle.hp_eval.specs.Slotted.{Slotted, AreBelow, named, bindings_of}
 -- terms grow into themselves
 pub grows_self : (terms : List Term) → Grows terms terms
 grows_self terms = take-length terms
+
+-- terms that are the same as before are grown
+pub grows_same : (old new : List Term) → new ≡ old → Grows old new
+grows_same old new e = subst (Grows old) (sym e) (grows_self old)
 
 -- terms with others behind them are grown
 pub grows_behind : (old more : List Term) → Grows old (old ++ more)

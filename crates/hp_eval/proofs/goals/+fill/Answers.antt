@@ -11,9 +11,10 @@ use Rattle.hp_eval.specs.Slotted.{bindings_of}
 use Rattle.hp_eval.specs.Growth.{GivesBy}
 use Rattle.hp_eval.specs.GoalViews.{filled_of, fillings_of, is_below}
 use Rattle.hp_eval.specs.FillSteps.{rest_of, untailed}
-use Rattle.hp_eval.proofs.GrowthLemmas.{bindings_stay, grows_length, grows_on}
+use Rattle.hp_eval.proofs.GrowthLemmas.{bindings_stay, grows_length, grows_on, below_grows, grows_self, grows_same}
 use Rattle.hp_eval.proofs.GoalViewLemmas.{known_below, is_below-free, all_below_grow, fillings_grow}
 use Rattle.hp_eval.proofs.FillStepLemmas.{AreFilledTo, bound_below, fill_bound, fill_free, fill_symbol, fill_number, filled_fault, filled_more, filled_all, stop_passes, list_parts_stop, list_rest_stop, list_is_filled, call_stop, call_filled}
+use Rattle.hp_eval.proofs.ConsLemmas.{interns_grows}
 use Rattle.hp_eval.proofs.goals.+fill.Goals as goal
 
 pub fill-returns-in_err-filled-in-List-clause-gives : goal.fill-returns-in_err-filled-in-List-clause-gives
@@ -162,3 +163,74 @@ pub fill_parts-returns-clause-gives : goal.fill_parts-returns-clause-gives
 fill_parts-returns-clause-gives t c =
     filled_all c.args.pats.now c.loop-pat.pat-index (bindings_of c.args.cells.now c.args.slots.now) _
     c.loop-pat-test.false c.loop-pat.invariant.2
+
+pub fill-fill_tail-requires : goal.fill-fill_tail-requires
+fill-fill_tail-requires t c = record {
+  slots = below_grows c.args.cells.now c.fill_parts.new.cells c.fill_parts.ensures.cells c.args.slots.now
+      c.requires.slots;
+}
+
+pub fill-fill_list-requires-clause-rest : goal.fill-fill_list-requires-clause-rest
+fill-fill_list-requires-clause-rest t c = c.in_ok-rest-in-List.ensures.below
+
+pub fill-fill_list-requires-clause-parts : goal.fill-fill_list-requires-clause-parts
+fill-fill_list-requires-clause-parts t c = c.in_ok-filled-in-List.ensures.below
+
+pub fill-returns-in-Some-clause-cells : goal.fill-returns-in-Some-clause-cells
+fill-returns-in-Some-clause-cells t c = grows_self c.args.cells.now
+
+pub fill-returns-in-None-clause-cells : goal.fill-returns-in-None-clause-cells
+fill-returns-in-None-clause-cells t c = grows_self c.args.cells.now
+
+pub fill-returns-in_err-sym-in-Sym-clause-cells : goal.fill-returns-in_err-sym-in-Sym-clause-cells
+fill-returns-in_err-sym-in-Sym-clause-cells t c =
+    grows_same c.args.cells.now c.sym.new.self c.in_err-sym-in-Sym.ensures.err
+
+pub fill-returns-in_ok-sym-in-Sym-clause-cells : goal.fill-returns-in_ok-sym-in-Sym-clause-cells
+fill-returns-in_ok-sym-in-Sym-clause-cells t c =
+    interns_grows _ c.in_ok-sym-in-Sym.field-0 c.args.cells.now c.sym.new.self c.in_ok-sym-in-Sym.ensures.ok
+
+pub fill-returns-in_err-num-in-Num-clause-cells : goal.fill-returns-in_err-num-in-Num-clause-cells
+fill-returns-in_err-num-in-Num-clause-cells t c =
+    grows_same c.args.cells.now c.num.new.self c.in_err-num-in-Num.ensures.err
+
+pub fill-returns-in_ok-num-in-Num-clause-cells : goal.fill-returns-in_ok-num-in-Num-clause-cells
+fill-returns-in_ok-num-in-Num-clause-cells t c =
+    interns_grows _ c.in_ok-num-in-Num.field-0 c.args.cells.now c.num.new.self c.in_ok-num-in-Num.ensures.ok
+
+pub fill-returns-in_err-filled-in-List-clause-cells : goal.fill-returns-in_err-filled-in-List-clause-cells
+fill-returns-in_err-filled-in-List-clause-cells t c = c.fill_parts.ensures.cells
+
+pub fill-returns-in_err-rest-in-List-clause-cells : goal.fill-returns-in_err-rest-in-List-clause-cells
+fill-returns-in_err-rest-in-List-clause-cells t c = c.fill_parts.ensures.cells
+
+pub fill-returns-in_ok-rest-in-List-clause-below : goal.fill-returns-in_ok-rest-in-List-clause-below
+fill-returns-in_ok-rest-in-List-clause-below t c = c.fill_list.ensures.below
+
+pub fill-returns-in_ok-rest-in-List-clause-cells : goal.fill-returns-in_ok-rest-in-List-clause-cells
+fill-returns-in_ok-rest-in-List-clause-cells t c =
+    grows_on c.args.cells.now c.fill_parts.new.cells c.fill_list.new.cells c.fill_parts.ensures.cells
+    c.fill_list.ensures.cells
+
+pub fill-returns-in_err-value-in-Call-clause-cells : goal.fill-returns-in_err-value-in-Call-clause-cells
+fill-returns-in_err-value-in-Call-clause-cells t c = c.value.ensures.cells
+
+pub fill-returns-in_ok-value-in-Call-clause-cells : goal.fill-returns-in_ok-value-in-Call-clause-cells
+fill-returns-in_ok-value-in-Call-clause-cells t c = c.value.ensures.cells
+
+pub fill_parts-returns-in_err-filled-clause-cells : goal.fill_parts-returns-in_err-filled-clause-cells
+fill_parts-returns-in_err-filled-clause-cells t c = grows_self c.args.cells.now
+
+pub fill_parts-returns-in_err-part-clause-cells : goal.fill_parts-returns-in_err-part-clause-cells
+fill_parts-returns-in_err-part-clause-cells t c =
+    grows_on c.args.cells.now c.loop-pat.cells c.fill.new.cells c.loop-pat.invariant.0 c.fill.ensures.cells
+
+pub fill_parts-returns-in_err-push-clause-cells : goal.fill_parts-returns-in_err-push-clause-cells
+fill_parts-returns-in_err-push-clause-cells t c =
+    grows_on c.args.cells.now c.loop-pat.cells c.fill.new.cells c.loop-pat.invariant.0 c.fill.ensures.cells
+
+pub fill_parts-returns-clause-below : goal.fill_parts-returns-clause-below
+fill_parts-returns-clause-below t c = c.loop-pat.invariant.1
+
+pub fill_parts-returns-clause-cells : goal.fill_parts-returns-clause-cells
+fill_parts-returns-clause-cells t c = c.loop-pat.invariant.0

@@ -28,3 +28,13 @@ loop-part-preserved c =
           c.requires.known)
           c.in_ok-left.ensures.parts (rw items at held.3),
     )
+
+pub returns-in_err-left-clause-cells : goal.returns-in_err-left-clause-cells
+returns-in_err-left-clause-cells c =
+    grows_on c.args.cells.now c.loop-part.cells c.cons_part.new.cells c.loop-part.invariant.2 c.cons_part.ensures.cells
+
+pub returns-clause-names : goal.returns-clause-names
+returns-clause-names c = c.loop-part.invariant.0
+
+pub returns-clause-cells : goal.returns-clause-cells
+returns-clause-cells c = c.loop-part.invariant.2

@@ -5,7 +5,7 @@ use Rattle.hp_syntax.specs.Views.{atom_of}
 use Rattle.hp_eval.specs.Slotted.{bindings_of}
 use Rattle.hp_eval.specs.GoalViews.{fillings_of, goal_of}
 use Rattle.hp_eval.specs.FillSteps.{rest_of, untailed}
-use Rattle.hp_eval.proofs.GrowthLemmas.{bindings_stay}
+use Rattle.hp_eval.proofs.GrowthLemmas.{bindings_stay, below_grows}
 use Rattle.hp_eval.proofs.FillStepLemmas.{goal_stop, goal_rest_stop, goal_is, goal_too_deep, goal_fits}
 use Rattle.hp_eval.proofs.goals.fill_goal.Goals as goal
 
@@ -55,3 +55,36 @@ returns-clause-gives c =
     ∙ (goal_fits (atom_of c.args.goal.now) (parts, c.in_ok-tail.tail) (ground_parts parts c.in_ok-tail.tail)
     (rw c.as_slice-2.ensures.value at (sym c.if-are_too_deep.ensures))
     ∙ ap (λ n. Ok (record { name = n; parts = parts; tail = c.in_ok-tail.tail })) (sym c.in_ok-name.ensures.same))
+
+pub fill_tail-requires : goal.fill_tail-requires
+fill_tail-requires c = record {
+  slots = below_grows c.args.cells.now c.fill_parts.new.cells c.fill_parts.ensures.cells c.args.slots.now
+      c.requires.slots;
+}
+
+pub append_rest-requires-clause-rest : goal.append_rest-requires-clause-rest
+append_rest-requires-clause-rest c = c.in_ok-rest.ensures.below
+
+pub append_rest-requires-clause-parts : goal.append_rest-requires-clause-parts
+append_rest-requires-clause-parts c = c.in_ok-args.ensures.below
+
+pub returns-in_err-args-clause-cells : goal.returns-in_err-args-clause-cells
+returns-in_err-args-clause-cells c = c.fill_parts.ensures.cells
+
+pub returns-in_err-rest-clause-cells : goal.returns-in_err-rest-clause-cells
+returns-in_err-rest-clause-cells c = c.fill_parts.ensures.cells
+
+pub returns-in_err-tail-clause-cells : goal.returns-in_err-tail-clause-cells
+returns-in_err-tail-clause-cells c = c.fill_parts.ensures.cells
+
+pub returns-then-are_too_deep-clause-cells : goal.returns-then-are_too_deep-clause-cells
+returns-then-are_too_deep-clause-cells c = c.fill_parts.ensures.cells
+
+pub returns-in_err-name-clause-cells : goal.returns-in_err-name-clause-cells
+returns-in_err-name-clause-cells c = c.fill_parts.ensures.cells
+
+pub returns-clause-cells : goal.returns-clause-cells
+returns-clause-cells c = c.fill_parts.ensures.cells
+
+pub returns-clause-below : goal.returns-clause-below
+returns-clause-below c = c.in_ok-tail.ensures.below

@@ -1,9 +1,10 @@
-use Rattle.std.proofs.Common.{Ok, None, Some, sym, ◌∙◌, ap}
+use Rattle.std.proofs.Common.{Ok, None, Some, sym, ◌∙◌, ap, subst}
 use Rattle.hp_syntax.specs.Goals.{all_known, list_filled, ground_parts}
 use Rattle.hp_eval.specs.GoalViews.{fillings_of}
-use Rattle.hp_eval.specs.FillSteps.{joined, before_rest, parts_at, rest_of, ground_depth}
+use Rattle.hp_eval.specs.FillSteps.{joined, before_rest, parts_at, rest_of, ground_depth, RestBelow}
 use Rattle.hp_eval.proofs.GoalViewLemmas.{filled_of-list, list_below}
 use Rattle.hp_eval.proofs.FillStepLemmas.{depth_known, list_free, list_open}
+use Rattle.hp_eval.proofs.GrowthLemmas.{grows_self}
 use Rattle.hp_eval.proofs.goals.fill_list.Goals as goal
 
 pub known_list-requires-clause-known : goal.known_list-requires-clause-known
@@ -37,3 +38,24 @@ returns-in_ok-append_list-in-None-clause-gives c =
 pub returns-in_ok-append_list-in-None-clause-below : goal.returns-in_ok-append_list-in-None-clause-below
 returns-in_ok-append_list-in-None-clause-below c =
     list_below _ c.append_list.new.parts None c.in_ok-append_list-in-None.ensures.below
+
+pub known_list-requires-clause-list : goal.known_list-requires-clause-list
+known_list-requires-clause-list c = subst (RestBelow c.args.cells.now) c.in-Listed.is c.requires.rest
+
+pub append_list-requires-clause-list : goal.append_list-requires-clause-list
+append_list-requires-clause-list c = subst (RestBelow c.args.cells.now) c.in-Listed.is c.requires.rest
+
+pub returns-in-Free-clause-cells : goal.returns-in-Free-clause-cells
+returns-in-Free-clause-cells c = grows_self c.args.cells.now
+
+pub returns-in-Some-clause-below : goal.returns-in-Some-clause-below
+returns-in-Some-clause-below c = c.known_list.ensures.below
+
+pub returns-in-Some-clause-cells : goal.returns-in-Some-clause-cells
+returns-in-Some-clause-cells c = c.known_list.ensures.cells
+
+pub returns-in_err-append_list-in-None-clause-cells : goal.returns-in_err-append_list-in-None-clause-cells
+returns-in_err-append_list-in-None-clause-cells c = grows_self c.args.cells.now
+
+pub returns-in_ok-append_list-in-None-clause-cells : goal.returns-in_ok-append_list-in-None-clause-cells
+returns-in_ok-append_list-in-None-clause-cells c = grows_self c.args.cells.now

@@ -38,3 +38,12 @@ returns-clause-below c =
     c.in_ok-within_depth.ensures (parts_at terms c.in_ok-list.list)
     (names_parts terms c.in_ok-list.list c.in_ok-list.ensures.names) in
     known_below _ c.in_ok-within_depth.field-0 (slice_get_within terms c.in_ok-within_depth.field-0 w.0 w.2)
+
+pub returns-in_err-list-clause-cells : goal.returns-in_err-list-clause-cells
+returns-in_err-list-clause-cells c = c.cons_parts.ensures.cells
+
+pub returns-in_err-within_depth-clause-cells : goal.returns-in_err-within_depth-clause-cells
+returns-in_err-within_depth-clause-cells c = c.cons_parts.ensures.cells
+
+pub returns-clause-cells : goal.returns-clause-cells
+returns-clause-cells c = c.cons_parts.ensures.cells

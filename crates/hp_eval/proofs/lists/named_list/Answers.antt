@@ -1,7 +1,7 @@
 use Rattle.std.proofs.lemmas.Option.{slice_get_within}
 use Rattle.std.proofs.lemmas.Result.{err_from_is_err_and}
 use Rattle.hp_syntax.specs.Terms.{Symbol, Listed, More}
-use Rattle.hp_eval.proofs.GrowthLemmas.{still_names}
+use Rattle.hp_eval.proofs.GrowthLemmas.{still_names, grows_same, grows_on}
 use Rattle.hp_eval.proofs.ConsLemmas.{interns_grows, names_named, named_grows}
 use Rattle.hp_eval.proofs.lists.named_list.Goals as goal
 
@@ -46,3 +46,14 @@ pub returns-clause-cells : goal.returns-clause-cells
 returns-clause-cells c =
     named_grows c.args.cells.now c.sym.new.self c.cons.new.self c.in_ok-first.first c.in_ok-list.list c.args.parts
     c.args.name.now c.requires.parts.0 c.in_ok-first.ensures.ok c.in_ok-list.ensures.ok c.requires.parts.1
+
+pub returns-in_err-first-clause-cells : goal.returns-in_err-first-clause-cells
+returns-in_err-first-clause-cells c = grows_same c.args.cells.now c.sym.new.self c.in_err-first.ensures.err
+
+pub returns-in_err-list-clause-cells : goal.returns-in_err-list-clause-cells
+returns-in_err-list-clause-cells c =
+    let old = c.args.cells.now in
+    let middle = c.sym.new.self in
+    grows_on old middle c.cons.new.self
+    (interns_grows (Symbol c.args.name.now) c.in_ok-first.first old middle c.in_ok-first.ensures.ok)
+    (grows_same middle c.cons.new.self c.in_err-list.ensures.err)

@@ -11,7 +11,7 @@ use Rattle.hp_eval.specs.Slotted.{bindings_of}
 use Rattle.hp_eval.specs.GoalViews.{fillings_of, is_below}
 use Rattle.hp_eval.specs.Attempts.{extended}
 use Rattle.hp_eval.proofs.SlotLemmas.{binds_through}
-use Rattle.hp_eval.proofs.GrowthLemmas.{grows_length, grows_on}
+use Rattle.hp_eval.proofs.GrowthLemmas.{grows_length, grows_on, grows_self}
 use Rattle.hp_eval.proofs.GoalViewLemmas.{below_cell, all_below_grow}
 use Rattle.hp_eval.proofs.AttemptLemmas.{tries_here, tries_as, starts_same, starts_above, starts_failed, then_fails, then_goes_on}
 use Rattle.hp_eval.proofs.GoalMatchLemmas.{below_part}
@@ -157,3 +157,43 @@ start_parts-returns-clause-started t c =
     ∙ ap (λ gs. start_parts NoPattern c.args.own (fillings_of cells gs) c.args.free e)
     (sym (take_rest fs (length c.args.parts.now)))))
     c.start_behind.ensures.started)
+
+pub start_part-returns-in-Known-clause-cells : goal.start_part-returns-in-Known-clause-cells
+start_part-returns-in-Known-clause-cells t c = grows_self c.args.cells.now
+
+pub start_part-returns-in-Free-clause-cells : goal.start_part-returns-in-Free-clause-cells
+start_part-returns-in-Free-clause-cells t c = grows_self c.args.cells.now
+
+pub start_part-returns-in-Var-clause-cells : goal.start_part-returns-in-Var-clause-cells
+start_part-returns-in-Var-clause-cells t c = grows_self c.args.cells.now
+
+pub start_part-returns-in-Sym-clause-cells : goal.start_part-returns-in-Sym-clause-cells
+start_part-returns-in-Sym-clause-cells t c = grows_self c.args.cells.now
+
+pub start_part-returns-in-Sym-2-clause-cells : goal.start_part-returns-in-Sym-2-clause-cells
+start_part-returns-in-Sym-2-clause-cells t c = grows_self c.args.cells.now
+
+pub start_part-returns-in-Sym-3-clause-cells : goal.start_part-returns-in-Sym-3-clause-cells
+start_part-returns-in-Sym-3-clause-cells t c = grows_self c.args.cells.now
+
+pub start_part-returns-in-List-kind-clause-cells : goal.start_part-returns-in-List-kind-clause-cells
+start_part-returns-in-List-kind-clause-cells t c = c.start_parts.ensures.cells
+
+pub start_parts-start_behind-requires-clause-slots : goal.start_parts-start_behind-requires-clause-slots
+start_parts-start_behind-requires-clause-slots t c = c.loop-i.invariant.below
+
+pub start_parts-returns-in_default-clause-cells : goal.start_parts-returns-in_default-clause-cells
+start_parts-returns-in_default-clause-cells t c = c.loop-i.invariant.grows
+
+pub start_parts-returns-in_err-start_part-clause-cells : goal.start_parts-returns-in_err-start_part-clause-cells
+start_parts-returns-in_err-start_part-clause-cells t c =
+    grows_on c.args.cells.now c.loop-i.cells c.start_part.new.cells c.loop-i.invariant.grows c.start_part.ensures.cells
+
+pub start_parts-returns-then-not-branch-clause-cells : goal.start_parts-returns-then-not-branch-clause-cells
+start_parts-returns-then-not-branch-clause-cells t c =
+    grows_on c.args.cells.now c.loop-i.cells c.start_part.new.cells c.loop-i.invariant.grows c.start_part.ensures.cells
+
+pub start_parts-returns-clause-cells : goal.start_parts-returns-clause-cells
+start_parts-returns-clause-cells t c =
+    grows_on c.args.cells.now c.loop-i.cells c.start_behind.new.cells c.loop-i.invariant.grows
+    c.start_behind.ensures.cells

@@ -4,7 +4,7 @@ use Rattle.hp_syntax.specs.Terms.{Listed, NoTerm, More}
 use Rattle.hp_eval.specs.GoalViews.{term_at, fillings_of}
 use Rattle.hp_eval.specs.FillSteps.{parts_at}
 use Rattle.hp_cells.specs.Keys.{parts_of}
-use Rattle.hp_eval.proofs.GrowthLemmas.{grows_self, grows_length, grows_on}
+use Rattle.hp_eval.proofs.GrowthLemmas.{grows_self, grows_length, grows_on, grows_same}
 use Rattle.hp_eval.proofs.CellViews.{at_named, names_parts}
 use Rattle.hp_eval.proofs.ConsLemmas.{interns_grows}
 use Rattle.hp_eval.proofs.StartLemmas.{ground_onto, ground_onto_none, ground_last, grows_names, last_below, front_below}
@@ -75,3 +75,20 @@ loop-last-preserved c =
           (c.in-Some-known_cell.ensures.term old)))
           ∙ held.so_far);
     }
+
+pub cons-requires-clause-tail : goal.cons-requires-clause-tail
+cons-requires-clause-tail c = c.loop-last.invariant.list
+
+pub returns-then-not-are_known-clause-cells : goal.returns-then-not-are_known-clause-cells
+returns-then-not-are_known-clause-cells c = grows_self c.args.cells.now
+
+pub returns-in_default-known_cell-clause-cells : goal.returns-in_default-known_cell-clause-cells
+returns-in_default-known_cell-clause-cells c = c.loop-last.invariant.grows
+
+pub returns-in_err-list-clause-cells : goal.returns-in_err-list-clause-cells
+returns-in_err-list-clause-cells c =
+    grows_on c.args.cells.now c.loop-last.cells c.cons.new.self c.loop-last.invariant.grows
+    (grows_same c.loop-last.cells c.cons.new.self c.in_err-list.ensures.err)
+
+pub returns-clause-cells : goal.returns-clause-cells
+returns-clause-cells c = c.loop-last.invariant.grows

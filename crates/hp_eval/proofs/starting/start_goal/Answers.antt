@@ -10,3 +10,9 @@ returns-then-not-matches-clause-below c =
     rw c.undo_to.ensures
     (below_undone (length started.new.cells) c.mark-mark.result new
     (starts_leaves started.result _ started.new.cells c.args.slots.now new started.ensures.started).below)
+
+pub returns-then-not-matches-clause-cells : goal.returns-then-not-matches-clause-cells
+returns-then-not-matches-clause-cells c = c.try_start-started.ensures.cells
+
+pub returns-else-not-matches-clause-cells : goal.returns-else-not-matches-clause-cells
+returns-else-not-matches-clause-cells c = c.try_start-started.ensures.cells

@@ -30,3 +30,16 @@ returns-in-None-clause-started c =
     tries_here true _ new s (below_grows old new grows s c.requires.slots)
     (ap (λ o. start_tail c.args.tail o (bindings_of old s)) none
     ∙ ap Some (sym (bindings_stay old new grows s c.requires.slots)))
+
+pub meet-requires-clause-slots : goal.meet-requires-clause-slots
+meet-requires-clause-slots c =
+    below_grows c.args.cells.now c.ground_list.new.cells c.ground_list.ensures.cells c.args.slots.now c.requires.slots
+
+pub returns-in_err-list-clause-cells : goal.returns-in_err-list-clause-cells
+returns-in_err-list-clause-cells c = c.ground_list.ensures.cells
+
+pub returns-in-Some-clause-cells : goal.returns-in-Some-clause-cells
+returns-in-Some-clause-cells c = c.ground_list.ensures.cells
+
+pub returns-in-None-clause-cells : goal.returns-in-None-clause-cells
+returns-in-None-clause-cells c = c.ground_list.ensures.cells

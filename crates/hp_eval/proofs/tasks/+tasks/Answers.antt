@@ -12,7 +12,7 @@ use Rattle.hp_eval.specs.declared.tasks.TaskTree.{TaskTree}
 use Rattle.hp_eval.specs.GoalViews.{network_of, networks_of}
 use Rattle.hp_eval.specs.Slotted.{bindings_of}
 use Rattle.hp_eval.proofs.CellViews.{at_named}
-use Rattle.hp_eval.proofs.GrowthLemmas.{bindings_stay, grows_on}
+use Rattle.hp_eval.proofs.GrowthLemmas.{bindings_stay, grows_on, grows_self}
 use Rattle.hp_eval.proofs.Loops.{values_more, values_stop, values_all}
 use Rattle.hp_eval.proofs.Stops.{stop_by, stop_of_cell, stops_too, gives_stop_by}
 use Rattle.hp_eval.proofs.TaskSteps.{tasks_step, tasks_none, networks_in_front, value_of-task, value_of-ordered, value_of-unordered}
@@ -192,3 +192,48 @@ pub tasks_value-returns-in_ok-trees-in-Unordered-clause-below :
 tasks_value-returns-in_ok-trees-in-Unordered-clause-below t c =
     below-unordered (length c.task_list_value-in-Unordered.new.cells) c.in_ok-trees-in-Unordered.trees
     c.in_ok-trees-in-Unordered.ensures.below
+
+-- ---- terms only grow
+
+pub task_list_value-returns-in_err-found-clause-cells : goal.task_list_value-returns-in_err-found-clause-cells
+task_list_value-returns-in_err-found-clause-cells t c = grows_self c.args.cells.now
+
+pub task_list_value-returns-in_err-tree-clause-cells : goal.task_list_value-returns-in_err-tree-clause-cells
+task_list_value-returns-in_err-tree-clause-cells t c =
+    grows_on c.args.cells.now c.loop-part.cells c.tasks_value.new.cells c.loop-part.invariant.grows
+    c.tasks_value.ensures.cells
+
+pub task_list_value-returns-in_err-push-clause-cells : goal.task_list_value-returns-in_err-push-clause-cells
+task_list_value-returns-in_err-push-clause-cells t c =
+    grows_on c.args.cells.now c.loop-part.cells c.tasks_value.new.cells c.loop-part.invariant.grows
+    c.tasks_value.ensures.cells
+
+pub task_list_value-returns-clause-cells : goal.task_list_value-returns-clause-cells
+task_list_value-returns-clause-cells t c = c.loop-part.invariant.grows
+
+pub tasks_value-returns-in_err-cell-in-Task-clause-cells : goal.tasks_value-returns-in_err-cell-in-Task-clause-cells
+tasks_value-returns-in_err-cell-in-Task-clause-cells t c = c.atom_value.ensures.cells
+
+pub tasks_value-returns-in_ok-cell-in-Task-clause-cells : goal.tasks_value-returns-in_ok-cell-in-Task-clause-cells
+tasks_value-returns-in_ok-cell-in-Task-clause-cells t c = c.atom_value.ensures.cells
+
+pub tasks_value-returns-in_err-trees-in-Ordered-clause-cells :
+    goal.tasks_value-returns-in_err-trees-in-Ordered-clause-cells
+tasks_value-returns-in_err-trees-in-Ordered-clause-cells t c = c.task_list_value.ensures.cells
+
+pub tasks_value-returns-in_ok-trees-in-Ordered-clause-cells :
+    goal.tasks_value-returns-in_ok-trees-in-Ordered-clause-cells
+tasks_value-returns-in_ok-trees-in-Ordered-clause-cells t c = c.task_list_value.ensures.cells
+
+pub tasks_value-returns-in_err-trees-in-Unordered-clause-cells :
+    goal.tasks_value-returns-in_err-trees-in-Unordered-clause-cells
+tasks_value-returns-in_err-trees-in-Unordered-clause-cells t c = c.task_list_value-in-Unordered.ensures.cells
+
+pub tasks_value-returns-in_ok-trees-in-Unordered-clause-cells :
+    goal.tasks_value-returns-in_ok-trees-in-Unordered-clause-cells
+tasks_value-returns-in_ok-trees-in-Unordered-clause-cells t c = c.task_list_value-in-Unordered.ensures.cells
+
+-- ---- the trees that were found
+
+pub task_list_value-returns-clause-below : goal.task_list_value-returns-clause-below
+task_list_value-returns-clause-below t c = c.loop-part.invariant.below

@@ -9,10 +9,11 @@ use Rattle.hp_syntax.specs.Views.{pattern_of, patterns_of}
 use Rattle.hp_eval.specs.GoalViews.{term_at, row_of}
 use Rattle.hp_eval.specs.Slotted.{bindings_of}
 use Rattle.hp_eval.specs.Steps.{GivesCell}
-use Rattle.hp_eval.proofs.GrowthLemmas.{bindings_stay, grows_on}
+use Rattle.hp_eval.proofs.GrowthLemmas.{bindings_stay, grows_on, below_grows, grows_self, grows_same}
 use Rattle.hp_eval.proofs.Loops.{values_more, values_stop, values_all}
 use Rattle.hp_eval.proofs.Stops.{stop_of_cell, gives_same}
 use Rattle.hp_eval.proofs.ValueSteps.{values_step, values_none, part_stops, terms_pushed, below_pushed, tail_faults, tail_gives, parts_give, variable_gives, value_of-var, value_of-sym, value_of-num, value_of-list, value_of-call}
+use Rattle.hp_eval.proofs.ConsLemmas.{interns_grows}
 use Rattle.hp_eval.proofs.values.+value.Goals as goal
 
 -- ---- parts
@@ -196,3 +197,86 @@ value-returns-in-Call-clause-gives t c =
     (ap (λ ps. on_ok (values (patterns_of ps) None e) (λ ts. call c.in-Call.name ts span))
     c.as_slice-in-Call.ensures.value
     ∙ sym (value_of-call c.args.pat.now e c.in-Call.name c.in-Call.args c.in-Call.is)) c.call_value.ensures.gives
+
+-- ---- terms only grow
+
+pub part_values-returns-in_err-found-clause-cells : goal.part_values-returns-in_err-found-clause-cells
+part_values-returns-in_err-found-clause-cells t c = grows_self c.args.cells.now
+
+pub part_values-returns-in_err-cell-clause-cells : goal.part_values-returns-in_err-cell-clause-cells
+part_values-returns-in_err-cell-clause-cells t c =
+    grows_on c.args.cells.now c.loop-part.cells c.value.new.cells c.loop-part.invariant.grows c.value.ensures.cells
+
+pub part_values-returns-in_err-push-clause-cells : goal.part_values-returns-in_err-push-clause-cells
+part_values-returns-in_err-push-clause-cells t c =
+    grows_on c.args.cells.now c.loop-part.cells c.value.new.cells c.loop-part.invariant.grows c.value.ensures.cells
+
+pub part_values-returns-clause-cells : goal.part_values-returns-clause-cells
+part_values-returns-clause-cells t c = c.loop-part.invariant.grows
+
+pub call_value-returns-in_err-found-clause-cells : goal.call_value-returns-in_err-found-clause-cells
+call_value-returns-in_err-found-clause-cells t c = c.part_values.ensures.cells
+
+pub call_value-returns-in_err-cell-clause-cells : goal.call_value-returns-in_err-cell-clause-cells
+call_value-returns-in_err-cell-clause-cells t c =
+    grows_on c.args.cells.now c.part_values.new.cells c.call.new.cells c.part_values.ensures.cells c.call.ensures.cells
+
+pub call_value-returns-clause-cells : goal.call_value-returns-clause-cells
+call_value-returns-clause-cells t c =
+    grows_on c.args.cells.now c.part_values.new.cells c.call.new.cells c.part_values.ensures.cells c.call.ensures.cells
+
+pub list_value-tail_value-requires : goal.list_value-tail_value-requires
+list_value-tail_value-requires t c = record {
+  slots = below_grows c.args.cells.now c.part_values.new.cells c.part_values.ensures.cells c.args.slots.now
+      c.requires.slots;
+}
+
+pub list_value-listed-requires-clause-parts : goal.list_value-listed-requires-clause-parts
+list_value-listed-requires-clause-parts t c = c.in_ok-found.ensures.below
+
+pub list_value-listed-requires-clause-rest : goal.list_value-listed-requires-clause-rest
+list_value-listed-requires-clause-rest t c = (c.in_ok-rest.ensures.0, c.in_ok-rest.ensures.2)
+
+pub list_value-returns-in_err-found-clause-cells : goal.list_value-returns-in_err-found-clause-cells
+list_value-returns-in_err-found-clause-cells t c = c.part_values.ensures.cells
+
+pub list_value-returns-in_err-rest-clause-cells : goal.list_value-returns-in_err-rest-clause-cells
+list_value-returns-in_err-rest-clause-cells t c = c.part_values.ensures.cells
+
+pub list_value-returns-in_err-list-clause-cells : goal.list_value-returns-in_err-list-clause-cells
+list_value-returns-in_err-list-clause-cells t c =
+    grows_on c.args.cells.now c.part_values.new.cells c.listed.new.cells c.part_values.ensures.cells
+    c.listed.ensures.cells
+
+pub list_value-returns-clause-cells : goal.list_value-returns-clause-cells
+list_value-returns-clause-cells t c =
+    grows_on c.args.cells.now c.part_values.new.cells c.listed.new.cells c.part_values.ensures.cells
+    c.listed.ensures.cells
+
+pub value-returns-in_err-cell-in-Var-clause-cells : goal.value-returns-in_err-cell-in-Var-clause-cells
+value-returns-in_err-cell-in-Var-clause-cells t c = grows_self c.args.cells.now
+
+pub value-returns-in_ok-cell-in-Var-clause-cells : goal.value-returns-in_ok-cell-in-Var-clause-cells
+value-returns-in_ok-cell-in-Var-clause-cells t c = grows_self c.args.cells.now
+
+pub value-returns-in_err-cell-in-Sym-clause-cells : goal.value-returns-in_err-cell-in-Sym-clause-cells
+value-returns-in_err-cell-in-Sym-clause-cells t c =
+    grows_same c.args.cells.now c.sym.new.self c.in_err-cell-in-Sym.ensures.err
+
+pub value-returns-in_ok-cell-in-Sym-clause-cells : goal.value-returns-in_ok-cell-in-Sym-clause-cells
+value-returns-in_ok-cell-in-Sym-clause-cells t c =
+    interns_grows _ c.in_ok-cell-in-Sym.cell c.args.cells.now c.sym.new.self c.in_ok-cell-in-Sym.ensures.ok
+
+pub value-returns-in_err-cell-in-Num-clause-cells : goal.value-returns-in_err-cell-in-Num-clause-cells
+value-returns-in_err-cell-in-Num-clause-cells t c =
+    grows_same c.args.cells.now c.num.new.self c.in_err-cell-in-Num.ensures.err
+
+pub value-returns-in_ok-cell-in-Num-clause-cells : goal.value-returns-in_ok-cell-in-Num-clause-cells
+value-returns-in_ok-cell-in-Num-clause-cells t c =
+    interns_grows _ c.in_ok-cell-in-Num.cell c.args.cells.now c.num.new.self c.in_ok-cell-in-Num.ensures.ok
+
+pub value-returns-in-List-clause-cells : goal.value-returns-in-List-clause-cells
+value-returns-in-List-clause-cells t c = c.list_value.ensures.cells
+
+pub value-returns-in-Call-clause-cells : goal.value-returns-in-Call-clause-cells
+value-returns-in-Call-clause-cells t c = c.call_value.ensures.cells

@@ -8,7 +8,7 @@ use Rattle.hp_syntax.specs.Values.{Bindings, on_ok, list_of, values}
 use Rattle.hp_syntax.specs.Views.{patterns_of}
 use Rattle.hp_eval.specs.GoalViews.{term_at}
 use Rattle.hp_eval.specs.Slotted.{bindings_of}
-use Rattle.hp_eval.proofs.GrowthLemmas.{bindings_stay}
+use Rattle.hp_eval.proofs.GrowthLemmas.{bindings_stay, below_grows, grows_on}
 use Rattle.hp_eval.proofs.Stops.{gives_same}
 use Rattle.hp_eval.proofs.ValueSteps.{tail_faults, tail_gives}
 use Rattle.hp_eval.proofs.values.atom_value.Goals as goal
@@ -69,3 +69,43 @@ returns-clause-gives c =
     gives_same (Ok c.in_ok-list.list) _ _ c.named_list.new.cells
     (value ∙ ap (of_args a (bindings_of old s)) c.as_slice.ensures.value)
     (c.in_ok-list.ensures.gives _ (c.in_ok-args.ensures.names tail.0 tail.2))
+
+pub tail_value-requires : goal.tail_value-requires
+tail_value-requires c = record {
+  slots = below_grows c.args.cells.now c.part_values.new.cells c.part_values.ensures.cells c.args.slots.now
+      c.requires.slots;
+}
+
+pub list_onto-requires-clause-parts : goal.list_onto-requires-clause-parts
+list_onto-requires-clause-parts c = c.in_ok-found.ensures.below
+
+pub list_onto-requires-clause-rest : goal.list_onto-requires-clause-rest
+list_onto-requires-clause-rest c = (c.in_ok-rest.ensures.0, c.in_ok-rest.ensures.2)
+
+pub named_list-requires : goal.named_list-requires
+named_list-requires c = record {
+  parts = (_, c.in_ok-args.ensures.names c.in_ok-rest.ensures.0 c.in_ok-rest.ensures.2);
+}
+
+pub returns-in_err-found-clause-cells : goal.returns-in_err-found-clause-cells
+returns-in_err-found-clause-cells c = c.part_values.ensures.cells
+
+pub returns-in_err-rest-clause-cells : goal.returns-in_err-rest-clause-cells
+returns-in_err-rest-clause-cells c = c.part_values.ensures.cells
+
+pub returns-in_err-args-clause-cells : goal.returns-in_err-args-clause-cells
+returns-in_err-args-clause-cells c =
+    grows_on c.args.cells.now c.part_values.new.cells c.list_onto.new.cells c.part_values.ensures.cells
+    c.list_onto.ensures.cells
+
+pub returns-in_err-list-clause-cells : goal.returns-in_err-list-clause-cells
+returns-in_err-list-clause-cells c =
+    let parts = c.part_values.new.cells in
+    grows_on c.args.cells.now parts c.named_list.new.cells c.part_values.ensures.cells
+    (grows_on parts c.list_onto.new.cells c.named_list.new.cells c.list_onto.ensures.cells c.named_list.ensures.cells)
+
+pub returns-clause-cells : goal.returns-clause-cells
+returns-clause-cells c =
+    let parts = c.part_values.new.cells in
+    grows_on c.args.cells.now parts c.named_list.new.cells c.part_values.ensures.cells
+    (grows_on parts c.list_onto.new.cells c.named_list.new.cells c.list_onto.ensures.cells c.named_list.ensures.cells)
