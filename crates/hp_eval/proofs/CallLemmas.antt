@@ -6,10 +6,12 @@ use Rattle.std.specs.Option.{SomeIff}
 use Rattle.std.proofs.lemmas.List.{drop_more}
 use Rattle.hp_syntax.specs.declared.pattern.Span.{Span}
 use Rattle.hp_syntax.specs.declared.fault.RunFault.{RunFault}
-use Rattle.hp_syntax.specs.declared.fault.FaultKind.TheVariants.{Overflow}
+use Rattle.hp_syntax.specs.declared.fault.FaultKind.TheVariants.{Overflow, NotNumber}
 use Rattle.hp_syntax.specs.Terms.{Term, Terms}
-use Rattle.hp_syntax.specs.Calls.{fits, fault_at, in_turn, of_one, Row, row, called, call}
-use Rattle.hp_eval.specs.CallRows.{fitted}
+use Rattle.hp_syntax.specs.Calls.{fits, fault_at, numbers, in_turn, from_left, of_one, of_two, Row, row, called, call}
+use Rattle.hp_eval.specs.declared.arithmetic.OfNumbers.{OfNumbers}
+use Rattle.hp_eval.specs.declared.arithmetic.OfNumbers.TheVariants as functions
+use Rattle.hp_eval.specs.CallRows.{step_of, two_of, size_of, numbers_called, numbers_row, all_numbers, fitted}
 
 -- ---- functions carried through numbers
 
@@ -63,6 +65,41 @@ pub of_one_first : (f : Span → ℤ → Result Term RunFault) (s : Span) (ns : 
 of_one_first f s [] h k = absurd (omega arith)
 of_one_first f s (n ∷ []) h k = refl
 of_one_first f s (n ∷ m ∷ ms) h k = absurd (omega arith)
+
+-- ---- functions of numbers
+
+-- the fault of terms that aren't numbers is that of a function of numbers
+pub numbers_fault : (f : OfNumbers) (ts : Terms) (s : Span) (e : RunFault) → all_numbers s (numbers ts) ≡ Err e
+    → called (numbers_row f) ts s ≡ Err e
+numbers_fault (functions.InTurn g) ts s e h = by_numbers (numbers ts) h
+  where
+    by_numbers : (o : Option (List ℤ)) → all_numbers s o ≡ Err e → from_left (step_of g) s o ≡ Err e
+    by_numbers None k = let q : fault_at NotNumber s ≡ e = cc in ap Err q
+    by_numbers (Some ns) k = absurd (cc)
+numbers_fault (functions.OfTwo g) ts s e h = by_numbers (numbers ts) h
+  where
+    by_numbers : (o : Option (List ℤ)) → all_numbers s o ≡ Err e → of_two (two_of g) s o ≡ Err e
+    by_numbers None k = let q : fault_at NotNumber s ≡ e = cc in ap Err q
+    by_numbers (Some ns) k = absurd (cc)
+numbers_fault functions.Absolute ts s e h = by_numbers (numbers ts) h
+  where
+    by_numbers : (o : Option (List ℤ)) → all_numbers s o ≡ Err e → of_one size_of s o ≡ Err e
+    by_numbers None k = let q : fault_at NotNumber s ≡ e = cc in ap Err q
+    by_numbers (Some ns) k = absurd (cc)
+
+-- of terms that are numbers a function of numbers gives what it gives for these
+pub numbers_called_are : (f : OfNumbers) (ts : Terms) (s : Span) (ns ms : List ℤ) → ms ≡ ns
+    → all_numbers s (numbers ts) ≡ Ok ns → called (numbers_row f) ts s ≡ numbers_called f s ms
+numbers_called_are f ts s ns ms same h = by_function f ∙ ap (numbers_called f s) (sym same)
+  where
+    some : (o : Option (List ℤ)) → all_numbers s o ≡ Ok ns → o ≡ Some ns
+    some None k = absurd (cc)
+    some (Some xs) k = let e : xs ≡ ns = cc in ap Some e
+
+    by_function : (f : OfNumbers) → called (numbers_row f) ts s ≡ numbers_called f s ns
+    by_function (functions.InTurn g) = ap (from_left (step_of g) s) (some (numbers ts) h)
+    by_function (functions.OfTwo g) = ap (of_two (two_of g) s) (some (numbers ts) h)
+    by_function functions.Absolute = ap (of_one size_of s) (some (numbers ts) h)
 
 -- ---- the call of a name
 

@@ -7,18 +7,24 @@ use Rattle.std.proofs.lemmas.List.{drop_more, drop_all}
 use Rattle.std.proofs.lemmas.Option.{none-some, same_Some}
 use Rattle.hp_syntax.specs.declared.limits.TheConstants.{DEEPEST_TERM}
 use Rattle.hp_syntax.specs.declared.pattern.Pat.{Pat}
+use Rattle.hp_syntax.specs.declared.pattern.PatKind.{PatKind, out-PatKind, roll-out-PatKind}
+use Rattle.hp_syntax.specs.declared.pattern.PatKind.TheOpen.{PatKind-F}
+use Rattle.hp_syntax.specs.declared.pattern.PatKind.TheOpen as layers
+use Rattle.hp_syntax.specs.declared.pattern.PatKind.TheVariants as pats
+use Rattle.hp_syntax.specs.declared.pattern.PatKind.TheVariants.{rolls-Var, rolls-Sym, rolls-Num, rolls-List, rolls-Call}
+use Rattle.hp_syntax.specs.declared.pattern.PatKind.TheViews.{roll-PatKind}
 use Rattle.hp_syntax.specs.declared.pattern.Span.{Span}
 use Rattle.hp_syntax.specs.declared.pattern.Tail.{Tail}
 use Rattle.hp_syntax.specs.declared.fault.RunFault.{RunFault}
 use Rattle.hp_syntax.specs.declared.fault.FaultKind.TheVariants.{TooDeep}
 use Rattle.hp_syntax.specs.Syntax.{Pattern, Patterns, Variable, Listing, Call, NoPattern, Before, Atom}
-use Rattle.hp_syntax.specs.Syntax as syntax
 use Rattle.hp_syntax.specs.Terms.{Term, Terms, Symbol, Number, Listed, NoTerm, More, nesting, deepest}
 use Rattle.hp_syntax.specs.Calls.{fault_at, call}
 use Rattle.hp_syntax.specs.Values.{Bindings, bound, on_ok, list_of, value, values}
 use Rattle.hp_syntax.specs.Goals as plain
 use Rattle.hp_syntax.specs.Goals.{Fillings, NoFilling, Then, Filling, all_known, ground_parts, fill_variable, list_filled, fill, fill_parts, fill_tail, goal_of, fill_goal}
 use Rattle.hp_syntax.specs.Views.{pattern_of, patterns_of}
+use Rattle.hp_syntax.specs.ViewLaws.{pattern_of-sym, pattern_of-num, pattern_of-call}
 use Rattle.hp_eval.specs.declared.goals.Filled.{Filled}
 use Rattle.hp_eval.specs.declared.goals.Filled.TheVariants as filled
 use Rattle.hp_eval.specs.GoalViews.{term_or_nil, term_at, is_below, filled_of, fillings_of}
@@ -442,22 +448,6 @@ unfolding fill
 fill_free terms s sp v h =
     ap (λ o. Ok (fill_variable v o)) (unbound_named terms s v h) ∙ ap Ok (sym (filled_of-free terms v))
 
--- a symbol is filled with its cell
-pub fill_symbol : (terms : List Term) (e : Bindings) (s : Span) (name : List ℕ) (cell : ℕ)
-    → slice_get terms cell ≡ Some (Symbol name)
-    → fill (syntax.Symbol s name) e ≡ Ok (filled_of terms (filled.Known cell))
-unfolding fill
-fill_symbol terms e s name cell h =
-    ap (λ t. Ok (plain.Known t)) (sym (at_named terms cell (Symbol name) h)) ∙ ap Ok (sym (filled_of-known terms cell))
-
--- a number is filled with its cell
-pub fill_number : (terms : List Term) (e : Bindings) (s : Span) (n : ℤ) (cell : ℕ)
-    → slice_get terms cell ≡ Some (Number n)
-    → fill (syntax.Number s n) e ≡ Ok (filled_of terms (filled.Known cell))
-unfolding fill
-fill_number terms e s n cell h =
-    ap (λ t. Ok (plain.Known t)) (sym (at_named terms cell (Number n) h)) ∙ ap Ok (sym (filled_of-known terms cell))
-
 -- a call is filled with its value
 pub fill_call : (e : Bindings) (s : Span) (name : List ℕ) (args : Patterns)
     → fill (Call s name args) e ≡ on_ok (value (Call s name args) e) (λ t. Ok (plain.Known t))
@@ -469,6 +459,27 @@ fill_call e s name args = of_args (values args None e)
         ≡ on_ok (on_ok r (λ ts. call name ts s)) (λ t. Ok (plain.Known t))
     of_args (Ok ts) = refl
     of_args (Err x) = refl
+
+-- a pattern that is neither a variable nor a list is filled with its value
+pub fill_valued : (p : Pat) (e : Bindings) → ((v : ℕ) → p.kind ≡ pats.Var v → ⊥)
+    → ((parts : Vec Pat Global) (tail : Option Tail) → p.kind ≡ pats.List parts tail → ⊥)
+    → fill (pattern_of p) e ≡ on_ok (value (pattern_of p) e) (λ t. Ok (plain.Known t))
+unfolding fill value
+fill_valued p e no_variable no_list = of_kind (out-PatKind p.kind) (sym (roll-out-PatKind p.kind))
+  where
+    of : (q : Pattern) → pattern_of p ≡ q → fill q e ≡ on_ok (value q e) (λ t. Ok (plain.Known t))
+        → fill (pattern_of p) e ≡ on_ok (value (pattern_of p) e) (λ t. Ok (plain.Known t))
+    of q is h = subst (λ q. fill q e ≡ on_ok (value q e) (λ t. Ok (plain.Known t))) (sym is) h
+
+    of_kind : (x : PatKind-F PatKind Pat) → p.kind ≡ roll-PatKind x
+        → fill (pattern_of p) e ≡ on_ok (value (pattern_of p) e) (λ t. Ok (plain.Known t))
+    of_kind (layers.Var v) h = absurd (no_variable v (h ∙ rolls-Var v))
+    of_kind (layers.Sym name) h = of _ (pattern_of-sym p name (h ∙ rolls-Sym name)) refl
+    of_kind (layers.Num n) h = of _ (pattern_of-num p n (h ∙ rolls-Num n)) refl
+    of_kind (layers.List parts tail) h = absurd (no_list parts tail (h ∙ rolls-List parts tail))
+    of_kind (layers.Call name args) h =
+        of _ (pattern_of-call p name args (h ∙ rolls-Call name args))
+        (fill_call e p.span name (patterns_of args.items))
 
 -- ---- what an evaluation answers
 
@@ -515,25 +526,20 @@ module _ (p : Pattern) (sp : Span) (qs ps : List Pat) (tail : Option Tail) (e : 
         ∙ ap (λ x. on_ok x (λ f. list_filled sp f (ground_parts f.0 f.1)))
         (fill_parts_ok (patterns_of ps) tail e (fs, None) r parts_are (ap (fill_tail tail) (sym there) ∙ h))
 
-module _ (p : Pattern) (sp : Span) (name : List ℕ) (args : Patterns) (e : Bindings) (is : p ≡ Call sp name args) where
-  call_is : fill p e ≡ on_ok (value p e) (λ t. Ok (plain.Known t))
-  call_is =
-      ap (λ q. fill q e) is
-      ∙ (fill_call e sp name args ∙ ap (λ q. on_ok (value q e) (λ t. Ok (plain.Known t))) (sym is))
-
-  -- a call is filled where it has a value
-  pub call_filled : (terms : List Term) (cell : ℕ) (t : Term) → value p e ≡ Ok t → slice_get terms cell ≡ Some t
+module _ (p : Pattern) (e : Bindings) (valued : fill p e ≡ on_ok (value p e) (λ t. Ok (plain.Known t))) where
+  -- a pattern that is filled with its value is filled where it has one
+  pub valued_filled : (terms : List Term) (cell : ℕ) (t : Term) → value p e ≡ Ok t → slice_get terms cell ≡ Some t
       → fill p e ≡ Ok (filled_of terms (filled.Known cell))
-  call_filled terms cell t h k =
-      call_is
+  valued_filled terms cell t h k =
+      valued
       ∙ (ap (λ r. on_ok r (λ t. Ok (plain.Known t))) h
       ∙ (ap (λ t. Ok (plain.Known t)) (sym (at_named terms cell t k)) ∙ ap Ok (sym (filled_of-known terms cell))))
 
-  -- a call stops where its value does
-  pub call_stop : {C : Type 0} (g : C → plain.Filled) (stop : EvalStop) (terms : List Term)
+  -- it stops where its value does
+  pub valued_stop : {C : Type 0} (g : C → plain.Filled) (stop : EvalStop) (terms : List Term)
       → Gives (Err stop) (value p e) terms → GivesBy g (Err stop) (fill p e)
-  call_stop g (stops.Fault k) terms h = call_is ∙ ap (λ r. on_ok r (λ t. Ok (plain.Known t))) h
-  call_stop g stops.NoMemory terms h = h
+  valued_stop g (stops.Fault k) terms h = valued ∙ ap (λ r. on_ok r (λ t. Ok (plain.Known t))) h
+  valued_stop g stops.NoMemory terms h = h
 
 -- ---- goals
 

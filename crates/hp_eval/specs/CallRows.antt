@@ -12,6 +12,8 @@ use Rattle.hp_eval.specs.declared.arithmetic.Step.{Step}
 use Rattle.hp_eval.specs.declared.arithmetic.Step.TheVariants as steps
 use Rattle.hp_eval.specs.declared.arithmetic.OfTwo.{OfTwo}
 use Rattle.hp_eval.specs.declared.arithmetic.OfTwo.TheVariants as twos
+use Rattle.hp_eval.specs.declared.arithmetic.OfNumbers.{OfNumbers}
+use Rattle.hp_eval.specs.declared.arithmetic.OfNumbers.TheVariants as functions
 use Rattle.hp_eval.specs.declared.rows.Row.{Row}
 use Rattle.hp_eval.specs.declared.rows.Row.TheVariants as rows
 
@@ -49,10 +51,23 @@ two_of twos.AtMost = λ s m n. plain.truth (int_le m n)
 two_of twos.AtLeast = λ s m n. plain.truth (int_le n m)
 two_of twos.Greater = λ s m n. plain.truth (int_lt n m)
 
+-- how far a number is from 0
+abbrev pub size_of : Span → ℤ → Result Term RunFault
+size_of s n = plain.number s (pos (unsigned_abs n))
+
+-- what a function of numbers gives for numbers
+abbrev pub numbers_called : OfNumbers → Span → List ℤ → Result Term RunFault
+numbers_called (functions.InTurn f) s ns = plain.from_left (step_of f) s (Some ns)
+numbers_called (functions.OfTwo f) s ns = plain.of_two (two_of f) s (Some ns)
+numbers_called functions.Absolute s ns = plain.of_one size_of s (Some ns)
+
+abbrev pub numbers_row : OfNumbers → plain.Row
+numbers_row (functions.InTurn f) = plain.InTurn (step_of f)
+numbers_row (functions.OfTwo f) = plain.OfTwo (two_of f)
+numbers_row functions.Absolute = plain.OfOne size_of
+
 abbrev pub table_row : Row → plain.Row
-table_row (rows.InTurn f) = plain.InTurn (step_of f)
-table_row (rows.OfTwo f) = plain.OfTwo (two_of f)
-table_row rows.Absolute = plain.OfOne (λ s n. plain.number s (pos (unsigned_abs n)))
+table_row (rows.OfNumbers f) = numbers_row f
 table_row rows.Equal = plain.OfTerms same_term
 table_row rows.Unequal = plain.OfTerms (λ x y. not (same_term x y))
 table_row rows.Member = plain.OfList is_part

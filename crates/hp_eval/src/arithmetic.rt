@@ -3,7 +3,7 @@ ghost use Rattle.std.specs.Prelude.{◌≡◌, ℤ, ◌≤◌, Ok, Err, Some, Fi
 ghost use Rattle.std.specs.Int.{w64, int_pow};
 ghost use Rattle.std.specs.Option.{SomeIff};
 ghost use Rattle.hp_syntax.specs.Calls as plain;
-ghost use Rattle.hp_eval.specs.CallRows.{step_of, two_of, answered, numbered, fitted};
+ghost use Rattle.hp_eval.specs.CallRows.{step_of, two_of, numbers_called, answered, numbered, fitted};
 
 use hp_syntax::{FaultKind, RunFault, Span};
 
@@ -35,6 +35,14 @@ pub(crate) enum OfTwo {
     AtMost,
     AtLeast,
     Greater,
+}
+
+/// A function of numbers.
+#[derive(Clone, Copy)]
+pub(crate) enum OfNumbers {
+    InTurn(Step),
+    OfTwo(OfTwo),
+    Absolute,
 }
 
 /// What a test gives.
@@ -85,8 +93,8 @@ fn in_turn(function: Step, span: Span, first: i64, rest: &[i64]) -> Result<i64, 
     Ok(total)
 }
 
-/// A function carried from the left through all numbers.
-pub(crate) fn from_left(function: Step, span: Span, numbers: &[i64]) -> Result<Answer, RunFault>
+// A function carried from the left through all numbers.
+fn from_left(function: Step, span: Span, numbers: &[i64]) -> Result<Answer, RunFault>
     ensures { answered result ≡ plain.from_left (step_of function) span (Some numbers.now) }
 {
     match numbers {
@@ -171,8 +179,8 @@ fn of_both(function: OfTwo, m: i64, n: i64, span: Span) -> Result<Answer, RunFau
     }
 }
 
-/// A function of two numbers, or nothing where there aren't two.
-pub(crate) fn of_two(function: OfTwo, span: Span, numbers: &[i64]) -> Result<Answer, RunFault>
+// A function of two numbers, or nothing where there aren't two.
+fn of_two(function: OfTwo, span: Span, numbers: &[i64]) -> Result<Answer, RunFault>
     ensures { answered result ≡ plain.of_two (two_of function) span (Some numbers.now) }
 {
     match numbers {
@@ -181,12 +189,27 @@ pub(crate) fn of_two(function: OfTwo, span: Span, numbers: &[i64]) -> Result<Ans
     }
 }
 
-/// How far a number is from 0, or nothing where there isn't one number.
-pub(crate) fn absolute(span: Span, numbers: &[i64]) -> Result<Answer, RunFault>
+// How far a number is from 0, or nothing where there isn't one number.
+fn absolute(span: Span, numbers: &[i64]) -> Result<Answer, RunFault>
     ensures { answered result ≡ plain.of_one (λ s n. plain.number s (pos (unsigned_abs n))) span (Some numbers.now) }
 {
     match numbers {
         [n] => number(n.checked_abs(), span),
         _ => Ok(Answer::Nothing),
+    }
+}
+
+/// A function of these numbers.
+pub(crate) fn of_numbers(
+    function: OfNumbers,
+    span: Span,
+    numbers: &[i64],
+) -> Result<Answer, RunFault>
+    ensures { answered result ≡ numbers_called function span numbers.now }
+{
+    match function {
+        OfNumbers::InTurn(function) => from_left(function, span, numbers),
+        OfNumbers::OfTwo(function) => of_two(function, span, numbers),
+        OfNumbers::Absolute => absolute(span, numbers),
     }
 }

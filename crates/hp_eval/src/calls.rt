@@ -8,7 +8,7 @@ ghost use Rattle.hp_eval.specs.CallRows.{answered, answer_term, table_row, numbe
 ghost use Rattle.hp_eval.specs.Growth.{Grows, Gives, GivesBy};
 ghost use Rattle.hp_eval.specs.GoalViews.{term_at, row_of};
 
-use crate::arithmetic::{Answer, absolute, from_left, of_two, truth};
+use crate::arithmetic::{Answer, of_numbers, truth};
 use crate::event::EvalStop;
 use crate::lists::is_listed;
 use crate::rows::{Row, row_named};
@@ -37,7 +37,7 @@ fn numbers(alloc: Global, args: &[Cell], span: Span, cells: &Cells) -> Result<Ve
     let mut found = Vec::with_capacity(alloc, args.len())?;
     for arg in args {
         let n = number_at(*arg, span, cells)?;
-        found.push(n)?;
+        found.push_reserved(n);
     }
     Ok(found)
 }
@@ -110,19 +110,9 @@ fn answer_of(
         (plain.called (table_row row) (row_of (map (term_at cells.now) args.now)) span) }
 {
     match row {
-        Row::InTurn(function) => {
+        Row::OfNumbers(function) => {
             let numbers = numbers(alloc, args, span, cells)?;
-            let answer = from_left(function, span, numbers.as_slice())?;
-            Ok(answer)
-        }
-        Row::OfTwo(function) => {
-            let numbers = numbers(alloc, args, span, cells)?;
-            let answer = of_two(function, span, numbers.as_slice())?;
-            Ok(answer)
-        }
-        Row::Absolute => {
-            let numbers = numbers(alloc, args, span, cells)?;
-            let answer = absolute(span, numbers.as_slice())?;
+            let answer = of_numbers(function, span, numbers.as_slice())?;
             Ok(answer)
         }
         Row::Equal => Ok(of_terms(args, true, cells)),

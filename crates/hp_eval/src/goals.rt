@@ -106,14 +106,13 @@ fn fill(alloc: Global, pat: &Pat, slots: &Slots, cells: &mut Cells) -> Result<Fi
             Some(cell) => Ok(Filled::Known(cell)),
             None => Ok(Filled::Free(*v)),
         },
-        PatKind::Sym(name) => Ok(Filled::Known(cells.sym(name)?)),
-        PatKind::Num(n) => Ok(Filled::Known(cells.num(*n)?)),
         PatKind::List(parts, tail) => {
             let filled = fill_parts(alloc, parts.as_slice(), slots, cells)?;
             let rest = fill_tail(tail, slots, cells)?;
             fill_list(filled, rest, pat.span, cells)
         }
-        PatKind::Call(..) => Ok(Filled::Known(value(alloc, pat, slots, cells)?)),
+        // Symbols, numbers and calls have a value of their own.
+        _ => Ok(Filled::Known(value(alloc, pat, slots, cells)?)),
     }
 }
 
@@ -134,7 +133,7 @@ fn fill_parts(
     let mut filled = Vec::with_capacity(alloc, pats.len())?;
     for pat in pats {
         let part = fill(alloc, pat, slots, cells)?;
-        filled.push(part)?;
+        filled.push_reserved(part);
     }
     Ok(filled)
 }

@@ -3,15 +3,13 @@ ghost use Rattle.std.specs.Prelude.{◌≡◌, bytes_eq};
 ghost use Rattle.hp_syntax.specs.Calls as plain;
 ghost use Rattle.hp_eval.specs.CallRows.{table_row, test_row};
 
-use crate::arithmetic::{OfTwo, Step};
+use crate::arithmetic::{OfNumbers, OfTwo, Step};
 use hp_syntax::Name;
 
 /// A row of the call table.
 #[derive(Clone, Copy)]
 pub(crate) enum Row {
-    InTurn(Step),
-    OfTwo(OfTwo),
-    Absolute,
+    OfNumbers(OfNumbers),
     Equal,
     Unequal,
     Member,
@@ -28,13 +26,13 @@ fn test_named(name: &Name) -> Row
     ensures { table_row result ≡ test_row name.now }
 {
     if is(name, b"<") {
-        Row::OfTwo(OfTwo::Less)
+        Row::OfNumbers(OfNumbers::OfTwo(OfTwo::Less))
     } else if is(name, b"<=") {
-        Row::OfTwo(OfTwo::AtMost)
+        Row::OfNumbers(OfNumbers::OfTwo(OfTwo::AtMost))
     } else if is(name, b">=") {
-        Row::OfTwo(OfTwo::AtLeast)
+        Row::OfNumbers(OfNumbers::OfTwo(OfTwo::AtLeast))
     } else if is(name, b">") {
-        Row::OfTwo(OfTwo::Greater)
+        Row::OfNumbers(OfNumbers::OfTwo(OfTwo::Greater))
     } else if is(name, b"=") {
         Row::Equal
     } else if is(name, b"!=") {
@@ -51,23 +49,23 @@ pub(crate) fn row_named(name: &Name) -> Row
     ensures { table_row result ≡ plain.row name.now }
 {
     if is(name, b"+") {
-        Row::InTurn(Step::Sum)
+        Row::OfNumbers(OfNumbers::InTurn(Step::Sum))
     } else if is(name, b"*") {
-        Row::InTurn(Step::Product)
+        Row::OfNumbers(OfNumbers::InTurn(Step::Product))
     } else if is(name, b"-") {
-        Row::OfTwo(OfTwo::Difference)
+        Row::OfNumbers(OfNumbers::OfTwo(OfTwo::Difference))
     } else if is(name, b"/") {
-        Row::OfTwo(OfTwo::Quotient)
+        Row::OfNumbers(OfNumbers::OfTwo(OfTwo::Quotient))
     } else if is(name, b"mod") {
-        Row::OfTwo(OfTwo::Remainder)
+        Row::OfNumbers(OfNumbers::OfTwo(OfTwo::Remainder))
     } else if is(name, b"^") {
-        Row::OfTwo(OfTwo::Power)
+        Row::OfNumbers(OfNumbers::OfTwo(OfTwo::Power))
     } else if is(name, b"min") {
-        Row::OfTwo(OfTwo::Least)
+        Row::OfNumbers(OfNumbers::OfTwo(OfTwo::Least))
     } else if is(name, b"max") {
-        Row::OfTwo(OfTwo::Greatest)
+        Row::OfNumbers(OfNumbers::OfTwo(OfTwo::Greatest))
     } else if is(name, b"abs") {
-        Row::Absolute
+        Row::OfNumbers(OfNumbers::Absolute)
     } else {
         test_named(name)
     }

@@ -46,7 +46,7 @@ fn task_list_value(
     let mut found = Vec::with_capacity(alloc, tasks.len())?;
     for part in tasks {
         let tree = tasks_value(alloc, part, slots, cells)?;
-        found.push(tree)?;
+        found.push_reserved(tree);
     }
     Ok(found)
 }

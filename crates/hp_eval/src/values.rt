@@ -84,7 +84,7 @@ fn part_values(
     let mut found = Vec::with_capacity(alloc, parts.len())?;
     for part in parts {
         let cell = value(alloc, part, slots, cells)?;
-        found.push(cell)?;
+        found.push_reserved(cell);
     }
     Ok(found)
 }

@@ -1,4 +1,4 @@
-use Rattle.std.proofs.Common.{◌≡◌, ℕ, List, [], ◌∷◌, ◌++◌, map, Result, Ok, ℤ, FitsSigned, refl, ap, sym, ◌∙◌, rules}
+use Rattle.std.proofs.Common.{◌≡◌, ℕ, List, [], ◌∷◌, ◌++◌, map, Result, Ok, ℤ, FitsSigned, refl, ap, sym, ◌∙◌, rules, arith}
 use Rattle.std.specs.Int.{w64}
 use Rattle.std.proofs.lemmas.Int.{to_z-of_z}
 use Rattle.std.proofs.lemmas.Result.{err_from_is_err_and}
@@ -30,11 +30,16 @@ loop-arg-preserved c =
     let s = c.args.span in
     let terms = c.args.cells.now in
     let n-fits : FitsSigned w64 c.in_ok-n.n = search rules in
-    values_more (one s terms) (all s terms) ◌∷◌ (step s terms)
-    c.args.args.now c.loop-arg.arg-index c.arg-item.result c.loop-arg.found.items (all s terms c.args.args.now)
-    c.loop-arg-test.true c.arg-item.is c.loop-arg.invariant c.in_ok-n.n c.push.new.self.items
-    (sym c.in_ok-n.ensures)
-    (c.in_ok-push.ensures.items ∙ ap (λ n. c.loop-arg.found.items ++ n ∷ []) (to_z-of_z w64 c.in_ok-n.n n-fits))
+    record {
+      room = omega arith;
+      so_far =
+          values_more (one s terms) (all s terms) ◌∷◌ (step s terms)
+          c.args.args.now c.loop-arg.arg-index c.arg-item.result c.loop-arg.found.items (all s terms c.args.args.now)
+          c.loop-arg-test.true c.arg-item.is c.loop-arg.invariant.so_far c.in_ok-n.n c.push_reserved.new.self.items
+          (sym c.in_ok-n.ensures)
+          (c.push_reserved.ensures.items
+          ∙ ap (λ n. c.loop-arg.found.items ++ n ∷ []) (to_z-of_z w64 c.in_ok-n.n n-fits));
+    }
 
 pub returns-in_err-n : goal.returns-in_err-n
 returns-in_err-n c =
@@ -44,7 +49,7 @@ returns-in_err-n c =
     rw (p.1, p.2)
     (values_stop (one s terms) (all s terms) ◌∷◌ (step s terms)
     c.args.args.now c.loop-arg.arg-index c.arg-item.result c.loop-arg.found.items (all s terms c.args.args.now)
-    c.loop-arg-test.true c.arg-item.is c.loop-arg.invariant c.in_err-n.field-0.0 (sym c.in_err-n.ensures))
+    c.loop-arg-test.true c.arg-item.is c.loop-arg.invariant.so_far c.in_err-n.field-0.0 (sym c.in_err-n.ensures))
 
 pub returns : goal.returns
 returns c =
@@ -52,5 +57,5 @@ returns c =
     let terms = c.args.cells.now in
     values_all (one s terms) (all s terms) ◌∷◌ (step s terms) (Ok [])
     c.args.args.now c.loop-arg.arg-index c.loop-arg.found.items (all s terms c.args.args.now) refl
-    c.loop-arg-test.false c.loop-arg.invariant
+    c.loop-arg-test.false c.loop-arg.invariant.so_far
     ∙ ap Ok (list_in_front c.loop-arg.found.items)

@@ -1,4 +1,4 @@
-use Rattle.std.proofs.Common.{length}
+use Rattle.std.proofs.Common.{◌≡◌, ◌≤◌, length, vec_len, vec_capacity}
 use Rattle.hp_eval.specs.Slotted.{bindings_of}
 use Rattle.hp_eval.specs.Growth.{Grows}
 use Rattle.hp_eval.specs.GoalViews.{fillings_of}
@@ -7,7 +7,10 @@ use Rattle.hp_eval.proofs.FillStepLemmas.{AreFilledTo}
 use Rattle.hp_eval.proofs.goals.+fill.Given as goal
 
 abbrev pub invariant-fill_parts-loop-pat : goal.invariant-fill_parts-loop-pat
-invariant-fill_parts-loop-pat l =
-    Grows l.initial.cells l.cells
-    × AreFilledBelow (length l.cells) l.filled.items
-    × AreFilledTo l.pats l.pat-index (bindings_of l.initial.cells l.slots) (fillings_of l.cells l.filled.items)
+invariant-fill_parts-loop-pat l = record {
+  grows : Grows l.initial.cells l.cells;
+  room : (vec_len l.filled ≡ l.pat-index) × (length l.pats ≤ vec_capacity l.filled);
+  below : AreFilledBelow (length l.cells) l.filled.items;
+  so_far :
+      AreFilledTo l.pats l.pat-index (bindings_of l.initial.cells l.slots) (fillings_of l.cells l.filled.items);
+}

@@ -1,4 +1,4 @@
-use Rattle.std.proofs.Common.{◌+◌, ap, sym, ◌∙◌, false, drop, Bool, cond, None}
+use Rattle.std.proofs.Common.{◌+◌, ap, sym, ◌∙◌, false, drop, Bool, cond, None, arith}
 use Rattle.hp_syntax.specs.Views.{patterns_of, pattern_of}
 use Rattle.hp_syntax.specs.ViewLaws.{pattern_of-var, pattern_of-sym, pattern_of-num, pattern_of-list, pattern_of-call}
 use Rattle.hp_syntax.specs.Matching.{match_parts}
@@ -6,8 +6,10 @@ use Rattle.hp_eval.specs.Slotted.{bindings_of}
 use Rattle.hp_eval.specs.Attempts.{extended}
 use Rattle.hp_eval.specs.FillSteps.{parts_at}
 use Rattle.hp_eval.proofs.SlotLemmas.{binds_through}
-use Rattle.hp_eval.proofs.AttemptLemmas.{tries_here, tries_as, tries_above, then_fails, then_goes_on}
+use Rattle.hp_eval.proofs.AttemptLemmas.{tries_here, tries_as, tries_above, then_fails, then_goes_on, names_list}
 use Rattle.hp_eval.proofs.MatchingLemmas.{matches_variable, matches_symbol, matches_number, matches_list, matches_call, parts_missing, parts_step, parts_end}
+use Rattle.std.proofs.lemmas.Grind.{common_steps}
+use Rattle.hp_syntax.specs.declared.pattern.PatKind.TheViews.{sized-List, size_is-Pat}
 use Rattle.hp_eval.proofs.matching.+matching.Goals as goal
 
 pub match_parts-returns-in_default : goal.match_parts-returns-in_default
@@ -108,3 +110,11 @@ match_pattern-returns-in-Call t c =
     let p = c.args.pat.now in
     tries_here false _ c.args.cells.now c.args.slots.now c.requires.slots
     (matches_call (pattern_of p) p.span _ _ _ _ (pattern_of-call p c.in-Call.field-0 c.in-Call.field-1 c.in-Call.is))
+
+pub match_pattern-match_parts-requires : goal.match_pattern-match_parts-requires
+match_pattern-match_parts-requires t c =
+    let terms = c.args.cells.now in
+    let list = names_list terms c.args.cell c.requires.cell (sym c.is_listed.ensures ∙ c.if-is_listed.true) in
+    let kind = sized-List c.in-List.parts c.in-List.tail in
+    let pat = size_is-Pat c.args.pat.now in
+    (grind (arith, common_steps, kind, pat), (c.requires.slots, list))

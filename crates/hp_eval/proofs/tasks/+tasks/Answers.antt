@@ -1,4 +1,4 @@
-use Rattle.std.proofs.Common.{ap, sym, ◌∙◌, List, length, map, Ok, Result, Vec}
+use Rattle.std.proofs.Common.{ap, sym, ◌∙◌, List, length, map, Ok, Result, Vec, arith}
 use Rattle.std.specs.Global.{Global}
 use Rattle.std.proofs.lemmas.Option.{slice_get_within}
 use Rattle.std.proofs.lemmas.Result.{err_from_is_err_and}
@@ -55,21 +55,22 @@ task_list_value-loop-part-preserved t c =
     let ts = c.args.tasks.now in
     let part = tasks_of c.part-item.result in
     let found = c.loop-part.found.items in
-    let pushed = c.push.new.self.items in
+    let pushed = c.push_reserved.new.self.items in
     let tree = c.in_ok-tree.tree in
     let held = c.loop-part.invariant in
     let got = c.in_ok-tree.ensures in
     let same = bindings_stay c.args.cells.now old held.grows s c.requires.slots in
     record {
       grows = grows_on c.args.cells.now old new held.grows got.cells;
-      below = trees_below_pushed old new got.cells found pushed tree held.below c.in_ok-push.ensures.items got.below;
+      room = omega arith;
+      below = trees_below_pushed old new got.cells found pushed tree held.below c.push_reserved.ensures.items got.below;
       so_far =
           values_more (λ n. tasks_value (tasks_of n) e) (λ ns. task_list_value (task_list_of ns) e) And
           (tasks_step e) ts
           c.loop-part.part-index c.part-item.result (map (network_of old) found) (task_list_value (task_list_of ts) e)
           c.loop-part-test.true c.part-item.is held.so_far (network_of new tree) (map (network_of new) pushed)
           (ap (tasks_value part) (sym same) ∙ got.gives)
-          (trees_pushed old new got.cells found pushed tree held.below c.in_ok-push.ensures.items);
+          (trees_pushed old new got.cells found pushed tree held.below c.push_reserved.ensures.items);
     }
 
 pub task_list_value-returns-clause-gives : goal.task_list_value-returns-clause-gives
@@ -200,11 +201,6 @@ task_list_value-returns-in_err-found-clause-cells t c = grows_self c.args.cells.
 
 pub task_list_value-returns-in_err-tree-clause-cells : goal.task_list_value-returns-in_err-tree-clause-cells
 task_list_value-returns-in_err-tree-clause-cells t c =
-    grows_on c.args.cells.now c.loop-part.cells c.tasks_value.new.cells c.loop-part.invariant.grows
-    c.tasks_value.ensures.cells
-
-pub task_list_value-returns-in_err-push-clause-cells : goal.task_list_value-returns-in_err-push-clause-cells
-task_list_value-returns-in_err-push-clause-cells t c =
     grows_on c.args.cells.now c.loop-part.cells c.tasks_value.new.cells c.loop-part.invariant.grows
     c.tasks_value.ensures.cells
 

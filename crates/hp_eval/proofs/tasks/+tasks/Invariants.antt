@@ -1,4 +1,4 @@
-use Rattle.std.proofs.Common.{◌≡◌, length, map, drop}
+use Rattle.std.proofs.Common.{◌≡◌, ◌≤◌, length, map, drop, vec_len, vec_capacity}
 use Rattle.hp_syntax.specs.Networks.{And, task_list_value}
 use Rattle.hp_syntax.specs.Views.{task_list_of}
 use Rattle.hp_eval.specs.GoalViews.{network_of, TreesBelow}
@@ -10,6 +10,7 @@ use Rattle.hp_eval.proofs.tasks.+tasks.Given as goal
 abbrev pub invariant-task_list_value-loop-part : goal.invariant-task_list_value-loop-part
 invariant-task_list_value-loop-part l = record {
   grows : Grows l.fn.cells l.cells;
+  room : (vec_len l.found ≡ l.part-index) × (length l.tasks ≤ vec_capacity l.found);
   below : TreesBelow (length l.cells) l.found.items;
   so_far : task_list_value (task_list_of l.tasks) (bindings_of l.fn.cells l.slots)
       ≡ behind And (map (network_of l.cells) l.found.items)

@@ -1,4 +1,4 @@
-use Rattle.std.proofs.Common.{ap, sym, ◌∙◌, subst, Some, None, Ok, Err, map, FitsSigned, rules}
+use Rattle.std.proofs.Common.{ap, sym, ◌∙◌, subst, Some, None, Ok, Err, map, FitsSigned, rules, arith}
 use Rattle.std.specs.Int.{w64}
 use Rattle.std.proofs.lemmas.Int.{to_z-of_z}
 use Rattle.std.proofs.lemmas.Result.{err_from_is_err_and}
@@ -46,15 +46,16 @@ part_values-loop-part-preserved t c =
     let ps = c.args.parts.now in
     let pat = pattern_of c.part-item.result in
     let found = c.loop-part.found.items in
-    let pushed = c.push.new.self.items in
+    let pushed = c.push_reserved.new.self.items in
     let held = c.loop-part.invariant in
     let got = c.in_ok-cell.ensures in
     let same = bindings_stay c.args.cells.now old held.grows s c.requires.slots in
     record {
       grows = grows_on c.args.cells.now old new held.grows got.cells;
+      room = omega arith;
       below =
           below_pushed old new got.cells found pushed c.in_ok-cell.cell got.gives.0 held.below
-          c.in_ok-push.ensures.items got.gives.2;
+          c.push_reserved.ensures.items got.gives.2;
       so_far =
           λ tail.
           values_more (λ q. value (pattern_of q) e) (λ qs. values (patterns_of qs) tail e) More (values_step tail e) ps
@@ -62,7 +63,7 @@ part_values-loop-part-preserved t c =
           c.loop-part-test.true c.part-item.is (held.so_far tail) got.gives.0 (map (term_at new) pushed)
           (ap (value pat) (sym same) ∙ got.gives.1)
           (terms_pushed old new got.cells found pushed c.in_ok-cell.cell got.gives.0 held.below
-          c.in_ok-push.ensures.items got.gives.2);
+          c.push_reserved.ensures.items got.gives.2);
     }
 
 pub part_values-returns-clause-gives : goal.part_values-returns-clause-gives
@@ -205,10 +206,6 @@ part_values-returns-in_err-found-clause-cells t c = grows_self c.args.cells.now
 
 pub part_values-returns-in_err-cell-clause-cells : goal.part_values-returns-in_err-cell-clause-cells
 part_values-returns-in_err-cell-clause-cells t c =
-    grows_on c.args.cells.now c.loop-part.cells c.value.new.cells c.loop-part.invariant.grows c.value.ensures.cells
-
-pub part_values-returns-in_err-push-clause-cells : goal.part_values-returns-in_err-push-clause-cells
-part_values-returns-in_err-push-clause-cells t c =
     grows_on c.args.cells.now c.loop-part.cells c.value.new.cells c.loop-part.invariant.grows c.value.ensures.cells
 
 pub part_values-returns-clause-cells : goal.part_values-returns-clause-cells

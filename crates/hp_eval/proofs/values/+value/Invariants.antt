@@ -1,4 +1,4 @@
-use Rattle.std.proofs.Common.{◌≡◌, ◌<◌, Option, length, map, drop}
+use Rattle.std.proofs.Common.{◌≡◌, ◌<◌, ◌≤◌, Option, length, map, drop, vec_len, vec_capacity}
 use Rattle.std.specs.List.{All}
 use Rattle.hp_syntax.specs.declared.pattern.Tail.{Tail}
 use Rattle.hp_syntax.specs.Terms.{More}
@@ -13,6 +13,7 @@ use Rattle.hp_eval.proofs.values.+value.Given as goal
 abbrev pub invariant-part_values-loop-part : goal.invariant-part_values-loop-part
 invariant-part_values-loop-part l = record {
   grows : Grows l.fn.cells l.cells;
+  room : (vec_len l.found ≡ l.part-index) × (length l.parts ≤ vec_capacity l.found);
   below : All (λ c. c < length l.cells) l.found.items;
   so_far : (tail : Option Tail)
       → values (patterns_of l.parts) tail (bindings_of l.fn.cells l.slots)
