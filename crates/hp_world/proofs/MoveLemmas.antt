@@ -1,5 +1,5 @@
 -- One change made, or undone.
-use Rattle.std.proofs.Common.{◌≡◌, ℕ, ◌+◌, ◌<◌, ◌≤◌, List, [], ◌∷◌, ◌++◌, inl, inr, Option, None, length, get_or, set, take, sym, ap, ◌∙◌, subst, arith, vec_len, vec_capacity}
+use Rattle.std.proofs.Common.{◌≡◌, ℕ, ◌+◌, ◌<◌, ◌≤◌, List, [], ◌∷◌, ◌++◌, inl, inr, Option, None, length, get_or, set, take, sym, ap, ap₂, ◌∙◌, subst, arith, vec_len, vec_capacity}
 use Rattle.std.proofs.lemmas.List.{take_at, take_all, length_push, length-set, get_or-set_same, get_or-set_other, get_or_past, same_lists, get_or_default, get_or-take, length-take-le}
 use Rattle.std.proofs.lemmas.Bool.{cases_eq}
 use Rattle.std.proofs.lemmas.Option.{none-some}
@@ -31,6 +31,12 @@ pub undoable_more : (width wider room more : ℕ) → width ≤ wider → room �
     → IsUndoable undone (Fits width room) IsAny ts s → IsUndoable undone (Fits wider more) IsAny ts s
 undoable_more width wider room more w r ts s h =
     undoable_weaker undone (Fits width room) IsAny (Fits wider more) (fits_more width wider room more w r) ts s h
+
+-- equal places and equal protections make equal stages
+pub same_stage : (ps qs : List (Option ℕ)) (gs hs : List ℕ) → ps ≡ qs → gs ≡ hs
+    → (λ (s : Stage). s) (record { places = ps; guards = gs }) ≡ record { places = qs; guards = hs }
+same_stage ps qs gs hs e f =
+    let stage : List (Option ℕ) → List ℕ → Stage = λ xs ys. record { places = xs; guards = ys } in ap₂ stage e f
 
 -- equal pasts and an equal present make equal histories
 same_history : (p q : List Stage) (s t : Stage) → p ≡ q → s ≡ t

@@ -19,3 +19,6 @@ loop-v-preserved c =
           (slice_get-get_or values v value (omega arith) ∙ ap Some (sym c.index-values-v.is)));
       above = binds_through slots c.loop-v.slots c.fill.new.slots c.loop-v.invariant.above c.fill.ensures.above;
     }
+
+pub returns-clause-above : goal.returns-clause-above
+returns-clause-above c = c.loop-v.invariant.above

@@ -34,3 +34,78 @@ returns-clause-noted g c =
     (sym back ∙ ap (λ n. undone n c.next.new.slots) (sym c.next.ensures.start))
     (c.note.ensures.noted start c.next.ensures.above
     (noted_grown old new c.next.ensures.cells start c.args.notes.now.sats.items c.requires.noted))
+
+pub next-requires-clause-live : goal.next-requires-clause-live
+next-requires-clause-live g c = c.requires.live
+
+pub next-requires-clause-open : goal.next-requires-clause-open
+next-requires-clause-open g c = c.requires.open
+
+pub next-requires-clause-base : goal.next-requires-clause-base
+next-requires-clause-base g c = c.requires.base
+
+pub next-requires-clause-slots : goal.next-requires-clause-slots
+next-requires-clause-slots g c = c.requires.slots
+
+pub next-requires-clause-cells : goal.next-requires-clause-cells
+next-requires-clause-cells g c = c.requires.cells
+
+pub returns-in_err-event-clause-base : goal.returns-in_err-event-clause-base
+returns-in_err-event-clause-base g c = c.next.ensures.base
+
+pub returns-in_err-event-clause-slots : goal.returns-in_err-event-clause-slots
+returns-in_err-event-clause-slots g c = c.next.ensures.slots
+
+pub returns-in_err-event-clause-start : goal.returns-in_err-event-clause-start
+returns-in_err-event-clause-start g c = c.next.ensures.start
+
+pub returns-in_err-event-clause-kept : goal.returns-in_err-event-clause-kept
+returns-in_err-event-clause-kept g c = c.next.ensures.kept
+
+pub returns-in_err-event-clause-cells : goal.returns-in_err-event-clause-cells
+returns-in_err-event-clause-cells g c = c.next.ensures.cells
+
+pub returns-in_err-event-clause-open : goal.returns-in_err-event-clause-open
+returns-in_err-event-clause-open g c = c.next.ensures.open
+
+pub returns-clause-base : goal.returns-clause-base
+returns-clause-base g c = c.next.ensures.base
+
+pub returns-clause-slots : goal.returns-clause-slots
+returns-clause-slots g c = c.next.ensures.slots
+
+pub returns-clause-start : goal.returns-clause-start
+returns-clause-start g c = c.next.ensures.start
+
+pub returns-clause-kept : goal.returns-clause-kept
+returns-clause-kept g c = c.next.ensures.kept
+
+pub returns-clause-cells : goal.returns-clause-cells
+returns-clause-cells g c = c.next.ensures.cells
+
+pub returns-clause-open : goal.returns-clause-open
+returns-clause-open g c = c.next.ensures.open
+
+pub returns-in_err-event-clause-undone : goal.returns-in_err-event-clause-undone
+returns-in_err-event-clause-undone g c =
+    ap (λ n. undone n c.next.new.slots) c.next.ensures.start
+    ∙ undone_above (g.S.Sats.start c.args.inner.now) c.args.slots.now c.next.new.slots
+    (g.met.S.Sats.fits_hold c.args.inner.now c.args.slots.now c.requires.slots).0 c.next.ensures.above
+
+pub returns-clause-undone : goal.returns-clause-undone
+returns-clause-undone g c =
+    ap (λ n. undone n c.next.new.slots) c.next.ensures.start
+    ∙ undone_above (g.S.Sats.start c.args.inner.now) c.args.slots.now c.next.new.slots
+    (g.met.S.Sats.fits_hold c.args.inner.now c.args.slots.now c.requires.slots).0 c.next.ensures.above
+
+pub returns-in_err-event-clause-noted : goal.returns-in_err-event-clause-noted
+returns-in_err-event-clause-noted g c =
+    let old = c.args.cells.now in
+    let new = c.next.new.cells in
+    let mark = g.S.Sats.start c.args.inner.now in
+    let start = undone mark c.args.slots.now in
+    let above = (g.met.S.Sats.fits_hold c.args.inner.now c.args.slots.now c.requires.slots).0 in
+    let back = undone_above mark c.args.slots.now c.next.new.slots above c.next.ensures.above in
+    subst (λ e. All (IsNoted (length new) e) c.args.notes.now.sats.items)
+    (sym back ∙ ap (λ n. undone n c.next.new.slots) (sym c.next.ensures.start))
+    (noted_grown old new c.next.ensures.cells start c.args.notes.now.sats.items c.requires.noted)

@@ -5,7 +5,7 @@ use Rattle.hp_world.specs.Stages.{live_atoms}
 use Rattle.hp_world.specs.Undoing.{IsVacant}
 use Rattle.hp_world.specs.declared.store.Change.TheVariants.{Deleted}
 use Rattle.hp_world.proofs.AtomLemmas.{without_absent, live_cleared}
-use Rattle.hp_world.proofs.MoveLemmas.{moved, vacated}
+use Rattle.hp_world.proofs.MoveLemmas.{moved, vacated, same_stage}
 use Rattle.hp_world.proofs.store.Store.delete.Goals as goal
 
 pub clear-requires : goal.clear-requires
@@ -36,7 +36,7 @@ returns-in-Some-clause-moves c =
     let fits =
     subst (λ w. IsVacant w c.clear.new.self.places i a) (sym width)
     (subst (λ (xs : List (Option ℕ)). IsVacant c.args.self.now.places.width xs i a) (sym places) vacant) in
-    moved _ _ (Deleted i a) c.requires.sound c.push_reserved.ensures.items (cc)
+    moved _ _ (Deleted i a) c.requires.sound c.push_reserved.ensures.items (same_stage _ _ _ _ back refl)
     fits c.push_reserved.ensures.len c.push_reserved.ensures.capacity refl
     (ap (λ (r : Row). r.room) c.clear.ensures.cleared) width
 

@@ -1,9 +1,9 @@
-use Rattle.std.proofs.Common.{◌≡◌, ◌-◌, true, is_ok, cond, take, vec_capacity, ap, ◌∙◌, arith}
+use Rattle.std.proofs.Common.{◌≡◌, ◌-◌, true, is_ok, cond, take, vec_capacity, ap, ◌∙◌, arith, refl}
 use Rattle.std.specs.List.{insert}
 use Rattle.hp_world.specs.declared.store.Change.TheVariants.{Deleted, Added, Cancelled, Protected}
 use Rattle.hp_world.specs.Indexed.{Row}
 use Rattle.hp_world.specs.Undoing.{front, stage_of}
-use Rattle.hp_world.proofs.MoveLemmas.{last_fits, taken_back}
+use Rattle.hp_world.proofs.MoveLemmas.{last_fits, taken_back, same_stage}
 use Rattle.hp_world.proofs.store.Store.undo_last.Goals as goal
 
 pub put_back-requires : goal.put_back-requires
@@ -36,7 +36,7 @@ returns-in-Deleted c =
     let width = ap (λ (r : Row). r.width) c.put_back.ensures in
     let places = ap (λ (r : Row). r.places) c.put_back.ensures in
     taken_back _ _ (Deleted c.in-Deleted.place c.in-Deleted.atom) c.requires.sound c.in-Deleted.ensures.items
-    c.in-Deleted.ensures.len (cc) (omega (arith, width)) (omega arith)
+    c.in-Deleted.ensures.len (same_stage _ _ _ _ places refl) (omega (arith, width)) (omega arith)
 
 pub returns-in-Added : goal.returns-in-Added
 returns-in-Added c =
@@ -44,7 +44,7 @@ returns-in-Added c =
     let width = ap (λ (r : Row). r.width) c.pop.ensures in
     let places = ap (λ (r : Row). r.places) c.pop.ensures in
     taken_back _ _ Added c.requires.sound c.in-Added.ensures.items
-    c.in-Added.ensures.len (cc) (omega (arith, width)) (omega arith)
+    c.in-Added.ensures.len (same_stage _ _ _ _ places refl) (omega (arith, width)) (omega arith)
 
 pub returns-in-Cancelled : goal.returns-in-Cancelled
 returns-in-Cancelled c =
@@ -58,7 +58,7 @@ returns-in-Cancelled c =
     let put : c.insert.new.self.items ≡ insert s.guards.items i a =
     c.insert.ensures.items ∙ ap (λ b. cond b (insert s.guards.items i a) s.guards.items) done in
     taken_back _ _ (Cancelled i a) c.requires.sound c.in-Cancelled.ensures.items
-    c.in-Cancelled.ensures.len (cc) (omega arith) c.insert.ensures.capacity
+    c.in-Cancelled.ensures.len (same_stage _ _ _ _ refl put) (omega arith) c.insert.ensures.capacity
 
 pub returns-in-Protected : goal.returns-in-Protected
 returns-in-Protected c =
@@ -66,4 +66,5 @@ returns-in-Protected c =
     let short : c.pop-in-Protected.new.self.items ≡ front s.guards.items =
     c.pop-in-Protected.ensures.rest ∙ ap (λ n. take (n - 1) s.guards.items) s.guards.ok.0 in
     taken_back _ _ Protected c.requires.sound c.in-Protected.ensures.items
-    c.in-Protected.ensures.len (cc) (omega arith) (omega (arith, c.pop-in-Protected.ensures.capacity))
+    c.in-Protected.ensures.len (same_stage _ _ _ _ refl short) (omega arith)
+    (omega (arith, c.pop-in-Protected.ensures.capacity))
