@@ -1,10 +1,13 @@
 -- Notes while cells grow and further events are heard.
-use Rattle.std.proofs.Common.{◌≡◌, ℕ, ◌≤◌, Bool, true, false, List, [], ◌∷◌, ◌++◌, ◌||◌, map, length, Result, Ok, Err, refl, sym, ◌∙◌, ap, ap₂, subst, arith}
+use Rattle.std.proofs.Common.{◌≡◌, ℕ, ◌≤◌, Bool, true, false, cond, ℤ, List, [], ◌∷◌, ◌++◌, ◌||◌, map, length, Result, Ok, Err, refl, sym, ◌∙◌, ap, ap₂, subst, arith}
 use Rattle.std.specs.List.{All}
-use Rattle.std.proofs.lemmas.List.{length-take-le}
+use Rattle.std.proofs.lemmas.List.{append-nil, length-take-le}
 use Rattle.std.proofs.lemmas.List.Elements.{All-head, All-tail, All-weaker}
 use Rattle.hp_syntax.specs.Terms.{Term}
-use Rattle.hp_syntax.specs.Preconditions.{Keyed, Keys, NoKey}
+use Rattle.hp_syntax.specs.Syntax.{Order}
+use Rattle.hp_syntax.specs.Values.{Bindings}
+use Rattle.hp_syntax.specs.Events.{Sat, Cut}
+use Rattle.hp_syntax.specs.Preconditions.{Keyed, Keys, NoKey, comes_before, sorted, sorted_events}
 use Rattle.hp_eval.specs.declared.event.EvalStop.{EvalStop}
 use Rattle.hp_eval.specs.declared.event.EvalStop.TheVariants as stops
 use Rattle.hp_eval.specs.Slotted.{Slotted, slotted, AreBelow, Binds, undone}
@@ -13,7 +16,8 @@ use Rattle.hp_eval.proofs.SlotLemmas.{below_undone}
 use Rattle.hp_eval.proofs.GrowthLemmas.{bindings_stay, below_grows}
 use Rattle.hp_pick.specs.declared.noted.Noted.{Noted}
 use Rattle.hp_pick.specs.declared.noted.Notes.{Notes}
-use Rattle.hp_pick.specs.Noted.{IsNoted, entry_of, with_notes, HearsOn}
+use Rattle.hp_eval.specs.Events.{Happening}
+use Rattle.hp_pick.specs.Noted.{IsNoted, entry_of, noted_events, with_notes, HearsOn, Hears, HearsInOrder}
 
 -- bindings that stand above those of a mark are undone to these
 pub undone_above : (n : ℕ) (e f : Slotted) → n ≤ length e.trail → Binds (undone n e) f → undone n f ≡ undone n e
@@ -64,3 +68,26 @@ hears_same (Err stops.NoMemory) v w k l alone p q h = tt
 pub below_undone_more : (m n mark : ℕ) (e f : Slotted) → AreBelow m e → m ≤ n → f ≡ undone mark e → AreBelow n f
 below_undone_more m n mark e f below h q =
     subst (AreBelow n) (sym q) (λ v cell k. omega (arith, below_undone m mark e below v cell k))
+
+-- the stop of a list is that of the list in order
+pub stops_in_order : (c : List Term) (order : Order) (e : EvalStop) (k : Keyed) → Hears c (Err e) k
+    → HearsInOrder c (Err e) (sorted_events order k)
+stops_in_order c order (stops.Fault f) k h = ap (sorted_events order) h
+stops_in_order c order stops.NoMemory k h = tt
+
+-- what was heard of a whole list is given in order, where its satisfiers were put in order
+pub heard_in_order : (c : List Term) (order : Order) (notes : Notes) (k : Keyed) (ns : List Noted)
+    → k ≡ with_notes c notes (Keys [] false)
+    → map (entry_of c) ns ≡ sorted (comes_before order) (map (entry_of c) notes.sats.items)
+    → sorted_events order k ≡ noted_events c ns notes.cut
+heard_in_order c order notes k ns h q =
+    let events : List (ℤ × Bindings) → Bool → List Happening =
+    λ es cut. map (λ x. Sat x.1) es ++ cond cut (Cut ∷ []) [] in
+    ap (sorted_events order) h
+    ∙ (ap₂ (λ es cut. events (sorted (comes_before order) es) cut) (append-nil (map (entry_of c) notes.sats.items))
+    (no_more notes.cut)
+    ∙ ap (λ es. events es notes.cut) (sym q))
+  where
+    no_more : (cut : Bool) → (cut || false) ≡ cut
+    no_more true = refl
+    no_more false = refl

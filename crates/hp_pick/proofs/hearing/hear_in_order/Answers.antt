@@ -1,3 +1,9 @@
+use Rattle.std.proofs.lemmas.Result.{err_from_is_err_and}
+use Rattle.std.proofs.lemmas.List.Sorted.{All-permutation}
+use Rattle.hp_syntax.specs.Views.{key_of}
+use Rattle.hp_pick.specs.Noted.{IsNoted}
+use Rattle.std.proofs.Common.{length}
+use Rattle.hp_pick.proofs.HearingLemmas.{stops_in_order, heard_in_order}
 use Rattle.hp_pick.proofs.hearing.hear_in_order.Goals as goal
 
 pub hear_whole-requires-clause-live : goal.hear_whole-requires-clause-live
@@ -50,3 +56,21 @@ returns-clause-kept g c = c.hear_whole.ensures.kept
 
 pub returns-clause-cells : goal.returns-clause-cells
 returns-clause-cells g c = c.hear_whole.ensures.cells
+
+pub returns-in_err-notes-clause-heard : goal.returns-in_err-notes-clause-heard
+returns-in_err-notes-clause-heard g c =
+    let p = err_from_is_err_and c.from_residual.result c.from_residual.ensures.1 in
+    rw (p.1, p.2)
+    (stops_in_order c.hear_whole.new.cells (key_of c.args.key.now).order c.in_err-notes.field-0.0 _
+    c.in_err-notes.ensures.heard)
+
+pub returns-clause-heard : goal.returns-clause-heard
+returns-clause-heard g c =
+    let cells = c.hear_whole.new.cells in
+    heard_in_order cells (key_of c.args.key.now).order c.in_ok-notes.notes _ c.sort.new.sats.items
+    c.in_ok-notes.ensures.heard (c.in_ok-sort.ensures.sorted cells)
+
+pub returns-clause-noted : goal.returns-clause-noted
+returns-clause-noted g c =
+    All-permutation (IsNoted (length c.hear_whole.new.cells) c.hear_whole.new.slots) c.in_ok-notes.notes.sats.items
+    c.sort.new.sats.items c.sort.ensures.permutation c.in_ok-notes.ensures.noted

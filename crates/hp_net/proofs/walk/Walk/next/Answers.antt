@@ -1,4 +1,4 @@
-use Rattle.std.proofs.Common.{arith, ◌≡◌, ◌≢◌, None, [], length, ap, sym, ◌∙◌}
+use Rattle.std.proofs.Common.{arith, ◌≡◌, ◌≢◌, None, [], length, ap, sym, ◌∙◌, refl}
 use Rattle.hp_net.specs.Standings.{next_below, arrived}
 use Rattle.hp_net.proofs.StandingLemmas.{parent_shorter, nothing, not_empty}
 use Rattle.hp_net.proofs.walk.Walk.next.Goals as goal
@@ -18,3 +18,53 @@ loop-step-smaller g c =
       ap length same,
       ap (λ s. length s.path) c.back.ensures.stands,
     )
+
+pub loop-step-init : goal.loop-step-init
+loop-step-init g c = record { rest = refl; tree = refl; live = c.requires.live }
+
+pub step-requires : goal.step-requires
+step-requires g c = record { live = c.loop-step.invariant.live }
+
+pub returns-in_err-step-clause-tree : goal.returns-in_err-step-clause-tree
+returns-in_err-step-clause-tree g c = c.step.ensures.tree ∙ c.loop-step.invariant.tree
+
+pub returns-in-Some-clause-tree : goal.returns-in-Some-clause-tree
+returns-in-Some-clause-tree g c = c.step.ensures.tree ∙ c.loop-step.invariant.tree
+
+pub returns-then-is_empty-clause-tree : goal.returns-then-is_empty-clause-tree
+returns-then-is_empty-clause-tree g c = c.step.ensures.tree ∙ c.loop-step.invariant.tree
+
+pub returns-in-Some-clause-live : goal.returns-in-Some-clause-live
+returns-in-Some-clause-live g c = c.in_ok-step.ensures.live
+
+pub returns-then-is_empty-clause-live : goal.returns-then-is_empty-clause-live
+returns-then-is_empty-clause-live g c = c.in_ok-step.ensures.live
+
+pub back-requires-clause-live : goal.back-requires-clause-live
+back-requires-clause-live g c = c.in_ok-step.ensures.live
+
+pub back-requires-clause-below : goal.back-requires-clause-below
+back-requires-clause-below g c = not_empty _ _ _ c.path.ensures c.if-is_empty.ensures
+
+pub back-requires-clause-done : goal.back-requires-clause-done
+back-requires-clause-done g c =
+    let walk = g.Self.Walk in
+    let before = walk.stands c.loop-step.self in
+    let none : next_below before.path before.rest ≡ None =
+    nothing _ (sym c.in_ok-step.ensures.answer ∙ c.in_default.is) in
+    let stays = c.in_ok-step.ensures.stands ∙ ap (λ o. arrived before.path o before.rest) none in
+    ap (λ s. next_below s.path s.rest) stays ∙ none
+
+pub loop-step-preserved : goal.loop-step-preserved
+loop-step-preserved g c =
+    let walk = g.Self.Walk in
+    let before = walk.stands c.loop-step.self in
+    let none : next_below before.path before.rest ≡ None =
+    nothing _ (sym c.in_ok-step.ensures.answer ∙ c.in_default.is) in
+    let stays = c.in_ok-step.ensures.stands ∙ ap (λ o. arrived before.path o before.rest) none in
+    let held = c.loop-step.invariant in
+    record {
+      rest = ap (λ s. s.rest) c.back.ensures.stands ∙ (ap (λ s. s.rest) stays ∙ held.rest);
+      tree = c.back.ensures.tree ∙ (c.step.ensures.tree ∙ held.tree);
+      live = c.back.ensures.live;
+    }
