@@ -1,6 +1,6 @@
 -- The steps of filling: parts from left to right, what stands behind them, and lists of known parts.
 use Rattle.std.proofs.Common.{◌≡◌, ℕ, ◌+◌, ◌<◌, ◌≤◌, true, false, cond, max, List, [], ◌∷◌, ◌++◌, length, drop, get_or, Option, Some, None, Result, Ok, Err, option_map, refl, sym, ◌∙◌, ap, ap₂, subst, arith, ◌⊎◌, inl, inr}
-use Rattle.std.specs.Prelude.{slice_get, nat_lt, ℤ, Vec}
+use Rattle.std.specs.Prelude.{slice_get, nat_lt, Vec}
 use Rattle.std.specs.Global.{Global}
 use Rattle.std.specs.Result.{IfOk, OnErr}
 use Rattle.std.proofs.lemmas.List.{drop_more, drop_all}
@@ -18,7 +18,7 @@ use Rattle.hp_syntax.specs.declared.pattern.Tail.{Tail}
 use Rattle.hp_syntax.specs.declared.fault.RunFault.{RunFault}
 use Rattle.hp_syntax.specs.declared.fault.FaultKind.TheVariants.{TooDeep}
 use Rattle.hp_syntax.specs.Syntax.{Pattern, Patterns, Variable, Listing, Call, NoPattern, Before, Atom}
-use Rattle.hp_syntax.specs.Terms.{Term, Terms, Symbol, Number, Listed, NoTerm, More, nesting, deepest}
+use Rattle.hp_syntax.specs.Terms.{Term, Terms, Symbol, Listed, NoTerm, More, nesting, deepest}
 use Rattle.hp_syntax.specs.Calls.{fault_at, call}
 use Rattle.hp_syntax.specs.Values.{Bindings, bound, on_ok, list_of, value, values}
 use Rattle.hp_syntax.specs.Goals as plain

@@ -3,7 +3,7 @@ use Rattle.std.proofs.lemmas.List.Elements.{All-push}
 use Rattle.std.proofs.lemmas.Option.{slice_get_within}
 use Rattle.std.proofs.lemmas.Result.{err_from_is_err_and}
 use Rattle.hp_syntax.specs.ViewLaws.{pattern_of-var, pattern_of-list}
-use Rattle.hp_syntax.specs.Views.{pattern_of, patterns_of}
+use Rattle.hp_syntax.specs.Views.{pattern_of}
 use Rattle.hp_syntax.specs.Goals as plain
 use Rattle.hp_eval.specs.Slotted.{bindings_of}
 use Rattle.hp_eval.specs.Growth.{GivesBy}
