@@ -2,6 +2,7 @@ pub mod CanSpell
 pub mod SampleTexts
 pub mod Sizes
 pub mod WrittenTexts
+pub mod WrittenLists
 pub mod NumberTexts
 pub mod SpelledNodes
 pub mod TextLayout

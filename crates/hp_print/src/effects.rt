@@ -34,15 +34,6 @@ fn push_effect(text: &mut Vec<u8>, vars: &[Name], effect: &Effect) -> Result<(),
     }
 }
 
-/// A space, and an effect.
-fn push_next_effect(text: &mut Vec<u8>, vars: &[Name], effect: &Effect) -> Result<(), AllocError>
-    ensures { OnOk result (text.new.items ≡ text.old.items
-        ++ codes " " ++ node_text (written.effect vars.now (effect_of effect.now))) }
-{
-    text.push(b' ')?;
-    push_effect(text, vars, effect)
-}
-
 /// More effects of a list, and the closing bracket.
 #[tactic(auto, unfolding(hp_syntax::specs::Written::rest_text))]
 fn push_more_effects(text: &mut Vec<u8>, vars: &[Name], list: &[Effect]) -> Result<(), AllocError>
@@ -50,7 +41,8 @@ fn push_more_effects(text: &mut Vec<u8>, vars: &[Name], list: &[Effect]) -> Resu
         ++ rest_text (written.effects vars.now (map effect_of list.now)) ++ codes ")") }
 {
     for effect in list {
-        push_next_effect(text, vars, effect)?;
+        text.push(b' ')?;
+        push_effect(text, vars, effect)?;
     }
     text.extend_from_slice(b")")
 }

@@ -99,15 +99,6 @@ pub fn push_atom(text: &mut Vec<u8>, vars: &[Name], atom: &AtomPat) -> Result<()
     push_items(text, vars, atom.args.as_slice(), atom.tail)
 }
 
-/// A space, and an atom.
-fn push_next_atom(text: &mut Vec<u8>, vars: &[Name], atom: &AtomPat) -> Result<(), AllocError>
-    ensures { OnOk result (text.new.items ≡ text.old.items
-        ++ codes " " ++ node_text (written.atom vars.now (atom_of atom.now))) }
-{
-    text.push(b' ')?;
-    push_atom(text, vars, atom)
-}
-
 /// More atoms of a list, and the closing bracket.
 #[tactic(auto, unfolding(hp_syntax::specs::Written::rest_text))]
 fn push_more_atoms(text: &mut Vec<u8>, vars: &[Name], atoms: &[AtomPat]) -> Result<(), AllocError>
@@ -115,7 +106,8 @@ fn push_more_atoms(text: &mut Vec<u8>, vars: &[Name], atoms: &[AtomPat]) -> Resu
         ++ rest_text (written.atoms vars.now (atoms_of atoms.now)) ++ codes ")") }
 {
     for atom in atoms {
-        push_next_atom(text, vars, atom)?;
+        text.push(b' ')?;
+        push_atom(text, vars, atom)?;
     }
     text.extend_from_slice(b")")
 }
@@ -136,14 +128,6 @@ pub fn push_atoms(text: &mut Vec<u8>, vars: &[Name], atoms: &[AtomPat]) -> Resul
     }
 }
 
-/// A space, and a variable.
-fn push_next_variable(text: &mut Vec<u8>, vars: &[Name], v: u32) -> Result<(), AllocError>
-    ensures { OnOk result (text.new.items ≡ text.old.items ++ codes " " ++ name_of vars.now v) }
-{
-    text.push(b' ')?;
-    push_variable(text, vars, v)
-}
-
 /// More variables of a list, and the closing bracket.
 #[tactic(auto, unfolding(hp_syntax::specs::Written::rest_text))]
 fn push_more_variables(text: &mut Vec<u8>, vars: &[Name], list: &[u32]) -> Result<(), AllocError>
@@ -151,7 +135,8 @@ fn push_more_variables(text: &mut Vec<u8>, vars: &[Name], list: &[u32]) -> Resul
         ++ rest_text (written.variables vars.now list.now) ++ codes ")") }
 {
     for v in list {
-        push_next_variable(text, vars, *v)?;
+        text.push(b' ')?;
+        push_variable(text, vars, *v)?;
     }
     text.extend_from_slice(b")")
 }

@@ -1,5 +1,8 @@
-use Rattle.std.proofs.Common.{rules}
+use Rattle.std.proofs.Common.{◌++◌, codes, rules, refl}
+use Rattle.hp_syntax.specs.GroundViews.{ground_of, grounds_of}
+use Rattle.hp_syntax.specs.TermTexts.{term_text, terms_text}
 use Rattle.hp_print.proofs.Sizes.{ground-smaller}
+use Rattle.hp_print.proofs.WrittenLists.{spaced_on, written_to_its_end}
 use Rattle.hp_print.proofs.grounds.+ground.Goals as goal
 
 pub push_more-push_ground-requires : goal.push_more-push_ground-requires
@@ -7,3 +10,16 @@ push_more-push_ground-requires t c =
     let smaller = ground-smaller c.args.parts.now c.loop-part.part-index c.part-item.result
     c.loop-part-test.true c.part-item.is in
     search rules
+
+pub push_more-loop-part-preserved : goal.push_more-loop-part-preserved
+push_more-loop-part-preserved t c =
+    spaced_on (λ gs. terms_text (grounds_of gs)) (λ g. term_text (ground_of g)) c.args.parts.now
+    c.loop-part.part-index c.part-item.result c.loop-part.text.items c.push.new.self.items _ _ (λ g gs. refl)
+    c.loop-part-test.true c.part-item.is c.loop-part.invariant c.in_ok-push.ensures.items
+    c.in_ok-push_ground.ensures
+
+pub push_more-returns : goal.push_more-returns
+push_more-returns t c =
+    written_to_its_end c.extend_from_slice.result (λ gs. terms_text (grounds_of gs)) c.args.parts.now
+    c.loop-part.part-index c.loop-part.text.items _ _ c.loop-part-test.false c.loop-part.invariant
+    c.extend_from_slice.ensures.items

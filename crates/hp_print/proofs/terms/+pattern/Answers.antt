@@ -1,8 +1,11 @@
-use Rattle.std.proofs.Common.{arith, rules}
+use Rattle.std.proofs.Common.{◌++◌, codes, arith, rules, refl}
 use Rattle.std.proofs.lemmas.Grind.{common_steps}
 use Rattle.hp_syntax.specs.ViewLaws.{pattern_of-var, pattern_of-sym, pattern_of-num, pattern_of-list, pattern_of-call}
-use Rattle.hp_syntax.specs.Written.{pattern, node_text}
+use Rattle.hp_syntax.specs.Views.{pattern_of, patterns_of}
+use Rattle.hp_syntax.specs.Written as written
+use Rattle.hp_syntax.specs.Written.{pattern, node_text, rest_text}
 use Rattle.hp_print.proofs.Sizes.{pattern-smaller}
+use Rattle.hp_print.proofs.WrittenLists.{spaced_on}
 use Rattle.hp_print.proofs.terms.+pattern.Goals as goal
 
 pub push_items-push_pattern-requires : goal.push_items-push_pattern-requires
@@ -35,3 +38,12 @@ pub push_pattern-returns-in_ok-extend_from_slice-in-Call : goal.push_pattern-ret
 unfolding pattern node_text
 push_pattern-returns-in_ok-extend_from_slice-in-Call t c =
     rw (pattern_of-call c.args.pat.now c.in-Call.name c.in-Call.args c.in-Call.is) (grind (arith, common_steps))
+
+pub push_items-loop-part-preserved : goal.push_items-loop-part-preserved
+unfolding pattern rest_text
+push_items-loop-part-preserved t c =
+    let vars = c.args.vars.now in
+    spaced_on (λ ps. rest_text (written.items vars (patterns_of ps) c.args.tail))
+    (λ p. node_text (written.pattern vars (pattern_of p))) c.args.parts.now c.loop-part.part-index c.part-item.result
+    c.loop-part.text.items c.push.new.self.items _ _ (λ p ps. refl) c.loop-part-test.true c.part-item.is
+    c.loop-part.invariant c.in_ok-push.ensures.items c.in_ok-push_pattern.ensures
