@@ -33,7 +33,7 @@ module _ {X T E : Type 0} (r : Result T E) (rest : List X → List ℕ) (xs : Li
   -- when all parts of a list are written, what ends it makes the text whole
   pub written_to_its_end : new ≡ (if is_ok r then text ++ rest [] else text) → OnOk r (new ≡ whole)
   written_to_its_end put =
-      ended r new (text ++ rest []) text whole put (ap (λ r. text ++ r) (sym (at_drop_all rest xs i past)) ∙ left)
+      ended r new (text ++ rest []) text whole put (ap (λ t. text ++ t) (sym (at_drop_all rest xs i past)) ∙ left)
 
   -- when all parts are written, the text is whole
   all_written : rest [] ≡ [] → text ≡ whole

@@ -6,7 +6,7 @@ ghost use Rattle.hp_syntax.specs.Written as written;
 ghost use Rattle.hp_syntax.specs.Written.{name_of, node_text, rest_text};
 
 use crate::terms::{push_atom, push_begun_forall, push_pattern};
-use crate::words::{push_begun, push_variable};
+use crate::words::{push_all, push_begun, variable_name};
 use hp_syntax::{Expr, ExprKind, Name, Pat, Pre, SortKey, SortOrder};
 use std::alloc::AllocError;
 
@@ -16,9 +16,7 @@ fn push_assigned(text: &mut Vec<u8>, vars: &[Name], v: u32, value: &Pat) -> Resu
     ensures { OnOk result (text.new.items ≡ text.old.items
         ++ node_text (written.assigned vars.now v (pattern_of value.now))) }
 {
-    push_begun(text, b"assign ")?;
-    push_variable(text, vars, v)?;
-    text.push(b' ')?;
+    push_all(text, &[b"(assign ", variable_name(vars, v), b" "])?;
     push_pattern(text, vars, value)?;
     text.extend_from_slice(b")")
 }
@@ -105,11 +103,16 @@ fn push_key(text: &mut Vec<u8>, vars: &[Name], key: &SortKey) -> Result<(), Allo
     ensures { OnOk result (text.new.items ≡ text.old.items ++ codes "(:sort-by " ++ name_of vars.now key.now.var
         ++ codes " " ++ written.order_word (order_of key.now.order) ++ codes " ") }
 {
-    push_begun(text, b":sort-by ")?;
-    push_variable(text, vars, key.var)?;
-    text.push(b' ')?;
-    text.extend_from_slice(order_word(&key.order))?;
-    text.extend_from_slice(b" ")
+    push_all(
+        text,
+        &[
+            b"(:sort-by ",
+            variable_name(vars, key.var),
+            b" ",
+            order_word(&key.order),
+            b" ",
+        ],
+    )
 }
 
 /// `(:sort-by VARIABLE order expression)`

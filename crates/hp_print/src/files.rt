@@ -8,6 +8,7 @@ ghost use Rattle.hp_syntax.specs.Written.{lines};
 use crate::rules::push_rule;
 use crate::tasks::push_tasks;
 use crate::terms::push_atoms;
+use crate::words::push_all;
 use hp_syntax::{Domain, Name, Pair, Problem, Rule};
 use std::alloc::AllocError;
 
@@ -27,9 +28,7 @@ fn push_rules(text: &mut Vec<u8>, rules: &[Rule]) -> Result<(), AllocError>
 pub fn push_domain(text: &mut Vec<u8>, domain: &Domain) -> Result<(), AllocError>
     ensures { OnOk result (text.new.items ≡ text.old.items ++ written.domain_text (domain_of domain.now)) }
 {
-    text.extend_from_slice(b"(defdomain ")?;
-    text.extend_from_slice(domain.name.bytes())?;
-    text.extend_from_slice(b" (\n")?;
+    push_all(text, &[b"(defdomain ", domain.name.bytes(), b" (\n"])?;
     push_rules(text, domain.rules.as_slice())?;
     text.extend_from_slice(b"))\n")
 }
@@ -60,11 +59,16 @@ fn push_pairs(text: &mut Vec<u8>, vars: &[Name], pairs: &[Pair]) -> Result<(), A
 pub fn push_problem(text: &mut Vec<u8>, problem: &Problem) -> Result<(), AllocError>
     ensures { OnOk result (text.new.items ≡ text.old.items ++ written.problem_text (problem_of problem.now)) }
 {
-    text.extend_from_slice(b"(defproblem ")?;
-    text.extend_from_slice(problem.name.bytes())?;
-    text.push(b' ')?;
-    text.extend_from_slice(problem.domain.bytes())?;
-    text.push(b'\n')?;
+    push_all(
+        text,
+        &[
+            b"(defproblem ",
+            problem.name.bytes(),
+            b" ",
+            problem.domain.bytes(),
+            b"\n",
+        ],
+    )?;
     push_pairs(text, problem.vars.as_slice(), problem.pairs.as_slice())?;
     text.extend_from_slice(b")\n")
 }

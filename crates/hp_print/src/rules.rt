@@ -9,7 +9,7 @@ use crate::effects::push_effects;
 use crate::expressions::{push_expression, push_precondition};
 use crate::tasks::push_tasks;
 use crate::terms::{push_atom, push_pattern};
-use crate::words::push_begun;
+use crate::words::{push_all, push_begun};
 use hp_syntax::{Axiom, Branch, Clause, Method, Name, Operator, Rule};
 use std::alloc::AllocError;
 
@@ -40,10 +40,7 @@ fn push_name(text: &mut Vec<u8>, name: &Option<Name>) -> Result<(), AllocError>
 {
     match name {
         None => Ok(()),
-        Some(name) => {
-            text.push(b' ')?;
-            text.extend_from_slice(name.bytes())
-        }
+        Some(name) => push_all(text, &[b" ", name.bytes()]),
     }
 }
 

@@ -6,7 +6,7 @@ ghost use Rattle.hp_syntax.specs.Written as written;
 ghost use Rattle.hp_syntax.specs.Written.{node_text, rest_text};
 
 use crate::terms::{push_atom, push_items};
-use crate::words::push_begun;
+use crate::words::{push_all, push_begun};
 use hp_syntax::{AtomPat, Name, NetPat};
 use std::alloc::AllocError;
 
@@ -16,8 +16,7 @@ fn push_immediate(text: &mut Vec<u8>, vars: &[Name], atom: &AtomPat) -> Result<(
     ensures { OnOk result (text.new.items ≡ text.old.items
         ++ node_text (written.immediate vars.now (atom_of atom.now))) }
 {
-    push_begun(text, b":immediate ")?;
-    text.extend_from_slice(atom.name.bytes())?;
+    push_all(text, &[b"(:immediate ", atom.name.bytes()])?;
     push_items(text, vars, atom.args.as_slice(), atom.tail)
 }
 

@@ -5,7 +5,7 @@ ghost use Rattle.hp_syntax.specs.Views.{pattern_of, patterns_of, atom_of, atoms_
 ghost use Rattle.hp_syntax.specs.Written as written;
 ghost use Rattle.hp_syntax.specs.Written.{name_of, node_text, rest_text, group};
 
-use crate::words::{push_begun, push_number, push_variable};
+use crate::words::{push_all, push_begun, push_number, push_variable, variable_name};
 use hp_syntax::{AtomPat, Name, Pat, PatKind, Tail};
 use std::alloc::AllocError;
 
@@ -16,10 +16,7 @@ fn push_tail(text: &mut Vec<u8>, vars: &[Name], tail: Option<Tail>) -> Result<()
 {
     match tail {
         None => Ok(()),
-        Some(tail) => {
-            text.extend_from_slice(b" . ")?;
-            push_variable(text, vars, tail.var)
-        }
+        Some(tail) => push_all(text, &[b" . ", variable_name(vars, tail.var)]),
     }
 }
 
@@ -36,8 +33,7 @@ pub fn push_pattern(text: &mut Vec<u8>, vars: &[Name], pat: &Pat) -> Result<(), 
         PatKind::Num(n) => push_number(text, *n),
         PatKind::List(parts, tail) => push_list(text, vars, parts.as_slice(), *tail),
         PatKind::Call(name, args) => {
-            push_begun(text, b"call ")?;
-            text.extend_from_slice(name.bytes())?;
+            push_all(text, &[b"(call ", name.bytes()])?;
             push_items(text, vars, args.as_slice(), None)
         }
     }
@@ -55,15 +51,11 @@ fn push_list(
     ensures { OnOk result (text.new.items ≡ text.old.items
         ++ node_text (group (written.items vars.now (patterns_of parts.now) tail))) }
 {
-    text.push(b'(')?;
     match (parts, tail) {
-        ([], None) => text.extend_from_slice(b")"),
-        ([], Some(tail)) => {
-            text.extend_from_slice(b". ")?;
-            push_variable(text, vars, tail.var)?;
-            text.extend_from_slice(b")")
-        }
+        ([], None) => text.extend_from_slice(b"()"),
+        ([], Some(tail)) => push_all(text, &[b"(. ", variable_name(vars, tail.var), b")"]),
         ([first, rest @ ..], tail) => {
+            text.push(b'(')?;
             push_pattern(text, vars, first)?;
             push_items(text, vars, rest, tail)
         }

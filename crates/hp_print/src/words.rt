@@ -2,6 +2,7 @@
 
 ghost use Rattle.std.specs.Prelude.{◌≡◌, ◌++◌, [], OnOk, codes};
 ghost use Rattle.std.specs.Fmt.{signed_decimal};
+ghost use Rattle.std.specs.List.{flat_map};
 ghost use Rattle.hp_syntax.specs.Written.{name_of};
 
 use hp_syntax::Name;
@@ -16,14 +17,31 @@ pub fn push_number(text: &mut Vec<u8>, number: i64) -> Result<(), AllocError>
     text.extend_from_slice(buffer.format(number).as_bytes())
 }
 
+/// Texts, one behind the other.
+pub fn push_all(text: &mut Vec<u8>, texts: &[&[u8]]) -> Result<(), AllocError>
+    ensures { OnOk result (text.new.items ≡ text.old.items ++ flat_map (λ t. t.now) texts.now) }
+{
+    for part in texts {
+        text.extend_from_slice(part)?;
+    }
+    Ok(())
+}
+
+/// The name of a variable, or nothing where it has none.
+pub fn variable_name(vars: &[Name], v: u32) -> &[u8]
+    ensures { result.now ≡ name_of vars.now v }
+{
+    match vars.get(v as usize) {
+        Some(name) => name.bytes(),
+        None => b"",
+    }
+}
+
 /// The name of a variable.
 pub fn push_variable(text: &mut Vec<u8>, vars: &[Name], v: u32) -> Result<(), AllocError>
     ensures { OnOk result (text.new.items ≡ text.old.items ++ name_of vars.now v) }
 {
-    match vars.get(v as usize) {
-        Some(name) => text.extend_from_slice(name.bytes()),
-        None => Ok(()),
-    }
+    text.extend_from_slice(variable_name(vars, v))
 }
 
 /// The beginning of a list that begins with a word.

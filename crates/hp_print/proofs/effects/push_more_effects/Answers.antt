@@ -1,4 +1,4 @@
-use Rattle.std.proofs.Common.{◌++◌, codes, map, refl}
+use Rattle.std.proofs.Common.{codes, map, refl}
 use Rattle.hp_syntax.specs.Views.{effect_of}
 use Rattle.hp_syntax.specs.Written as written
 use Rattle.hp_syntax.specs.Written.{node_text, rest_text}

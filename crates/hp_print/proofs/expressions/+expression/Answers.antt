@@ -1,4 +1,4 @@
-use Rattle.std.proofs.Common.{◌<◌, ◌++◌, length, codes, append_assoc, arith, rules, refl}
+use Rattle.std.proofs.Common.{◌<◌, length, codes, append_assoc, arith, rules, refl}
 use Rattle.std.proofs.lemmas.Result.{IfOk-equal}
 use Rattle.std.proofs.lemmas.Grind.{common_steps}
 use Rattle.hp_syntax.specs.ViewLaws.{expression_of-or, expression_of-not, expression_of-forall}

@@ -1,4 +1,4 @@
-use Rattle.std.proofs.Common.{◌++◌, codes, rules, refl}
+use Rattle.std.proofs.Common.{rules, refl}
 use Rattle.hp_syntax.specs.GroundViews.{ground_of, grounds_of}
 use Rattle.hp_syntax.specs.TermTexts.{term_text, terms_text}
 use Rattle.hp_print.proofs.Sizes.{ground-smaller}

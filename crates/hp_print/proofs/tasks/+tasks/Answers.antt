@@ -1,4 +1,4 @@
-use Rattle.std.proofs.Common.{◌++◌, codes, arith, refl}
+use Rattle.std.proofs.Common.{codes, arith, refl}
 use Rattle.std.proofs.lemmas.Grind.{common_steps}
 use Rattle.hp_syntax.specs.ViewLaws.{tasks_of-ordered, tasks_of-unordered}
 use Rattle.hp_syntax.specs.Views.{tasks_of, task_list_of}

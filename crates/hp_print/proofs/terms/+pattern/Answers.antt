@@ -1,4 +1,4 @@
-use Rattle.std.proofs.Common.{◌++◌, codes, arith, rules, refl}
+use Rattle.std.proofs.Common.{arith, rules, refl}
 use Rattle.std.proofs.lemmas.Grind.{common_steps}
 use Rattle.hp_syntax.specs.ViewLaws.{pattern_of-var, pattern_of-sym, pattern_of-num, pattern_of-list, pattern_of-call}
 use Rattle.hp_syntax.specs.Views.{pattern_of, patterns_of}
@@ -34,9 +34,9 @@ unfolding pattern
 push_pattern-returns-in-List t c =
     rw (pattern_of-list c.args.pat.now c.in-List.parts c.in-List.tail c.in-List.is) (grind (arith, common_steps))
 
-pub push_pattern-returns-in_ok-extend_from_slice-in-Call : goal.push_pattern-returns-in_ok-extend_from_slice-in-Call
+pub push_pattern-returns-in_ok-push_all-in-Call : goal.push_pattern-returns-in_ok-push_all-in-Call
 unfolding pattern node_text
-push_pattern-returns-in_ok-extend_from_slice-in-Call t c =
+push_pattern-returns-in_ok-push_all-in-Call t c =
     rw (pattern_of-call c.args.pat.now c.in-Call.name c.in-Call.args c.in-Call.is) (grind (arith, common_steps))
 
 pub push_items-loop-part-preserved : goal.push_items-loop-part-preserved

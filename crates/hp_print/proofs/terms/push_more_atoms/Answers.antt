@@ -1,4 +1,4 @@
-use Rattle.std.proofs.Common.{◌++◌, codes, refl}
+use Rattle.std.proofs.Common.{codes, refl}
 use Rattle.hp_syntax.specs.Views.{atom_of, atoms_of}
 use Rattle.hp_syntax.specs.Written as written
 use Rattle.hp_syntax.specs.Written.{node_text, rest_text}

@@ -1,4 +1,4 @@
-use Rattle.std.proofs.Common.{◌++◌, codes, get_or, refl}
+use Rattle.std.proofs.Common.{codes, get_or, refl}
 use Rattle.std.proofs.lemmas.List.{get_or_default}
 use Rattle.hp_syntax.specs.Written as written
 use Rattle.hp_syntax.specs.Written.{name_of, rest_text}
