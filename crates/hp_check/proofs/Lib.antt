@@ -3,3 +3,4 @@ pub mod LevelLemmas
 pub mod PartLemmas
 pub mod FirstLemmas
 mod NameLemmas
+mod SurveySteps

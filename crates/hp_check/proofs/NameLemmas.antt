@@ -1,8 +1,11 @@
 -- Names in lists.
-use Rattle.std.proofs.Common.{◌≡◌, ℕ, Bool, true, false, cond, ◌||◌, List, [], ◌∷◌, ◌++◌, refl, sym, subst, ◌∙◌, bytes_eq}
-use Rattle.std.specs.List.{list_any}
+use Rattle.std.proofs.Common.{◌≡◌, ℕ, Bool, true, false, cond, ◌||◌, List, [], ◌∷◌, ◌++◌, refl, ap₂, sym, subst, ◌∙◌, bytes_eq}
+use Rattle.std.specs.List.{list_any, flat_map}
 use Rattle.std.proofs.lemmas.List.Folds.{list_any-append}
 use Rattle.std.proofs.lemmas.Slice.Eq.{bytes_eq-Decides}
+use Rattle.hp_syntax.specs.Notes.{served, domain_atoms, problem_atoms, note, note_if_unserved, notes}
+use Rattle.hp_syntax.specs.Syntax.{Atom, Domain, Problem}
+use Rattle.hp_check.specs.NoteViews.{SameNames}
 
 -- a test that a list passes already is passed by no more of it
 absorbed : (b c : Bool) → (c ≡ true → b ≡ true) → b ≡ (b || (c || false))
@@ -24,3 +27,20 @@ pub added_once : (known : Bool) (keys : List (List ℕ)) (name : List ℕ) → l
     ≡ list_any (bytes_eq x) (keys ++ name ∷ [])
 added_once true keys name h x = known_adds_nothing keys name h x
 added_once false keys name h x = refl
+
+-- lists of the same names leave the same tasks unserved
+unserved_by_same : (xs ys : List (List ℕ)) (b : Bool) → SameNames xs ys → (as' : List Atom)
+    → flat_map (note_if_unserved xs b) as' ≡ flat_map (note_if_unserved ys b) as'
+unserved_by_same xs ys b h [] = refl
+unserved_by_same xs ys b h (a ∷ as') =
+    ap₂ (λ known more. cond known [] (note b a ∷ []) ++ more) (h a.name) (unserved_by_same xs ys b h as')
+
+-- the same names as those of the tasks that are served give the notes
+pub notes_by_same : (names : List (List ℕ)) (d : Domain) (p : Problem) → SameNames names (served d)
+    → flat_map (note_if_unserved names false) (domain_atoms d)
+    ++ flat_map (note_if_unserved names true) (problem_atoms p)
+    ≡ notes d p
+unfolding notes
+notes_by_same names d p h =
+    ap₂ (λ xs ys. xs ++ ys) (unserved_by_same names (served d) false h (domain_atoms d))
+    (unserved_by_same names (served d) true h (problem_atoms p))

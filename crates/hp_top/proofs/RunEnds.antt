@@ -3,6 +3,7 @@ use Rattle.std.proofs.Common.{◌≡◌, ◌≢◌, ◌⊎◌, inl, inr, ℕ, �
 use Rattle.std.specs.Prelude.{slice_index_or}
 use Rattle.hp_io.specs.declared.folder.Input.{Input}
 use Rattle.hp_io.specs.declared.folder.Input.TheVariants as inputs
+use Rattle.hp_io.specs.Inputs.{by_input}
 use Rattle.hp_io.specs.Rules.{Rose}
 use Rattle.hp_syntax.specs.declared.check.CheckFault.{CheckFault}
 use Rattle.hp_syntax.specs.Grammar.{domain_form, problem_form}
@@ -16,7 +17,7 @@ use Rattle.hp_top.specs.declared.loading.LoadError.TheVariants as causes
 use Rattle.hp_top.specs.declared.status.Status.{Status}
 use Rattle.hp_top.specs.declared.status.Status.TheVariants as status
 use Rattle.hp_syntax.specs.declared.limits.TheConstants.{GREATEST_DEPTH, USUAL_LEVELS}
-use Rattle.hp_top.specs.Command.{Command, Job, Planning, Checking, Showing, Summing, accepts, on_files}
+use Rattle.hp_top.specs.Command.{Command, Job, Planning, Checking, Showing, Summing, accepts, on_files, make_command}
 use Rattle.hp_top.specs.Making.{made_files, made_command}
 use Rattle.hp_top.specs.Outcome as outcome
 use Rattle.hp_syntax.specs.TextForms.{IsRead}
@@ -28,6 +29,7 @@ use Rattle.hp_top.specs.Run.{TellsFiles, IsOutcome, RefusesWords, IsReadLine, Of
 use Rattle.hp_top.specs.Serving as serving
 use Rattle.hp_top.specs.Serving.{Serves, Ends, load_answer, no_faults, told_made}
 use Rattle.hp_top.specs.Telling as telling
+use Rattle.hp_top.specs.Touching.{InputRun, Touches, TouchesNamed}
 use Rattle.hp_top.specs.Telling.{Tells}
 use Rattle.hp_out.specs.Writing.{SinkRun, Wrote, WroteFront, WroteProperFront}
 use Rattle.hp_out.proofs.FrontLemmas.{whole_front, front_longer}
@@ -544,3 +546,13 @@ named_command [] d p dn pn k l i j x y e = absurd (omega arith)
 named_command (u ∷ []) d p dn pn k l i j x y e = absurd (omega arith)
 named_command (u ∷ v ∷ []) d p dn pn k l i j x y e = absurd (omega arith)
 named_command (u ∷ v ∷ w ∷ ws) d p dn pn k l i j x y e = e ∙ (rw (x, y, i, j) refl)
+
+-- what is done to an input under the name that a command has for it is done under the name that the words have
+pub touched_by_command : (words : List (List ℕ)) (file : List ℕ → ToldFile) (d p : List ℕ) (j : Job) (w : Input)
+    (r : InputRun) → accepts words ≡ Some (on_files d p j) → Touches (file (by_input w d p)) r
+    → TouchesNamed words file w r
+touched_by_command words file d p j w r e (inl kept) = inl kept
+touched_by_command words file d p j inputs.Domain r e (inr read) =
+    inr (record { command = make_command d p j; accepted = e; name = d; has_name = refl; read = read })
+touched_by_command words file d p j inputs.Problem r e (inr read) =
+    inr (record { command = make_command d p j; accepted = e; name = p; has_name = refl; read = read })

@@ -1,7 +1,8 @@
 -- One more read.
-use Rattle.std.proofs.Common.{◌≡◌, ℕ, ◌+◌, ◌≤◌, List, [], ◌∷◌, ◌++◌, length, take, drop, Option, Some, None, arith, ap, sym, ◌∙◌, subst, length-append, append-nil}
+use Rattle.std.proofs.Common.{◌≡◌, ℕ, ◌+◌, ◌≤◌, ◌<◌, List, [], ◌∷◌, ◌++◌, length, take, drop, Option, Some, None, arith, ap, sym, ◌∙◌, subst, length-append, length-take, append-nil}
 use Rattle.std.proofs.Math.Seq.{take-append_seam, drop-append_seam, drop-append-add}
 use Rattle.std.proofs.lemmas.List.{take_all}
+use Rattle.hp_io.specs.Rules.{Taken}
 use Rattle.hp_top.specs.Reading.{ReadsTo, Left, TakesUpTo, Grows}
 
 -- what was read up to the limit is the front of the rest, up to one byte past it
@@ -44,3 +45,25 @@ takes_more most room bytes (Some old) mid new a t h =
       omega (arith, t'.1),
       t'.2 ∙ ap Some (sym (ap (drop (length bytes + t'.0)) a.2 ∙ drop-append-add bytes a.0 t'.0)),
     )
+
+-- bytes that came to the front of a buffer, and were put behind others, are so many more of these
+pub grown_by : (n room : ℕ) (buffer before after : List ℕ) (old new : Option (List ℕ))
+    → Taken n room buffer old new → 0 < room → after ≡ before ++ take n buffer → Grows n before after old new
+grown_by n room buffer before after None new t h e = t
+grown_by n room buffer before after (Some old) new t h e = (t.0, take n buffer, t.1, t.2, e, λ z. t.3 z h)
+
+-- bytes that came to the front of a buffer were taken from the front of the rest
+pub taken_up_to : (n room most : ℕ) (buffer : List ℕ) (old new : Option (List ℕ)) → Taken n room buffer old new
+    → n ≤ most → TakesUpTo most old new
+taken_up_to n room most buffer None new t h = t
+taken_up_to n room most buffer (Some old) new t h =
+    let piece = take n buffer in (
+      length piece,
+      omega (arith, length-take n buffer),
+      t.1 ∙ ap Some (sym (ap (drop (length piece)) t.2 ∙ drop-append_seam piece t.0)),
+    )
+
+-- where the rest is as it was nothing was taken
+pub none_taken : (most : ℕ) (old new : Option (List ℕ)) → new ≡ old → TakesUpTo most old new
+none_taken most None new e = e
+none_taken most (Some old) new e = (0, omega arith, e)

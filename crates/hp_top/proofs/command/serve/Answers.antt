@@ -1,7 +1,7 @@
 use Rattle.std.proofs.Common.{refl, subst, map, string_bytes}
 use Rattle.hp_top.specs.Serving.{ByCommand, ByMaking}
 use Rattle.hp_top.specs.Words.{Requests, job_of}
-use Rattle.hp_top.proofs.RunEnds.{refused_words, named_command}
+use Rattle.hp_top.proofs.RunEnds.{refused_words, named_command, touched_by_command}
 use Rattle.hp_top.proofs.command.serve.Goals as goal
 
 pub returns-in-None-clause-untouched : goal.returns-in-None-clause-untouched
@@ -20,3 +20,11 @@ returns-in-Some-Files-clause-ends g c =
     c.index-words-1.is c.index-words-2.is c.as_str.ensures.value c.as_str-in-Some-Files.ensures.value
     (subst (Requests (map string_bytes c.args.words.now)) c.in-Some-Files.field-0-is c.in-Some-Files.ensures.asks))
     c.serve_command.ensures.serves
+
+pub returns-in-Some-Files-clause-touched : goal.returns-in-Some-Files-clause-touched
+returns-in-Some-Files-clause-touched g c = λ w.
+    touched_by_command _ (g.F.Folder.file c.args.folder.now) _ _ (job_of c.in-Some-Files.job) w _
+    (named_command c.args.words.now _ _ _ _ (job_of c.in-Some-Files.job) c.in-Some-Files.ensures.three
+    c.index-words-1.is c.index-words-2.is c.as_str.ensures.value c.as_str-in-Some-Files.ensures.value
+    (subst (Requests (map string_bytes c.args.words.now)) c.in-Some-Files.field-0-is c.in-Some-Files.ensures.asks))
+    (c.serve_command.ensures.touched w)
