@@ -1,5 +1,5 @@
 -- How many arguments a call takes.
-use Rattle.hp_syntax.specs.Checks as plain
+use Rattle.hp_syntax.specs.Calls as plain
 use Rattle.hp_check.specs.declared.calls.Arity.{Arity}
 use Rattle.hp_check.specs.declared.calls.Arity.TheVariants as arities
 

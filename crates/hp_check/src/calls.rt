@@ -1,7 +1,8 @@
 //! The names of the call table.
 
-ghost use Rattle.std.specs.Prelude.{◌≡◌, map, option_map};
-ghost use Rattle.hp_syntax.specs.Checks as checks;
+ghost use Rattle.std.specs.List.{list_any};
+ghost use Rattle.std.specs.Prelude.{◌≡◌, bytes_eq, map, option_map};
+ghost use Rattle.hp_syntax.specs.Calls as calls;
 ghost use Rattle.hp_check.specs.Calls.{arity_seen};
 
 use hp_syntax::Name;
@@ -17,7 +18,7 @@ pub enum Arity {
 impl Arity {
     /// Whether it takes so many.
     pub fn takes(self, count: usize) -> bool
-        ensures { result ≡ checks.takes (arity_seen self) count }
+        ensures { result ≡ calls.takes (arity_seen self) count }
     {
         match self {
             Arity::One => count == 1,
@@ -28,26 +29,22 @@ impl Arity {
 }
 
 fn is_one_of(name: &Name, names: &[&[u8]]) -> bool
-    ensures { result ≡ checks.is_one_of name.now (map (λ n. n.now) names.now) }
+    ensures { result ≡ list_any (bytes_eq name.now) (map (λ n. n.now) names.now) }
 {
     names.iter().any(|known| name.bytes() == *known)
 }
 
 /// How many arguments a name of the call table takes.
 pub fn arity_of(name: &Name) -> Option<Arity>
-    ensures { option_map arity_seen result ≡ checks.arity_of name.now }
+    ensures { option_map arity_seen result ≡ calls.arity_of name.now }
 {
     if is_one_of(name, &[b"+", b"*"]) {
         Some(Arity::TwoOrMore)
+    } else if is_one_of(name, &[b"-", b"/", b"mod", b"^", b"min", b"max"]) {
+        Some(Arity::Two)
     } else if name.bytes() == b"abs".as_slice() {
         Some(Arity::One)
-    } else if is_one_of(
-        name,
-        &[
-            b"-", b"/", b"mod", b"^", b"min", b"max", b"<", b"<=", b">=", b">", b"=", b"!=",
-            b"member",
-        ],
-    ) {
+    } else if is_one_of(name, &[b"<", b"<=", b">=", b">", b"=", b"!=", b"member"]) {
         Some(Arity::Two)
     } else {
         None

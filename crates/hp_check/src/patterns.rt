@@ -1,6 +1,7 @@
 //! Terms and atoms.
 
 ghost use Rattle.std.specs.Prelude.{◌≡◌, ◌++◌};
+ghost use Rattle.hp_syntax.specs.Calls as calls;
 ghost use Rattle.hp_syntax.specs.Checks as checks;
 ghost use Rattle.hp_syntax.specs.Checks.{earlier, first_of};
 ghost use Rattle.hp_syntax.specs.Views.{pattern_of, patterns_of, atom_of, atoms_of};
@@ -30,7 +31,7 @@ fn tail(watch: &mut Watch, place: Place, tail: Option<Tail>)
 #[inline(never)]
 fn arity(watch: &mut Watch, place: Place, span: Span, name: &Name, count: usize)
     ensures { watch.new.first ≡ earlier watch.old.first (first_of
-        (checks.arity_faults (checks.arity_of name.now) count (place_of place) span)) }
+        (checks.arity_faults (calls.arity_of name.now) count (place_of place) span)) }
 {
     match arity_of(name) {
         None => watch.found(CheckKind::UnknownCall, place, span),

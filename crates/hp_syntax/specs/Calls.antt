@@ -1,5 +1,5 @@
 -- The call table: what a call gives for its arguments, over whole numbers of any size.
-use Rattle.std.specs.Prelude.{ℕ, ◌-◌, ◌^◌, Bool, ◌&&◌, not, cond, ℤ, pos, negsuc, ◌+ℤ◌, ◌-ℤ◌, ◌*ℤ◌, int_le, int_lt, int_div, int_rem, unsigned_abs, List, [], ◌∷◌, Option, Some, None, option_map, Result, Ok, Err, bytes_eq, codes}
+use Rattle.std.specs.Prelude.{ℕ, ◌-◌, ◌^◌, Bool, ◌&&◌, not, ◌==◌, nat_le, cond, ℤ, pos, negsuc, ◌+ℤ◌, ◌-ℤ◌, ◌*ℤ◌, int_le, int_lt, int_div, int_rem, unsigned_abs, List, [], ◌∷◌, Option, Some, None, option_map, Result, Ok, Err, bytes_eq, codes}
 use Rattle.std.specs.Int.{int_pow, int_min, int_max}
 use Rattle.std.specs.Ordering.{int_eq}
 use Rattle.hp_syntax.specs.declared.pattern.Span.{Span}
@@ -71,6 +71,28 @@ row name =
     cond (bytes_eq name (codes "=")) (OfTerms same_term) (
     cond (bytes_eq name (codes "!=")) (OfTerms (λ x y. not (same_term x y))) (
     cond (bytes_eq name (codes "member")) (OfList is_part) Unknown)))))))))))))))
+
+-- how many arguments a name of the table takes
+pub data Arity : Type 0 where
+  One : Arity
+  Two : Arity
+  TwoOrMore : Arity
+
+abbrev pub row_arity : Row → Option Arity
+row_arity (InTurn f) = Some TwoOrMore
+row_arity (OfTwo f) = Some Two
+row_arity (OfOne f) = Some One
+row_arity (OfTerms f) = Some Two
+row_arity (OfList f) = Some Two
+row_arity Unknown = None
+
+abbrev pub arity_of : List ℕ → Option Arity
+arity_of name = row_arity (row name)
+
+abbrev pub takes : Arity → ℕ → Bool
+takes One n = n == 1
+takes Two n = n == 2
+takes TwoOrMore n = nat_le 2 n
 
 -- what no domain has that the checks accept: a name that the table lacks, or another number of arguments
 abbrev pub no_call : Result Term RunFault

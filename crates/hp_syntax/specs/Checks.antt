@@ -1,40 +1,14 @@
 -- What the checks find in a domain and a problem that have their forms, and which of it is told.
-use Rattle.std.specs.Prelude.{ℕ, ◌+◌, Bool, true, false, ◌&&◌, ◌||◌, cond, nat_lt, nat_le, ◌==◌, List, [], ◌∷◌, ◌++◌, length, Option, Some, None, bytes_eq, codes}
-use Rattle.std.specs.List.{list_any, flat_map}
+use Rattle.std.specs.Prelude.{ℕ, ◌+◌, Bool, true, false, ◌&&◌, ◌||◌, cond, nat_lt, ◌==◌, List, [], ◌∷◌, ◌++◌, length, Option, Some, None, bytes_eq}
+use Rattle.std.specs.List.{flat_map}
 use Rattle.hp_syntax.specs.declared.pattern.Span.{Span}
 use Rattle.hp_syntax.specs.declared.pattern.Tail.{Tail}
 use Rattle.hp_syntax.specs.declared.check.CheckKind.{CheckKind}
 use Rattle.hp_syntax.specs.declared.check.CheckKind.TheVariants.{OtherDomain, UnknownCall, CallArity, VariableInProblem, CallInHead, TooManyVariables, ExprNested, UnknownOrder}
 use Rattle.hp_syntax.specs.declared.check.CheckFault.{CheckFault}
 use Rattle.hp_syntax.specs.declared.limits.TheConstants.{MOST_VARIABLES, DEEPEST_EXPRESSION}
+use Rattle.hp_syntax.specs.Calls.{Arity, arity_of, takes}
 use Rattle.hp_syntax.specs.Syntax.{Pattern, Patterns, Variable, Symbol, Number, Listing, Call, NoPattern, Before, Atom, Expression, Expressions, Holds, And, Or, Not, Forall, Assign, Test, NoExpression, Also, Order, Up, Down, Unknown, Precondition, Plain, First, Sorted, Tasks, TaskList, Task, Ordered, Unordered, NoTasks, Then, Effect, Change, Protection, Each, Operator, Branch, Method, Clause, Axiom, Rule, Does, Refines, Concludes, Domain, Pair, Problem}
-
--- ---- the names of the call table
-
--- how many arguments a name of the call table takes
-pub data Arity : Type 0 where
-  One : Arity
-  Two : Arity
-  TwoOrMore : Arity
-
-abbrev pub is_one_of : List ℕ → List (List ℕ) → Bool
-is_one_of name names = list_any (bytes_eq name) names
-
-abbrev pub names_of_two : List (List ℕ)
-names_of_two =
-    codes "-" ∷ codes "/" ∷ codes "mod" ∷ codes "^" ∷ codes "min" ∷ codes "max" ∷ codes "<" ∷ codes "<="
-    ∷ codes ">=" ∷ codes ">" ∷ codes "=" ∷ codes "!=" ∷ codes "member" ∷ []
-
-abbrev pub arity_of : List ℕ → Option Arity
-arity_of name =
-    cond (is_one_of name (codes "+" ∷ codes "*" ∷ [])) (Some TwoOrMore)
-    (cond (bytes_eq name (codes "abs")) (Some One)
-    (cond (is_one_of name names_of_two) (Some Two) None))
-
-abbrev pub takes : Arity → ℕ → Bool
-takes One n = n == 1
-takes Two n = n == 2
-takes TwoOrMore n = nat_le 2 n
 
 -- ---- which faults stand in each part
 

@@ -1,6 +1,7 @@
 use Rattle.std.proofs.Common.{length, ◌++◌, arith}
 use Rattle.std.proofs.lemmas.Grind.{common_steps}
-use Rattle.hp_syntax.specs.Checks.{pattern_faults, patterns_faults, arity_faults, arity_of, head_faults}
+use Rattle.hp_syntax.specs.Calls.{arity_of}
+use Rattle.hp_syntax.specs.Checks.{pattern_faults, patterns_faults, arity_faults, head_faults}
 use Rattle.hp_syntax.specs.ViewLaws.{pattern_of-list, pattern_of-call}
 use Rattle.hp_syntax.specs.Views.{pattern_of, patterns_of}
 use Rattle.hp_check.specs.Places.{place_of}
