@@ -7,6 +7,7 @@ pub mod NumberTexts
 pub mod SpelledNodes
 pub mod TextLayout
 pub mod Nowhere
+pub mod WrittenLayouts
 pub mod SpelledTexts
 pub mod ReadBackLemmas
 pub mod UnplacedSteps

@@ -14,4 +14,3 @@ pub mod SumEnds
 pub mod SummedReport
 pub mod Tellings
 pub mod ToldReport
-pub mod WrittenLayouts

@@ -30,7 +30,7 @@ use Rattle.hp_top.specs.declared.loading.LoadError.TheVariants as causes
 use Rattle.hp_top.specs.declared.rereading.RereadError.{RereadError}
 use Rattle.hp_top.specs.declared.rereading.RereadError.TheVariants.{NoMemory}
 use Rattle.hp_top.proofs.Outcomes.{read_one, read_no}
-use Rattle.hp_top.proofs.WrittenLayouts.{BeginsWith, nesting_of_node-unplaced, domain_placed, problem_placed}
+use Rattle.hp_print.proofs.WrittenLayouts.{BeginsWith, nesting_of_node-unplaced, domain_placed, problem_placed}
 
 -- a text of a node keeps the limits
 abbrev pub IsWithinLimits : List ℕ → Node → Type 0

@@ -20,7 +20,7 @@ mutual
   nesting_of_node-unplaced (Numeral s n) = refl
   nesting_of_node-unplaced (Group s parts) = ap (λ k. 1 + k) (nesting-unplaced parts)
 
-  nesting-unplaced : (f : Forest) → nesting (unplaced.forest f) ≡ nesting f
+  pub nesting-unplaced : (f : Forest) → nesting (unplaced.forest f) ≡ nesting f
   nesting-unplaced Bare = refl
   nesting-unplaced (Grow n f) = ap₂ max (nesting_of_node-unplaced n) (nesting-unplaced f)
 
