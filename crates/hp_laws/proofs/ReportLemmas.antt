@@ -1,11 +1,11 @@
 -- The texts of plans begin those of more plans.
-use Rattle.std.proofs.Common.{◌≡◌, ℕ, suc, ◌+◌, ◌-◌, Bool, false, cond, List, [], ◌∷◌, ◌++◌, refl, ◌∙◌, ap, arith, append_assoc}
+use Rattle.std.proofs.Common.{◌≡◌, ℕ, ◌+◌, Bool, true, false, cond, List, [], ◌∷◌, ◌++◌, refl, ◌∙◌, ap, arith, append_assoc}
 use Rattle.std.specs.Prelude.{nat_le}
 use Rattle.std.proofs.lemmas.Bool.{cond_both, cond-false}
 use Rattle.std.proofs.lemmas.Bool.Decides.{nat_tests}
 use Rattle.std.proofs.lemmas.List.{append-nil}
 use Rattle.hp_laws.specs.TreeLaws.{Begins}
-use Rattle.hp_syntax.specs.Report.{told_plan, plan_texts, seen}
+use Rattle.hp_syntax.specs.Report.{plan_texts}
 use Rattle.hp_syntax.specs.Walk.{Node, Sight, Did, Plan, CutHere, FaultHere, Visit, visit}
 
 -- an empty list begins each list, and a list itself
@@ -19,39 +19,32 @@ begins_itself xs = ([], append-nil xs)
 pub begins_behind : {A : Type 0} (xs ys zs : List A) → Begins ys zs → Begins (xs ++ ys) (xs ++ zs)
 begins_behind xs ys zs b = (b.0, append_assoc xs ys b.0 ∙ ap (λ ws. xs ++ ws) b.1)
 
--- where more than one plan is wanted, more are wanted behind the first
-more_wanted : (k : ℕ) (vs : List Visit) → nat_le k 1 ≡ false
-    → cond (nat_le (k + 1) 1) [] (seen (k + 1 - 1) vs) ≡ seen (k - 1 + 1) vs
-more_wanted k vs e =
-    let a : nat_le (k + 1) 1 ≡ false = grind (arith, nat_tests) in
-    let b : k + 1 - 1 ≡ k - 1 + 1 = grind (arith, nat_tests) in
-    cond-false (nat_le (k + 1) 1) [] (seen (k + 1 - 1) vs) a ∙ ap (λ j. seen j vs) b
+-- where more than k plans may be told, more than k + 1 may be
+more_wanted : (k p : ℕ) → nat_le k p ≡ false → nat_le (k + 1) p ≡ false
+more_wanted k p e = grind (arith, nat_tests)
 
-module _ (states : Bool) where
-  -- the texts that are told from a plan on
-  told_after : (i k : ℕ) (vs : List Visit)
-      → ((i k : ℕ) → Begins (plan_texts states i (seen k vs)) (plan_texts states i (seen (k + 1) vs)))
-      → Begins (plan_texts states (suc i) (cond (nat_le k 1) [] (seen (k - 1) vs)))
-      (plan_texts states (suc i) (cond (nat_le (k + 1) 1) [] (seen (k + 1 - 1) vs)))
-  told_after i k vs deep =
-      cond_both (nat_le k 1) [] (seen (k - 1) vs)
-      (λ xs. Begins (plan_texts states (suc i) xs)
-      (plan_texts states (suc i) (cond (nat_le (k + 1) 1) [] (seen (k + 1 - 1) vs))))
-      (λ e. begins_none (plan_texts states (suc i) (cond (nat_le (k + 1) 1) [] (seen (k + 1 - 1) vs))))
-      (λ e. rw (more_wanted k vs e) (deep (suc i) (k - 1)))
+module _ (tell : ℕ → Visit → List ℕ) where
+  -- the texts that are told behind a plan
+  told_behind : (k p : ℕ) (vs : List Visit)
+      → ((k p : ℕ) → Begins (plan_texts tell k p vs) (plan_texts tell (k + 1) p vs))
+      → Begins (cond (nat_le k p) [] (plan_texts tell k p vs)) (cond (nat_le (k + 1) p) [] (plan_texts tell (k + 1) p vs))
+  told_behind k p vs deep =
+      cond_both (nat_le k p) [] (plan_texts tell k p vs)
+      (λ xs. Begins xs (cond (nat_le (k + 1) p) [] (plan_texts tell (k + 1) p vs)))
+      (λ e. begins_none (cond (nat_le (k + 1) p) [] (plan_texts tell (k + 1) p vs)))
+      (λ e. rw (more_wanted k p e) (deep k p))
 
   -- the texts of the first k plans begin those of one plan more, from each visit on
-  texts_from : (i k : ℕ) (p : List ℕ) (n : Node) (s : Sight) (vs : List Visit)
-      → ((i k : ℕ) → Begins (plan_texts states i (seen k vs)) (plan_texts states i (seen (k + 1) vs)))
-      → Begins (plan_texts states i (seen k (visit p n s ∷ vs))) (plan_texts states i (seen (k + 1) (visit p n s ∷ vs)))
-  texts_from i k p n Did vs deep = deep i k
-  texts_from i k p n Plan vs deep =
-      begins_behind (told_plan states i n) (plan_texts states (suc i) (cond (nat_le k 1) [] (seen (k - 1) vs)))
-      (plan_texts states (suc i) (cond (nat_le (k + 1) 1) [] (seen (k + 1 - 1) vs))) (told_after i k vs deep)
-  texts_from i k p n CutHere vs deep = deep i k
-  texts_from i k p n (FaultHere f) vs deep = deep i k
+  texts_from : (k p : ℕ) (q : List ℕ) (n : Node) (s : Sight) (vs : List Visit)
+      → ((k p : ℕ) → Begins (plan_texts tell k p vs) (plan_texts tell (k + 1) p vs))
+      → Begins (plan_texts tell k p (visit q n s ∷ vs)) (plan_texts tell (k + 1) p (visit q n s ∷ vs))
+  texts_from k p q n Did vs deep = deep k p
+  texts_from k p q n Plan vs deep =
+      begins_behind (tell (p + 1) (visit q n Plan)) (cond (nat_le k (p + 1)) [] (plan_texts tell k (p + 1) vs))
+      (cond (nat_le (k + 1) (p + 1)) [] (plan_texts tell (k + 1) (p + 1) vs)) (told_behind k (p + 1) vs deep)
+  texts_from k p q n CutHere vs deep = deep k p
+  texts_from k p q n (FaultHere f) vs deep = begins_none []
 
-  pub texts_grow : (i k : ℕ) (vs : List Visit)
-      → Begins (plan_texts states i (seen k vs)) (plan_texts states i (seen (k + 1) vs))
-  texts_grow i k [] = begins_none []
-  texts_grow i k (v ∷ vs) = texts_from i k v.path v.node v.sight vs (λ i k. texts_grow i k vs)
+  pub texts_grow : (k p : ℕ) (vs : List Visit) → Begins (plan_texts tell k p vs) (plan_texts tell (k + 1) p vs)
+  texts_grow k p [] = begins_none []
+  texts_grow k p (v ∷ vs) = texts_from k p v.path v.node v.sight vs (λ k p. texts_grow k p vs)

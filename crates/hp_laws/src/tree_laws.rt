@@ -3,9 +3,9 @@
 //! Each function does nothing, and its contract is the law.
 
 ghost use Rattle.std.specs.List.{All, AllPairs};
-ghost use Rattle.std.specs.Prelude.{◌≡◌, ◌≢◌, ◌≤◌, ◌+◌, ℕ, Bool, List, [], map, Some, None};
+ghost use Rattle.std.specs.Prelude.{◌≡◌, ◌≢◌, ◌≤◌, ◌+◌, ℕ, List, [], map, Some, None};
 ghost use Rattle.hp_syntax.specs.Networks.{Network, Empty, Place, normal, part_at};
-ghost use Rattle.hp_syntax.specs.Report.{plan_texts, seen};
+ghost use Rattle.hp_syntax.specs.Report.{plan_texts};
 ghost use Rattle.hp_syntax.specs.Syntax.{Rule, Pair};
 ghost use Rattle.hp_laws.specs.TreeLaws.{HasNext, IsNormal, IsFaultless, IsWhole, IsReached, ComesBefore, without_depth, Begins};
 ghost use Rattle.hp_syntax.specs.Walk.{Node, Visit, Plan, root, visits, walk, node_at};
@@ -56,8 +56,8 @@ pub fn walks_without_faults_are_the_tree()
         → walk rules nest pair depth ≡ visits rules nest (root pair depth) [] }
 {}
 
-/// The texts of the first k plans begin those of the first k + 1.
+/// The texts of the first k plans begin those of the first k + 1, whatever is told of a plan.
 pub fn texts_grow_by_plans()
-    ensures { (walk : List Visit) (states : Bool) (k : ℕ)
-        → Begins (plan_texts states 1 (seen k walk)) (plan_texts states 1 (seen (k + 1) walk)) }
+    ensures { (walk : List Visit) (tell : ℕ → Visit → List ℕ) (k : ℕ)
+        → Begins (plan_texts tell k 0 walk) (plan_texts tell (k + 1) 0 walk) }
 {}

@@ -90,6 +90,11 @@ puts_both : {A E : Type 0} (r : Result A E) (x y : List ℕ) (a b c : Desk) → 
 puts_both (Ok z) x y a b c p w = put_both x y a b c p w
 puts_both (Err e) x y a b c p w = failed_after x y a b c p w
 
+-- a text that was put, as an equal one
+pub put_as : {A E : Type 0} (r : Result A E) (x y : List ℕ) (old new : Desk) → x ≡ y → Puts r x old new
+    → Puts r y old new
+put_as r x y old new e h = subst (λ t. Puts r t old new) e h
+
 -- the first part of a text that was put, and then the rest of it, which a call puts
 pub rest_put : {A E : Type 0} (r : Result A E) (x y text : List ℕ) (a b c : Desk) → Put x a b → Puts r y b c
     → x ++ y ≡ text → Puts r text a c

@@ -1,13 +1,12 @@
 -- The texts of plans and endings, of the parts that are put one behind the other.
 use Rattle.std.proofs.Common.{◌≡◌, ℕ, ◌<◌, ◌^◌, ◌-◌, ℤ, FitsSigned, to_z, of_z, List, ◌++◌, Option, Some, None, Bool, true, cond, [], length, codes, decimal, min, refl, ap, sym, ◌∙◌, arith, append_assoc}
-use Rattle.std.specs.Fmt.{signed_decimal}
 use Rattle.std.specs.Int.{w128}
 use Rattle.std.specs.Option.{MatchOption}
 use Rattle.std.proofs.lemmas.Int.{to_z-of_z}
 use Rattle.std.proofs.lemmas.List.{length-map}
 use Rattle.hp_eval.specs.GoalViews.{term_at}
 use Rattle.hp_syntax.specs.Report as report
-use Rattle.hp_syntax.specs.Report.{lines_text, plan_text, state_text, told_plan, ending_word, ending_text}
+use Rattle.hp_syntax.specs.Report.{lines_text, plan_line, plan_text, state_text, told_plan, ending_word, ending_text}
 use Rattle.hp_syntax.specs.Terms.{Term}
 use Rattle.hp_syntax.specs.Walk.{Node}
 use Rattle.hp_world.specs.Stages.{Stage, live_atoms, terms_at, state_of, guards_of}
@@ -15,24 +14,25 @@ use Rattle.hp_world.specs.Stages.{Stage, live_atoms, terms_at, state_of, guards_
 -- ---- plans
 
 -- the line of a plan, its cost as a call is passed it
-abbrev pub head_text : ℕ → ℤ → ℕ → List ℕ
-head_text i cost count =
-    codes "plan " ++ decimal i ++ codes " cost " ++ signed_decimal (to_z w128 (of_z w128 cost)) ++ codes " steps "
-    ++ decimal count ++ codes "\n"
+abbrev pub line_text : ℕ → ℤ → ℕ → List ℕ
+line_text i cost count = plan_line i (to_z w128 (of_z w128 cost)) count
 
-plan_shape : (n : Node) (i : ℕ) (cost : ℤ) (count : ℕ) (steps : List Term) → n.steps ≡ steps
-    → n.cost ≡ to_z w128 (of_z w128 cost) → count ≡ length steps
-    → head_text i cost count ++ lines_text steps ≡ plan_text i n
-unfolding plan_text
-plan_shape n i cost count steps s c k = rw (k, ← s, ← c) refl
+-- the line of a plan, by its steps in memory
+pub line_part : (n : Node) (i : ℕ) (cost : ℤ) (terms : List Term) (steps : List ℕ) → n.steps ≡ terms_at terms steps
+    → n.cost ≡ cost → FitsSigned w128 cost
+    → line_text i cost (length steps) ≡ plan_line i n.cost (length n.steps)
+line_part n i cost terms steps s c fits =
+    let same : to_z w128 (of_z w128 cost) ≡ n.cost = to_z-of_z w128 cost fits ∙ sym c in
+    let long : length steps ≡ length n.steps = sym (ap length s ∙ length-map steps (term_at terms)) in
+    rw (same, long) refl
 
 -- the line of a plan and then the lines of its steps
 pub plan_parts : (n : Node) (i : ℕ) (cost : ℤ) (terms : List Term) (steps : List ℕ) → n.steps ≡ terms_at terms steps
     → n.cost ≡ cost → FitsSigned w128 cost
-    → head_text i cost (length steps) ++ lines_text (terms_at terms steps) ≡ plan_text i n
+    → line_text i cost (length steps) ++ lines_text (terms_at terms steps) ≡ plan_text i n
 plan_parts n i cost terms steps s c fits =
-    plan_shape n i cost (length steps) (terms_at terms steps) s (c ∙ sym (to_z-of_z w128 cost fits))
-    (sym (length-map steps (term_at terms)))
+    ap (λ t. t ++ lines_text (terms_at terms steps)) (line_part n i cost terms steps s c fits)
+    ∙ ap (λ ts. plan_line i n.cost (length n.steps) ++ lines_text ts) (sym s)
 
 -- ---- states
 

@@ -3,13 +3,14 @@ use Rattle.std.proofs.Common.{◌≡◌, ℕ, ℤ, ◌<◌, List, [], ◌∷◌,
 use Rattle.std.specs.Fmt.{signed_decimal}
 use Rattle.std.proofs.lemmas.List.{map-append}
 use Rattle.std.proofs.lemmas.List.Concat.{flat_map-append}
-use Rattle.std.proofs.lemmas.Option.{slice_get-get_or, slice_get_within, get_or_from_slice_get}
+use Rattle.std.proofs.lemmas.Option.{slice_get_within, get_or_from_slice_get}
 use Rattle.hp_cells.specs.Cells.{NamesList, IsCons}
 use Rattle.hp_cells.specs.Keys.{parts_of}
 use Rattle.hp_cells.specs.Shows.{Shows}
 use Rattle.hp_cells.specs.declared.keys.View.{View}
 use Rattle.hp_cells.specs.declared.keys.View.TheVariants.{Nil, Sym, Num, Cons}
-use Rattle.hp_eval.specs.GoalViews.{term_at, term_or_nil}
+use Rattle.hp_eval.proofs.CellViews.{at_named, named_at}
+use Rattle.hp_eval.specs.GoalViews.{term_at}
 use Rattle.hp_out.proofs.PageSteps.{Joins}
 use Rattle.hp_syntax.specs.Report.{lines_text}
 use Rattle.hp_syntax.specs.Terms.{Term, Terms, Symbol, Number, Listed, NoTerm}
@@ -22,19 +23,9 @@ use Rattle.hp_world.specs.Stages.{live_atoms, terms_at}
 abbrev pub IsShown : List Term → ℕ → View → Type 0
 IsShown terms cell v = (t : Term) → slice_get terms cell ≡ Some t → Shows terms v t
 
-named : (terms : List Term) (cell : ℕ) (t : Term) → slice_get terms cell ≡ Some t → term_at terms cell ≡ t
-named terms cell t h = ap term_or_nil h
-
--- a cell below the count of terms names the term at its place
-pub stands_at : (terms : List Term) (cell : ℕ) → cell < length terms
-    → slice_get terms cell ≡ Some (term_at terms cell)
-stands_at terms cell h =
-    let e = slice_get-get_or terms cell (Listed NoTerm) h in
-    e ∙ ap Some (sym (named terms cell (get_or terms cell (Listed NoTerm)) e))
-
 pub shown_at : (terms : List Term) (cell : ℕ) (v : View) → cell < length terms → IsShown terms cell v
     → Shows terms v (term_at terms cell)
-shown_at terms cell v h s = s (term_at terms cell) (stands_at terms cell h)
+shown_at terms cell v h s = s (term_at terms cell) (named_at terms cell h)
 
 -- the cell of a list names a term
 pub list_within : (terms : List Term) (cell : ℕ) → NamesList terms cell → cell < length terms
@@ -60,12 +51,12 @@ module _ (terms : List Term) (cell head tail : ℕ) (c : IsCons terms head tail 
   pub cons_text : codes "(" ++ (term_text (term_at terms head) ++ rest_at terms tail)
       ≡ term_text (term_at terms cell)
   cons_text =
-      rw (named terms head c.first c.head_names, named terms tail (Listed c.rest) c.tail_names, c.whole) refl
+      rw (at_named terms head c.first c.head_names, at_named terms tail (Listed c.rest) c.tail_names, c.whole) refl
 
   -- what follows in a list is the text of its first part and then that of the others
   pub parts_text : codes " " ++ (term_text (term_at terms head) ++ rest_at terms tail) ≡ rest_at terms cell
   parts_text =
-      rw (named terms head c.first c.head_names, named terms tail (Listed c.rest) c.tail_names, c.whole) refl
+      rw (at_named terms head c.first c.head_names, at_named terms tail (Listed c.rest) c.tail_names, c.whole) refl
 
 -- a symbol has its name as its text
 pub symbol_text : (name : List ℕ) (t : Term) → t ≡ Symbol name → name ≡ term_text t
@@ -81,7 +72,7 @@ pub end_text : (terms : List Term) (cell : ℕ) (v : View) → NamesList terms c
 end_text terms cell v n s other = by v s other
   where
     at : (ts : Terms) → Listed n.0 ≡ Listed ts → terms_text ts ≡ rest_at terms cell
-    at ts e = ap (λ t. terms_text (parts_of t)) (sym e ∙ sym (named terms cell (Listed n.0) n.1))
+    at ts e = ap (λ t. terms_text (parts_of t)) (sym e ∙ sym (at_named terms cell (Listed n.0) n.1))
 
     by : (v : View) → IsShown terms cell v → ((head tail : ℕ) → v ≡ Cons head tail → ⊥)
         → codes ")" ≡ rest_at terms cell

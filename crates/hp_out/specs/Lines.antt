@@ -1,5 +1,5 @@
 -- The lines of refusals and notes, and the words of which they are made.
-use Rattle.std.specs.Prelude.{ℕ, Bool, cond, List, ◌++◌, codes, decimal}
+use Rattle.std.specs.Prelude.{ℕ, Bool, cond, List, ◌++◌, codes}
 use Rattle.hp_io.specs.declared.folder.Input.{Input}
 use Rattle.hp_io.specs.declared.folder.Input.TheVariants as inputs
 use Rattle.hp_syntax.specs.declared.check.CheckKind.{CheckKind}
@@ -10,6 +10,7 @@ use Rattle.hp_syntax.specs.declared.pattern.Span.{Span}
 use Rattle.hp_syntax.specs.declared.text.TextKind.{TextKind}
 use Rattle.hp_syntax.specs.declared.text.TextKind.TheVariants as texts
 use Rattle.hp_syntax.specs.Notes.{Note}
+use Rattle.hp_syntax.specs.PlaceTexts.{span_text, at_span}
 
 -- ---- words
 
@@ -61,17 +62,6 @@ abbrev pub text_of : Bool → Input
 text_of in_problem = cond in_problem inputs.Problem inputs.Domain
 
 -- ---- why a text is refused
-
-abbrev pub span_text : Span → List ℕ
-span_text s = decimal s.from ++ codes "-" ++ decimal s.to
-
--- `KIND at OFFSET`
-abbrev pub at_offset : List ℕ → ℕ → List ℕ
-at_offset word offset = word ++ codes " at " ++ decimal offset
-
--- `KIND at FROM-TO`
-abbrev pub at_span : List ℕ → Span → List ℕ
-at_span word s = word ++ codes " at " ++ span_text s
 
 -- `Expected WHAT at FROM-TO`
 abbrev pub expected_text : What → Span → List ℕ

@@ -3,7 +3,8 @@ use Rattle.std.specs.Prelude.{ℕ, List, codes}
 use Rattle.hp_io.specs.declared.folder.Input.TheVariants as inputs
 use Rattle.hp_out.specs.declared.refusal.Refusal.{Refusal}
 use Rattle.hp_out.specs.declared.refusal.Refusal.TheVariants.{Usage, Read, Text, Form, Several, Check}
-use Rattle.hp_out.specs.Lines.{kind_word, check_word, text_of, at_offset, at_span, expected_text, refused_usage, refused_read, refused}
+use Rattle.hp_syntax.specs.PlaceTexts.{at_offset, at_span}
+use Rattle.hp_out.specs.Lines.{kind_word, check_word, text_of, expected_text, refused_usage, refused_read, refused}
 
 abbrev pub refusal_text : Refusal → List ℕ
 refusal_text Usage = refused_usage

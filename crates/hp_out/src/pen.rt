@@ -1,20 +1,21 @@
 //! The pen of a run.
 
-ghost use Rattle.std.specs.Prelude.{◌≡◌, ◌≤◌, ◌++◌, OnErr, MatchOption, codes, true};
+ghost use Rattle.std.specs.Prelude.{◌≡◌, ◌≤◌, ◌++◌, OnErr, MatchOption, codes, length, true};
 ghost use Rattle.std.specs.List.{flat_map};
 ghost use Rattle.hp_check.specs.NoteViews.{note_of};
 ghost use Rattle.hp_io.specs.Rules.{Rose};
 ghost use Rattle.hp_net.specs.Standings.{node_reached};
 ghost use Rattle.hp_out.specs.Endings.{ending_of};
-ghost use Rattle.hp_out.specs.Lines.{kind_word, at_offset, at_span, span_text, refused, refused_read, note_place, note_text};
+ghost use Rattle.hp_out.specs.Lines.{kind_word, refused, refused_read, note_place, note_text};
 ghost use Rattle.hp_out.specs.RefusalTexts.{refusal_text};
 ghost use Rattle.hp_out.specs.Writing.{Writes};
-ghost use Rattle.hp_syntax.specs.Report.{ending_text, told_plan};
+ghost use Rattle.hp_syntax.specs.PlaceTexts.{at_offset, at_span, span_text};
+ghost use Rattle.hp_syntax.specs.Report.{ending_text, plan_line, told_plan};
 
 use crate::ending::Ending;
 use crate::endings::push_ending;
 use crate::page::Page;
-use crate::plans::push_told;
+use crate::plans::{push_told, push_told_line};
 use crate::refusal::Refusal;
 use crate::words::{check_word, input_word, kind_word, text_of, what_word};
 use crate::writing::{write_all, write_pieces};
@@ -191,6 +192,21 @@ impl<'a, K: Sink> Pen<'a, K> {
         let mut page = Page::new();
         push_told(&mut page, self.sink, number, walk, states)?;
         page.flush(self.sink)
+    }
+
+    /// Writes the line of the plan that a walk stands at, by its number, without its steps.
+    pub fn plan_line<W: Walk>(&mut self, number: u64, walk: &W) -> Result<(), Failed>
+        requires live { W.is_live walk.now ≡ true }
+        ensures same_reference { self.new.sink.ghost_name ≡ self.old.sink.ghost_name }
+        ensures writes { MatchOption (node_reached (W.tree walk.now) (W.stands walk.now)) ⊥
+            (λ n. Writes result (plan_line number n.cost (length n.steps))
+            (K.bytes self.old.sink.now) (K.bytes self.new.sink.now)) }
+        ensures later { K.faults self.old.sink.now ≤ K.faults self.new.sink.now }
+        ensures cause { OnErr result (Rose (K.faults self.old.sink.now) (K.faults self.new.sink.now)) }
+    {
+        let mut line = Page::new();
+        push_told_line(&mut line, self.sink, number, walk)?;
+        line.flush(self.sink)
     }
 
     /// Writes the one line of an ending, with how many plans were found, and by how many expansions.

@@ -1,11 +1,10 @@
 //! The texts of plans, and of what stands at their ends.
 
 ghost use Rattle.std.specs.Prelude.{◌≡◌, ◌≤◌, ◌++◌, OnErr, MatchOption, codes, decimal, length, true};
-ghost use Rattle.std.specs.Fmt.{signed_decimal};
 ghost use Rattle.hp_io.specs.Rules.{Rose};
 ghost use Rattle.hp_net.specs.Standings.{node_reached};
 ghost use Rattle.hp_out.specs.Pages.{desk, Puts};
-ghost use Rattle.hp_syntax.specs.Report.{lines_text, plan_text, state_text, told_plan};
+ghost use Rattle.hp_syntax.specs.Report.{lines_text, plan_line, plan_text, state_text, told_plan};
 ghost use Rattle.hp_syntax.specs.Walk.{Node};
 ghost use Rattle.hp_world.specs.Stages.{AllBelow, StageBelow, terms_at, state_of, guards_of};
 
@@ -18,15 +17,15 @@ use hp_world::World;
 use itoa::Buffer;
 
 /// Puts the line of a plan on a page.
-fn push_head<K: Sink>(
+#[tactic(auto, unfolding(hp_syntax::specs::Report::plan_line))]
+fn push_line<K: Sink>(
     page: &mut Page,
     sink: &mut K,
     number: u64,
     cost: i128,
     steps: usize,
 ) -> Result<(), Failed>
-    ensures puts { Puts result (codes "plan " ++ decimal number ++ codes " cost " ++ signed_decimal cost
-        ++ codes " steps " ++ decimal steps ++ codes "\n")
+    ensures puts { Puts result (plan_line number cost steps)
         (desk (K.bytes sink.old) page.old) (desk (K.bytes sink.new) page.new) }
     ensures later { K.faults sink.old ≤ K.faults sink.new }
     ensures cause { OnErr result (Rose (K.faults sink.old) (K.faults sink.new)) }
@@ -63,8 +62,25 @@ fn push_plan<K: Sink>(
     ensures later { K.faults sink.old ≤ K.faults sink.new }
     ensures cause { OnErr result (Rose (K.faults sink.old) (K.faults sink.new)) }
 {
-    push_head(page, sink, number, cost, steps.len())?;
+    push_line(page, sink, number, cost, steps.len())?;
     push_lines(page, sink, cells, steps)
+}
+
+/// Puts the line of the plan that a walk stands at on a page, without its steps.
+pub fn push_told_line<K: Sink, W: Walk>(
+    page: &mut Page,
+    sink: &mut K,
+    number: u64,
+    walk: &W,
+) -> Result<(), Failed>
+    requires live { W.is_live walk.now ≡ true }
+    ensures puts { MatchOption (node_reached (W.tree walk.now) (W.stands walk.now)) ⊥
+        (λ n. Puts result (plan_line number n.cost (length n.steps))
+        (desk (K.bytes sink.old) page.old) (desk (K.bytes sink.new) page.new)) }
+    ensures later { K.faults sink.old ≤ K.faults sink.new }
+    ensures cause { OnErr result (Rose (K.faults sink.old) (K.faults sink.new)) }
+{
+    push_line(page, sink, number, walk.cost(), walk.plan().len())
 }
 
 /// Puts a word and a count on a page, as a line.

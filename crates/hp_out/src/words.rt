@@ -2,7 +2,7 @@
 
 ghost use Rattle.std.specs.Prelude.{◌≡◌};
 ghost use Rattle.hp_out.specs.Lines.{what_word, kind_word, check_word, input_word, text_of};
-ghost use Rattle.hp_syntax.specs.Report.{kind_text};
+ghost use Rattle.hp_syntax.specs.Report.{fault_word};
 
 use hp_io::Input;
 use hp_syntax::{CheckKind, FaultKind, TextKind, What};
@@ -62,7 +62,7 @@ pub fn check_word(kind: CheckKind) -> &'static [u8]
 }
 
 pub fn fault_word(kind: FaultKind) -> &'static [u8]
-    ensures { result.now ≡ kind_text kind }
+    ensures { result.now ≡ fault_word kind }
 {
     match kind {
         FaultKind::NotGround => b"NotGround",

@@ -2,7 +2,7 @@
 use Rattle.std.specs.Prelude.{◌≡◌, ℕ, Bool, List, [], ◌∷◌, length, Result, Ok, Err}
 use Rattle.hp_syntax.specs.Forest.{Forest, IsForest}
 use Rattle.hp_syntax.specs.Grammar.{domain_form, problem_form}
-use Rattle.hp_syntax.specs.Report.{report}
+use Rattle.hp_syntax.specs.Report.{plan_report}
 use Rattle.hp_syntax.specs.Steps.{Misform}
 use Rattle.hp_syntax.specs.Syntax.{Domain, Pair, Problem, Rule}
 use Rattle.hp_syntax.specs.Walk.{walk}
@@ -20,7 +20,7 @@ asked k d n s = record { plans = k; depth = d; nest = n; states = s }
 -- the report of the walk of the first pair
 abbrev pub text_of_pairs : Asked → List Rule → List Pair → List ℕ
 text_of_pairs a rules [] = []
-text_of_pairs a rules (pair ∷ more) = report a.plans a.states (walk rules a.nest pair a.depth)
+text_of_pairs a rules (pair ∷ more) = (plan_report a.plans a.states (walk rules a.nest pair a.depth)).0
 
 -- the text of a run, where the domain and the problem have forms
 abbrev pub text_of_forms : Asked → Result Domain Misform → Result Problem Misform → List ℕ

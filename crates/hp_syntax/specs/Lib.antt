@@ -17,6 +17,7 @@ pub mod Written
 pub mod Unplaced
 pub mod Terms
 pub mod TermTexts
+pub mod PlaceTexts
 pub mod GroundViews
 pub mod Calls
 pub mod Values
@@ -29,5 +30,6 @@ pub mod Applying
 pub mod Changes
 pub mod GroundPatterns
 pub mod Walk
+pub mod Codes
 pub mod Report
 pub mod Samples

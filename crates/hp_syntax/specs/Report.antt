@@ -1,22 +1,29 @@
 -- What is written of a walk, and how a run of it ends.
-use Rattle.std.specs.Prelude.{ℕ, suc, ◌-◌, ◌^◌, min, Bool, cond, ◌==◌, nat_le, List, [], ◌∷◌, ◌++◌, length, codes, decimal, flat_map}
-use Rattle.std.specs.Fmt.{signed_decimal}
+use Rattle.std.specs.Prelude.{ℕ, suc, ◌+◌, ◌-◌, ◌^◌, min, Bool, true, false, cond, nat_le, nat_lt, ℤ, List, [], ◌∷◌, ◌++◌, length, codes, decimal, flat_map}
 use Rattle.hp_syntax.specs.declared.fault.RunFault.{RunFault}
 use Rattle.hp_syntax.specs.declared.fault.FaultKind.{FaultKind}
 use Rattle.hp_syntax.specs.declared.fault.FaultKind.TheVariants as kinds
+use Rattle.hp_syntax.specs.declared.status.Status.{Status}
+use Rattle.hp_syntax.specs.declared.status.Status.TheVariants as status
 use Rattle.hp_syntax.specs.Terms.{Term}
-use Rattle.hp_syntax.specs.TermTexts.{term_text}
+use Rattle.hp_syntax.specs.TermTexts.{num_text, term_text}
+use Rattle.hp_syntax.specs.PlaceTexts.{at_span}
 use Rattle.hp_syntax.specs.Walk.{Node, Visit, Did, Plan, CutHere, FaultHere}
+
+-- ---- plans
 
 -- one line for each term
 abbrev pub lines_text : List Term → List ℕ
 lines_text ts = flat_map (λ t. term_text t ++ codes "\n") ts
 
--- a plan: its number, cost and number of steps, and then its steps
-unfoldable pub plan_text : ℕ → Node → List ℕ
-plan_text i n =
-    codes "plan " ++ decimal i ++ codes " cost " ++ signed_decimal n.cost
-    ++ codes " steps " ++ decimal (length n.steps) ++ codes "\n" ++ lines_text n.steps
+-- the line of a plan: its number, its cost and how many steps it has
+unfoldable pub plan_line : ℕ → ℤ → ℕ → List ℕ
+plan_line i cost steps =
+    codes "plan " ++ decimal i ++ codes " cost " ++ num_text cost ++ codes " steps " ++ decimal steps ++ codes "\n"
+
+-- a plan: its line, and then its steps
+abbrev pub plan_text : ℕ → Node → List ℕ
+plan_text i n = plan_line i n.cost (length n.steps) ++ lines_text n.steps
 
 -- what holds and what is protected at the end of a plan
 unfoldable pub state_text : Node → List ℕ
@@ -28,27 +35,7 @@ state_text n =
 abbrev pub told_plan : Bool → ℕ → Node → List ℕ
 told_plan states i n = plan_text i n ++ cond states (state_text n) []
 
--- how many visits of a list are Plans, and how many are Dids
-abbrev pub plans : List Visit → ℕ
-plans [] = 0
-plans (v ∷ vs) =
-    elim v.sight [ Plan ↦ suc (plans vs) | Did ↦ plans vs | CutHere ↦ plans vs | FaultHere f ↦ plans vs ]
-
-abbrev pub dids : List Visit → ℕ
-dids [] = 0
-dids (v ∷ vs) =
-    elim v.sight [ Did ↦ suc (dids vs) | Plan ↦ dids vs | CutHere ↦ dids vs | FaultHere f ↦ dids vs ]
-
--- the visits up to and including the k-th Plan, or all of them
-abbrev pub seen : ℕ → List Visit → List Visit
-seen k [] = []
-seen k (v ∷ vs) =
-    elim v.sight [
-      | Plan ↦ v ∷ cond (nat_le k 1) [] (seen (k - 1) vs)
-      | Did ↦ v ∷ seen k vs
-      | CutHere ↦ v ∷ seen k vs
-      | FaultHere f ↦ v ∷ seen k vs
-    ]
+-- ---- endings
 
 -- how a run ends: at the last plan that was asked, at a fault, or at the end, with a cut or without
 pub data Ending : Type 0 where
@@ -57,43 +44,24 @@ pub data Ending : Type 0 where
   AtCut : Ending
   AtEnd : Ending
 
--- a Cut among what ends so
-abbrev pub cut_before : Ending → Ending
-cut_before (AtFault f) = AtFault f
-cut_before Stopped = AtCut
-cut_before AtCut = AtCut
-cut_before AtEnd = AtCut
+-- without a fault a walk ends at a cut or at its end
+abbrev pub quiet_ending : Bool → Ending
+quiet_ending cut = cond cut AtCut AtEnd
 
--- a fault decides, which can only be the last visit; else a Cut
-abbrev pub closing : List Visit → Ending
-closing [] = AtEnd
-closing (v ∷ vs) =
-    elim v.sight [
-      | FaultHere f ↦ AtFault f
-      | CutHere ↦ cut_before (closing vs)
-      | Did ↦ closing vs
-      | Plan ↦ closing vs
-    ]
-
-abbrev pub ending : ℕ → List Visit → Ending
-ending k vs = cond (plans vs == k) Stopped (closing vs)
-
-abbrev pub kind_text : FaultKind → List ℕ
-kind_text kinds.NotGround = codes "NotGround"
-kind_text kinds.NotNumber = codes "NotNumber"
-kind_text kinds.Overflow = codes "Overflow"
-kind_text kinds.ZeroDivisor = codes "ZeroDivisor"
-kind_text kinds.NegativePower = codes "NegativePower"
-kind_text kinds.NotList = codes "NotList"
-kind_text kinds.TooDeep = codes "TooDeep"
+abbrev pub fault_word : FaultKind → List ℕ
+fault_word kinds.NotGround = codes "NotGround"
+fault_word kinds.NotNumber = codes "NotNumber"
+fault_word kinds.Overflow = codes "Overflow"
+fault_word kinds.ZeroDivisor = codes "ZeroDivisor"
+fault_word kinds.NegativePower = codes "NegativePower"
+fault_word kinds.NotList = codes "NotList"
+fault_word kinds.TooDeep = codes "TooDeep"
 
 abbrev pub ending_word : Ending → List ℕ
 ending_word Stopped = codes "stopped"
 ending_word AtEnd = codes "end"
 ending_word AtCut = codes "cut"
-ending_word (AtFault f) =
-    codes "fault " ++ kind_text f.kind
-    ++ codes " at " ++ decimal f.span.from ++ codes "-" ++ decimal f.span.to
+ending_word (AtFault f) = codes "fault " ++ at_span (fault_word f.kind) f.span
 
 -- the ending line; the count of expansions stays at its end
 unfoldable pub ending_text : Ending → ℕ → ℕ → List ℕ
@@ -101,19 +69,94 @@ ending_text x p n =
     ending_word x ++ codes " plans " ++ decimal p
     ++ codes " expansions " ++ decimal (min n (2 ^ 64 - 1)) ++ codes "\n"
 
--- the text of each plan that was seen, by number from i on
-abbrev pub plan_texts : Bool → ℕ → List Visit → List ℕ
-plan_texts states i [] = []
-plan_texts states i (v ∷ vs) =
+-- the status of a run that ends so, after so many plans
+abbrev pub status_of : Ending → ℕ → Status
+status_of (AtFault f) p = status.RunFault
+status_of Stopped p = status.Done
+status_of AtCut p = cond (nat_lt 0 p) status.Done status.CutShort
+status_of AtEnd p = cond (nat_lt 0 p) status.Done status.NoPlan
+
+-- ---- the report
+
+-- what was seen of a walk: how many plans and decompositions, and whether a cut
+pub record Tally : Type 0 where
+  pub plans : ℕ
+  pub expansions : ℕ
+  pub is_cut : Bool
+
+abbrev pub tally : ℕ → ℕ → Bool → Tally
+tally p n cut = record { plans = p; expansions = n; is_cut = cut }
+
+-- before anything was seen
+abbrev pub nothing_seen : Tally
+nothing_seen = tally 0 0 false
+
+-- one more plan, decomposition or cut
+abbrev pub with_plan : Tally → Tally
+with_plan t = tally (t.plans + 1) t.expansions t.is_cut
+
+abbrev pub with_did : Tally → Tally
+with_did t = tally t.plans (t.expansions + 1) t.is_cut
+
+abbrev pub with_cut : Tally → Tally
+with_cut t = tally t.plans t.expansions true
+
+-- the text of each plan up to the k-th, where so many came before, given what is told of a plan by its number
+abbrev pub plan_texts : (ℕ → Visit → List ℕ) → ℕ → ℕ → List Visit → List ℕ
+plan_texts tell k p [] = []
+plan_texts tell k p (v ∷ vs) =
     elim v.sight [
-      | Plan ↦ told_plan states i v.node ++ plan_texts states (suc i) vs
-      | Did ↦ plan_texts states i vs
-      | CutHere ↦ plan_texts states i vs
-      | FaultHere f ↦ plan_texts states i vs
+      | Plan ↦ tell (p + 1) v ++ cond (nat_le k (p + 1)) [] (plan_texts tell k (p + 1) vs)
+      | Did ↦ plan_texts tell k p vs
+      | CutHere ↦ plan_texts tell k p vs
+      | FaultHere f ↦ []
     ]
 
--- the whole text of a run for k plans of a walk, with their states or without
-unfoldable pub report : ℕ → Bool → List Visit → List ℕ
-report k states walk =
-    plan_texts states 1 (seen k walk)
-    ++ ending_text (ending k (seen k walk)) (plans (seen k walk)) (dids (seen k walk))
+-- an ending, and what was seen by then
+pub record Ended : Type 0 where
+  pub ending : Ending
+  pub tally : Tally
+
+abbrev pub ended : Ending → Tally → Ended
+ended x t = record { ending = x; tally = t }
+
+-- how visits end of which k plans are asked, after what was seen before: at the k-th plan or at a fault, and where
+-- neither comes at a cut, if one was seen, or at the end
+abbrev pub end_of : ℕ → Tally → List Visit → Ended
+end_of k t [] = ended (quiet_ending t.is_cut) t
+end_of k t (v ∷ vs) =
+    elim v.sight [
+      | Plan ↦ cond (nat_le k (t.plans + 1)) (ended Stopped (with_plan t)) (end_of k (with_plan t) vs)
+      | Did ↦ end_of k (with_did t) vs
+      | CutHere ↦ end_of k (with_cut t) vs
+      | FaultHere f ↦ ended (AtFault f) t
+    ]
+
+-- a text, and the status to end with
+abbrev pub Answer : Type 0
+Answer = List ℕ × Status
+
+-- an answer with a text before it
+abbrev pub behind : List ℕ → Answer → Answer
+behind text a = (text ++ a.0, a.1)
+
+-- texts of plans, and how they end
+abbrev pub answer_at : List ℕ → Ended → Answer
+answer_at texts e =
+    (texts ++ ending_text e.ending e.tally.plans e.tally.expansions, status_of e.ending e.tally.plans)
+
+-- the report of visits of which k plans are asked, after what was seen before, given what is told of a plan
+abbrev pub report : (ℕ → Visit → List ℕ) → ℕ → Tally → List Visit → Answer
+report tell k t vs = answer_at (plan_texts tell k t.plans vs) (end_of k t vs)
+
+-- a plan by its line alone
+abbrev pub line_of : ℕ → Visit → List ℕ
+line_of i v = plan_line i v.node.cost (length v.node.steps)
+
+-- a plan with its steps, and with its state or without
+abbrev pub plan_of : Bool → ℕ → Visit → List ℕ
+plan_of states i v = told_plan states i v.node
+
+-- the report of a walk for k plans, with their states or without
+unfoldable pub plan_report : ℕ → Bool → List Visit → Answer
+plan_report k states walk = report (plan_of states) k nothing_seen walk

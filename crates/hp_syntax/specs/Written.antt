@@ -1,6 +1,6 @@
 -- How values are written: as nodes that stand nowhere yet, and the text of nodes. A variable is written by its name.
 use Rattle.std.specs.Prelude.{ℕ, true, false, List, [], ◌∷◌, ◌++◌, Option, Some, None, codes, slice_index_or}
-use Rattle.std.specs.Fmt.{signed_decimal}
+use Rattle.hp_syntax.specs.TermTexts.{num_text}
 use Rattle.hp_syntax.specs.declared.pattern.Span.{Span}
 use Rattle.hp_syntax.specs.declared.pattern.Tail.{Tail}
 use Rattle.hp_syntax.specs.Forest.{Node, Word, Numeral, Group, Forest, Bare, Grow}
@@ -200,7 +200,7 @@ problem p = worded (codes "defproblem") (Grow (word p.name) (Grow (word p.domain
 unfoldable mutual
   pub node_text : Node → List ℕ
   node_text (Word s text) = text
-  node_text (Numeral s n) = signed_decimal n
+  node_text (Numeral s n) = num_text n
   node_text (Group s Bare) = codes "()"
   node_text (Group s (Grow n f)) = codes "(" ++ node_text n ++ rest_text f ++ codes ")"
 

@@ -16,6 +16,7 @@ pub mod limits;
 mod name;
 mod pattern;
 pub mod samples;
+mod status;
 mod tasks;
 mod text;
 
@@ -26,5 +27,6 @@ pub use fault::{FaultKind, RunFault};
 pub use form::What;
 pub use name::Name;
 pub use pattern::{AtomPat, Ground, Pat, PatKind, Span, Tail};
+pub use status::Status;
 pub use tasks::{NetPat, TaskPat};
 pub use text::TextKind;

@@ -6,11 +6,9 @@ pub mod Numbers
 pub mod OptionWords
 pub mod Outcomes
 pub mod PlanEnds
+pub mod Reports
 pub mod RereadLemmas
 pub mod RunEnds
 pub mod SampleReads
 pub mod Steps
-pub mod SumEnds
-pub mod SummedReport
 pub mod Tellings
-pub mod ToldReport

@@ -5,7 +5,7 @@ use Rattle.std.proofs.lemmas.List.Elements.{All-nil, All-head, All-tail}
 use Rattle.hp_net.specs.Standings.{Tree, Standing, next_of, step_or_end, left_after, gone_on, node_reached}
 use Rattle.hp_net.specs.declared.walk.Step.{Step}
 use Rattle.hp_net.specs.declared.walk.Step.TheVariants as steps
-use Rattle.hp_syntax.specs.Walk.{Node, Sight, Did, Plan, CutHere, FaultHere, Visit}
+use Rattle.hp_syntax.specs.Walk.{Sight, Did, Plan, CutHere, FaultHere, Visit, visit}
 use Rattle.hp_top.specs.Telling.{IsAtItsNode}
 
 -- the first of what is left is seen so, the walk stands at its path, and all behind it is left
@@ -96,13 +96,16 @@ pub at_kept : (t u : Tree) (s r : Standing) → u ≡ t → r ≡ gone_on s → 
 at_kept t u s r same gone a =
     subst (λ w. All (IsAtItsNode w) r.rest) (sym same) (gone_on_keeps (IsAtItsNode t) s.rest s r refl gone a)
 
--- what is known of the node reached is known of the node of the visit that was just made
-pub at_visit : (t u : Tree) (s r : Standing) (x : Sight) (next : IsNext s r x) (P : Node → Type 0) → u ≡ t
-    → All (IsAtItsNode t) s.rest → MatchOption (node_reached u r) ⊥ P → P next.visit.node
+-- what is known of the visit of the node reached is known of the visit that was just made
+pub at_visit : (t u : Tree) (s r : Standing) (x : Sight) (next : IsNext s r x) (P : Visit → Type 0) → u ≡ t
+    → All (IsAtItsNode t) s.rest → MatchOption (node_reached u r) ⊥ (λ n. P (visit r.path n x)) → P next.visit
 at_visit t u s r x next P same a h =
-    let at : IsAtItsNode t next.visit =
-    All-head (IsAtItsNode t) next.visit r.rest (subst (All (IsAtItsNode t)) next.rest a) in
-    let reached : node_reached u r ≡ Some next.visit.node =
+    let v = next.visit in
+    let at : IsAtItsNode t v =
+    All-head (IsAtItsNode t) v r.rest (subst (All (IsAtItsNode t)) next.rest a) in
+    let reached : node_reached u r ≡ Some v.node =
     ap (λ w. node_reached w r) same
     ∙ (ap (λ p. node_reached t (record { path = p; rest = r.rest; at_did = r.at_did })) next.path ∙ at) in
-    subst (λ o. MatchOption o ⊥ P) reached h
+    let is : visit r.path v.node x ≡ v =
+    ap (λ p. visit p v.node x) next.path ∙ ap (visit v.path v.node) (sym next.sight) in
+    subst P is (subst (λ o. MatchOption o ⊥ (λ n. P (visit r.path n x))) reached h)

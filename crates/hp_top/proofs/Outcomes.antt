@@ -1,18 +1,21 @@
 -- Words and files come to one answer.
-use Rattle.std.proofs.Common.{◌≡◌, ◌⊎◌, inl, inr, ℕ, List, length, Option, Some, None, Result, Ok, Err, refl, ap, ap₂, sym, ◌∙◌, subst}
+use Rattle.std.proofs.Common.{◌≡◌, ◌⊎◌, inl, inr, ℕ, List, length, Option, Some, None, Result, Ok, Err, refl, ap, sym, ◌∙◌, subst}
+use Rattle.hp_io.specs.declared.folder.Input.{Input}
 use Rattle.hp_io.specs.declared.folder.Input.TheVariants as inputs
+use Rattle.hp_out.specs.declared.refusal.Refusal.{Refusal}
+use Rattle.hp_out.specs.declared.refusal.Refusal.TheVariants as refusals
 use Rattle.hp_syntax.specs.Forest.{Forest, IsForest}
 use Rattle.hp_syntax.specs.Grammar.{domain_form, problem_form}
-use Rattle.hp_syntax.specs.Refusal.{Refusal, IsRefused}
+use Rattle.hp_syntax.specs.Refusal as texts
+use Rattle.hp_syntax.specs.Refusal.{IsRefused}
+use Rattle.hp_syntax.specs.Report.{Answer}
 use Rattle.hp_syntax.specs.Steps.{Misform}
 use Rattle.hp_syntax.specs.Syntax.{Domain, Problem}
-use Rattle.hp_top.specs.declared.status.Status.TheVariants as status
+use Rattle.hp_syntax.specs.TextForms.{Form, IsRead}
 use Rattle.hp_top.specs.Command.{Command, Request, OnFiles, Making, accepts}
 use Rattle.hp_top.specs.Making.{made_files, made_command}
-use Rattle.hp_out.specs.Lines.{refused_usage}
 use Rattle.hp_top.specs.Outcome as outcome
-use Rattle.hp_syntax.specs.TextForms.{Form, IsRead}
-use Rattle.hp_top.specs.Outcome.{Files, Answer, Outcome, Comes, Why, InText, InForm, IsUnreadable, unread, unreadable, answer_of_read}
+use Rattle.hp_top.specs.Outcome.{Files, Outcome, Comes, LoadsFile, Then, Both, Why, InText, InForm, IsUnreadable, refusal_of, refusal_answer, answer_of_read, answer_to}
 
 one_value : {A : Type 0} (o : Option A) (x y : A) → o ≡ Some x → o ≡ Some y → x ≡ y
 one_value o x y h k = let e : Some x ≡ Some y = sym h ∙ k in cc
@@ -29,9 +32,19 @@ one_err r x y h k = cc
 ok_or_err : {A E : Type 0} (r : Result A E) (x : A) (y : E) → r ≡ Ok x → r ≡ Err y → ⊥
 ok_or_err r x y h k = cc
 
+-- a command whose files are read comes to the answer to them
+pub judged_comes : (files : Files) (c : Command) (t u : List ℕ) (d : Domain) (p : Problem) (a : Answer)
+    → files c.domain ≡ Some t → IsRead domain_form t d → files c.problem ≡ Some u → IsRead problem_form u p
+    → a ≡ answer_of_read c d p → Comes files c a
+judged_comes files c t u d p a i h j k e = record {
+  loaded = Ok (d, p);
+  loads = outcome.Went d (outcome.Good t d i h refl) (outcome.Went p (outcome.Good u p j k refl) refl);
+  answer = e;
+}
+
 module _ (one : (t : List ℕ) (f g : Forest) → IsForest t f → IsForest t g → f ≡ g)
-    (one_reason : (t : List ℕ) (r s : Refusal) → IsRefused t r → IsRefused t s → r ≡ s)
-    (apart : (t : List ℕ) (f : Forest) (r : Refusal) → IsForest t f → IsRefused t r → ⊥) where
+    (one_reason : (t : List ℕ) (r s : texts.Refusal) → IsRefused t r → IsRefused t s → r ≡ s)
+    (apart : (t : List ℕ) (f : Forest) (r : texts.Refusal) → IsForest t f → IsRefused t r → ⊥) where
   module _ {A : Type 0} (form : Form A) (t : List ℕ) where
     -- the form of a text's forest is that of each forest that it spells
     form_of : (f g : Forest) (r : Result A Misform) → IsForest t f → IsForest t g
@@ -57,73 +70,49 @@ module _ (one : (t : List ℕ) (f g : Forest) → IsForest t f → IsForest t g 
     why_one v w (outcome.ByForm f m h j e) (outcome.ByForm g n k l i) =
         e ∙ (ap InForm (one_err (form (length t) f) m n j (form_of f g (Err n) h k l)) ∙ sym i)
 
-  module _ {A : Type 0} (form : Form A) (o : Option (List ℕ)) where
-    -- what a file that is there is read as
-    file_here : (t : List ℕ) → o ≡ Some t → o ≡ None → ⊥
-    file_here t h k = no_value o t h k
+  -- what is loaded of a file is one thing
+  load_one : {A : Type 0} (which : Input) (form : Form A) (o : Option (List ℕ)) (x y : Result A Refusal)
+      → LoadsFile which form o x → LoadsFile which form o y → x ≡ y
+  load_one which form o x y (outcome.Missing h e) (outcome.Missing k f) = e ∙ sym f
+  load_one which form o x y (outcome.Missing h e) (outcome.Bad u w k n f) = absurd (no_value o u k h)
+  load_one which form o x y (outcome.Missing h e) (outcome.Good u z k n f) = absurd (no_value o u k h)
+  load_one which form o x y (outcome.Bad t v h m e) (outcome.Missing k f) = absurd (no_value o t h k)
+  load_one which form o x y (outcome.Bad t v h m e) (outcome.Bad u w k n f) =
+      let same = why_one form u v w (subst (λ t. IsUnreadable form t v) (one_value o t u h k) m) n in
+      e ∙ (ap (λ v. Err (refusal_of which v)) same ∙ sym f)
+  load_one which form o x y (outcome.Bad t v h m e) (outcome.Good u z k n f) =
+      absurd (read_no form t z v (subst (λ t. IsRead form t z) (one_value o u t k h) n) m)
+  load_one which form o x y (outcome.Good t z h m e) (outcome.Missing k f) = absurd (no_value o t h k)
+  load_one which form o x y (outcome.Good t z h m e) (outcome.Bad u w k n f) =
+      absurd (read_no form u z w (subst (λ t. IsRead form t z) (one_value o t u h k) m) n)
+  load_one which form o x y (outcome.Good t z h m e) (outcome.Good u w k n f) =
+      let same = read_one form u z w (subst (λ t. IsRead form t z) (one_value o t u h k) m) n in
+      e ∙ (ap Ok same ∙ sym f)
 
-    file_bad : (t u : List ℕ) (x : A) (why : Why) → o ≡ Some t → IsRead form t x → o ≡ Some u
-        → IsUnreadable form u why → ⊥
-    file_bad t u x why h i k n = read_no form u x why (subst (λ t. IsRead form t x) (one_value o t u h k) i) n
-
-    file_same : (t u : List ℕ) (x y : A) → o ≡ Some t → IsRead form t x → o ≡ Some u → IsRead form u y → x ≡ y
-    file_same t u x y h i k j = read_one form u x y (subst (λ t. IsRead form t x) (one_value o t u h k) i) j
-
-    file_why : (t u : List ℕ) (v w : Why) → o ≡ Some t → IsUnreadable form t v → o ≡ Some u
-        → IsUnreadable form u w → v ≡ w
-    file_why t u v w h i k j = why_one form u v w (subst (λ t. IsUnreadable form t v) (one_value o t u h k) i) j
+  -- where each of two things is loaded in one way, both are
+  then_one : {A B E : Type 0} (first : Result A E → Type 0) (second : A → Result B E → Type 0)
+      → ((x y : Result A E) → first x → first y → x ≡ y)
+      → ((a : A) (x y : Result B E) → second a x → second a y → x ≡ y)
+      → (x y : Result B E) → Then first second x → Then first second y → x ≡ y
+  then_one first second f g x y (outcome.Stopped d h i) (outcome.Stopped e k j) =
+      let same : Err d ≡ Err e = f (Err d) (Err e) h k in
+      i ∙ (ap Err (one_err (Err d) d e refl same) ∙ sym j)
+  then_one first second f g x y (outcome.Stopped d h i) (outcome.Went a k j) =
+      let same : Ok a ≡ Err d = f (Ok a) (Err d) k h in cc
+  then_one first second f g x y (outcome.Went a h i) (outcome.Stopped e k j) =
+      let same : Ok a ≡ Err e = f (Ok a) (Err e) h k in cc
+  then_one first second f g x y (outcome.Went a h i) (outcome.Went b k j) =
+      let same : Ok a ≡ Ok b = f (Ok a) (Ok b) h k in
+      g b x y (subst (λ a. second a x) (one_ok (Ok a) a b refl same) i) j
 
   module _ (files : Files) (c : Command) where
     -- two ways in which a command comes to an answer are one
     comes_one : (a b : Answer) → Comes files c a → Comes files c b → a ≡ b
-    comes_one a b (outcome.NoDomainFile h x) (outcome.NoDomainFile k y) = x ∙ sym y
-    comes_one a b (outcome.NoDomainFile h x) (outcome.BadDomain u w k n y) = absurd (no_value (files c.domain) u k h)
-    comes_one a b (outcome.NoDomainFile h x) (outcome.NoProblemFile u e k i m y) =
-        absurd (no_value (files c.domain) u k h)
-    comes_one a b (outcome.NoDomainFile h x) (outcome.BadProblem u v e w k i m n y) =
-        absurd (no_value (files c.domain) u k h)
-    comes_one a b (outcome.NoDomainFile h x) (outcome.Judged u v e q k i m j y) =
-        absurd (no_value (files c.domain) u k h)
-    comes_one a b (outcome.BadDomain t v h n x) (outcome.NoDomainFile k y) = absurd (no_value (files c.domain) t h k)
-    comes_one a b (outcome.BadDomain t v h n x) (outcome.BadDomain u w k m y) =
-        x ∙ (ap (unreadable inputs.Domain) (file_why domain_form (files c.domain) t u v w h n k m) ∙ sym y)
-    comes_one a b (outcome.BadDomain t v h n x) (outcome.NoProblemFile u e k i m y) =
-        absurd (file_bad domain_form (files c.domain) u t e v k i h n)
-    comes_one a b (outcome.BadDomain t v h n x) (outcome.BadProblem u z e w k i m o y) =
-        absurd (file_bad domain_form (files c.domain) u t e v k i h n)
-    comes_one a b (outcome.BadDomain t v h n x) (outcome.Judged u z e q k i m j y) =
-        absurd (file_bad domain_form (files c.domain) u t e v k i h n)
-    comes_one a b (outcome.NoProblemFile t d h i m x) (outcome.NoDomainFile k y) =
-        absurd (no_value (files c.domain) t h k)
-    comes_one a b (outcome.NoProblemFile t d h i m x) (outcome.BadDomain u w k n y) =
-        absurd (file_bad domain_form (files c.domain) t u d w h i k n)
-    comes_one a b (outcome.NoProblemFile t d h i m x) (outcome.NoProblemFile u e k j n y) = x ∙ sym y
-    comes_one a b (outcome.NoProblemFile t d h i m x) (outcome.BadProblem u z e w k j n o y) =
-        absurd (no_value (files c.problem) z n m)
-    comes_one a b (outcome.NoProblemFile t d h i m x) (outcome.Judged u z e q k j n o y) =
-        absurd (no_value (files c.problem) z n m)
-    comes_one a b (outcome.BadProblem t s d v h i m n x) (outcome.NoDomainFile k y) =
-        absurd (no_value (files c.domain) t h k)
-    comes_one a b (outcome.BadProblem t s d v h i m n x) (outcome.BadDomain u w k o y) =
-        absurd (file_bad domain_form (files c.domain) t u d w h i k o)
-    comes_one a b (outcome.BadProblem t s d v h i m n x) (outcome.NoProblemFile u e k j o y) =
-        absurd (no_value (files c.problem) s m o)
-    comes_one a b (outcome.BadProblem t s d v h i m n x) (outcome.BadProblem u z e w k j o r y) =
-        x ∙ (ap (unreadable inputs.Problem) (file_why problem_form (files c.problem) s z v w m n o r) ∙ sym y)
-    comes_one a b (outcome.BadProblem t s d v h i m n x) (outcome.Judged u z e q k j o r y) =
-        absurd (file_bad problem_form (files c.problem) z s q v o r m n)
-    comes_one a b (outcome.Judged t s d p h i m n x) (outcome.NoDomainFile k y) =
-        absurd (no_value (files c.domain) t h k)
-    comes_one a b (outcome.Judged t s d p h i m n x) (outcome.BadDomain u w k o y) =
-        absurd (file_bad domain_form (files c.domain) t u d w h i k o)
-    comes_one a b (outcome.Judged t s d p h i m n x) (outcome.NoProblemFile u e k j o y) =
-        absurd (no_value (files c.problem) s m o)
-    comes_one a b (outcome.Judged t s d p h i m n x) (outcome.BadProblem u z e w k j o r y) =
-        absurd (file_bad problem_form (files c.problem) s z p w m n o r)
-    comes_one a b (outcome.Judged t s d p h i m n x) (outcome.Judged u z e q k j o r y) =
-        let same = file_same domain_form (files c.domain) t u d e h i k j in
-        let also = file_same problem_form (files c.problem) s z p q m n o r in
-        x ∙ (ap₂ (answer_of_read c) same also ∙ sym y)
+    comes_one a b x y =
+        let same : x.loaded ≡ y.loaded = then_one _ _ (load_one inputs.Domain domain_form (files c.domain))
+        (λ d. then_one _ _ (load_one inputs.Problem problem_form (files c.problem)) (λ p u v h k. h ∙ sym k)) x.loaded
+        y.loaded x.loads y.loads in
+        x.answer ∙ (ap (answer_to refusal_answer c) same ∙ sym y.answer)
 
   one_command : (o : Option Request) (c d : Command) → o ≡ Some (OnFiles c) → o ≡ Some (OnFiles d) → c ≡ d
   one_command o c d h k = let e : OnFiles c ≡ OnFiles d = one_value o (OnFiles c) (OnFiles d) h k in cc
@@ -161,7 +150,7 @@ module _ (one : (t : List ℕ) (f g : Forest) → IsForest t f → IsForest t g 
       let both = subst (λ i. Comes (made_files t i) (made_command t i) a) count same in
       comes_one (made_files t n) (made_command t n) a b both y
 
-module _ (all : (t : List ℕ) → ((f : Forest) × IsForest t f) ⊎ ((r : Refusal) × IsRefused t r)) where
+module _ (all : (t : List ℕ) → ((f : Forest) × IsForest t f) ⊎ ((r : texts.Refusal) × IsRefused t r)) where
   module _ {A : Type 0} (form : Form A) (t : List ℕ) where
     abbrev ReadOrNot : Type 0
     ReadOrNot = ((x : A) × IsRead form t x) ⊎ ((why : Why) × IsUnreadable form t why)
@@ -176,34 +165,38 @@ module _ (all : (t : List ℕ) → ((f : Forest) × IsForest t f) ⊎ ((r : Refu
       | inr r ↦ inr (InText r.0, outcome.ByText r.0 r.1 refl)
     ]
 
-  module _ (files : Files) (c : Command) where
-    abbrev SomeAnswer : Type 0
-    SomeAnswer = (a : Answer) × Comes files c a
+  -- something is loaded of each file
+  load_by : {A : Type 0} (which : Input) (form : Form A) (o : Option (List ℕ)) (p : Option (List ℕ)) → o ≡ p
+      → (x : Result A Refusal) × LoadsFile which form o x
+  load_by {A} which form o None e = (Err (refusals.Read which), outcome.Missing e refl)
+  load_by {A} which form o (Some t) e =
+      elim (read_or_not form t) as (λ _. (x : Result A Refusal) × LoadsFile which form o x) [
+        | inl x ↦ (Ok x.0, outcome.Good t x.0 e x.1 refl)
+        | inr n ↦ (Err (refusal_of which n.0), outcome.Bad t n.0 e n.1 refl)
+      ]
 
-    by_problem : (t : List ℕ) (d : Domain) → files c.domain ≡ Some t → IsRead domain_form t d → (o : Option (List ℕ))
-        → files c.problem ≡ o → SomeAnswer
-    by_problem t d h i None e = (unread inputs.Problem, outcome.NoProblemFile t d h i e refl)
-    by_problem t d h i (Some u) e =
-        elim (read_or_not problem_form u) as (λ _. SomeAnswer) [
-          | inl x ↦ (answer_of_read c d x.0, outcome.Judged t u d x.0 h i e x.1 refl)
-          | inr n ↦ (unreadable inputs.Problem n.0, outcome.BadProblem t u d n.0 h i e n.1 refl)
-        ]
+  -- where something is loaded of each of two, something is of both
+  both_some : {A B E : Type 0} (first : Result A E → Type 0) (second : Result B E → Type 0)
+      → (x : Result A E) × first x → (y : Result B E) × second y → (z : Result (A × B) E) × Both first second z
+  both_some first second (Err e, h) y = (Err e, outcome.Stopped e h refl)
+  both_some first second (Ok a, h) (Err e, k) = (Err e, outcome.Went a h (outcome.Stopped e k refl))
+  both_some first second (Ok a, h) (Ok b, k) = (Ok (a, b), outcome.Went a h (outcome.Went b k refl))
 
-    by_domain : (o : Option (List ℕ)) → files c.domain ≡ o → SomeAnswer
-    by_domain None e = (unread inputs.Domain, outcome.NoDomainFile e refl)
-    by_domain (Some t) e =
-        elim (read_or_not domain_form t) as (λ _. SomeAnswer) [
-          | inl x ↦ by_problem t x.0 e x.1 (files c.problem) refl
-          | inr n ↦ (unreadable inputs.Domain n.0, outcome.BadDomain t n.0 e n.1 refl)
-        ]
+  some_answer : (files : Files) (c : Command) → (a : Answer) × Comes files c a
+  some_answer files c =
+      let x = both_some _ _ (load_by inputs.Domain domain_form (files c.domain) (files c.domain) refl)
+      (load_by inputs.Problem problem_form (files c.problem) (files c.problem) refl) in (
+        answer_to refusal_answer c x.0,
+        record { loaded = x.0; loads = x.1; answer = refl },
+      )
 
   by_words : (words : List (List ℕ)) (files : Files) (o : Option Request) → accepts words ≡ o
       → (a : Answer) × Outcome words files a
-  by_words words files None e = ((refused_usage, status.Usage), outcome.NoCommand e refl)
+  by_words words files None e = (refusal_answer refusals.Usage, outcome.NoCommand e refl)
   by_words words files (Some (OnFiles c)) e =
-      let x = by_domain files c (files c.domain) refl in (x.0, outcome.ByCommand c e x.1)
+      let x = some_answer files c in (x.0, outcome.ByCommand c e x.1)
   by_words words files (Some (Making s n)) e =
-      let x = by_domain (made_files s n) (made_command s n) (made_files s n (made_command s n).domain) refl in
+      let x = some_answer (made_files s n) (made_command s n) in
       (x.0, outcome.ByMaking s n e x.1)
 
   pub outcome_some : (words : List (List ℕ)) (files : Files) → (a : Answer) × Outcome words files a

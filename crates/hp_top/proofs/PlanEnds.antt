@@ -1,22 +1,21 @@
--- How a run ends that tells a whole walk.
-use Rattle.std.proofs.Common.{◌≡◌, ℕ, ◌<◌, Bool, false, List, [], ◌∷◌, length, map, get_or, Some, refl, ap, sym, ◌∙◌, subst, arith}
+-- What is told of the walk of the one pair of a problem.
+use Rattle.std.proofs.Common.{◌≡◌, ℕ, Bool, false, List, [], ◌∷◌, length, map, get_or, Some, Result, Ok, Err, OnOk, IfOk, IfErr, refl, ap, sym, ◌∙◌, subst, arith}
 use Rattle.std.specs.List.{All}
 use Rattle.hp_net.specs.Standings.{Tree, Standing, standing}
 use Rattle.hp_out.specs.Writing.{SinkRun, Wrote}
 use Rattle.hp_syntax.specs.declared.domain.Pair.{Pair}
-use Rattle.hp_syntax.specs.Report.{report}
+use Rattle.hp_syntax.specs.declared.status.Status.{Status}
+use Rattle.hp_syntax.specs.Report.{Answer, nothing_seen, plan_of, plan_report, report}
 use Rattle.hp_syntax.specs.Syntax as plain
 use Rattle.hp_syntax.specs.Syntax.{Rule}
 use Rattle.hp_syntax.specs.Views.{pair_of}
-use Rattle.hp_syntax.specs.Walk.{Node, Visit, visits, root, walk, node_at}
+use Rattle.hp_syntax.specs.Walk.{Node, Visit, heard_visits, visits, root, walk, node_at}
+use Rattle.hp_top.specs.declared.planning.Detail.{Detail}
 use Rattle.hp_top.specs.declared.telling.Halt.{Halt}
-use Rattle.hp_top.specs.declared.telling.Halt.TheVariants.{NoMemory, Failed}
-use Rattle.hp_top.specs.declared.status.Status.{Status}
-use Rattle.hp_top.specs.declared.status.Status.TheVariants as status
-use Rattle.hp_top.specs.Outcome.{visits_answer, walk_of_pairs}
-use Rattle.hp_top.specs.Telling.{IsAtItsNode, Tells, WithoutMemory, Unwritten, Written, Halts}
-use Rattle.hp_top.specs.Told.{told, told_status}
-use Rattle.hp_top.proofs.ToldReport.{told_report, told_status_is}
+use Rattle.hp_top.specs.Outcome.{walk_of_pairs}
+use Rattle.hp_top.specs.Telling.{IsAtItsNode, Halts, Tells, status_told, telling}
+use Rattle.hp_top.proofs.Reports.{report_heard}
+use Rattle.hp_top.proofs.Tellings.{tells_told}
 
 -- a list of pairs is as long as that of the plain ones
 pub one_in_memory : (ps : List Pair) → length (map pair_of ps) ≡ 1 → length ps ≡ 1
@@ -38,36 +37,33 @@ all_at rules nest n t s tree stands h =
     subst (λ t. All (IsAtItsNode t) s.rest) (sym tree)
     (subst (λ s. All (λ v. node_at rules nest n v.path ≡ Some v.node) s.rest) (sym stands) h)
 
-module _ (rules : List Rule) (nest depth k : ℕ) (states : Bool) (p : plain.Pair) (ps : List plain.Pair)
-    (only : ps ≡ p ∷ []) (vs : List Visit) (r : SinkRun) (asked : 0 < k)
-    (all : vs ≡ visits rules nest (root p depth) []) where
-  abbrev TellsWalk : Status → Type 0
-  TellsWalk s = Tells (visits_answer k states (walk_of_pairs rules nest ps depth)) s r
+-- what follows from a fact of what is given follows where it is given
+pub ok_weaker : {T E : Type 0} (P Q : T → Type 0) (r : Result T E) → IfOk r P → ((x : T) → P x → Q x) → IfOk r Q
+ok_weaker P Q (Ok x) p f = f x p
+ok_weaker P Q (Err e) p f = tt
 
-  of_walk : (s : Status) → Tells (visits_answer k states (walk rules nest p depth)) s r → TellsWalk s
-  of_walk s t = subst (λ q. Tells (visits_answer k states (walk_of_pairs rules nest q depth)) s r) (sym only) t
+-- the visits that are left at the root of the one pair's tree are heard as its walk
+pub walk_left : (rules : List Rule) (nest depth : ℕ) (p : plain.Pair) (ps : List plain.Pair) (vs : List Visit)
+    → ps ≡ p ∷ [] → vs ≡ visits rules nest (root p depth) []
+    → heard_visits vs ≡ walk_of_pairs rules nest ps depth
+unfolding walk
+walk_left rules nest depth p ps vs only all =
+    ap heard_visits all ∙ sym (ap (λ qs. walk_of_pairs rules nest qs depth) only)
 
-  text_of_walk : told k states 0 0 false vs ≡ report k states (walk rules nest p depth)
-  text_of_walk = ap (told k states 0 0 false) all ∙ told_report rules nest p depth k states asked
+-- what is told of visits is told of what is heard of them
+pub report_left : (tell : ℕ → Visit → List ℕ) (k : ℕ) (vs ws : List Visit) → heard_visits vs ≡ ws
+    → report tell k nothing_seen vs ≡ report tell k nothing_seen ws
+report_left tell k vs ws e = sym (report_heard tell k nothing_seen vs) ∙ ap (report tell k nothing_seen) e
 
-  -- a walk that was told to its end was told whole, with its status
-  pub told_walk : (s : Status) → s ≡ told_status k 0 false vs → Wrote (told k states 0 0 false vs) r.before r.after
-      → TellsWalk s
-  told_walk s e w =
-      of_walk s
-      (Written (e ∙ (ap (told_status k 0 false) all ∙ told_status_is rules nest p depth k asked))
-      (subst (λ t. Wrote t r.before r.after) text_of_walk w))
+-- plans with their steps are told of what is heard
+pub plans_left : (detail : Detail) (states : Bool) (k : ℕ) (vs ws : List Visit) → telling detail ≡ plan_of states
+    → heard_visits vs ≡ ws → report (telling detail) k nothing_seen vs ≡ plan_report k states ws
+unfolding plan_report
+plans_left detail states k vs ws d e =
+    ap (λ tell. report tell k nothing_seen vs) d ∙ report_left (plan_of states) k vs ws e
 
-  -- a walk whose telling stopped for want of memory was told up to a front
-  pub halted_walk : (x : Halt) → x ≡ NoMemory → Halts x (told k states 0 0 false vs) r → TellsWalk status.NoMemory
-  halted_walk x e w =
-      of_walk status.NoMemory
-      (WithoutMemory refl
-      (subst (λ t. Halts NoMemory t r) text_of_walk (subst (λ x. Halts x (told k states 0 0 false vs) r) e w)))
-
-  -- a walk whose telling stopped at a fault of the sink was told up to a proper front
-  pub failed_walk : (x : Halt) → x ≡ Failed → Halts x (told k states 0 0 false vs) r → TellsWalk status.WriteFault
-  failed_walk x e w =
-      let halt =
-      subst (λ t. Halts Failed t r) text_of_walk (subst (λ x. Halts x (told k states 0 0 false vs) r) e w) in
-      of_walk status.WriteFault (Unwritten refl halt.0 halt.1)
+-- what was told, or stopped, of one answer is of an equal one
+pub tells_equal : (a b : Answer) (o : Result Status Halt) (s : Status) (r : SinkRun) → a ≡ b → s ≡ status_told o
+    → OnOk o (Wrote a.0 r.before r.after) → IfOk o (λ s. s ≡ a.1) → IfErr o (λ h. Halts h a.0 r) → Tells b s r
+tells_equal a b o s r e same w t h =
+    subst (λ s. Tells b s r) (sym same) (subst (λ a. Tells a (status_told o) r) e (tells_told a o r w t h))

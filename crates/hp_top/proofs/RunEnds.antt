@@ -1,38 +1,41 @@
 -- From how a run ends to what the top call promises.
-use Rattle.std.proofs.Common.{◌≡◌, ◌≢◌, ◌⊎◌, inl, inr, ℕ, ◌-◌, ◌≤◌, List, [], ◌∷◌, length, map, Bool, true, false, cond, nat_lt, nat_le, nat_eq, Option, Some, None, Result, Ok, Err, String, Global, string_bytes, get_or, arith, refl, ap, sym, ◌∙◌, subst}
-use Rattle.std.specs.Prelude.{slice_index_or}
+use Rattle.std.proofs.Common.{◌≡◌, ◌≢◌, ◌⊎◌, inl, inr, ℕ, ◌-◌, ◌≤◌, List, [], ◌∷◌, length, Bool, true, false, cond, nat_lt, nat_le, nat_eq, Option, Some, None, Result, Ok, Err, codes, arith, refl, ap, sym, ◌∙◌, subst}
 use Rattle.hp_io.specs.declared.folder.Input.{Input}
 use Rattle.hp_io.specs.declared.folder.Input.TheVariants as inputs
 use Rattle.hp_io.specs.Inputs.{by_input}
 use Rattle.hp_io.specs.Rules.{Rose}
+use Rattle.hp_make.specs.Texts.{domain_text, problem_text}
+use Rattle.hp_out.specs.Lines.{text_of, refused_usage, refused_read}
+use Rattle.hp_out.specs.Writing.{SinkRun, Wrote, WroteFront, WroteProperFront}
+use Rattle.hp_out.specs.declared.refusal.Refusal.{Refusal}
+use Rattle.hp_out.specs.declared.refusal.Refusal.TheVariants as refusals
+use Rattle.hp_out.proofs.FrontLemmas.{whole_front, front_longer}
 use Rattle.hp_syntax.specs.declared.check.CheckFault.{CheckFault}
+use Rattle.hp_syntax.specs.declared.limits.TheConstants.{GREATEST_DEPTH, USUAL_LEVELS}
+use Rattle.hp_syntax.specs.declared.status.Status.{Status}
+use Rattle.hp_syntax.specs.declared.status.Status.TheVariants as status
 use Rattle.hp_syntax.specs.Grammar.{domain_form, problem_form}
+use Rattle.hp_syntax.specs.Report.{Answer, Ending, Stopped, AtFault, AtCut, AtEnd, end_of, line_of, nothing_seen, plan_of, plan_report, report, status_of}
 use Rattle.hp_syntax.specs.Steps.{Expected, SeveralPairs}
 use Rattle.hp_syntax.specs.Syntax.{Domain, Problem}
-use Rattle.hp_out.specs.declared.refusal.Refusal.TheVariants as refusals
-use Rattle.hp_syntax.specs.Report.{Ending, Stopped, AtFault, AtCut, AtEnd, ending, seen, plans}
+use Rattle.hp_syntax.specs.TextForms.{Form, IsRead}
 use Rattle.hp_syntax.specs.Walk.{Visit}
 use Rattle.hp_top.specs.declared.loading.LoadError.{LoadError}
 use Rattle.hp_top.specs.declared.loading.LoadError.TheVariants as causes
-use Rattle.hp_top.specs.declared.status.Status.{Status}
-use Rattle.hp_top.specs.declared.status.Status.TheVariants as status
-use Rattle.hp_syntax.specs.declared.limits.TheConstants.{GREATEST_DEPTH, USUAL_LEVELS}
-use Rattle.hp_top.specs.Command.{Command, Job, Planning, Checking, Showing, Summing, accepts, on_files, make_command}
+use Rattle.hp_top.specs.Command.{Command, Job, Planning, Checking, Showing, Summing, OnFiles, accepts, make_command, named, on_files}
 use Rattle.hp_top.specs.Making.{made_files, made_command}
 use Rattle.hp_top.specs.Outcome as outcome
-use Rattle.hp_syntax.specs.TextForms.{IsRead}
-use Rattle.hp_top.specs.Outcome.{Files, Answer, Outcome, Comes, walk_of_pairs, job_answer, unless_faulty, first_fault, answer_of_read, IsUnreadable, Why, InText, InForm, refused_status, unreadable, planned_status, walk_status}
+use Rattle.hp_top.specs.Outcome.{Files, Outcome, Comes, LoadsFile, Both, answer_to, walk_of_pairs, job_answer, unless_faulty, first_fault, answer_of_read, IsUnreadable, Why, InText, InForm, refused_status, refusal_status, refusal_of, refusal_answer}
 use Rattle.hp_top.specs.Loading as loading
-use Rattle.hp_top.specs.Loading.{ToldFile, Holds, Reads, IsUnread, IsProblemUnread, Stops, cause_of}
-use Rattle.hp_out.specs.Lines.{text_of, refused_usage, refused_read}
-use Rattle.hp_top.specs.Run.{TellsFiles, IsOutcome, RefusesWords, IsReadLine, OfDomain, OfProblem, ReadFails, CouldWrite, OfOutcome, OfReading, WritesFront, WritesProperFront}
+use Rattle.hp_top.specs.Loading.{ToldFile, Holds, Reads, IsUnread, StopsAt, LoadsBoth}
+use Rattle.hp_top.specs.Run.{TellsFiles, IsOutcome, RefusesWords, IsReadLine, ReadFails, CouldWrite, OfOutcome, OfReading, WritesFront, WritesProperFront}
 use Rattle.hp_top.specs.Serving as serving
 use Rattle.hp_top.specs.Serving.{Serves, Ends, load_answer, no_faults, told_made}
 use Rattle.hp_top.specs.Telling as telling
-use Rattle.hp_top.specs.Touching.{InputRun, Touches, TouchesNamed}
 use Rattle.hp_top.specs.Telling.{Tells}
-use Rattle.hp_out.specs.Writing.{SinkRun, Wrote, WroteFront, WroteProperFront}
-use Rattle.hp_out.proofs.FrontLemmas.{whole_front, front_longer}
+use Rattle.hp_top.specs.Touching.{InputRun, Touches, TouchesNamed}
+
+-- ---- what is loaded
 
 -- a fact of a told file is one of its text
 told_text : (P : List ℕ → Type 0) (f : ToldFile) (o : Option (List ℕ)) → f ≡ Some o → Holds P f
@@ -56,115 +59,114 @@ unread_missing s before now which f o e (inl x) t u = absurd (x e)
 unread_missing s before now which f o e (inr x) t (inl rose) = absurd (x which rose)
 unread_missing s before now which f o e (inr x) t (inr m) = missing f o t m
 
--- a refused text has one of two statuses
-abbrev IsRefused : Status → Type 0
-IsRefused status.DomainRefused = Unit {0}
-IsRefused status.ProblemRefused = Unit {0}
-IsRefused status.NoMemory = ⊥
-IsRefused status.Usage = ⊥
-IsRefused status.ReadFault = ⊥
-IsRefused status.Done = ⊥
-IsRefused status.RunFault = ⊥
-IsRefused status.WriteFault = ⊥
-IsRefused status.NoPlan = ⊥
-IsRefused status.CutShort = ⊥
+module _ (file : List ℕ → ToldFile) (c : Command) (before now : Input → ℕ) where
+  -- a domain and a problem, or why they aren't loaded
+  abbrev Loaded : Type 0
+  Loaded = Result (Domain × Problem) LoadError
 
-refused_one : (which : Input) → IsRefused (refused_status which)
-refused_one inputs.Domain = tt
-refused_one inputs.Problem = tt
+  -- what is known of them
+  data Known (loaded : Loaded) : Type 0 where
+    ForMemory : loaded ≡ Err causes.NoMemory → Known loaded
+    ForReading : (which : Input) (name : List ℕ) → loaded ≡ Err (causes.Refused (refusals.Read which))
+        → named c which ≡ Some name → IsUnread which (file name) before now → Known loaded
+    ForText : (which : Input) (why : Why) → loaded ≡ Err (causes.Refused (refusal_of which why)) → Known loaded
+    ForAnswer : (x : Domain × Problem) → loaded ≡ Ok x → Known loaded
 
--- the cause that tells why a text is read as nothing has the answer to that
-cause_answer : (which : Input) (why : Why) → load_answer (cause_of which why) ≡ unreadable which why
-cause_answer which (InText r) = refl
-cause_answer which (InForm (Expected what s)) = refl
-cause_answer which (InForm (SeveralPairs s)) = refl
+  -- what stops at a file that the command names
+  stop_known : {A : Type 0} (which : Input) (form : Form A) (name : List ℕ) (cause : LoadError) (loaded : Loaded)
+      → named c which ≡ Some name → StopsAt which form cause (file name) before now → loaded ≡ Err cause
+      → Known loaded
+  stop_known which form name cause loaded n (loading.StopsAt.WithoutMemory e) i = ForMemory (i ∙ ap Err e)
+  stop_known which form name cause loaded n (loading.StopsAt.Unread e u) i = ForReading which name (i ∙ ap Err e) n u
+  stop_known which form name cause loaded n (loading.StopsAt.Unreadable why e h) i = ForText which why (i ∙ ap Err e)
 
-why_refused : (which : Input) (why : Why) → IsRefused (unreadable which why).1
-why_refused which (InText r) = refused_one which
-why_refused which (InForm (Expected what s)) = refused_one which
-why_refused which (InForm (SeveralPairs s)) = tt
+  known : (loaded : Loaded) → LoadsBoth (file c.domain) (file c.problem) before now loaded → Known loaded
+  known loaded (outcome.Then.Stopped e h i) = stop_known inputs.Domain domain_form c.domain e loaded refl h i
+  known loaded (outcome.Then.Went d h (outcome.Then.Stopped e k j)) =
+      stop_known inputs.Problem problem_form c.problem e loaded refl k j
+  known loaded (outcome.Then.Went d h (outcome.Then.Went p k j)) = ForAnswer (d, p) j
 
--- a cause that is read in a text is one of a refused text
-reason_refused : (which : Input) (why : Why) (cause : LoadError) → cause ≡ cause_of which why
-    → IsRefused (load_answer cause).1
-reason_refused which why cause e =
-    subst (λ a. IsRefused a.1) (sym (ap load_answer e ∙ cause_answer which why)) (why_refused which why)
+  module _ (files : Files) (told : TellsFiles file files) where
+    -- a cause is one that the files have: memory isn't wanting, and what is unread is missing
+    abbrev IsExact : LoadError → Type 0
+    IsExact cause =
+        (cause ≢ causes.NoMemory)
+        × ((which : Input) (name : List ℕ) → cause ≡ causes.Refused (refusals.Read which)
+        → IsUnread which (file name) before now → files name ≡ None)
 
--- why nothing is planned, once it is known what the refusal says
-data HowStops (domain problem : ToldFile) (before now : Input → ℕ) (cause : LoadError) : Type 0 where
-  ForMemory : cause ≡ causes.NoMemory → HowStops domain problem before now cause
-  AtDomainFile : cause ≡ causes.Refused (refusals.Read inputs.Domain) → IsUnread inputs.Domain domain before now
-      → HowStops domain problem before now cause
-  AtProblemFile : cause ≡ causes.Refused (refusals.Read inputs.Problem) → IsProblemUnread domain problem before now
-      → HowStops domain problem before now cause
-  ForDomain : (why : Why) → load_answer cause ≡ unreadable inputs.Domain why → IsRefused (load_answer cause).1
-      → Holds (λ t. IsUnreadable domain_form t why) domain → HowStops domain problem before now cause
-  ForProblem : (why : Why) (d : Domain) → load_answer cause ≡ unreadable inputs.Problem why
-      → IsRefused (load_answer cause).1
-      → Reads domain_form domain d → Holds (λ u. IsUnreadable problem_form u why) problem
-      → HowStops domain problem before now cause
+    -- what is read of a told file is loaded of the file
+    good_exact : {A : Type 0} (which : Input) (form : Form A) (name : List ℕ) (x : A) → Reads form (file name) x
+        → LoadsFile which form (files name) (Ok x)
+    good_exact which form name x h =
+        let t = told_text (λ t. IsRead form t x) (file name) (files name) (told name) h in
+        outcome.LoadsFile.Good t.0 x t.1 t.2 refl
 
-how_stops : (domain problem : ToldFile) (before now : Input → ℕ) (cause : LoadError)
-    → Stops cause domain problem before now → HowStops domain problem before now cause
-how_stops domain problem before now cause (loading.AtDomain (loading.StopsAt.WithoutMemory e)) = ForMemory e
-how_stops domain problem before now cause (loading.AtDomain (loading.StopsAt.Unread e u)) = AtDomainFile e u
-how_stops domain problem before now cause (loading.AtDomain (loading.StopsAt.Unreadable why e h)) =
-    ForDomain why (ap load_answer e ∙ cause_answer inputs.Domain why) (reason_refused inputs.Domain why cause e) h
-how_stops domain problem before now cause (loading.AtProblem d r (loading.StopsAt.WithoutMemory e)) = ForMemory e
-how_stops domain problem before now cause (loading.AtProblem d r (loading.StopsAt.Unread e u)) =
-    AtProblemFile e (record { of_domain = d; is_read = r; unread = u })
-how_stops domain problem before now cause (loading.AtProblem d r (loading.StopsAt.Unreadable why e h)) =
-    ForProblem why d (ap load_answer e ∙ cause_answer inputs.Problem why)
-    (reason_refused inputs.Problem why cause e) r h
+    -- what stops at a told file refuses the file
+    bad_exact : {A : Type 0} (which : Input) (form : Form A) (name : List ℕ) (cause : LoadError) → IsExact cause
+        → StopsAt which form cause (file name) before now
+        → (r : Refusal) × LoadsFile which form (files name) (Err r) × (cause ≡ causes.Refused r)
+    bad_exact which form name cause p (loading.StopsAt.WithoutMemory e) = absurd (p.0 e)
+    bad_exact which form name cause p (loading.StopsAt.Unread e u) =
+        (refusals.Read which, outcome.LoadsFile.Missing (p.1 which name e u) refl, e)
+    bad_exact which form name cause p (loading.StopsAt.Unreadable why e h) =
+        let t = told_text (λ t. IsUnreadable form t why) (file name) (files name) (told name) h in
+        (refusal_of which why, outcome.LoadsFile.Bad t.0 why t.1 t.2 refl, e)
 
-module _ (file : List ℕ → ToldFile) (files : Files) (told : TellsFiles file files) (c : Command) where
-  -- a command whose domain's text is read as nothing comes to that refusal
-  bad_domain_comes : (a : Answer) (why : Why) → a ≡ unreadable inputs.Domain why
-      → Holds (λ t. IsUnreadable domain_form t why) (file c.domain) → Comes files c a
-  bad_domain_comes a why e h =
-      let x = told_text (λ t. IsUnreadable domain_form t why) (file c.domain) (files c.domain) (told c.domain) h in
-      outcome.BadDomain x.0 why x.1 x.2 e
+    -- a refusal is a cause
+    abbrev as_told : Result (Domain × Problem) Refusal → Loaded
+    as_told (Ok x) = Ok x
+    as_told (Err r) = Err (causes.Refused r)
 
-  -- a command whose problem's text is read as nothing comes to that refusal
-  bad_problem_comes : (a : Answer) (why : Why) (d : Domain) → a ≡ unreadable inputs.Problem why
-      → Reads domain_form (file c.domain) d
-      → Holds (λ u. IsUnreadable problem_form u why) (file c.problem) → Comes files c a
-  bad_problem_comes a why d e r h =
-      let x = told_text (λ t. IsRead domain_form t d) (file c.domain) (files c.domain) (told c.domain) r in
-      let y = told_text (λ u. IsUnreadable problem_form u why) (file c.problem) (files c.problem) (told c.problem) h in
-      outcome.BadProblem x.0 y.0 d why x.1 x.2 y.1 y.2 e
+    both_exact : (loaded : Loaded) → ((cause : LoadError) → loaded ≡ Err cause → IsExact cause)
+        → LoadsBoth (file c.domain) (file c.problem) before now loaded
+        → (x : Result (Domain × Problem) Refusal)
+        × Both (LoadsFile inputs.Domain domain_form (files c.domain))
+        (LoadsFile inputs.Problem problem_form (files c.problem)) x
+        × (loaded ≡ as_told x)
+    both_exact loaded p (outcome.Then.Stopped e h i) =
+        let b = bad_exact inputs.Domain domain_form c.domain e (p e i) h in
+        (Err b.0, outcome.Then.Stopped b.0 b.1 refl, i ∙ ap Err b.2)
+    both_exact loaded p (outcome.Then.Went d h (outcome.Then.Stopped e k j)) =
+        let b = bad_exact inputs.Problem problem_form c.problem e (p e j) k in (
+          Err b.0,
+          outcome.Then.Went d (good_exact inputs.Domain domain_form c.domain d h)
+              (outcome.Then.Stopped b.0 b.1 refl),
+          j ∙ ap Err b.2,
+        )
+    both_exact loaded p (outcome.Then.Went d h (outcome.Then.Went q k j)) = (
+      Ok (d, q),
+      outcome.Then.Went d (good_exact inputs.Domain domain_form c.domain d h)
+          (outcome.Then.Went q (good_exact inputs.Problem problem_form c.problem q k) refl),
+      j,
+    )
 
-  -- a command whose domain and problem are read comes to the answer to them
-  judged_comes : (a : Answer) (d : Domain) (p : Problem) → a ≡ answer_of_read c d p
-      → Reads domain_form (file c.domain) d → Reads problem_form (file c.problem) p → Comes files c a
-  judged_comes a d p e r q =
-      let x = told_text (λ t. IsRead domain_form t d) (file c.domain) (files c.domain) (told c.domain) r in
-      let y = told_text (λ u. IsRead problem_form u p) (file c.problem) (files c.problem) (told c.problem) q in
-      outcome.Judged x.0 y.0 d p x.1 x.2 y.1 y.2 e
+    same_answer : (x : Result (Domain × Problem) Refusal)
+        → answer_to load_answer c (as_told x) ≡ answer_to refusal_answer c x
+    same_answer (Ok x) = refl
+    same_answer (Err r) = refl
 
-  module _ (before now : Input → ℕ) where
-    how_comes : (cause : LoadError) (s : Status) → HowStops (file c.domain) (file c.problem) before now cause
-        → s ≢ status.NoMemory → s ≡ (load_answer cause).1 → ReadsWell s before now → Comes files c (load_answer cause)
-    how_comes cause s (ForMemory e) n x w = absurd (n (x ∙ ap (λ y. (load_answer y).1) e))
-    how_comes cause s (AtDomainFile e u) n x w =
-        outcome.NoDomainFile
-        (unread_missing s before now inputs.Domain (file c.domain) (files c.domain)
-        (x ∙ ap (λ y. (load_answer y).1) e) w (told c.domain) u)
-        (ap load_answer e)
-    how_comes cause s (AtProblemFile e u) n x w =
-        let d =
-        told_text (λ t. IsRead domain_form t u.of_domain) (file c.domain) (files c.domain) (told c.domain) u.is_read in
-        outcome.NoProblemFile d.0 u.of_domain d.1 d.2
-        (unread_missing s before now inputs.Problem (file c.problem) (files c.problem)
-        (x ∙ ap (λ y. (load_answer y).1) e) w (told c.problem) u.unread)
-        (ap load_answer e)
-    how_comes cause s (ForDomain why e i h) n x w = bad_domain_comes (load_answer cause) why e h
-    how_comes cause s (ForProblem why d e i r h) n x w = bad_problem_comes (load_answer cause) why d e r h
+    -- what is told of files comes to what they come to
+    comes_exact : (loaded : Loaded) → ((cause : LoadError) → loaded ≡ Err cause → IsExact cause)
+        → LoadsBoth (file c.domain) (file c.problem) before now loaded
+        → Comes files c (answer_to load_answer c loaded)
+    comes_exact loaded p h =
+        let x = both_exact loaded p h in
+        record { loaded = x.0; loads = x.1; answer = ap (answer_to load_answer c) x.2 ∙ same_answer x.0 }
 
-    -- a command of which nothing is planned comes to its refusal, unless memory is wanting or reading failed
-    stopped_comes : (cause : LoadError) (s : Status) → Stops cause (file c.domain) (file c.problem) before now
-        → s ≢ status.NoMemory → s ≡ (load_answer cause).1 → ReadsWell s before now → Comes files c (load_answer cause)
-    stopped_comes cause s h = how_comes cause s (how_stops (file c.domain) (file c.problem) before now cause h)
+    -- unless memory is wanting or reading failed
+    comes_well : (loaded : Loaded) (s : Status) → s ≢ status.NoMemory → s ≡ (answer_to load_answer c loaded).1
+        → ReadsWell s before now → LoadsBoth (file c.domain) (file c.problem) before now loaded
+        → Comes files c (answer_to load_answer c loaded)
+    comes_well loaded s n x w =
+        comes_exact loaded
+        (λ cause i. (
+          λ e. n (x ∙ ap (λ l. (answer_to load_answer c l).1) (i ∙ ap Err e)),
+          λ which name e u.
+              unread_missing s before now which (file name) (files name)
+              (x ∙ ap (λ l. (answer_to load_answer c l).1) (i ∙ ap Err e)) w (told name) u,
+        ))
+
+-- ---- what was told
 
 -- without want of memory and a write fault the answer's whole text was written, with its status
 told_whole : (a : Answer) (s : Status) (r : SinkRun) → Tells a s r → s ≢ status.NoMemory → s ≢ status.WriteFault
@@ -182,14 +184,26 @@ made words files before a s old new o w x = record {
   written = subst (λ m. Wrote a.0 m new) o w.1;
 }
 
--- no file that is made is left unread
-made_read : (which : Input) (f : ToldFile) (text : List ℕ) → f ≡ Some (Some text) → IsUnread which f no_faults no_faults
-    → ⊥
-made_read which f text e (inl rose) = absurd (omega (arith, rose))
-made_read which f text e (inr m) = let both : Some (Some text) ≡ Some None = sym e ∙ m in cc
-
 never_rose : (which : Input) → Rose (no_faults which) (no_faults which) → ⊥
 never_rose which rose = absurd (omega (arith, rose))
+
+-- a file that is made is there
+made_there : (seed n : ℕ) (which : Input) (name : List ℕ) → named (made_command seed n) which ≡ Some name
+    → told_made seed n name ≡ Some None → ⊥
+made_there seed n inputs.Domain name i m =
+    let e : codes "domain" ≡ name = cc in
+    let f : Some (Some domain_text) ≡ Some None = subst (λ x. told_made seed n x ≡ Some None) (sym e) m in
+    cc
+made_there seed n inputs.Problem name i m =
+    let e : codes "problem" ≡ name = cc in
+    let f : Some (Some (problem_text seed n)) ≡ Some None = subst (λ x. told_made seed n x ≡ Some None) (sym e) m in
+    cc
+
+-- no file that is made is left unread
+made_read : (which : Input) (name : List ℕ) (seed n : ℕ) → named (made_command seed n) which ≡ Some name
+    → IsUnread which (told_made seed n name) no_faults no_faults → ⊥
+made_read which name seed n i (inl rose) = never_rose which rose
+made_read which name seed n i (inr m) = made_there seed n which name i m
 
 module _ (words : List (List ℕ)) (s : Status) (r : SinkRun) (files : Files) (written : List ℕ)
     (o : r.before ≡ Some written) (memory : s ≢ status.NoMemory) (write : s ≢ status.WriteFault) where
@@ -197,20 +211,17 @@ module _ (words : List (List ℕ)) (s : Status) (r : SinkRun) (files : Files) (w
   serves_well : (c : Command) (file : List ℕ → ToldFile) (before now : Input → ℕ) (fs : Files) → TellsFiles file fs
       → ReadsWell s before now → ((a : Answer) → Comes fs c a → Outcome words files a)
       → Serves c file s before now r → IsOutcome words files s written r.after
-  serves_well c file before now fs told k by (serving.Stopped cause h t) =
-      let x = told_whole (load_answer cause) s r t memory write in
-      made words files written (load_answer cause) s r.before r.after o x
-      (by (load_answer cause) (stopped_comes file fs told c before now cause s h memory x.0 k))
-  serves_well c file before now fs told k by (serving.Answered d p h q t) =
-      let a = answer_of_read c d p in
-      made words files written a s r.before r.after o (told_whole a s r t memory write)
-      (by a (judged_comes file fs told c a d p refl h q))
+  serves_well c file before now fs told k by h =
+      let a = answer_to load_answer c h.loaded in
+      let x = told_whole a s r h.tells memory write in
+      made words files written a s r.before r.after o x
+      (by a (comes_well file c before now fs told h.loaded s memory x.0 k h.loads))
 
   -- whatever ends without want of memory and faults is the outcome
   pub ends_well : (file : List ℕ → ToldFile) (before now : Input → ℕ) → Ends words file s before now r
       → TellsFiles file files → ReadsWell s before now → IsOutcome words files s written r.after
   ends_well file before now (serving.NoCommand e t) told k =
-      made words files written (refused_usage, status.Usage) s r.before r.after o
+      made words files written (refusal_answer refusals.Usage) s r.before r.after o
       (told_whole _ s r t memory write) (outcome.NoCommand e refl)
   ends_well file before now (serving.ByCommand c e h) told k =
       serves_well c file before now files told k (λ a x. outcome.ByCommand c e x) h
@@ -218,7 +229,9 @@ module _ (words : List (List ℕ)) (s : Status) (r : SinkRun) (files : Files) (w
       serves_well (made_command seed n) (told_made seed n) no_faults no_faults (made_files seed n) (λ name. refl)
       (inr never_rose) (λ a x. outcome.ByMaking seed n e x) h
 
--- what a domain and a problem that are read come to has one of six statuses
+-- ---- statuses
+
+-- a text that is refused, or a domain and a problem that are read, have one of six statuses
 abbrev IsAnswer : Status → Type 0
 IsAnswer status.Done = Unit {0}
 IsAnswer status.RunFault = Unit {0}
@@ -235,25 +248,34 @@ chosen : (b : Bool) (x y : Status) → IsAnswer x → IsAnswer y → IsAnswer (c
 chosen true x y h k = h
 chosen false x y h k = k
 
-ending_answers : (x : Ending) (p : ℕ) → IsAnswer (planned_status x p)
+ending_answers : (x : Ending) (p : ℕ) → IsAnswer (status_of x p)
 ending_answers Stopped p = tt
 ending_answers (AtFault f) p = tt
 ending_answers AtCut p = chosen (nat_lt 0 p) status.Done status.CutShort tt tt
 ending_answers AtEnd p = chosen (nat_lt 0 p) status.Done status.NoPlan tt tt
 
-walk_answers : (k : ℕ) (vs : List Visit) → IsAnswer (walk_status k vs)
-unfolding walk_status
-walk_answers k vs = ending_answers (ending k (seen k vs)) (plans (seen k vs))
+report_answers : (tell : ℕ → Visit → List ℕ) (k : ℕ) (vs : List Visit) → IsAnswer (report tell k nothing_seen vs).1
+report_answers tell k vs =
+    let e = end_of k nothing_seen vs in ending_answers e.ending e.tally.plans
+
+plan_answers : (k : ℕ) (states : Bool) (vs : List Visit) → IsAnswer (plan_report k states vs).1
+unfolding plan_report
+plan_answers k states vs = report_answers (plan_of states) k vs
 
 refused_answers : (which : Input) → IsAnswer (refused_status which)
 refused_answers inputs.Domain = tt
 refused_answers inputs.Problem = tt
 
+why_answers : (which : Input) (why : Why) → IsAnswer (refusal_status (refusal_of which why))
+why_answers which (InText r) = refused_answers which
+why_answers which (InForm (Expected what s)) = refused_answers which
+why_answers which (InForm (SeveralPairs s)) = tt
+
 job_answers : (j : Job) (d : Domain) (p : Problem) → IsAnswer (job_answer j d p).1
-job_answers (Planning k n o) d p = walk_answers k (walk_of_pairs d.rules o.levels p.pairs n)
+job_answers (Planning k n o) d p = plan_answers k o.states (walk_of_pairs d.rules o.levels p.pairs n)
 job_answers Checking d p = tt
 job_answers Showing d p = tt
-job_answers (Summing seed n) d p = walk_answers 1 (walk_of_pairs d.rules USUAL_LEVELS p.pairs GREATEST_DEPTH)
+job_answers (Summing seed n) d p = report_answers line_of 1 (walk_of_pairs d.rules USUAL_LEVELS p.pairs GREATEST_DEPTH)
 
 checks_answer : (f : Option CheckFault) (a : Answer) → IsAnswer a.1 → IsAnswer (unless_faulty f a).1
 checks_answer (Some f) a h = refused_answers (text_of f.in_problem)
@@ -270,41 +292,6 @@ told_status : (a : Answer) (s : Status) (r : SinkRun) (P : Type 0) → Tells a s
 told_status a s r P (telling.WithoutMemory e f) m w t = m e f
 told_status a s r P (telling.Unwritten e rose f) m w t = w e rose f
 told_status a s r P (telling.Written e h) m w t = t e h
-
--- nothing is planned with one of four statuses
-abbrev IsStopped : Status → Type 0
-IsStopped status.NoMemory = Unit {0}
-IsStopped status.ReadFault = Unit {0}
-IsStopped status.DomainRefused = Unit {0}
-IsStopped status.ProblemRefused = Unit {0}
-IsStopped status.Usage = ⊥
-IsStopped status.Done = ⊥
-IsStopped status.RunFault = ⊥
-IsStopped status.WriteFault = ⊥
-IsStopped status.NoPlan = ⊥
-IsStopped status.CutShort = ⊥
-
-refused_stopped : (s : Status) → IsRefused s → IsStopped s
-refused_stopped status.DomainRefused h = tt
-refused_stopped status.ProblemRefused h = tt
-refused_stopped status.NoMemory h = absurd h
-refused_stopped status.Usage h = absurd h
-refused_stopped status.ReadFault h = absurd h
-refused_stopped status.Done h = absurd h
-refused_stopped status.RunFault h = absurd h
-refused_stopped status.WriteFault h = absurd h
-refused_stopped status.NoPlan h = absurd h
-refused_stopped status.CutShort h = absurd h
-
-load_stopped : (cause : LoadError) (domain problem : ToldFile) (before now : Input → ℕ)
-    → HowStops domain problem before now cause → IsStopped (load_answer cause).1
-load_stopped cause domain problem before now (ForMemory e) = subst (λ z. IsStopped (load_answer z).1) (sym e) tt
-load_stopped cause domain problem before now (AtDomainFile e u) =
-    subst (λ z. IsStopped (load_answer z).1) (sym e) tt
-load_stopped cause domain problem before now (AtProblemFile e u) =
-    subst (λ z. IsStopped (load_answer z).1) (sym e) tt
-load_stopped cause domain problem before now (ForDomain why e i h) = refused_stopped _ i
-load_stopped cause domain problem before now (ForProblem why d e i r h) = refused_stopped _ i
 
 -- a status that is one of two different ones is not the other
 other : (s t u : Status) → (t ≡ u → ⊥) → s ≡ t → s ≡ u → ⊥
@@ -345,35 +332,48 @@ nothing_short text s r t = record {
       (λ m h. absurd (other s _ _ (λ x. cc) m e));
 }
 
+-- two causes of one thing that isn't loaded are one
+same_refusal : {A : Type 0} (loaded : Result A LoadError) (p q : Refusal) → loaded ≡ Err (causes.Refused p)
+    → loaded ≡ Err (causes.Refused q) → p ≡ q
+same_refusal loaded p q e f = let x : Err (causes.Refused p) ≡ Err (causes.Refused q) = sym e ∙ f in cc
+
+-- a text that is refused is no unread file
+why_unread : (which w : Input) (why : Why) → refusal_of which why ≡ refusals.Read w → ⊥
+why_unread which w (InText r) e = cc
+why_unread which w (InForm (Expected what s)) e = cc
+why_unread which w (InForm (SeveralPairs s)) e = cc
+
 -- what is served, whatever it comes to
 module _ (c : Command) (file : List ℕ → ToldFile) (s : Status) (before now : Input → ℕ) (r : SinkRun) where
-  stopped : (cause : LoadError) → Stops cause (file c.domain) (file c.problem) before now
-      → IsStopped (load_answer cause).1
-  stopped cause h =
-      load_stopped cause (file c.domain) (file c.problem) before now
-      (how_stops (file c.domain) (file c.problem) before now cause h)
+  abbrev status_to : Loaded file c before now → Status
+  status_to loaded = (answer_to load_answer c loaded).1
+
+  -- what is loaded comes to no status but want of memory, a read fault and those of answers
+  never : (loaded : Loaded file c before now) (u : Status) → (status.NoMemory ≡ u → ⊥) → (status.ReadFault ≡ u → ⊥)
+      → (IsAnswer u → ⊥) → Known file c before now loaded → status_to loaded ≡ u → ⊥
+  never loaded u m f a (ForMemory e) i = m (sym (ap status_to e) ∙ i)
+  never loaded u m f a (ForReading which name e n h) i = f (sym (ap status_to e) ∙ i)
+  never loaded u m f a (ForText which why e) i = a (subst IsAnswer (sym (ap status_to e) ∙ i) (why_answers which why))
+  never loaded u m f a (ForAnswer x e) i = a (subst IsAnswer (sym (ap status_to e) ∙ i) (read_answers c x.0 x.1))
 
   -- what is served isn't refused as no command
   serves_usage : Serves c file s before now r → s ≡ status.Usage → ⊥
-  serves_usage (serving.Stopped cause h t) u =
-      told_status (load_answer cause) s r ⊥ t (λ m f. other s _ _ (λ x. cc) m u)
-      (λ m rose f. other s _ _ (λ x. cc) m u)
-      (λ m w. subst IsStopped (sym m ∙ u) (stopped cause h))
-  serves_usage (serving.Answered d p h k t) u =
-      told_status (answer_of_read c d p) s r ⊥ t (λ m f. other s _ _ (λ x. cc) m u)
-      (λ m rose f. other s _ _ (λ x. cc) m u) (λ m w. subst IsAnswer (sym m ∙ u) (read_answers c d p))
+  serves_usage h u =
+      told_status _ s r ⊥ h.tells (λ m f. other s _ _ (λ x. cc) m u) (λ m rose f. other s _ _ (λ x. cc) m u)
+      (λ m w.
+      never h.loaded status.Usage (λ x. cc) (λ x. cc) (λ x. x) (known file c before now h.loaded h.loads) (sym m ∙ u))
 
   abbrev SinkRose : Type 0
   SinkRose = Rose r.faults_before r.faults_after
 
   -- a write fault comes only where the count of the sink rose
   serves_write : Serves c file s before now r → s ≡ status.WriteFault → SinkRose
-  serves_write (serving.Stopped cause h t) u =
-      told_status (load_answer cause) s r SinkRose t (λ m f. absurd (other s _ _ (λ x. cc) m u)) (λ m rose f. rose)
-      (λ m w. absurd (subst IsStopped (sym m ∙ u) (stopped cause h)))
-  serves_write (serving.Answered d p h k t) u =
-      told_status (answer_of_read c d p) s r SinkRose t (λ m f. absurd (other s _ _ (λ x. cc) m u)) (λ m rose f. rose)
-      (λ m w. absurd (subst IsAnswer (sym m ∙ u) (read_answers c d p)))
+  serves_write h u =
+      told_status _ s r SinkRose h.tells (λ m f. absurd (other s _ _ (λ x. cc) m u)) (λ m rose f. rose)
+      (λ m w.
+      absurd
+      (never h.loaded status.WriteFault (λ x. cc) (λ x. cc) (λ x. x) (known file c before now h.loaded h.loads)
+      (sym m ∙ u)))
 
   -- the line of an input that couldn't be read was written, where it is one that a run may write
   record HasLine (MayWrite : List ℕ → Type 0) : Type 0 where
@@ -382,84 +382,70 @@ module _ (c : Command) (file : List ℕ → ToldFile) (s : Status) (before now :
     written : Wrote line r.before r.after
 
   module _ (MayWrite : List ℕ → Type 0)
-      (at_domain : IsUnread inputs.Domain (file c.domain) before now → MayWrite (refused_read inputs.Domain))
-      (at_problem : IsProblemUnread (file c.domain) (file c.problem) before now
-      → MayWrite (refused_read inputs.Problem)) where
-    -- a cause whose refusal is a read fault is an unread input, and its line was written
-    how_read : (cause : LoadError) → HowStops (file c.domain) (file c.problem) before now cause
-        → (load_answer cause).1 ≡ status.ReadFault → Wrote (load_answer cause).0 r.before r.after → HasLine MayWrite
-    how_read cause (ForMemory e) x w =
-        let y : status.NoMemory ≡ status.ReadFault = sym (ap (λ z. (load_answer z).1) e) ∙ x in
-        cc
-    how_read cause (AtDomainFile e u) x w = record {
-      line = refused_read inputs.Domain;
-      may = at_domain u;
-      written = subst (λ z. Wrote (load_answer z).0 r.before r.after) e w;
+      (unread : (which : Input) (name : List ℕ) → named c which ≡ Some name → IsUnread which (file name) before now
+      → LoadsBoth (file c.domain) (file c.problem) before now (Err (causes.Refused (refusals.Read which)))
+      → MayWrite (refused_read which)) where
+    -- what is loaded comes to a read fault only where an input is unread
+    how_read : (loaded : Loaded file c before now) → LoadsBoth (file c.domain) (file c.problem) before now loaded
+        → Known file c before now loaded → status_to loaded ≡ status.ReadFault
+        → Wrote (answer_to load_answer c loaded).0 r.before r.after → HasLine MayWrite
+    how_read loaded l (ForMemory e) i w = let x : status.NoMemory ≡ status.ReadFault = sym (ap status_to e) ∙ i in cc
+    how_read loaded l (ForReading which name e n u) i w = record {
+      line = refused_read which;
+      may = unread which name n u (subst (LoadsBoth (file c.domain) (file c.problem) before now) e l);
+      written = subst (λ x. Wrote (answer_to load_answer c x).0 r.before r.after) e w;
     }
-    how_read cause (AtProblemFile e u) x w = record {
-      line = refused_read inputs.Problem;
-      may = at_problem u;
-      written = subst (λ z. Wrote (load_answer z).0 r.before r.after) e w;
-    }
-    how_read cause (ForDomain why e i h) x w = absurd (subst IsRefused x i)
-    how_read cause (ForProblem why d e i q h) x w = absurd (subst IsRefused x i)
+    how_read loaded l (ForText which why e) i w =
+        absurd (subst IsAnswer (sym (ap status_to e) ∙ i) (why_answers which why))
+    how_read loaded l (ForAnswer x e) i w =
+        absurd (subst IsAnswer (sym (ap status_to e) ∙ i) (read_answers c x.0 x.1))
 
     -- a read fault is one of an unread input
     serves_read : Serves c file s before now r → s ≡ status.ReadFault → HasLine MayWrite
-    serves_read (serving.Stopped cause h t) u =
-        told_status (load_answer cause) s r (HasLine MayWrite) t (λ m f. absurd (other s _ _ (λ x. cc) m u))
+    serves_read h u =
+        told_status _ s r (HasLine MayWrite) h.tells (λ m f. absurd (other s _ _ (λ x. cc) m u))
         (λ m rose f. absurd (other s _ _ (λ x. cc) m u))
-        (λ m w. how_read cause (how_stops (file c.domain) (file c.problem) before now cause h) (sym m ∙ u) w)
-    serves_read (serving.Answered d p h k t) u =
-        absurd
-        (told_status (answer_of_read c d p) s r ⊥ t (λ m f. other s _ _ (λ x. cc) m u)
-        (λ m rose f. other s _ _ (λ x. cc) m u) (λ m w. subst IsAnswer (sym m ∙ u) (read_answers c d p)))
+        (λ m w. how_read h.loaded h.loads (known file c before now h.loaded h.loads) (sym m ∙ u) w)
 
     module _ (fs : Files) (told : TellsFiles file fs) (come : (a : Answer) → Comes fs c a → MayWrite a.0)
         (some : (text : List ℕ) × MayWrite text) where
       abbrev ServesShort : Type 0
       ServesShort = (text : List ℕ) × MayWrite text × IsShort text s r
 
-      -- a refused text is told up to a front of its line
-      refused_short : (cause : LoadError) → Comes fs c (load_answer cause) → IsRefused (load_answer cause).1
-          → Tells (load_answer cause) s r → ServesShort
-      refused_short cause x i t = (
-        (load_answer cause).0,
-        come (load_answer cause) x,
-        told_short (load_answer cause) s r (λ e. subst IsRefused e i) (λ e. subst IsRefused e i) t,
-      )
+      -- an answer that the files come to is told up to a front
+      answer_short : (loaded : Loaded file c before now)
+          → ((cause : LoadError) → loaded ≡ Err cause → IsExact file c before now fs told cause)
+          → LoadsBoth (file c.domain) (file c.problem) before now loaded → IsAnswer (status_to loaded)
+          → Tells (answer_to load_answer c loaded) s r → ServesShort
+      answer_short loaded p l i t =
+          let a = answer_to load_answer c loaded in (
+            a.0,
+            come a (comes_exact file c before now fs told loaded p l),
+            told_short a s r (λ e. subst IsAnswer e i) (λ e. subst IsAnswer e i) t,
+          )
 
-      -- a command of which nothing is planned stops short of a text that a run may write
-      how_short : (cause : LoadError) → HowStops (file c.domain) (file c.problem) before now cause
-          → Tells (load_answer cause) s r → ServesShort
-      how_short cause (ForMemory e) t =
-          (some.0, some.1, nothing_short some.0 s r (subst (λ z. Tells (load_answer z) s r) e t))
-      how_short cause (AtDomainFile e u) t = (
-        refused_read inputs.Domain,
-        at_domain u,
-        told_short _ s r (λ x. cc) (λ x. cc) (subst (λ z. Tells (load_answer z) s r) e t),
+      how_short : (loaded : Loaded file c before now) → LoadsBoth (file c.domain) (file c.problem) before now loaded
+          → Known file c before now loaded → Tells (answer_to load_answer c loaded) s r → ServesShort
+      how_short loaded l (ForMemory e) t =
+          (some.0, some.1, nothing_short some.0 s r (subst (λ x. Tells (answer_to load_answer c x) s r) e t))
+      how_short loaded l (ForReading which name e n u) t = (
+        refused_read which,
+        unread which name n u (subst (LoadsBoth (file c.domain) (file c.problem) before now) e l),
+        told_short _ s r (λ x. cc) (λ x. cc) (subst (λ x. Tells (answer_to load_answer c x) s r) e t),
       )
-      how_short cause (AtProblemFile e u) t = (
-        refused_read inputs.Problem,
-        at_problem u,
-        told_short _ s r (λ x. cc) (λ x. cc) (subst (λ z. Tells (load_answer z) s r) e t),
-      )
-      how_short cause (ForDomain why e i h) t =
-          refused_short cause (bad_domain_comes file fs told c (load_answer cause) why e h) i t
-      how_short cause (ForProblem why d e i q h) t =
-          refused_short cause (bad_problem_comes file fs told c (load_answer cause) why d e q h) i t
+      how_short loaded l (ForText which why e) t =
+          answer_short loaded
+          (λ cause i. (
+            λ m. let x : Err (causes.Refused (refusal_of which why)) ≡ Err causes.NoMemory = sym e ∙ (i ∙ ap Err m) in cc,
+            λ w name m u. absurd (why_unread which w why (same_refusal loaded _ _ e (i ∙ ap Err m))),
+          )) l (subst IsAnswer (sym (ap status_to e)) (why_answers which why)) t
+      how_short loaded l (ForAnswer x e) t =
+          answer_short loaded (λ cause i. let y : Ok x ≡ Err cause = sym e ∙ i in cc) l
+          (subst IsAnswer (sym (ap status_to e)) (read_answers c x.0 x.1)) t
 
       -- what is served has a text that a run may write, of which it wrote a front where it stopped short
       serves_short : Serves c file s before now r → ServesShort
-      serves_short (serving.Stopped cause h t) =
-          how_short cause (how_stops (file c.domain) (file c.problem) before now cause h) t
-      serves_short (serving.Answered d p h k t) =
-          let a = answer_of_read c d p in (
-            a.0,
-            come a (judged_comes file fs told c a d p refl h k),
-            told_short a s r (λ x. subst IsAnswer x (read_answers c d p))
-                (λ x. subst IsAnswer x (read_answers c d p)) t,
-          )
+      serves_short h = how_short h.loaded h.loads (known file c before now h.loaded h.loads) h.tells
 
 module _ (words : List (List ℕ)) (file : List ℕ → ToldFile) (s : Status) (before now : Input → ℕ) (r : SinkRun) where
   -- words are refused only where they are no command
@@ -478,6 +464,22 @@ module _ (words : List (List ℕ)) (file : List ℕ → ToldFile) (s : Status) (
   ends_write (serving.ByMaking seed n e h) u =
       serves_write (made_command seed n) (told_made seed n) s no_faults no_faults r h u
 
+  -- the line of an unread input of a command
+  read_line : (c : Command) → accepts words ≡ Some (OnFiles c) → (which : Input) (name : List ℕ)
+      → named c which ≡ Some name → IsUnread which (file name) before now
+      → LoadsBoth (file c.domain) (file c.problem) before now (Err (causes.Refused (refusals.Read which)))
+      → IsReadLine words file before now (refused_read which)
+  read_line c e which name n u l = record {
+    command = c;
+    accepted = e;
+    which = which;
+    name = name;
+    has_name = n;
+    unread = u;
+    loads = l;
+    line_is = refl;
+  }
+
   -- a read fault is one of an input that the words name
   pub ends_read : Ends words file s before now r → s ≡ status.ReadFault → ReadFails words file before now r
   ends_read (serving.NoCommand e t) u =
@@ -485,12 +487,11 @@ module _ (words : List (List ℕ)) (file : List ℕ → ToldFile) (s : Status) (
       (told_status _ s r ⊥ t (λ m f. other s _ _ (λ x. cc) m u) (λ m rose f. other s _ _ (λ x. cc) m u)
       (λ m w. other s _ _ (λ x. cc) m u))
   ends_read (serving.ByCommand c e h) u =
-      let x = serves_read c file s before now r (IsReadLine words file before now) (λ n. OfDomain c e n refl)
-      (λ n. OfProblem c e n refl) h u in
+      let x = serves_read c file s before now r (IsReadLine words file before now) (read_line c e) h u in
       record { line = x.line; cause = x.may; written = x.written }
   ends_read (serving.ByMaking seed n e h) u =
       let x = serves_read (made_command seed n) (told_made seed n) s no_faults no_faults r (λ line. ⊥)
-      (λ n. made_read inputs.Domain _ _ refl n) (λ n. made_read inputs.Problem _ _ refl n.unread) h u in
+      (λ which name i q l. made_read which name seed n i q) h u in
       absurd x.may
 
   module _ (files : Files) (told : TellsFiles file files) (some : (a : Answer) × Outcome words files a) where
@@ -508,12 +509,12 @@ module _ (words : List (List ℕ)) (file : List ℕ → ToldFile) (s : Status) (
     ends_short (serving.NoCommand e t) =
         (refused_usage, OfOutcome status.Usage (outcome.NoCommand e refl), told_short _ s r (λ x. cc) (λ x. cc) t)
     ends_short (serving.ByCommand c e h) =
-        serves_short c file s before now r MayWrite (λ n. OfReading (OfDomain c e n refl))
-        (λ n. OfReading (OfProblem c e n refl)) files told (λ a x. OfOutcome a.1 (outcome.ByCommand c e x)) any_text h
+        serves_short c file s before now r MayWrite (λ which name n u l. OfReading (read_line c e which name n u l)) files
+        told (λ a x. OfOutcome a.1 (outcome.ByCommand c e x)) any_text h
     ends_short (serving.ByMaking seed n e h) =
         serves_short (made_command seed n) (told_made seed n) s no_faults no_faults r MayWrite
-        (λ n. absurd (made_read inputs.Domain _ _ refl n)) (λ n. absurd (made_read inputs.Problem _ _ refl n.unread))
-        (made_files seed n) (λ name. refl) (λ a x. OfOutcome a.1 (outcome.ByMaking seed n e x)) any_text h
+        (λ which name i q l. absurd (made_read which name seed n i q)) (made_files seed n) (λ name. refl)
+        (λ a x. OfOutcome a.1 (outcome.ByMaking seed n e x)) any_text h
 
     -- after want of memory a front of a text was written that the run could write
     pub ends_front : Ends words file s before now r → s ≡ status.NoMemory → WritesFront words files file before now r
@@ -531,21 +532,10 @@ has_memory s (inr e) = λ m. other s _ _ (λ x. cc) e m
 
 -- words that are no command are told so, where memory isn't wanting
 pub refused_words : (s : Status) (r : SinkRun) → (s ≡ status.Usage) ⊎ (s ≡ status.WriteFault)
-    → Tells (refused_usage, status.Usage) s r → RefusesWords s r
+    → Tells (refusal_answer refusals.Usage) s r → RefusesWords s r
 refused_words s r n t =
-    told_status (refused_usage, status.Usage) s r (RefusesWords s r) t (λ m f. absurd (has_memory s n m))
+    told_status (refusal_answer refusals.Usage) s r (RefusesWords s r) t (λ m f. absurd (has_memory s n m))
     (λ m rose f. inr m) (λ m w. inl (m, w))
-
--- the command of three words or more names their second and their third
-pub named_command : (ws : List (String Global)) (d p : String Global) (dn pn : List ℕ) (j : Job) → 3 ≤ length ws
-    → d ≡ get_or ws 1 d → p ≡ get_or ws 2 p → dn ≡ string_bytes d → pn ≡ string_bytes p
-    → accepts (map string_bytes ws)
-    ≡ Some (on_files (slice_index_or (map string_bytes ws) 1 []) (slice_index_or (map string_bytes ws) 2 []) j)
-    → accepts (map string_bytes ws) ≡ Some (on_files dn pn j)
-named_command [] d p dn pn k l i j x y e = absurd (omega arith)
-named_command (u ∷ []) d p dn pn k l i j x y e = absurd (omega arith)
-named_command (u ∷ v ∷ []) d p dn pn k l i j x y e = absurd (omega arith)
-named_command (u ∷ v ∷ w ∷ ws) d p dn pn k l i j x y e = e ∙ (rw (x, y, i, j) refl)
 
 -- what is done to an input under the name that a command has for it is done under the name that the words have
 pub touched_by_command : (words : List (List ℕ)) (file : List ℕ → ToldFile) (d p : List ℕ) (j : Job) (w : Input)

@@ -1,4 +1,3 @@
-pub mod Codes
 pub mod CheckTexts
 pub mod Command
 pub mod Loading
@@ -8,9 +7,7 @@ pub mod Reading
 pub mod Rereading
 pub mod Run
 pub mod Serving
-pub mod Summed
 pub mod Telling
-pub mod Told
 pub mod Touching
 pub mod Words
 pub mod Samples

@@ -1,5 +1,5 @@
 -- What is known of two files that are read, and why a run goes no further.
-use Rattle.std.specs.Prelude.{◌≡◌, ◌⊎◌, ℕ, ◌+◌, List, Option, Some, None, take}
+use Rattle.std.specs.Prelude.{◌≡◌, ◌⊎◌, ℕ, ◌+◌, List, Option, Some, None, Result, Ok, Err, take}
 use Rattle.hp_io.specs.declared.folder.Input.{Input}
 use Rattle.hp_io.specs.declared.folder.Input.TheVariants as inputs
 use Rattle.hp_io.specs.Rules.{Rose}
@@ -9,13 +9,14 @@ use Rattle.hp_text.specs.declared.forest.TextRefusal.{TextRefusal}
 use Rattle.hp_text.specs.declared.forest.TextRefusal.TheVariants as texts
 use Rattle.hp_syntax.specs.declared.limits.TheConstants.{LARGEST_TEXT}
 use Rattle.hp_syntax.specs.Grammar.{domain_form, problem_form}
-use Rattle.hp_syntax.specs.Steps.{Expected, SeveralPairs}
-use Rattle.hp_syntax.specs.Syntax.{Domain}
+use Rattle.hp_syntax.specs.Syntax.{Domain, Problem}
 use Rattle.hp_out.specs.declared.refusal.Refusal.TheVariants as refusals
 use Rattle.hp_top.specs.declared.loading.LoadError.{LoadError}
 use Rattle.hp_top.specs.declared.loading.LoadError.TheVariants as causes
+use Rattle.hp_top.specs.declared.loading.Loaded.{Loaded}
+use Rattle.hp_syntax.specs.Views.{domain_of, problem_of}
 use Rattle.hp_syntax.specs.TextForms.{Form, IsRead}
-use Rattle.hp_top.specs.Outcome.{Why, InText, InForm, IsUnreadable}
+use Rattle.hp_top.specs.Outcome.{Why, IsUnreadable, refusal_of, Both}
 
 -- what a folder tells of a file: nothing, that there is none, or its bytes
 abbrev pub ToldFile : Type 0
@@ -49,9 +50,7 @@ IsUnread which file before now = Rose (before which) (now which) ⊎ (file ≡ S
 
 -- the cause that tells why a text is read as nothing
 abbrev pub cause_of : Input → Why → LoadError
-cause_of which (InText r) = causes.Refused (refusals.Text which r.kind r.offset)
-cause_of which (InForm (Expected what s)) = causes.Refused (refusals.Form which what s)
-cause_of which (InForm (SeveralPairs s)) = causes.Refused (refusals.Several s)
+cause_of which why = causes.Refused (refusal_of which why)
 
 -- the cause of a refused text, and of a forest without a form
 abbrev pub of_text : Input → TextRefusal → LoadError
@@ -78,16 +77,20 @@ pub data StopsAt {A : Type 0} (which : Input) (form : Form A) (cause : LoadError
   Unreadable : (why : Why) → cause ≡ cause_of which why → Holds (λ text. IsUnreadable form text why) file
       → StopsAt which form cause file before now
 
+-- what is loaded of a told file: what it is read as, or why it is read as nothing
+abbrev pub LoadsTold : {A : Type 0} → Input → Form A → ToldFile → (Input → ℕ) → (Input → ℕ) → Result A LoadError → Type 0
+LoadsTold which form file before now (Ok x) = Reads form file x
+LoadsTold which form file before now (Err cause) = StopsAt which form cause file before now
+
 -- ---- both files
 
--- the problem couldn't be read; the domain's file is there and read
-pub record IsProblemUnread (domain problem : ToldFile) (before now : Input → ℕ) : Type 0 where
-  pub of_domain : Domain
-  pub is_read : Reads domain_form domain of_domain
-  pub unread : IsUnread inputs.Problem problem before now
+-- a domain is loaded of a told file, and then a problem of another
+abbrev pub LoadsBoth : ToldFile → ToldFile → (Input → ℕ) → (Input → ℕ) → Result (Domain × Problem) LoadError → Type 0
+LoadsBoth domain problem before now loaded =
+    Both (LoadsTold inputs.Domain domain_form domain before now) (LoadsTold inputs.Problem problem_form problem before now)
+    loaded
 
--- why a run stops before both files are read: the problem's file matters only where the domain's is read
-pub data Stops (cause : LoadError) (domain problem : ToldFile) (before now : Input → ℕ) : Type 0 where
-  AtDomain : StopsAt inputs.Domain domain_form cause domain before now → Stops cause domain problem before now
-  AtProblem : (d : Domain) → Reads domain_form domain d
-      → StopsAt inputs.Problem problem_form cause problem before now → Stops cause domain problem before now
+-- what was loaded into memory, as plain values
+abbrev pub plain_of : Result Loaded LoadError → Result (Domain × Problem) LoadError
+plain_of (Ok l) = Ok (domain_of l.domain, problem_of l.problem)
+plain_of (Err cause) = Err cause

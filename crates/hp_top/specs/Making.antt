@@ -1,10 +1,9 @@
 -- Problems that are made: their files, and what is told of their first plan.
-use Rattle.std.specs.Prelude.{ℕ, suc, ℤ, cond, List, [], ◌∷◌, ◌++◌, Option, Some, None, length, bytes_eq, codes, decimal}
-use Rattle.std.specs.Fmt.{signed_decimal}
+use Rattle.std.specs.Prelude.{ℕ, cond, List, ◌++◌, Option, Some, None, bytes_eq, codes, decimal}
 use Rattle.hp_make.specs.Texts.{domain_text, problem_text}
-use Rattle.hp_syntax.specs.Report.{plans, dids, seen, ending, ending_text}
+use Rattle.hp_syntax.specs.Report.{Answer, behind, line_of, nothing_seen, report}
 use Rattle.hp_syntax.specs.Syntax.{Problem}
-use Rattle.hp_syntax.specs.Walk.{Node, Visit, Did, Plan, CutHere, FaultHere}
+use Rattle.hp_syntax.specs.Walk.{Visit}
 use Rattle.hp_top.specs.CheckTexts.{atoms_written}
 use Rattle.hp_top.specs.Command.{Command, make_command, Summing}
 
@@ -24,33 +23,6 @@ made_lines seed packages p =
     codes "made seed " ++ decimal seed ++ codes " packages " ++ decimal packages
     ++ codes "\nstate atoms " ++ decimal (atoms_written p.pairs) ++ codes "\n"
 
--- the line of a plan of so many steps at this cost
-unfoldable pub cost_line : ℕ → ℤ → ℕ → List ℕ
-cost_line i cost steps =
-    codes "plan " ++ decimal i ++ codes " cost " ++ signed_decimal cost
-    ++ codes " steps " ++ decimal steps ++ codes "\n"
-
--- a plan without its steps: its number, cost and number of steps
-abbrev pub plan_line : ℕ → Node → List ℕ
-plan_line i n = cost_line i n.cost (length n.steps)
-
--- the line of each plan that was seen, by number from i on
-abbrev pub plan_lines : ℕ → List Visit → List ℕ
-plan_lines i [] = []
-plan_lines i (v ∷ vs) =
-    elim v.sight [
-      | Plan ↦ plan_line i v.node ++ plan_lines (suc i) vs
-      | Did ↦ plan_lines i vs
-      | CutHere ↦ plan_lines i vs
-      | FaultHere f ↦ plan_lines i vs
-    ]
-
--- the line of a walk's first plan, where there is one, and the ending line
-unfoldable pub first_lines : List Visit → List ℕ
-first_lines walk =
-    plan_lines 1 (seen 1 walk)
-    ++ ending_text (ending 1 (seen 1 walk)) (plans (seen 1 walk)) (dids (seen 1 walk))
-
--- the whole text of a run over a problem that was made, of which one plan is asked
-abbrev pub summary_text : ℕ → ℕ → Problem → List Visit → List ℕ
-summary_text seed packages p walk = made_lines seed packages p ++ first_lines walk
+-- what is told of a problem that was made, and of the walk of which one plan is asked: its line and the ending line
+abbrev pub made_answer : ℕ → ℕ → Problem → List Visit → Answer
+made_answer seed packages p walk = behind (made_lines seed packages p) (report line_of 1 nothing_seen walk)

@@ -1,12 +1,13 @@
 -- What the top call promises.
-use Rattle.std.specs.Prelude.{◌≡◌, ◌⊎◌, ℕ, List, ◌++◌, Option, Some}
+use Rattle.std.specs.Prelude.{◌≡◌, ◌⊎◌, ℕ, List, ◌++◌, Option, Some, Err}
 use Rattle.hp_io.specs.declared.folder.Input.{Input}
-use Rattle.hp_io.specs.declared.folder.Input.TheVariants as inputs
-use Rattle.hp_top.specs.declared.status.Status.{Status}
-use Rattle.hp_top.specs.declared.status.Status.TheVariants as status
-use Rattle.hp_top.specs.Command.{Command, OnFiles, accepts}
+use Rattle.hp_syntax.specs.declared.status.Status.{Status}
+use Rattle.hp_syntax.specs.declared.status.Status.TheVariants as status
+use Rattle.hp_top.specs.Command.{Command, OnFiles, accepts, named}
 use Rattle.hp_top.specs.Outcome.{Files, Outcome}
-use Rattle.hp_top.specs.Loading.{ToldFile, IsUnread, IsProblemUnread}
+use Rattle.hp_top.specs.Loading.{ToldFile, IsUnread, LoadsBoth}
+use Rattle.hp_out.specs.declared.refusal.Refusal.TheVariants as refusals
+use Rattle.hp_top.specs.declared.loading.LoadError.TheVariants as causes
 use Rattle.hp_out.specs.Lines.{refused_usage, refused_read}
 use Rattle.hp_out.specs.Writing.{SinkRun, Wrote, WroteFront, WroteProperFront}
 
@@ -25,14 +26,18 @@ pub record IsOutcome (words : List (List ℕ)) (files : Files) (s : Status) (bef
 abbrev pub RefusesWords : Status → SinkRun → Type 0
 RefusesWords s r = ((s ≡ status.Usage) × Wrote refused_usage r.before r.after) ⊎ (s ≡ status.WriteFault)
 
--- the line of an input that the words name and that couldn't be read
-pub data IsReadLine (words : List (List ℕ)) (file : List ℕ → ToldFile) (before now : Input → ℕ)
+-- the line of an input that couldn't be read: the words name it, and what they name before it was loaded
+pub record IsReadLine (words : List (List ℕ)) (file : List ℕ → ToldFile) (before now : Input → ℕ)
     (line : List ℕ) : Type 0 where
-  OfDomain : (c : Command) → accepts words ≡ Some (OnFiles c) → IsUnread inputs.Domain (file c.domain) before now
-      → line ≡ refused_read inputs.Domain → IsReadLine words file before now line
-  OfProblem : (c : Command) → accepts words ≡ Some (OnFiles c)
-      → IsProblemUnread (file c.domain) (file c.problem) before now
-      → line ≡ refused_read inputs.Problem → IsReadLine words file before now line
+  pub command : Command
+  pub accepted : accepts words ≡ Some (OnFiles command)
+  pub which : Input
+  pub name : List ℕ
+  pub has_name : named command which ≡ Some name
+  pub unread : IsUnread which (file name) before now
+  pub loads : LoadsBoth (file command.domain) (file command.problem) before now
+      (Err (causes.Refused (refusals.Read which)))
+  pub line_is : line ≡ refused_read which
 
 -- an input that the words name couldn't be read, and the one line says so
 pub record ReadFails (words : List (List ℕ)) (file : List ℕ → ToldFile) (before now : Input → ℕ)
@@ -47,16 +52,17 @@ pub data CouldWrite (words : List (List ℕ)) (files : Files) (file : List ℕ �
   OfOutcome : (s : Status) → Outcome words files (text, s) → CouldWrite words files file before now text
   OfReading : IsReadLine words file before now text → CouldWrite words files file before now text
 
--- a front of a text that the run could write was written, maybe all of it
-pub record WritesFront (words : List (List ℕ)) (files : Files) (file : List ℕ → ToldFile)
-    (before now : Input → ℕ) (r : SinkRun) : Type 0 where
+-- of a text that the run could write so much was written
+pub record WritesSome (much : List ℕ → Option (List ℕ) → Option (List ℕ) → Type 0) (words : List (List ℕ))
+    (files : Files) (file : List ℕ → ToldFile) (before now : Input → ℕ) (r : SinkRun) : Type 0 where
   pub text : List ℕ
   pub could : CouldWrite words files file before now text
-  pub written : WroteFront text r.before r.after
+  pub written : much text r.before r.after
 
--- a proper front of a text that the run could write was written
-pub record WritesProperFront (words : List (List ℕ)) (files : Files) (file : List ℕ → ToldFile)
-    (before now : Input → ℕ) (r : SinkRun) : Type 0 where
-  pub text : List ℕ
-  pub could : CouldWrite words files file before now text
-  pub written : WroteProperFront text r.before r.after
+-- a front of a text that the run could write was written, maybe all of it; or a proper front
+abbrev pub WritesFront : List (List ℕ) → Files → (List ℕ → ToldFile) → (Input → ℕ) → (Input → ℕ) → SinkRun → Type 0
+WritesFront = WritesSome WroteFront
+
+abbrev pub WritesProperFront : List (List ℕ) → Files → (List ℕ → ToldFile) → (Input → ℕ) → (Input → ℕ) → SinkRun
+    → Type 0
+WritesProperFront = WritesSome WroteProperFront

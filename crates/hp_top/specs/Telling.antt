@@ -1,54 +1,59 @@
 -- What telling a walk has written, and what is left to tell.
-use Rattle.std.specs.Prelude.{◌≡◌, ℕ, ◌+◌, ◌<◌, ◌==◌, Bool, cond, List, ◌++◌, Option, Some, None, length}
+use Rattle.std.specs.Prelude.{◌≡◌, ℕ, ◌+◌, ◌<◌, ◌==◌, cond, List, ◌++◌, Option, Some, None, Result, Ok, Err, false, true, length}
 use Rattle.hp_io.specs.Rules.{Rose}
 use Rattle.hp_net.specs.Standings.{Tree}
 use Rattle.hp_out.specs.Endings.{ending_of}
 use Rattle.hp_out.specs.Writing.{SinkRun, Wrote, WroteFront, WroteProperFront}
 use Rattle.hp_out.specs.declared.ending.Ending.{Ending}
 use Rattle.hp_out.specs.declared.ending.Ending.TheVariants.{Stopped}
-use Rattle.hp_syntax.specs.Report.{ending_text}
+use Rattle.hp_syntax.specs.Report.{Answer, Tally, tally, ended, answer_at, behind, report, line_of, plan_of}
 use Rattle.hp_syntax.specs.Walk.{Visit, node_at}
+use Rattle.hp_syntax.specs.declared.status.Status.{Status}
+use Rattle.hp_syntax.specs.declared.status.Status.TheVariants as status
+use Rattle.hp_top.specs.declared.planning.Detail.{Detail}
+use Rattle.hp_top.specs.declared.planning.Detail.TheVariants as details
 use Rattle.hp_top.specs.declared.planning.Progress.{Progress}
 use Rattle.hp_top.specs.declared.telling.Halt.{Halt}
 use Rattle.hp_top.specs.declared.telling.Halt.TheVariants.{NoMemory, Failed}
-use Rattle.hp_top.specs.declared.status.Status.{Status}
-use Rattle.hp_top.specs.declared.status.Status.TheVariants as status
-use Rattle.hp_top.specs.Outcome.{Answer, planned_status}
-use Rattle.hp_top.specs.Told.{told, told_status}
 
 -- a visit's path reaches its node from the root of a tree
 abbrev pub IsAtItsNode : Tree → Visit → Type 0
 IsAtItsNode t v = node_at t.rules t.nest t.root v.path ≡ Some v.node
 
--- the text that is left, and the status to end with, of k plans asked with their states or without
-abbrev pub left : ℕ → Bool → Progress → List Visit → List ℕ
-left k states p vs = told k states p.plans p.expansions p.is_cut vs
+-- what is told of a plan
+abbrev pub telling : Detail → ℕ → Visit → List ℕ
+telling details.Line = line_of
+telling details.Steps = plan_of false
+telling details.State = plan_of true
 
-abbrev pub left_status : ℕ → Progress → List Visit → Status
-left_status k p vs = told_status k p.plans p.is_cut vs
+-- what was seen so far
+abbrev pub tally_of : Progress → Tally
+tally_of p = tally p.plans p.expansions p.is_cut
+
+-- what is left to tell of a walk of which k plans are asked
+abbrev pub left : Detail → ℕ → Progress → List Visit → Answer
+left detail k p vs = report (telling detail) k (tally_of p) vs
 
 -- a text was written, which leaves the rest of what was left before
-pub record Goes (k : ℕ) (states : Bool) (p q : Progress) (before after : List Visit)
+pub record Goes (detail : Detail) (k : ℕ) (p q : Progress) (before after : List Visit)
     (old new : Option (List ℕ)) : Type 0 where
   pub text : List ℕ
   pub written : Wrote text old new
-  pub rest : left k states p before ≡ text ++ left k states q after
-  pub status : left_status k p before ≡ left_status k q after
+  pub rest : left detail k p before ≡ behind text (left detail k q after)
 
 -- a text was written, and the ending line is all that is left
-pub record Closes (k : ℕ) (states : Bool) (p q : Progress) (before : List Visit) (x : Ending)
+pub record Closes (detail : Detail) (k : ℕ) (p q : Progress) (before : List Visit) (x : Ending)
     (old new : Option (List ℕ)) : Type 0 where
   pub text : List ℕ
   pub written : Wrote text old new
-  pub rest : left k states p before ≡ text ++ ending_text (ending_of x) q.plans q.expansions
-  pub status : left_status k p before ≡ planned_status (ending_of x) q.plans
+  pub rest : left detail k p before ≡ answer_at text (ended (ending_of x) (tally_of q))
 
 -- after one visit the telling goes on with fewer visits, or closes
-abbrev pub Visited : Option Ending → ℕ → Bool → Progress → Progress → List Visit → List Visit
+abbrev pub Visited : Option Ending → Detail → ℕ → Progress → Progress → List Visit → List Visit
     → Option (List ℕ) → Option (List ℕ) → Type 0
-Visited None k states p q before after old new =
-    Goes k states p q before after old new × (q.plans < k) × (length after < length before)
-Visited (Some x) k states p q before after old new = Closes k states p q before x old new
+Visited None detail k p q before after old new =
+    Goes detail k p q before after old new × (q.plans < k) × (length after < length before)
+Visited (Some x) detail k p q before after old new = Closes detail k p q before x old new
 
 -- the telling of a text stops: for want of memory, with a front of it written, or because the sink's
 -- count rose, with a proper front
@@ -71,3 +76,9 @@ pub data Tells (a : Answer) (s : Status) (r : SinkRun) : Type 0 where
   Unwritten : s ≡ status.WriteFault → Rose r.faults_before r.faults_after
       → WroteProperFront a.0 r.before r.after → Tells a s r
   Written : s ≡ a.1 → Wrote a.0 r.before r.after → Tells a s r
+
+-- the status of a run whose answer was told, or whose telling stopped
+abbrev pub status_told : Result Status Halt → Status
+status_told (Ok s) = s
+status_told (Err NoMemory) = status.NoMemory
+status_told (Err Failed) = status.WriteFault

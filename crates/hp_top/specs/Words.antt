@@ -1,8 +1,8 @@
 -- What a command asks.
-use Rattle.std.specs.Prelude.{◌≡◌, ℕ, ◌<◌, ◌≤◌, List, Option, Some, None, slice_index_or, []}
+use Rattle.std.specs.Prelude.{ℕ, ◌<◌, ◌≤◌}
 use Rattle.hp_syntax.specs.declared.limits.TheConstants.{GREATEST_DEPTH}
 use Rattle.hp_top.specs.declared.words.TheConstants.{LARGEST_SEED, MOST_PACKAGES}
-use Rattle.hp_top.specs.Command.{Job, Options, Planning, Checking, Showing, Summing, Request, Making, on_files, accepts, options}
+use Rattle.hp_top.specs.Command.{Job, Options, Planning, Checking, Showing, Summing, Request, Making, on_files, options}
 use Rattle.hp_top.specs.declared.words.Asked.{Asked}
 use Rattle.hp_top.specs.declared.words.Job as asked
 use Rattle.hp_top.specs.declared.words.Options as asked_options
@@ -39,19 +39,10 @@ IsAsked jobs.Show = Unit {0}
 IsAsked (jobs.Sum seed packages) = IsMakeable seed packages
 
 abbrev pub IsRequested : asked_request.Request → Type 0
-IsRequested (requests.Files j) = IsAsked j
+IsRequested (requests.Files domain problem job) = IsAsked job
 IsRequested (requests.Make seed packages) = IsMakeable seed packages
 
--- the words are a command of two files, for this job
-abbrev pub AsksFor : List (List ℕ) → asked.Job → Type 0
-AsksFor words j =
-    accepts words ≡ Some (on_files (slice_index_or words 1 []) (slice_index_or words 2 []) (job_of j))
-
--- a request, with the two words behind the first
-abbrev pub request_of : List ℕ → List ℕ → asked_request.Request → Request
-request_of x y (requests.Files j) = on_files x y (job_of j)
-request_of x y (requests.Make seed packages) = Making seed packages
-
--- the words ask for this
-abbrev pub Requests : List (List ℕ) → asked_request.Request → Type 0
-Requests words r = accepts words ≡ Some (request_of (slice_index_or words 1 []) (slice_index_or words 2 []) r)
+-- a request, by the names of its files
+abbrev pub request_of : asked_request.Request → Request
+request_of (requests.Files domain problem job) = on_files domain.now problem.now (job_of job)
+request_of (requests.Make seed packages) = Making seed packages

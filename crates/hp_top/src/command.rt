@@ -17,10 +17,10 @@ use crate::loading::load;
 use crate::making::serve_made;
 use crate::refusing::{refuse, refuse_files};
 use crate::serving::serve_job;
-use crate::status::Status;
 use crate::words::{Job, Request, request_asked};
 use hp_io::{Folder, Input, Sink};
 use hp_out::Refusal;
+use hp_syntax::Status;
 use std::alloc::Global;
 
 /// Reads two files, and does the job with them.
@@ -66,14 +66,13 @@ fn serve<F: Folder, K: Sink>(alloc: Global, words: &[String], folder: &mut F, ou
     match request_asked(words) {
         None => refuse(out, &Refusal::Usage),
         Some(Request::Make { seed, packages }) => serve_made(alloc, seed, packages, out),
-        Some(Request::Files(job)) => serve_command(
-            alloc,
-            words[1].as_str(),
-            words[2].as_str(),
-            job,
-            folder,
-            out,
-        ),
+        Some(
+            Request::Files {
+                domain,
+                problem,
+                job,
+            },
+        ) => serve_command(alloc, domain, problem, job, folder, out),
     }
 }
 

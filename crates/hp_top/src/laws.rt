@@ -3,7 +3,8 @@
 //! Each function does nothing but name laws of the definitions below, and its contract is the law.
 
 ghost use Rattle.std.specs.Prelude.{◌≡◌, List, ℕ};
-ghost use Rattle.hp_top.specs.Outcome.{Answer, Files, Outcome};
+ghost use Rattle.hp_syntax.specs.Report.{Answer};
+ghost use Rattle.hp_top.specs.Outcome.{Files, Outcome};
 
 use hp_syntax::laws::{
     every_text_is_one_or_the_other, no_text_is_both, texts_have_one_refusal, texts_spell_one_forest,

@@ -13,10 +13,9 @@ pub mod rereading;
 pub mod samples;
 mod serving;
 mod showing;
-mod status;
 mod summing;
 mod telling;
 mod words;
 
 pub use command::run;
-pub use status::Status;
+pub use hp_syntax::Status;

@@ -10,7 +10,7 @@ ghost use Rattle.hp_syntax.specs.Views.{domain_of, problem_of};
 ghost use Rattle.hp_syntax.specs.TextForms.{IsRead};
 ghost use Rattle.hp_text.specs.Nodes.{forest_of};
 ghost use Rattle.hp_text.specs.Refusals.{RefusesText};
-ghost use Rattle.hp_top.specs.Loading.{ReadsFile, Reads, HasText, IsUnread, IsRefusedFor, StopsAt, Stops, of_text, of_form};
+ghost use Rattle.hp_top.specs.Loading.{ReadsFile, Reads, HasText, IsUnread, IsRefusedFor, StopsAt, LoadsBoth, plain_of, of_text, of_form};
 ghost use Rattle.hp_top.specs.Touching.{Touches, IsUntouched, input_run};
 
 use crate::reading::{ReadError, read_rest};
@@ -187,11 +187,9 @@ pub fn load<F: Folder>(
     domain: &str,
     problem: &str,
 ) -> Result<Loaded, LoadError>
-    ensures domain { IfOk result (λ l. Reads domain_form (F.file folder.old domain.now) (domain_of l.domain)) }
-    ensures problem { IfOk result (λ l. Reads problem_form (F.file folder.old problem.now) (problem_of l.problem)) }
+    ensures loads { LoadsBoth (F.file folder.old domain.now) (F.file folder.old problem.now)
+        (F.faults folder.old) (F.faults folder.new) (plain_of result) }
     ensures text { IfOk result (λ l. HasText problem_form (problem_of l.problem)) }
-    ensures stops { IfErr result (λ e. Stops e (F.file folder.old domain.now) (F.file folder.old problem.now)
-        (F.faults folder.old) (F.faults folder.new)) }
     ensures files { (n : List ℕ) → F.file folder.new n ≡ F.file folder.old n }
     ensures later { (w : Input) → F.faults folder.old w ≤ F.faults folder.new w }
     ensures touched { (w : Input) → Touches (F.file folder.old (by_input w domain.now problem.now))

@@ -1,11 +1,11 @@
 //! A problem that is made, from its seed to what is told of its first plan.
 
-ghost use Rattle.std.specs.Prelude.{◌≤◌, Some, IfOk, IfErr};
+ghost use Rattle.std.specs.Prelude.{◌≤◌, Some, IfOk};
 ghost use Rattle.hp_make.specs.Texts.{domain_text, problem_text};
 ghost use Rattle.hp_out.specs.Writing.{sink_run};
-ghost use Rattle.hp_syntax.specs.Grammar.{domain_form, problem_form};
-ghost use Rattle.hp_syntax.specs.Views.{domain_of, problem_of};
-ghost use Rattle.hp_top.specs.Loading.{Reads, HasText, Stops};
+ghost use Rattle.hp_syntax.specs.Grammar.{problem_form};
+ghost use Rattle.hp_syntax.specs.Views.{problem_of};
+ghost use Rattle.hp_top.specs.Loading.{HasText, LoadsBoth, plain_of};
 ghost use Rattle.hp_top.specs.Making.{made_command};
 ghost use Rattle.hp_top.specs.Serving.{Serves, no_faults, told_made};
 ghost use Rattle.hp_top.specs.Words.{IsMakeable};
@@ -13,21 +13,18 @@ ghost use Rattle.hp_top.specs.Words.{IsMakeable};
 use crate::loading::{LoadError, Loaded, domain_in, problem_in};
 use crate::refusing::refuse_files;
 use crate::serving::serve_job;
-use crate::status::Status;
 use crate::words::Job;
 use hp_io::Sink;
 use hp_make::make;
+use hp_syntax::Status;
 use std::alloc::Global;
 
 /// Makes a domain and a problem of it, and reads them.
 fn load_made(alloc: Global, seed: u32, packages: u32) -> Result<Loaded, LoadError>
     requires { IsMakeable seed packages }
-    ensures domain { IfOk result (λ l. Reads domain_form (Some (Some domain_text)) (domain_of l.domain)) }
-    ensures problem { IfOk result (λ l. Reads problem_form (Some (Some (problem_text seed packages)))
-        (problem_of l.problem)) }
+    ensures loads { LoadsBoth (Some (Some domain_text)) (Some (Some (problem_text seed packages)))
+        no_faults no_faults (plain_of result) }
     ensures text { IfOk result (λ l. HasText problem_form (problem_of l.problem)) }
-    ensures stops { IfErr result (λ e. Stops e (Some (Some domain_text)) (Some (Some (problem_text seed packages)))
-        no_faults no_faults) }
 {
     let Ok(made) = make(alloc, seed, packages) else {
         return Err(LoadError::NoMemory);

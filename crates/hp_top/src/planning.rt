@@ -1,21 +1,30 @@
 //! The walk of a problem, with each plan written as it is found.
 
-ghost use Rattle.std.specs.Prelude.{◌≡◌, ◌≤◌, ◌<◌, ◌+◌, true, false, MatchOption, IfOk, IfErr, OnOk};
+ghost use Rattle.std.specs.Prelude.{◌≡◌, ◌≤◌, ◌<◌, ◌+◌, true, false, MatchOption, IfOk, IfErr, OnOk, length};
 ghost use Rattle.std.specs.List.{All};
 ghost use Rattle.hp_net.specs.Standings.{node_reached};
 ghost use Rattle.hp_out.specs.Endings.{ending_of};
 ghost use Rattle.hp_out.specs.Writing.{Wrote, sink_run};
-ghost use Rattle.hp_syntax.specs.Report.{told_plan, ending_text};
-ghost use Rattle.hp_top.specs.Outcome.{planned_status};
-ghost use Rattle.hp_top.specs.Told.{told, told_status, quiet_ending};
-ghost use Rattle.hp_top.specs.Telling.{IsAtItsNode, Visited, Halts, counted, left, stop_at};
+ghost use Rattle.hp_syntax.specs.Report.{ending_text, nothing_seen, plan_line, quiet_ending, report, status_of, told_plan};
+ghost use Rattle.hp_syntax.specs.Walk.{Plan, visit};
+ghost use Rattle.hp_top.specs.Telling.{IsAtItsNode, Visited, Halts, counted, left, stop_at, telling};
 
-use crate::status::Status;
 use crate::telling::Halt;
-use crate::words::Asked;
 use hp_io::Sink;
 use hp_net::{Step, Walk};
 use hp_out::{Ending, Pen};
+use hp_syntax::Status;
+
+/// What is told of a plan.
+#[derive(Clone, Copy)]
+pub enum Detail {
+    /// Its line alone.
+    Line,
+    /// Its line and its steps.
+    Steps,
+    /// Its line, its steps and the state that it leads to.
+    State,
+}
 
 /// How far a walk was told.
 #[derive(Clone, Copy)]
@@ -30,7 +39,7 @@ pub struct Progress {
 
 /// The status of a run that ends so.
 fn status_of(ending: Ending, plans: u64) -> Status
-    ensures { result ≡ planned_status (ending_of ending) plans }
+    ensures { result ≡ status_of (ending_of ending) plans }
 {
     match ending {
         Ending::Fault(_) => Status::RunFault,
@@ -42,14 +51,31 @@ fn status_of(ending: Ending, plans: u64) -> Status
 }
 
 /// How a walk ends that met no fault.
-pub fn quiet(is_cut: bool) -> Ending
+fn quiet(is_cut: bool) -> Ending
     ensures { ending_of result ≡ quiet_ending is_cut }
 {
     if is_cut { Ending::Cut } else { Ending::End }
 }
 
-/// Writes the plan of the node that is reached.
-fn write_plan<W: Walk, K: Sink>(
+/// Writes the line of the plan of the node that is reached.
+fn write_line<W: Walk, K: Sink>(number: u64, walk: &W, out: &mut K) -> Result<(), Halt>
+    requires live { W.is_live walk.now ≡ true }
+    ensures written { MatchOption (node_reached (W.tree walk.now) (W.stands walk.now)) ⊥
+        (λ n. OnOk result (Wrote (plan_line number n.cost (length n.steps)) (K.bytes out.old) (K.bytes out.new))) }
+    ensures err { MatchOption (node_reached (W.tree walk.now) (W.stands walk.now)) ⊥
+        (λ n. IfErr result (λ h. Halts h (plan_line number n.cost (length n.steps))
+        (sink_run (K.faults out.old) (K.faults out.new) (K.bytes out.old) (K.bytes out.new)))) }
+    ensures later { K.faults out.old ≤ K.faults out.new }
+{
+    let mut pen = Pen::new(out);
+    match pen.plan_line(number, walk) {
+        Ok(()) => Ok(()),
+        Err(_) => Err(Halt::Failed),
+    }
+}
+
+/// Writes the plan of the node that is reached, with its steps.
+fn write_steps<W: Walk, K: Sink>(
     number: u64,
     walk: &W,
     states: bool,
@@ -70,28 +96,52 @@ fn write_plan<W: Walk, K: Sink>(
     }
 }
 
+/// Writes what is told of the plan of the node that is reached.
+fn write_plan<W: Walk, K: Sink>(
+    number: u64,
+    walk: &W,
+    detail: Detail,
+    out: &mut K,
+) -> Result<(), Halt>
+    requires live { W.is_live walk.now ≡ true }
+    ensures written { MatchOption (node_reached (W.tree walk.now) (W.stands walk.now)) ⊥
+        (λ n. OnOk result (Wrote (telling detail number (visit (W.stands walk.now).path n Plan))
+        (K.bytes out.old) (K.bytes out.new))) }
+    ensures err { MatchOption (node_reached (W.tree walk.now) (W.stands walk.now)) ⊥
+        (λ n. IfErr result (λ h. Halts h (telling detail number (visit (W.stands walk.now).path n Plan))
+        (sink_run (K.faults out.old) (K.faults out.new) (K.bytes out.old) (K.bytes out.new)))) }
+    ensures later { K.faults out.old ≤ K.faults out.new }
+{
+    match detail {
+        Detail::Line => write_line(number, walk, out),
+        Detail::Steps => write_steps(number, walk, false, out),
+        Detail::State => write_steps(number, walk, true, out),
+    }
+}
+
 /// Counts and writes a plan, and answers the ending where it is the last that was asked.
 fn plan_found<W: Walk, K: Sink>(
     walk: &W,
-    asked: Asked,
+    plans: u64,
+    detail: Detail,
     progress: &mut Progress,
     out: &mut K,
 ) -> Result<Option<Ending>, Halt>
     requires live { W.is_live walk.now ≡ true }
-    requires fewer { progress.old.plans < asked.plans }
+    requires fewer { progress.old.plans < plans }
     ensures written { MatchOption (node_reached (W.tree walk.now) (W.stands walk.now)) ⊥
-        (λ n. OnOk result (Wrote (told_plan asked.options.states (progress.old.plans + 1) n)
+        (λ n. OnOk result (Wrote (telling detail (progress.old.plans + 1) (visit (W.stands walk.now).path n Plan))
         (K.bytes out.old) (K.bytes out.new))) }
     ensures counted { OnOk result (progress.new ≡ counted progress.old) }
-    ensures stops { IfOk result (λ o. o ≡ stop_at asked.plans (progress.old.plans + 1)) }
+    ensures stops { IfOk result (λ o. o ≡ stop_at plans (progress.old.plans + 1)) }
     ensures err { MatchOption (node_reached (W.tree walk.now) (W.stands walk.now)) ⊥
-        (λ n. IfErr result (λ h. Halts h (told_plan asked.options.states (progress.old.plans + 1) n)
+        (λ n. IfErr result (λ h. Halts h (telling detail (progress.old.plans + 1) (visit (W.stands walk.now).path n Plan))
         (sink_run (K.faults out.old) (K.faults out.new) (K.bytes out.old) (K.bytes out.new)))) }
     ensures later { K.faults out.old ≤ K.faults out.new }
 {
     progress.plans += 1;
-    match write_plan(progress.plans, walk, asked.options.states, out) {
-        Ok(()) if progress.plans == asked.plans => Ok(Some(Ending::Stopped)),
+    match write_plan(progress.plans, walk, detail, out) {
+        Ok(()) if progress.plans == plans => Ok(Some(Ending::Stopped)),
         Ok(()) => Ok(None),
         Err(halt) => Err(halt),
     }
@@ -100,19 +150,19 @@ fn plan_found<W: Walk, K: Sink>(
 /// One visit: what is counted and written of it, and the ending where it is the last.
 fn visit<W: Walk, K: Sink>(
     walk: &mut W,
-    asked: Asked,
+    plans: u64,
+    detail: Detail,
     progress: &mut Progress,
     out: &mut K,
 ) -> Result<Option<Ending>, Halt>
     requires live { W.is_live walk.old ≡ true }
     requires at { All (IsAtItsNode (W.tree walk.old)) (W.stands walk.old).rest }
-    requires fewer { progress.old.plans < asked.plans }
-    ensures visited { IfOk result (λ o. Visited o asked.plans asked.options.states progress.old progress.new
+    requires fewer { progress.old.plans < plans }
+    ensures visited { IfOk result (λ o. Visited o detail plans progress.old progress.new
         (W.stands walk.old).rest (W.stands walk.new).rest (K.bytes out.old) (K.bytes out.new)) }
     ensures at { OnOk result (All (IsAtItsNode (W.tree walk.new)) (W.stands walk.new).rest) }
     ensures live { OnOk result (W.is_live walk.new ≡ true) }
-    ensures err { IfErr result (λ h. Halts h
-        (left asked.plans asked.options.states progress.old (W.stands walk.old).rest)
+    ensures err { IfErr result (λ h. Halts h (left detail plans progress.old (W.stands walk.old).rest).0
         (sink_run (K.faults out.old) (K.faults out.new) (K.bytes out.old) (K.bytes out.new))) }
     ensures later { K.faults out.old ≤ K.faults out.new }
 {
@@ -126,17 +176,17 @@ fn visit<W: Walk, K: Sink>(
             progress.is_cut = true;
             Ok(None)
         }
-        Ok(Step::Plan) => plan_found(walk, asked, progress, out),
+        Ok(Step::Plan) => plan_found(walk, plans, detail, progress, out),
         Ok(Step::Fault(fault)) => Ok(Some(Ending::Fault(fault))),
         Ok(Step::End) => Ok(Some(quiet(progress.is_cut))),
     }
 }
 
 /// Writes the ending line.
-pub fn close<K: Sink>(ending: Ending, progress: Progress, out: &mut K) -> Result<Status, Halt>
+fn close<K: Sink>(ending: Ending, progress: Progress, out: &mut K) -> Result<Status, Halt>
     ensures written { OnOk result (Wrote (ending_text (ending_of ending) progress.plans progress.expansions)
         (K.bytes out.old) (K.bytes out.new)) }
-    ensures status { IfOk result (λ s. s ≡ planned_status (ending_of ending) progress.plans) }
+    ensures status { IfOk result (λ s. s ≡ status_of (ending_of ending) progress.plans) }
     ensures err { IfErr result (λ h. Halts h (ending_text (ending_of ending) progress.plans progress.expansions)
         (sink_run (K.faults out.old) (K.faults out.new) (K.bytes out.old) (K.bytes out.new))) }
     ensures later { K.faults out.old ≤ K.faults out.new }
@@ -149,14 +199,19 @@ pub fn close<K: Sink>(ending: Ending, progress: Progress, out: &mut K) -> Result
 }
 
 /// Writes the plans of a walk, as many as are asked, and the ending line.
-pub fn tell<W: Walk, K: Sink>(walk: &mut W, asked: Asked, out: &mut K) -> Result<Status, Halt>
+pub fn tell<W: Walk, K: Sink>(
+    walk: &mut W,
+    plans: u64,
+    detail: Detail,
+    out: &mut K,
+) -> Result<Status, Halt>
     requires live { W.is_live walk.old ≡ true }
     requires at { All (IsAtItsNode (W.tree walk.old)) (W.stands walk.old).rest }
-    requires plans { 0 < asked.plans }
-    ensures written { OnOk result (Wrote (told asked.plans asked.options.states 0 0 false (W.stands walk.old).rest)
+    requires plans { 0 < plans }
+    ensures written { OnOk result (Wrote (report (telling detail) plans nothing_seen (W.stands walk.old).rest).0
         (K.bytes out.old) (K.bytes out.new)) }
-    ensures status { IfOk result (λ s. s ≡ told_status asked.plans 0 false (W.stands walk.old).rest) }
-    ensures err { IfErr result (λ h. Halts h (told asked.plans asked.options.states 0 0 false (W.stands walk.old).rest)
+    ensures status { IfOk result (λ s. s ≡ (report (telling detail) plans nothing_seen (W.stands walk.old).rest).1) }
+    ensures err { IfErr result (λ h. Halts h (report (telling detail) plans nothing_seen (W.stands walk.old).rest).0
         (sink_run (K.faults out.old) (K.faults out.new) (K.bytes out.old) (K.bytes out.new))) }
     ensures later { K.faults out.old ≤ K.faults out.new }
 {
@@ -166,7 +221,7 @@ pub fn tell<W: Walk, K: Sink>(walk: &mut W, asked: Asked, out: &mut K) -> Result
         is_cut: false,
     };
     loop {
-        match visit(walk, asked, &mut progress, out) {
+        match visit(walk, plans, detail, &mut progress, out) {
             Ok(None) => {}
             Ok(Some(ending)) => return close(ending, progress, out),
             Err(halt) => return Err(halt),

@@ -3,15 +3,15 @@
 ghost use Rattle.std.specs.Prelude.{◌≡◌, ◌⊎◌, ◌≤◌};
 ghost use Rattle.hp_out.specs.Lines.{text_of};
 ghost use Rattle.hp_out.specs.Writing.{sink_run};
-ghost use Rattle.hp_top.specs.Outcome.{refused_status};
-ghost use Rattle.hp_top.specs.Serving.{load_answer, refusal_answer, refusal_status};
+ghost use Rattle.hp_top.specs.Outcome.{refused_status, refusal_answer, refusal_status};
+ghost use Rattle.hp_top.specs.Serving.{load_answer};
 ghost use Rattle.hp_top.specs.Telling.{Tells};
 
 use crate::loading::LoadError;
-use crate::status::Status;
 use crate::telling::write_refusal;
 use hp_io::{Input, Sink};
 use hp_out::Refusal;
+use hp_syntax::Status;
 
 fn refused_status(which: Input) -> Status
     ensures { result ≡ refused_status which }

@@ -2,7 +2,7 @@
 
 ghost use Rattle.std.specs.Prelude.{◌≡◌, ◌++◌, [], ◌∷◌, Some, None, true, false, codes};
 ghost use Rattle.hp_syntax.specs.Samples.{swap_text, empty_text};
-ghost use Rattle.hp_top.specs.declared.status.Status.TheVariants.{Done, CutShort};
+ghost use Rattle.hp_syntax.specs.declared.status.Status.TheVariants.{Done, CutShort};
 ghost use Rattle.hp_top.specs.Outcome.{Outcome};
 ghost use Rattle.hp_top.specs.Samples.{basic_files, plan_words};
 ghost use Rattle.hp_top.specs.Command.{Planning, Making, accepts, on_files, options, options_after};

@@ -1,22 +1,25 @@
 //! What is done with a domain and a problem that are read: the checks first, and then the job.
 
-ghost use Rattle.std.specs.Prelude.{◌≡◌, ◌≢◌, ◌≤◌, ◌<◌, ℕ, List, None};
+ghost use Rattle.std.specs.List.{All};
+ghost use Rattle.std.specs.Prelude.{◌≡◌, ◌≤◌, ℕ, List, IfOk, None, true};
 ghost use Rattle.hp_out.specs.Writing.{sink_run};
+ghost use Rattle.hp_plain.specs.Walked.{stands_walked, tree_walked};
 ghost use Rattle.hp_syntax.specs.Grammar.{problem_form};
+ghost use Rattle.hp_syntax.specs.Report.{plan_of};
 ghost use Rattle.hp_syntax.specs.Views.{domain_of, problem_of};
+ghost use Rattle.hp_syntax.specs.Walk.{heard_visits};
 ghost use Rattle.hp_top.specs.Command.{Summing, make_command};
 ghost use Rattle.hp_top.specs.Loading.{HasText};
-ghost use Rattle.hp_top.specs.Outcome.{first_fault, job_answer, answer_of_read};
-ghost use Rattle.hp_top.specs.Telling.{Tells};
+ghost use Rattle.hp_top.specs.Outcome.{first_fault, job_answer, answer_of_read, walk_of_pairs};
+ghost use Rattle.hp_top.specs.Telling.{IsAtItsNode, Tells, status_told, telling};
 ghost use Rattle.hp_top.specs.Words.{IsAsked, IsPlanned, job_of};
 
 use crate::checking::tell_accepted;
 use crate::loading::Loaded;
-use crate::planning::tell;
+use crate::planning::{Detail, tell};
 use crate::refusing::refuse;
 use crate::showing::show;
-use crate::status::Status;
-use crate::summing::{first_plan, tell_first};
+use crate::summing::sum_up;
 use crate::telling::Halt;
 use crate::words::{Asked, Job};
 use hp_check::{first_fault, unserved_tasks};
@@ -27,8 +30,56 @@ use hp_plain::PlainWalk;
 use hp_ready::laws::{
     accepted_pairs_are_ground, checked_rules_have_few_variables, problems_have_one_pair,
 };
+use hp_syntax::Status;
 use hp_syntax::limits::{GREATEST_DEPTH, USUAL_LEVELS};
-use std::alloc::Global;
+use std::alloc::{AllocError, Global};
+
+/// The status of a run whose text was told, or whose telling stopped.
+fn status_told(told: Result<Status, Halt>) -> Status
+    ensures { result ≡ status_told told }
+{
+    match told {
+        Ok(status) => status,
+        Err(Halt::NoMemory) => Status::NoMemory,
+        Err(Halt::Failed) => Status::WriteFault,
+    }
+}
+
+/// The walk of the one pair of an accepted domain and problem, from its root.
+fn walk_of(
+    alloc: Global,
+    loaded: &Loaded,
+    depth: u32,
+    levels: u32,
+) -> Result<PlainWalk<'_>, AllocError>
+    requires text { HasText problem_form (problem_of loaded.now.problem) }
+    requires checked { first_fault (domain_of loaded.now.domain) (problem_of loaded.now.problem) ≡ None }
+    requires depth { depth ≤ GREATEST_DEPTH }
+    ensures live { IfOk result (λ w. w.live ≡ true) }
+    ensures at { IfOk result (λ w. All (IsAtItsNode (tree_walked w)) (stands_walked w).rest) }
+    ensures walk { IfOk result (λ w. heard_visits (stands_walked w).rest
+        ≡ walk_of_pairs (domain_of loaded.now.domain).rules levels (problem_of loaded.now.problem).pairs depth) }
+{
+    // Nothing runs here: the laws make known that what is accepted can be walked.
+    problems_have_one_pair();
+    checked_rules_have_few_variables();
+    accepted_pairs_are_ground();
+    visits_are_in_the_tree();
+    PlainWalk::new(
+        alloc,
+        &loaded.domain,
+        &loaded.problem.pairs[0],
+        depth,
+        levels,
+    )
+}
+
+/// What is told of a plan, with its state or without.
+fn detail_of(states: bool) -> Detail
+    ensures { telling result ≡ plan_of states }
+{
+    if states { Detail::State } else { Detail::Steps }
+}
 
 /// Looks for the plans of an accepted domain and problem.
 fn serve_plan<K: Sink>(alloc: Global, loaded: &Loaded, asked: Asked, out: &mut K) -> Status
@@ -40,21 +91,11 @@ fn serve_plan<K: Sink>(alloc: Global, loaded: &Loaded, asked: Asked, out: &mut K
         (sink_run (K.faults out.old) (K.faults out.new) (K.bytes out.old) (K.bytes out.new)) }
     ensures later { K.faults out.old ≤ K.faults out.new }
 {
-    // Nothing runs here: the laws make known that what is accepted can be walked.
-    problems_have_one_pair();
-    checked_rules_have_few_variables();
-    accepted_pairs_are_ground();
-    visits_are_in_the_tree();
-    let pair = &loaded.problem.pairs[0];
-    let levels = asked.options.levels;
-    let Ok(mut walk) = PlainWalk::new(alloc, &loaded.domain, pair, asked.depth, levels) else {
+    let options = asked.options;
+    let Ok(mut walk) = walk_of(alloc, loaded, asked.depth, options.levels) else {
         return Status::NoMemory;
     };
-    match tell(&mut walk, asked, out) {
-        Ok(status) => status,
-        Err(Halt::NoMemory) => Status::NoMemory,
-        Err(Halt::Failed) => Status::WriteFault,
-    }
+    status_told(tell(&mut walk, asked.plans, detail_of(options.states), out))
 }
 
 /// Sums up the first plan of an accepted domain and problem that were made.
@@ -72,24 +113,10 @@ fn serve_sum<K: Sink>(
         (sink_run (K.faults out.old) (K.faults out.new) (K.bytes out.old) (K.bytes out.new)) }
     ensures later { K.faults out.old ≤ K.faults out.new }
 {
-    // Nothing runs here: the laws make known that what is accepted can be walked.
-    problems_have_one_pair();
-    checked_rules_have_few_variables();
-    accepted_pairs_are_ground();
-    visits_are_in_the_tree();
-    let pair = &loaded.problem.pairs[0];
-    let walk = PlainWalk::new(alloc, &loaded.domain, pair, GREATEST_DEPTH, USUAL_LEVELS);
-    let Ok(mut walk) = walk else {
+    let Ok(mut walk) = walk_of(alloc, loaded, GREATEST_DEPTH, USUAL_LEVELS) else {
         return Status::NoMemory;
     };
-    let Ok(first) = first_plan(&mut walk) else {
-        return Status::NoMemory;
-    };
-    match tell_first(alloc, seed, packages, &loaded.problem, first, out) {
-        Ok(status) => status,
-        Err(Halt::NoMemory) => Status::NoMemory,
-        Err(Halt::Failed) => Status::WriteFault,
-    }
+    status_told(sum_up(alloc, seed, packages, &loaded.problem, &mut walk, out))
 }
 
 /// Notes the tasks that no rule serves, and writes what is known of an accepted domain and problem.

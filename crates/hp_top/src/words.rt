@@ -1,8 +1,8 @@
 //! The words of a command.
 
 ghost use Rattle.std.specs.List.{list_all};
-ghost use Rattle.std.specs.Prelude.{true, false, nat_le, IfSome, ◌≡◌, ◌≢◌, ◌≤◌, ◌^◌, ◌<◌, ℕ, List, None, Some, MatchOption, length, map, string_bytes, slice_get, unwrap_or, [], option_map};
-ghost use Rattle.hp_top.specs.Words.{AsksFor, IsPlanned, IsAsked, IsRequested, Requests, job_of, options_of, request_of};
+ghost use Rattle.std.specs.Prelude.{true, false, nat_le, IfSome, ◌≡◌, ◌≢◌, ◌^◌, ◌<◌, None, Some, length, map, string_bytes, slice_get, unwrap_or, [], option_map};
+ghost use Rattle.hp_top.specs.Words.{IsPlanned, IsAsked, IsRequested, job_of, options_of, request_of};
 ghost use Rattle.hp_top.specs.Command.{accepts, only_if, planning, making, options_after, job_by_word, asked_by_three, number_within, number_from, is_number};
 ghost use Rattle.hp_syntax.specs.Text.{is_digit};
 
@@ -41,11 +41,18 @@ pub enum Job {
 
 /// What words ask for.
 #[derive(Clone, Copy)]
-pub enum Request {
-    /// A job with the two files that the words name.
-    Files(Job),
+pub enum Request<'a> {
+    /// A job with two files, by their names.
+    Files {
+        domain: &'a str,
+        problem: &'a str,
+        job: Job,
+    },
     /// The problem of a seed with so many packages.
-    Make { seed: u32, packages: u32 },
+    Make {
+        seed: u32,
+        packages: u32,
+    },
 }
 
 /// Whether all bytes are digits.
@@ -143,21 +150,25 @@ fn planned(plans: &[u8], depth: &[u8], more: &[String]) -> Option<Asked>
     })
 }
 
-/// What a command of five words and more asks.
-fn plan_asked(words: &[String]) -> Option<Asked>
+/// What a command of five words and more asks for.
+fn plan_asked(words: &[String]) -> Option<Request<'_>>
     requires { length words.now ≢ 3 }
-    ensures asks { MatchOption (option_map Job.Plan result) (accepts (map string_bytes words.now) ≡ None)
-        (AsksFor (map string_bytes words.now)) }
-    ensures five { IfSome result (λ a. 5 ≤ length words.now) }
-    ensures some { IfSome result IsPlanned }
+    ensures asks { option_map request_of result ≡ accepts (map string_bytes words.now) }
+    ensures some { IfSome result IsRequested }
 {
-    let [word, _, _, plans, depth, more @ ..] = words else {
+    let [word, domain, problem, plans, depth, more @ ..] = words else {
         return None;
     };
-    if word.as_str() == "plan" {
-        planned(plans.as_bytes(), depth.as_bytes(), more)
-    } else {
-        None
+    if word.as_str() != "plan" {
+        return None;
+    }
+    match planned(plans.as_bytes(), depth.as_bytes(), more) {
+        Some(asked) => Some(Request::Files {
+            domain: domain.as_str(),
+            problem: problem.as_str(),
+            job: Job::Plan(asked),
+        }),
+        None => None,
     }
 }
 
@@ -174,8 +185,8 @@ fn job_by_word(word: &str) -> Option<Job>
 }
 
 /// What a seed and a number of packages ask for.
-fn make_asked(seed: &[u8], packages: &[u8]) -> Option<Request>
-    ensures spelled { (x y : List ℕ) → option_map (request_of x y) result
+fn make_asked<'a>(seed: &[u8], packages: &[u8]) -> Option<Request<'a>>
+    ensures spelled { option_map request_of result
         ≡ making (number_within 0 LARGEST_SEED seed.now) (number_within 1 MOST_PACKAGES packages.now) }
     ensures some { IfSome result IsRequested }
 {
@@ -188,32 +199,30 @@ fn make_asked(seed: &[u8], packages: &[u8]) -> Option<Request>
 }
 
 /// What a word with two words behind it asks for.
-fn asked_by_three(word: &str, first: &[u8], second: &[u8]) -> Option<Request>
-    ensures spelled { option_map (request_of first.now second.now) result
-        ≡ asked_by_three word.now first.now second.now }
+fn asked_by_three<'a>(word: &str, first: &'a str, second: &'a str) -> Option<Request<'a>>
+    ensures spelled { option_map request_of result ≡ asked_by_three word.now first.now second.now }
     ensures some { IfSome result IsRequested }
 {
     if word == "make" {
-        return make_asked(first, second);
+        return make_asked(first.as_bytes(), second.as_bytes());
     }
     match job_by_word(word) {
-        Some(job) => Some(Request::Files(job)),
+        Some(job) => Some(Request::Files {
+            domain: first,
+            problem: second,
+            job,
+        }),
         None => None,
     }
 }
 
 /// What words ask for, where they are a command.
-pub fn request_asked(words: &[String]) -> Option<Request>
-    ensures asks { MatchOption result (accepts (map string_bytes words.now) ≡ None)
-        (Requests (map string_bytes words.now)) }
-    ensures three { IfSome result (λ r. 3 ≤ length words.now) }
+pub fn request_asked(words: &[String]) -> Option<Request<'_>>
+    ensures asks { option_map request_of result ≡ accepts (map string_bytes words.now) }
     ensures some { IfSome result IsRequested }
 {
     if let [word, first, second] = words {
-        return asked_by_three(word.as_str(), first.as_bytes(), second.as_bytes());
+        return asked_by_three(word.as_str(), first.as_str(), second.as_str());
     }
-    match plan_asked(words) {
-        Some(asked) => Some(Request::Files(Job::Plan(asked))),
-        None => None,
-    }
+    plan_asked(words)
 }

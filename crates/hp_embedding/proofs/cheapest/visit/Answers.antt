@@ -17,7 +17,7 @@ returns-in-Ok-Did-clause-turned g c =
     (subst (λ x. x ≡ step_or_end (next_of s.rest)) c.in-Ok-Did.field-0-is c.in-Ok-Did.ensures.answer) in
     goes_down c.args.best.now next.visit s.rest t r next.rest next.sight next.path _ refl
     (at_visit (g.W.Walk.tree c.args.walk.now) (g.W.Walk.tree c.next.new.self) s t Did next
-    (λ n. r ≡ cond (reaches (cost_of c.args.best.now) n.cost) (pruned t) t) c.next.ensures.tree c.requires.at
+    (λ v. r ≡ cond (reaches (cost_of c.args.best.now) v.node.cost) (pruned t) t) c.next.ensures.tree c.requires.at
     c.leave_out.ensures.stands)
 
 pub returns-in-Ok-Did-clause-at : goal.returns-in-Ok-Did-clause-at
@@ -30,7 +30,7 @@ returns-in-Ok-Did-clause-at g c =
     (subst (λ x. x ≡ step_or_end (next_of s.rest)) c.in-Ok-Did.field-0-is c.in-Ok-Did.ensures.answer) in
     at_left (IsAtItsNode (g.W.Walk.tree c.leave_out.new.walk)) t r _
     (at_visit (g.W.Walk.tree c.args.walk.now) (g.W.Walk.tree c.next.new.self) s t Did next
-    (λ n. r ≡ cond (reaches (cost_of c.args.best.now) n.cost) (pruned t) t) c.next.ensures.tree c.requires.at
+    (λ v. r ≡ cond (reaches (cost_of c.args.best.now) v.node.cost) (pruned t) t) c.next.ensures.tree c.requires.at
     c.leave_out.ensures.stands)
     (at_kept (g.W.Walk.tree c.args.walk.now) (g.W.Walk.tree c.leave_out.new.walk) s t
     (c.leave_out.ensures.tree ∙ c.next.ensures.tree) c.in-Ok-Did.ensures.stands c.requires.at)
@@ -44,11 +44,11 @@ returns-in-Ok-clause-turned g c =
     (subst (λ x. x ≡ step_or_end (next_of s.rest)) c.in-Ok-Plan.field-0-is c.in-Ok-Plan.ensures.answer) in
     goes_plan c.args.best.now c.keep.new.best next.visit s.rest t.rest next.rest next.sight
     (at_visit (g.W.Walk.tree c.args.walk.now) (g.W.Walk.tree c.next.new.self) s t Plan next
-    (λ n. cost_of c.keep.new.best ≡ lower (cost_of c.args.best.now) n.cost) c.next.ensures.tree c.requires.at
+    (λ v. cost_of c.keep.new.best ≡ lower (cost_of c.args.best.now) v.node.cost) c.next.ensures.tree c.requires.at
     c.in-Ok.ensures.lower)
     (subst (λ p. (c.keep.new.best ≡ c.args.best.now) ⊎ IfSome c.keep.new.best (λ f. IsAt f next.visit.node p)) next.path
     (at_visit (g.W.Walk.tree c.args.walk.now) (g.W.Walk.tree c.next.new.self) s t Plan next
-    (λ n. (c.keep.new.best ≡ c.args.best.now) ⊎ IfSome c.keep.new.best (λ f. IsAt f n t.path)) c.next.ensures.tree
+    (λ v. (c.keep.new.best ≡ c.args.best.now) ⊎ IfSome c.keep.new.best (λ f. IsAt f v.node t.path)) c.next.ensures.tree
     c.requires.at c.in-Ok.ensures.kept))
 
 pub returns-in-Ok-clause-at : goal.returns-in-Ok-clause-at

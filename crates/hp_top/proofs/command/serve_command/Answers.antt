@@ -1,11 +1,17 @@
+use Rattle.std.proofs.Common.{Err, Ok}
 use Rattle.hp_syntax.specs.Views.{domain_of, problem_of}
-use Rattle.hp_top.specs.Serving.{Stopped, Answered}
 use Rattle.hp_top.proofs.command.serve_command.Goals as goal
 
 pub returns-in-Ok-clause-serves : goal.returns-in-Ok-clause-serves
-returns-in-Ok-clause-serves g c =
-    Answered (domain_of c.in-Ok.loaded.domain) (problem_of c.in-Ok.loaded.problem) c.in-Ok.ensures.domain
-    c.in-Ok.ensures.problem (c.serve_job.ensures.tells c.args.domain.now c.args.problem.now)
+returns-in-Ok-clause-serves g c = record {
+  loaded = Ok (domain_of c.in-Ok.loaded.domain, problem_of c.in-Ok.loaded.problem);
+  loads = c.in-Ok.ensures.loads;
+  tells = c.serve_job.ensures.tells c.args.domain.now c.args.problem.now;
+}
 
 pub returns-in-Err-clause-serves : goal.returns-in-Err-clause-serves
-returns-in-Err-clause-serves g c = Stopped c.in-Err.error c.in-Err.ensures.stops c.refuse_files.ensures.tells
+returns-in-Err-clause-serves g c = record {
+  loaded = Err c.in-Err.error;
+  loads = c.in-Err.ensures.loads;
+  tells = c.refuse_files.ensures.tells;
+}

@@ -14,8 +14,9 @@ use Rattle.hp_syntax.specs.Report as report
 use Rattle.hp_syntax.specs.Samples.{basic_text, swap_text, empty_text}
 use Rattle.hp_syntax.specs.Values as values
 use Rattle.hp_syntax.specs.Walk as walk
-use Rattle.hp_top.specs.Outcome.{Answer, Judged, ByCommand, answer_of_read, walk_status}
-use Rattle.hp_top.specs.declared.status.Status.TheVariants.{Done, CutShort}
+use Rattle.hp_top.specs.Outcome.{ByCommand, answer_of_read}
+use Rattle.hp_syntax.specs.declared.status.Status.TheVariants.{Done, CutShort}
+use Rattle.hp_top.proofs.Outcomes.{judged_comes}
 use Rattle.hp_top.proofs.SampleReads.{plan_of, basic_read, basic_is_read, swap_read, swap_is_read, empty_read, empty_is_read}
 use Rattle.hp_top.proofs.samples.basic_comes_to_its_plan.Goals as goal
 
@@ -29,7 +30,7 @@ computed : (answer_of_read (plan_of 5 10) basic_read swap_read
     × (answer_of_read (plan_of 5 2) basic_read swap_read ≡ (codes "cut plans 0 expansions 2\n", CutShort))
     × (answer_of_read (plan_of 5 0) basic_read empty_read
     ≡ (codes "plan 1 cost 0 steps 0\nend plans 1 expansions 0\n", Done))
-unfolding basic_read swap_read empty_read walk_status digits checks.domain_faults checks.problem_faults
+unfolding basic_read swap_read empty_read digits checks.domain_faults checks.problem_faults
     checks.pattern_faults checks.patterns_faults checks.expression_faults checks.expressions_faults
     checks.tasks_faults checks.task_list_faults
     grammar.assigned grammar.atoms grammar.axiom_rule grammar.branch_name grammar.branch_tasks grammar.branches
@@ -48,41 +49,41 @@ unfolding basic_read swap_read empty_read walk_status digits checks.domain_fault
     networks.firsts_of_first networks.firsts_from networks.part_at networks.nth_part_at networks.with_part
     networks.with_nth_part networks.candidates networks.finish networks.expand changes.apply changes.effects
     ground_patterns.term_said ground_patterns.terms_said ground_patterns.network_said ground_patterns.networks_said
-    walk.children walk.visits_within walk.visits walk.root walk.walk walk.node_at report.plan_text report.state_text
-    report.ending_text report.report
+    walk.children walk.visits_within walk.visits walk.root walk.walk walk.node_at report.plan_line report.state_text
+    report.ending_text report.plan_report
 computed = (refl, refl, refl, refl, refl)
 
 pub returns-clause-whole : goal.returns-clause-whole
 returns-clause-whole c =
     let spelled = c.samples_are_spelled.ensures in
     ByCommand (plan_of 5 10) refl
-    (Judged basic_text swap_text basic_read swap_read refl (basic_is_read spelled.basic) refl
+    (judged_comes _ _ basic_text swap_text basic_read swap_read _ refl (basic_is_read spelled.basic) refl
     (swap_is_read spelled.swap) (sym computed.0))
 
 pub returns-clause-stopped : goal.returns-clause-stopped
 returns-clause-stopped c =
     let spelled = c.samples_are_spelled.ensures in
     ByCommand (plan_of 1 10) refl
-    (Judged basic_text swap_text basic_read swap_read refl (basic_is_read spelled.basic) refl
+    (judged_comes _ _ basic_text swap_text basic_read swap_read _ refl (basic_is_read spelled.basic) refl
     (swap_is_read spelled.swap) (sym computed.1))
 
 pub returns-clause-enough : goal.returns-clause-enough
 returns-clause-enough c =
     let spelled = c.samples_are_spelled.ensures in
     ByCommand (plan_of 5 3) refl
-    (Judged basic_text swap_text basic_read swap_read refl (basic_is_read spelled.basic) refl
+    (judged_comes _ _ basic_text swap_text basic_read swap_read _ refl (basic_is_read spelled.basic) refl
     (swap_is_read spelled.swap) (sym computed.2))
 
 pub returns-clause-cut : goal.returns-clause-cut
 returns-clause-cut c =
     let spelled = c.samples_are_spelled.ensures in
     ByCommand (plan_of 5 2) refl
-    (Judged basic_text swap_text basic_read swap_read refl (basic_is_read spelled.basic) refl
+    (judged_comes _ _ basic_text swap_text basic_read swap_read _ refl (basic_is_read spelled.basic) refl
     (swap_is_read spelled.swap) (sym computed.3))
 
 pub returns-clause-empty : goal.returns-clause-empty
 returns-clause-empty c =
     let spelled = c.samples_are_spelled.ensures in
     ByCommand (plan_of 5 0) refl
-    (Judged basic_text empty_text basic_read empty_read refl (basic_is_read spelled.basic) refl
+    (judged_comes _ _ basic_text empty_text basic_read empty_read _ refl (basic_is_read spelled.basic) refl
     (empty_is_read spelled.empty) (sym computed.4))

@@ -1,82 +1,12 @@
-use Rattle.std.proofs.Common.{◌≡◌, ◌∷◌, [], ◌∙◌, ap, sym, subst, arith, length, map}
-use Rattle.std.specs.List.{All}
-use Rattle.std.proofs.lemmas.List.Elements.{All-head}
-use Rattle.hp_plain.specs.Begins.{IsGround}
-use Rattle.hp_syntax.specs.Views.{domain_of, problem_of, pair_of}
-use Rattle.hp_syntax.specs.Walk.{root}
 use Rattle.hp_out.specs.Writing.{sink_run}
-use Rattle.hp_plain.specs.Walked.{stands_walked}
-use Rattle.hp_top.proofs.PlanEnds.{one_in_memory, one_pair, all_at, told_walk, halted_walk, failed_walk}
+use Rattle.hp_top.proofs.PlanEnds.{plans_left, tells_equal}
 use Rattle.hp_top.proofs.serving.serve_plan.Goals as goal
-
-pub index-pair-requires : goal.index-pair-requires
-index-pair-requires g c =
-    let one : length (problem_of c.args.loaded.now.problem).pairs ≡ 1 =
-    c.problems_have_one_pair.ensures c.requires.text.0 (problem_of c.args.loaded.now.problem) c.requires.text.1 in
-    omega (arith, one_in_memory c.args.loaded.now.problem.pairs.items one)
-
-pub new-requires-clause-pair : goal.new-requires-clause-pair
-new-requires-clause-pair g c =
-    let one : length (problem_of c.args.loaded.now.problem).pairs ≡ 1 =
-    c.problems_have_one_pair.ensures c.requires.text.0 (problem_of c.args.loaded.now.problem) c.requires.text.1 in
-    let only = one_pair c.args.loaded.now.problem.pairs.items c.index-pair.result.now
-    (one_in_memory c.args.loaded.now.problem.pairs.items one) c.index-pair.ensures in
-    All-head IsGround (pair_of c.index-pair.result.now) []
-    (subst (All IsGround) only
-    (c.accepted_pairs_are_ground.ensures c.requires.text.0 (domain_of c.args.loaded.now.domain)
-    (problem_of c.args.loaded.now.problem) c.requires.text.1 c.requires.checked))
-
-pub new-requires-clause-few : goal.new-requires-clause-few
-new-requires-clause-few g c =
-    c.checked_rules_have_few_variables.ensures (domain_of c.args.loaded.now.domain)
-    (problem_of c.args.loaded.now.problem) c.requires.checked
-
-pub tell-requires-clause-at : goal.tell-requires-clause-at
-tell-requires-clause-at g c =
-    all_at (domain_of c.args.loaded.now.domain).rules c.args.asked.options.levels
-    (root (pair_of c.index-pair.result.now) c.args.asked.depth) _ _ c.in-Ok.ensures.tree c.in-Ok.ensures.stands
-    (c.visits_are_in_the_tree.ensures (domain_of c.args.loaded.now.domain).rules c.args.asked.options.levels
-    (root (pair_of c.index-pair.result.now) c.args.asked.depth))
-
-pub returns-in-Ok-tell-clause-tells : goal.returns-in-Ok-tell-clause-tells
-returns-in-Ok-tell-clause-tells g c =
-    let one : length (problem_of c.args.loaded.now.problem).pairs ≡ 1 =
-    c.problems_have_one_pair.ensures c.requires.text.0 (problem_of c.args.loaded.now.problem) c.requires.text.1 in
-    let only = one_pair c.args.loaded.now.problem.pairs.items c.index-pair.result.now
-    (one_in_memory c.args.loaded.now.problem.pairs.items one) c.index-pair.ensures in
-    told_walk (domain_of c.args.loaded.now.domain).rules c.args.asked.options.levels c.args.asked.depth
-    c.args.asked.plans c.args.asked.options.states (pair_of c.index-pair.result.now)
-    (problem_of c.args.loaded.now.problem).pairs only (stands_walked c.in-Ok.walk).rest
-    (sink_run (g.K.Sink.faults c.args.out.now) (g.K.Sink.faults c.tell.new.out) (g.K.Sink.bytes c.args.out.now)
-    (g.K.Sink.bytes c.tell.new.out))
-    c.requires.asked.plans
-    (ap (λ s. s.rest) c.in-Ok.ensures.stands) c.in-Ok-tell.status c.in-Ok-tell.ensures.status
-    c.in-Ok-tell.ensures.written
-
-pub returns-in-Err-NoMemory-clause-tells : goal.returns-in-Err-NoMemory-clause-tells
-returns-in-Err-NoMemory-clause-tells g c =
-    let one : length (problem_of c.args.loaded.now.problem).pairs ≡ 1 =
-    c.problems_have_one_pair.ensures c.requires.text.0 (problem_of c.args.loaded.now.problem) c.requires.text.1 in
-    let only = one_pair c.args.loaded.now.problem.pairs.items c.index-pair.result.now
-    (one_in_memory c.args.loaded.now.problem.pairs.items one) c.index-pair.ensures in
-    halted_walk (domain_of c.args.loaded.now.domain).rules c.args.asked.options.levels c.args.asked.depth
-    c.args.asked.plans c.args.asked.options.states (pair_of c.index-pair.result.now)
-    (problem_of c.args.loaded.now.problem).pairs only (stands_walked c.in-Ok.walk).rest
-    (sink_run (g.K.Sink.faults c.args.out.now) (g.K.Sink.faults c.tell.new.out) (g.K.Sink.bytes c.args.out.now)
-    (g.K.Sink.bytes c.tell.new.out))
-    c.requires.asked.plans
-    (ap (λ s. s.rest) c.in-Ok.ensures.stands) _ c.in-Err-NoMemory.field-0-is c.in-Err-NoMemory.ensures.err
 
 pub returns-clause-tells : goal.returns-clause-tells
 returns-clause-tells g c =
-    let one : length (problem_of c.args.loaded.now.problem).pairs ≡ 1 =
-    c.problems_have_one_pair.ensures c.requires.text.0 (problem_of c.args.loaded.now.problem) c.requires.text.1 in
-    let only = one_pair c.args.loaded.now.problem.pairs.items c.index-pair.result.now
-    (one_in_memory c.args.loaded.now.problem.pairs.items one) c.index-pair.ensures in
-    failed_walk (domain_of c.args.loaded.now.domain).rules c.args.asked.options.levels c.args.asked.depth
-    c.args.asked.plans c.args.asked.options.states (pair_of c.index-pair.result.now)
-    (problem_of c.args.loaded.now.problem).pairs only (stands_walked c.in-Ok.walk).rest
+    tells_equal _ _ c.tell.result c.status_told.result
     (sink_run (g.K.Sink.faults c.args.out.now) (g.K.Sink.faults c.tell.new.out) (g.K.Sink.bytes c.args.out.now)
     (g.K.Sink.bytes c.tell.new.out))
-    c.requires.asked.plans
-    (ap (λ s. s.rest) c.in-Ok.ensures.stands) _ c.in-Err-Failed.field-0-is c.in-Err-Failed.ensures.err
+    (plans_left c.detail_of.result c.args.asked.options.states c.args.asked.plans _ _ c.detail_of.ensures
+    c.in-Ok.ensures.walk)
+    c.status_told.ensures c.tell.ensures.written c.tell.ensures.status c.tell.ensures.err

@@ -6,5 +6,5 @@ use Rattle.hp_top.proofs.words.asked_by_three.Goals as goal
 pub returns-then-eq-clause-spelled : goal.returns-then-eq-clause-spelled
 returns-then-eq-clause-spelled c =
     make_by_three c.args.word.now c.args.first.now c.args.second.now c.eq.result
-    (option_map (request_of c.args.first.now c.args.second.now) c.make_asked.result) c.eq.ensures c.if-eq.true
-    (c.make_asked.ensures.spelled c.args.first.now c.args.second.now)
+    (option_map request_of c.make_asked.result) c.eq.ensures c.if-eq.true
+    (rw (c.as_bytes.ensures.value, c.as_bytes-then-eq.ensures.value) at c.make_asked.ensures.spelled)

@@ -1,8 +1,10 @@
-use Rattle.hp_top.proofs.Numbers.{requests_three}
+use Rattle.std.proofs.Common.{◌∙◌}
+use Rattle.hp_top.proofs.Numbers.{accepts_three}
 use Rattle.hp_top.proofs.words.request_asked.Goals as goal
 
 pub returns-in-len3-clause-asks : goal.returns-in-len3-clause-asks
 returns-in-len3-clause-asks c =
-    requests_three c.asked_by_three.result c.args.words.now c.word-item.result c.first-item.result c.second-item.result
-    _ _ _ c.in-len3.len_at_least c.in-len3.len_below c.word-item.is c.first-item.is c.second-item.is
-    c.as_str.ensures.value c.as_bytes.ensures.value c.as_bytes-in-len3.ensures.value c.asked_by_three.ensures.spelled
+    c.asked_by_three.ensures.spelled
+    ∙ accepts_three c.args.words.now c.word-item.result c.first-item.result c.second-item.result _ _ _
+    c.in-len3.len_at_least c.in-len3.len_below c.word-item.is c.first-item.is c.second-item.is c.as_str.ensures.value
+    c.as_str-in-len3.ensures.value c.as_str-in-len3-2.ensures.value

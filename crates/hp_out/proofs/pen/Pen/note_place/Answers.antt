@@ -1,6 +1,7 @@
 use Rattle.std.proofs.Common.{arith, ◌++◌, codes}
 use Rattle.std.proofs.lemmas.Grind.{common_steps}
-use Rattle.hp_out.specs.Lines.{note_place, span_text}
+use Rattle.hp_out.specs.Lines.{note_place}
+use Rattle.hp_syntax.specs.PlaceTexts.{span_text}
 use Rattle.hp_out.proofs.WriteSteps.{first_failed, rest_written}
 use Rattle.hp_out.proofs.pen.Pen.note_place.Goals as goal
 

@@ -1,6 +1,7 @@
 use Rattle.std.proofs.Common.{arith, ◌++◌, codes}
 use Rattle.std.proofs.lemmas.Grind.{common_steps}
-use Rattle.hp_out.specs.Lines.{at_span, span_text, refused}
+use Rattle.hp_out.specs.Lines.{refused}
+use Rattle.hp_syntax.specs.PlaceTexts.{at_span, span_text}
 use Rattle.hp_out.proofs.WriteSteps.{first_failed, rest_written}
 use Rattle.hp_out.proofs.pen.Pen.span_line.Goals as goal
 

@@ -1,7 +1,7 @@
 -- The numbers by which a program ends.
 use Rattle.std.specs.Prelude.{ℕ}
-use Rattle.hp_top.specs.declared.status.Status.{Status}
-use Rattle.hp_top.specs.declared.status.Status.TheVariants.{Done, NoMemory, Usage, ReadFault, DomainRefused, ProblemRefused, RunFault, WriteFault, NoPlan, CutShort}
+use Rattle.hp_syntax.specs.declared.status.Status.{Status}
+use Rattle.hp_syntax.specs.declared.status.Status.TheVariants.{Done, NoMemory, Usage, ReadFault, DomainRefused, ProblemRefused, RunFault, WriteFault, NoPlan, CutShort}
 
 abbrev pub code_of : Status → ℕ
 code_of Done = 0
