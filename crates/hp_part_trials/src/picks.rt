@@ -73,12 +73,11 @@ fn first_five<B, S: Sats<B>>(
     ensures slots { S.fits sats.new slots.new }
     ensures open { S.is_open sats.new ≡ true }
 {
-    let first = next_told(sats, base, cells, slots, var)?;
-    let second = next_told(sats, base, cells, slots, var)?;
-    let third = next_told(sats, base, cells, slots, var)?;
-    let fourth = next_told(sats, base, cells, slots, var)?;
-    let fifth = next_told(sats, base, cells, slots, var)?;
-    Ok([first, second, third, fourth, fifth])
+    let mut told = [(Event::End, None); 5];
+    for place in 0..5 {
+        told[place] = next_told(sats, base, cells, slots, var)?;
+    }
+    Ok(told)
 }
 
 // Three numbers have cells.
