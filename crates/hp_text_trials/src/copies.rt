@@ -1,8 +1,8 @@
 //! Copies of parts of domains.
 
+use crate::page::Page;
 use hp_syntax::{AtomPat, Name, NetPat, Pat, PatKind, SortKey, SortOrder, Span, Tail, TaskPat};
 use std::alloc::{AllocError, Global};
-use std::test::Fail;
 
 const OUTER: Span = Span { from: 3, to: 19 };
 
@@ -19,14 +19,15 @@ fn call(alloc: Global) -> Result<Pat, AllocError> {
     })
 }
 
+fn is_var(pattern: &Pat) -> bool {
+    pattern.span == INNER && matches!(pattern.kind, PatKind::Var(4))
+}
+
 fn is_call(pattern: &Pat) -> bool {
     match &pattern.kind {
         PatKind::Call(name, args) => {
-            let is_var = |arg: &Pat| arg.span == INNER && matches!(arg.kind, PatKind::Var(4));
-            pattern.span == OUTER
-                && name.bytes() == b"plus".as_slice()
-                && args.len() == 1
-                && args.iter().all(is_var)
+            let is_arg = matches!(args.as_slice(), [arg] if is_var(arg));
+            pattern.span == OUTER && name.bytes() == b"plus".as_slice() && is_arg
         }
         _ => false,
     }
@@ -45,20 +46,9 @@ fn atom(alloc: Global) -> Result<AtomPat, AllocError> {
 }
 
 fn is_atom(atom: &AtomPat) -> bool {
+    let is_arg = matches!(atom.args.as_slice(), [arg] if is_call(arg));
     let is_tail = matches!(&atom.tail, Some(tail) if tail.span == INNER && tail.var == 7);
-    atom.span == OUTER
-        && atom.name.bytes() == b"go".as_slice()
-        && atom.args.len() == 1
-        && atom.args.iter().all(is_call)
-        && is_tail
-}
-
-fn is_immediate(tasks: &NetPat) -> bool {
-    matches!(tasks, NetPat::Task(task) if task.immediate && is_atom(&task.atom))
-}
-
-fn is_ordered(tasks: &NetPat) -> bool {
-    matches!(tasks, NetPat::Ordered(parts) if parts.len() == 1 && parts.iter().all(is_immediate))
+    atom.span == OUTER && atom.name.bytes() == b"go".as_slice() && is_arg && is_tail
 }
 
 fn key(alloc: Global) -> Result<SortKey, AllocError> {
@@ -85,24 +75,49 @@ fn tasks(alloc: Global) -> Result<NetPat, AllocError> {
     Ok(NetPat::Unordered(vec![in alloc; inner]?))
 }
 
-fn are_tasks(tasks: &NetPat) -> bool {
-    matches!(tasks, NetPat::Unordered(parts) if parts.len() == 1 && parts.iter().all(is_ordered))
+fn is_immediate(tasks: &NetPat) -> bool {
+    matches!(tasks, NetPat::Task(task) if task.immediate && is_atom(&task.atom))
 }
 
-#[test]
-fn copies_of_terms_show_the_same(rt: HostRuntime) -> Result<(), Fail> {
-    let call = call(rt.alloc())?;
-    let atom = atom(rt.alloc())?;
-    assert!(rt; is_call(&call.copy(rt.alloc())?));
-    assert!(rt; is_atom(&atom.copy(rt.alloc())?));
-    Ok(())
+fn is_ordered(tasks: &NetPat) -> bool {
+    match tasks {
+        NetPat::Ordered(parts) => matches!(parts.as_slice(), [part] if is_immediate(part)),
+        _ => false,
+    }
 }
 
-#[test]
-fn copies_of_keys_and_tasks_show_the_same(rt: HostRuntime) -> Result<(), Fail> {
-    let key = key(rt.alloc())?;
-    let tasks = tasks(rt.alloc())?;
-    assert!(rt; is_key(&key.copy(rt.alloc())?));
-    assert!(rt; are_tasks(&tasks.copy(rt.alloc())?));
-    Ok(())
+fn is_unordered(tasks: &NetPat) -> bool {
+    match tasks {
+        NetPat::Unordered(parts) => matches!(parts.as_slice(), [part] if is_ordered(part)),
+        _ => false,
+    }
+}
+
+fn is_call_copied(alloc: Global) -> Result<bool, AllocError> {
+    let call = call(alloc)?;
+    Ok(is_call(&call.copy(alloc)?))
+}
+
+fn is_atom_copied(alloc: Global) -> Result<bool, AllocError> {
+    let atom = atom(alloc)?;
+    Ok(is_atom(&atom.copy(alloc)?))
+}
+
+fn is_key_copied(alloc: Global) -> Result<bool, AllocError> {
+    let key = key(alloc)?;
+    Ok(is_key(&key.copy(alloc)?))
+}
+
+fn are_tasks_copied(alloc: Global) -> Result<bool, AllocError> {
+    let tasks = tasks(alloc)?;
+    Ok(is_unordered(&tasks.copy(alloc)?))
+}
+
+/// Copies of terms, of a key and of tasks.
+pub fn show_copies(page: &mut Page, alloc: Global) {
+    page.title("Copies show the same");
+    page.line("a call", &is_call_copied(alloc));
+    page.line("an atom", &is_atom_copied(alloc));
+    page.line("a key", &is_key_copied(alloc));
+    page.line("tasks", &are_tasks_copied(alloc));
 }

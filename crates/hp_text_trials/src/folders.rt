@@ -1,12 +1,13 @@
 //! Folders and sinks, in memory and on the host.
 
-use hp_io::{BeginError, Failed, Folder, HostFolder, HostSink, Input, MemFolder, MemSink, Sink};
+use crate::page::Page;
+use hp_io::{Failed, Folder, HostFolder, HostSink, Input, MemFolder, MemSink, Sink};
 use std::alloc::{AllocError, Global};
-use std::test::Fail;
+use std::rt::Files;
 
 /// Begins an input, with a second try, and reads it in pieces, through the trait alone.
 /// Says how many calls failed.
-fn failures<F: Folder>(folder: &mut F, name: &str, text: &mut Vec<u8>) -> Result<u32, Fail> {
+fn failures<F: Folder>(folder: &mut F, name: &str, text: &mut Vec<u8>) -> Result<u32, AllocError> {
     let mut buffer = [0u8; 2];
     let mut failures = 0u32;
     if folder.begin(Input::Problem, name).is_err() {
@@ -39,117 +40,81 @@ fn folder_of(alloc: Global) -> Result<MemFolder, AllocError> {
     Ok(folder)
 }
 
-/// Reads a file of a folder: how many calls failed, and whether the text is this one.
-fn reads(
+/// Reads a file of a folder: how many calls failed, and the text.
+fn show_file(
+    page: &mut Page,
     alloc: Global,
     folder: &mut MemFolder,
     name: &str,
-    want: &str,
-) -> Result<(u32, bool), Fail> {
+) -> Result<(), AllocError> {
     let mut text = Vec::new(alloc);
     let failed = failures(folder, name, &mut text)?;
-    Ok((failed, text.as_slice() == want.as_bytes()))
+    page.row(text.as_slice(), &failed);
+    Ok(())
 }
 
-#[test]
-fn reads_files(rt: HostRuntime) -> Result<(), Fail> {
-    let alloc = rt.alloc();
-    for (name, failed, want) in [
-        ("a", 0, "again"),
-        ("b", 0, "other"),
-        ("c", 0, ""),
-        ("d", 2, ""),
-    ] {
-        let mut folder = folder_of(alloc)?;
-        assert_eq!(rt;
-            reads(alloc, &mut folder, name, want)?,
-            (failed, true),
-            "{name}"
-        );
+fn show_files(page: &mut Page, alloc: Global) -> Result<(), AllocError> {
+    page.title("Files a, b, c and d are read: their texts, and how many calls failed");
+    for name in ["a", "b", "c", "d"] {
+        show_file(page, alloc, &mut folder_of(alloc)?, name)?;
     }
     Ok(())
 }
 
-/// Makes two calls fail.
-fn fail_at(folder: &mut MemFolder, first: u64, second: u64) -> Result<(), AllocError> {
+/// Two calls of a folder fail.
+fn failing_at(alloc: Global, first: u64, second: u64) -> Result<MemFolder, AllocError> {
+    let mut folder = folder_of(alloc)?;
     folder.fail_at(first)?;
-    folder.fail_at(second)
+    folder.fail_at(second)?;
+    Ok(folder)
 }
 
-#[test]
-fn fails_at_listed_calls(rt: HostRuntime) -> Result<(), Fail> {
-    let alloc = rt.alloc();
-    // Nine calls, and one more where the first fails.
-    for (first, second, failed) in [
-        (0, 0, 1),
-        (1, 1, 1),
-        (2, 3, 2),
-        (0, 9, 2),
-        (8, 9, 1),
-        (9, 10, 0),
-    ] {
-        let mut folder = folder_of(alloc)?;
-        fail_at(&mut folder, first, second)?;
-        assert_eq!(rt;
-            reads(alloc, &mut folder, "a", "again")?,
-            (failed, true),
-            "{first}"
-        );
+fn show_failing(page: &mut Page, alloc: Global) -> Result<(), AllocError> {
+    page.title("Listed calls fail, of nine, and one more where the first fails");
+    for (first, second) in [(0, 0), (1, 1), (2, 3), (0, 9), (8, 9), (9, 10)] {
+        show_file(page, alloc, &mut failing_at(alloc, first, second)?, "a")?;
     }
     Ok(())
 }
 
-/// A sink with room for five bytes.
-fn sink_of(alloc: Global) -> Result<MemSink, AllocError> {
-    MemSink::new(alloc, 5)
-}
-
-#[test]
-fn fills_its_room(rt: HostRuntime) -> Result<(), Fail> {
-    let mut sink = sink_of(rt.alloc())?;
-    for (piece, want) in [
-        ("abc", Ok(3)),
-        ("", Ok(0)),
-        ("def", Ok(2)),
-        ("", Ok(0)),
-        ("g", Err(Failed)),
-    ] {
-        assert_eq!(rt; written(&mut sink, piece), want, "{piece}");
+/// What a sink has after each piece, and how many bytes of it were taken.
+fn show_pieces(page: &mut Page, sink: &mut MemSink, pieces: &[&str; 5]) {
+    for piece in pieces {
+        let taken = written(sink, piece);
+        page.row(sink.bytes(), &taken);
     }
-    assert_eq!(rt; sink.bytes(), b"abcde".as_slice());
-    Ok(())
 }
 
-/// Takes one byte a write, and makes the writes 1 and 3 fail.
-fn slow_down(sink: &mut MemSink) -> Result<(), AllocError> {
+/// A sink that takes one byte a write, and whose writes 1 and 3 fail.
+fn slow_sink(alloc: Global) -> Result<MemSink, AllocError> {
+    let mut sink = MemSink::new(alloc, 5)?;
     sink.take_at_most(1);
     sink.fail_at(1)?;
-    sink.fail_at(3)
+    sink.fail_at(3)?;
+    Ok(sink)
 }
 
-#[test]
-fn takes_little_and_fails_at_listed_writes(rt: HostRuntime) -> Result<(), Fail> {
-    let mut sink = sink_of(rt.alloc())?;
-    slow_down(&mut sink)?;
-    for (piece, want) in [
-        ("ab", Ok(1)),
-        ("b", Err(Failed)),
-        ("bc", Ok(1)),
-        ("", Err(Failed)),
-        ("c", Ok(1)),
-    ] {
-        assert_eq!(rt; written(&mut sink, piece), want, "{piece}");
-    }
-    assert_eq!(rt; sink.bytes(), b"abc".as_slice());
+fn show_sinks(page: &mut Page, alloc: Global) -> Result<(), AllocError> {
+    page.title("A sink has room for five bytes");
+    let pieces = ["abc", "", "def", "", "g"];
+    show_pieces(page, &mut MemSink::new(alloc, 5)?, &pieces);
+    page.title("A sink takes a byte a write, and two writes fail");
+    show_pieces(page, &mut slow_sink(alloc)?, &["ab", "b", "bc", "", "c"]);
     Ok(())
 }
 
-#[test]
-fn stands_on_the_host(rt: HostRuntime) {
-    let mut folder = HostFolder::new(&rt);
-    assert_eq!(rt;
-        folder.begin(Input::Domain, "no such file"),
-        Err(BeginError::Failed)
-    );
-    assert_eq!(rt; written(&mut HostSink::new(&rt), ""), Ok(0));
+/// Folders and sinks in memory.
+pub fn show_folders(page: &mut Page, alloc: Global) -> Result<(), AllocError> {
+    show_files(page, alloc)?;
+    show_failing(page, alloc)?;
+    show_sinks(page, alloc)
+}
+
+/// A folder and a sink of the host.
+pub fn show_host(page: &mut Page, rt: &(impl Files + Print)) {
+    page.title("They stand on the host");
+    let mut folder = HostFolder::new(rt);
+    let begun = folder.begin(Input::Domain, "no such file");
+    page.line("a file that is missing", &begun);
+    page.line("nothing is written", &written(&mut HostSink::new(rt), ""));
 }

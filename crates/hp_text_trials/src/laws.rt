@@ -10,7 +10,6 @@ use hp_syntax::laws::{
 };
 use hp_syntax::samples::samples_are_spelled;
 
-#[test]
 fn laws_of_texts_and_forms_can_be_cited() {
     texts_spell_one_forest();
     texts_have_one_refusal();
@@ -25,14 +24,19 @@ fn laws_of_texts_and_forms_can_be_cited() {
     misforms_are_decided_by_the_front();
 }
 
-#[test]
 fn laws_of_checks_can_be_cited() {
     the_first_fault_is_told();
     no_fault_is_left_out();
 }
 
-#[test]
 fn samples_can_be_cited() {
     samples_are_spelled();
     two_packages_are_made();
+}
+
+/// Cites all of them.
+pub fn cite_all() {
+    laws_of_texts_and_forms_can_be_cited();
+    laws_of_checks_can_be_cited();
+    samples_can_be_cited();
 }

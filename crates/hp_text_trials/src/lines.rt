@@ -1,153 +1,139 @@
 //! The lines of a run.
 
+use crate::page::Page;
 use hp_check::Note;
 use hp_io::{Input, MemSink};
 use hp_out::{Ending, Pen, Refusal};
 use hp_syntax::{CheckFault, CheckKind, FaultKind, Name, RunFault, Span, TextKind, What};
-use std::test::Fail;
+use std::alloc::{AllocError, Global};
 
 const SPAN: Span = Span { from: 25, to: 29 };
 
-fn unknown_order() -> CheckFault {
-    CheckFault {
-        kind: CheckKind::UnknownOrder,
-        in_problem: false,
+const UNKNOWN_ORDER: CheckFault = CheckFault {
+    kind: CheckKind::UnknownOrder,
+    in_problem: false,
+    span: SPAN,
+};
+
+const ZERO_DIVISOR: RunFault = RunFault {
+    kind: FaultKind::ZeroDivisor,
+    span: SPAN,
+};
+
+/// What a sink takes of the line of a refusal, and whether it takes all.
+fn show_refusal(page: &mut Page, sink: &mut MemSink, refusal: &Refusal) {
+    let is_taken = Pen::new(sink).refusal_line(refusal).is_ok();
+    page.row(sink.bytes(), &is_taken);
+}
+
+fn show_refusals(page: &mut Page, alloc: Global) -> Result<(), AllocError> {
+    page.title("Refusals have a line each");
+    for refusal in [
+        Refusal::Usage,
+        Refusal::Read(Input::Domain),
+        Refusal::Read(Input::Problem),
+        Refusal::Text(Input::Domain, TextKind::TooNested, 64),
+        Refusal::Text(Input::Problem, TextKind::TooLarge, 4_194_304),
+        Refusal::Form(Input::Domain, What::Head, SPAN),
+        Refusal::Several(SPAN),
+        Refusal::Check(UNKNOWN_ORDER),
+    ] {
+        show_refusal(page, &mut MemSink::new(alloc, 100)?, &refusal);
+    }
+    Ok(())
+}
+
+/// What a sink takes of an empty text and the line of a note, and whether it takes all.
+fn show_note(page: &mut Page, sink: &mut MemSink, note: &Note) {
+    let mut pen = Pen::new(sink);
+    let is_taken = pen.text(b"").is_ok() && pen.note_line(note).is_ok();
+    page.row(sink.bytes(), &is_taken);
+}
+
+fn note_of(alloc: Global, in_problem: bool) -> Result<Note, AllocError> {
+    Ok(Note {
+        name: Name::new(alloc, b"deliver")?,
         span: SPAN,
-    }
+        in_problem,
+    })
 }
 
-/// Whether a sink takes the whole line of a refusal.
-fn writes_refusal(sink: &mut MemSink, refusal: &Refusal, line: &[u8]) -> bool {
-    let mut pen = Pen::new(sink);
-    pen.refusal_line(refusal).is_ok() && sink.bytes() == line
-}
-
-#[test]
-fn refusals_have_a_line_each(rt: HostRuntime) -> Result<(), Fail> {
-    for (refusal, line) in [
-        (Refusal::Usage, b"refused usage\n".as_slice()),
-        (Refusal::Read(Input::Domain), b"refused read domain\n"),
-        (Refusal::Read(Input::Problem), b"refused read problem\n"),
-        (
-            Refusal::Text(Input::Domain, TextKind::TooNested, 64),
-            b"refused domain TooNested at 64\n",
-        ),
-        (
-            Refusal::Text(Input::Problem, TextKind::TooLarge, 4_194_304),
-            b"refused problem TooLarge at 4194304\n",
-        ),
-        (
-            Refusal::Form(Input::Domain, What::Head, SPAN),
-            b"refused domain Expected Head at 25-29\n",
-        ),
-        (
-            Refusal::Several(SPAN),
-            b"refused problem SeveralPairs at 25-29\n",
-        ),
-        (
-            Refusal::Check(unknown_order()),
-            b"refused domain UnknownOrder at 25-29\n",
-        ),
-    ] {
-        let mut sink = MemSink::new(rt.alloc(), 100)?;
-        assert!(rt; writes_refusal(&mut sink, &refusal, line));
+fn show_notes(page: &mut Page, alloc: Global) -> Result<(), AllocError> {
+    page.title("Notes have a line each");
+    for in_problem in [false, true] {
+        let note = note_of(alloc, in_problem)?;
+        show_note(page, &mut MemSink::new(alloc, 100)?, &note);
     }
     Ok(())
 }
 
-/// Whether a sink takes an empty text and then the whole line of a note.
-fn writes_note(sink: &mut MemSink, note: &Note, line: &[u8]) -> bool {
-    let mut pen = Pen::new(sink);
-    pen.text(b"").is_ok() && pen.note_line(note).is_ok() && sink.bytes() == line
+/// A sink that takes three bytes a write, and has so much room.
+fn slow_sink(alloc: Global, room: usize) -> Result<MemSink, AllocError> {
+    let mut sink = MemSink::new(alloc, room)?;
+    sink.take_at_most(3);
+    Ok(sink)
 }
 
-#[test]
-fn notes_have_a_line_each(rt: HostRuntime) -> Result<(), Fail> {
-    for (in_problem, line) in [
-        (
-            false,
-            b"note NoRule deliver in domain at 25-29\n".as_slice(),
-        ),
-        (true, b"note NoRule deliver in problem at 25-29\n"),
-    ] {
-        let note = Note {
-            name: Name::new(rt.alloc(), b"deliver")?,
-            span: SPAN,
-            in_problem,
-        };
-        let mut sink = MemSink::new(rt.alloc(), 100)?;
-        assert!(rt; writes_note(&mut sink, &note, line));
-    }
-    Ok(())
-}
-
-#[test]
-fn a_line_that_fails_leaves_its_front(rt: HostRuntime) -> Result<(), Fail> {
+fn show_fronts_of_a_refusal(page: &mut Page, alloc: Global) -> Result<(), AllocError> {
+    page.title("A line that fails leaves its front");
     for room in 0..37 {
-        let mut sink = MemSink::new(rt.alloc(), room)?;
-        sink.take_at_most(3);
-        let mut pen = Pen::new(&mut sink);
-        assert!(rt; pen.refusal_line(&Refusal::Check(unknown_order())).is_err());
-        assert_eq!(rt;
-            sink.bytes(),
-            &b"refused domain UnknownOrder at 25-29\n"[..room]
+        show_refusal(
+            page,
+            &mut slow_sink(alloc, room)?,
+            &Refusal::Check(UNKNOWN_ORDER),
         );
     }
     Ok(())
 }
 
-fn zero_divisor() -> RunFault {
-    RunFault {
-        kind: FaultKind::ZeroDivisor,
-        span: SPAN,
-    }
+/// What a sink takes of the line of an ending, and whether it takes all.
+fn show_ending(page: &mut Page, sink: &mut MemSink, ending: &Ending, plans: u64, expansions: u64) {
+    let is_taken = Pen::new(sink)
+        .ending_line(ending, plans, expansions)
+        .is_ok();
+    page.row(sink.bytes(), &is_taken);
 }
 
-/// Whether a sink takes the whole line of an ending.
-fn writes_ending(sink: &mut MemSink, ending: &Ending, line: &[u8]) -> bool {
-    let mut pen = Pen::new(sink);
-    pen.ending_line(ending, 2, 12).is_ok() && sink.bytes() == line
+/// A sink whose second write fails.
+fn sink_for_one_write(alloc: Global) -> Result<MemSink, AllocError> {
+    let mut sink = MemSink::new(alloc, 100)?;
+    sink.fail_at(1)?;
+    Ok(sink)
 }
 
-#[test]
-fn endings_have_a_line_each(rt: HostRuntime) -> Result<(), Fail> {
-    for (ending, line) in [
-        (
-            Ending::Stopped,
-            b"stopped plans 2 expansions 12\n".as_slice(),
-        ),
-        (Ending::End, b"end plans 2 expansions 12\n"),
-        (Ending::Cut, b"cut plans 2 expansions 12\n"),
-        (
-            Ending::Fault(zero_divisor()),
-            b"fault ZeroDivisor at 25-29 plans 2 expansions 12\n",
-        ),
+fn show_endings(page: &mut Page, alloc: Global) -> Result<(), AllocError> {
+    page.title("Endings have a line each, in one piece or in many");
+    for ending in [
+        Ending::Stopped,
+        Ending::End,
+        Ending::Cut,
+        Ending::Fault(ZERO_DIVISOR),
     ] {
-        // It goes out in one piece, since a second write would fail.
-        let mut sink = MemSink::new(rt.alloc(), 100)?;
-        sink.fail_at(1)?;
-        assert!(rt; writes_ending(&mut sink, &ending, line));
-        let mut slow = MemSink::new(rt.alloc(), 100)?;
-        slow.take_at_most(3);
-        assert!(rt; writes_ending(&mut slow, &ending, line));
+        show_ending(page, &mut sink_for_one_write(alloc)?, &ending, 2, 12);
+        show_ending(page, &mut slow_sink(alloc, 100)?, &ending, 2, 12);
     }
     Ok(())
 }
 
-#[test]
-fn an_ending_that_fails_leaves_its_front(rt: HostRuntime) -> Result<(), Fail> {
+fn show_fronts_of_an_ending(page: &mut Page, alloc: Global) -> Result<(), AllocError> {
+    page.title("An ending that fails leaves its front");
     for room in 0..67 {
-        let mut sink = MemSink::new(rt.alloc(), room)?;
-        sink.take_at_most(3);
-        let mut pen = Pen::new(&mut sink);
-        assert!(rt;
-            pen.ending_line(&Ending::Fault(zero_divisor()), 0, u64::MAX)
-                .is_err()
-        );
-        assert_eq!(rt;
-            sink.bytes(),
-            &b"fault ZeroDivisor at 25-29 plans 0 expansions 18446744073709551615\n"[..room]
+        show_ending(
+            page,
+            &mut slow_sink(alloc, room)?,
+            &Ending::Fault(ZERO_DIVISOR),
+            0,
+            u64::MAX,
         );
     }
     Ok(())
+}
+
+/// Refusals, notes and endings.
+pub fn show_lines(page: &mut Page, alloc: Global) -> Result<(), AllocError> {
+    show_refusals(page, alloc)?;
+    show_notes(page, alloc)?;
+    show_fronts_of_a_refusal(page, alloc)?;
+    show_endings(page, alloc)?;
+    show_fronts_of_an_ending(page, alloc)
 }

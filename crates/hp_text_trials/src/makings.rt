@@ -1,14 +1,30 @@
 //! Texts that are made.
 
-use hp_make::make;
-use std::test::Fail;
+use crate::page::Page;
+use hp_make::{Made, make};
+use std::alloc::{AllocError, Global};
 
-#[test]
-fn makes_both_texts(rt: HostRuntime) -> Result<(), Fail> {
-    let made = make(rt.alloc(), 1, 2)?;
-    assert!(rt; made.domain.starts_with(b"(defdomain transport (\n("));
-    assert!(rt; made.domain.ends_with(b" done () ())\n))\n"));
-    assert!(rt; made.problem.starts_with(b"(defproblem made transport ("));
-    assert!(rt; made.problem.ends_with(b" (goal p1 t0)) ((all)))\n"));
+fn show_made(page: &mut Page, made: &Made) {
+    let (domain, problem) = (made.domain.as_slice(), made.problem.as_slice());
+    page.line(
+        "the domain's front",
+        &domain.starts_with(b"(defdomain transport (\n("),
+    );
+    page.line("the domain's end", &domain.ends_with(b" done () ())\n))\n"));
+    page.line(
+        "the problem's front",
+        &problem.starts_with(b"(defproblem made transport ("),
+    );
+    page.line(
+        "the problem's end",
+        &problem.ends_with(b" (goal p1 t0)) ((all)))\n"),
+    );
+}
+
+/// A problem of two packages, and its domain.
+pub fn show_makings(page: &mut Page, alloc: Global) -> Result<(), AllocError> {
+    page.title("Both texts are made");
+    let made = make(alloc, 1, 2)?;
+    show_made(page, &made);
     Ok(())
 }

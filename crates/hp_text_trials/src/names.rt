@@ -1,18 +1,24 @@
 //! Names.
 
+use crate::page::Page;
 use hp_syntax::Name;
+use std::alloc::{AllocError, Global};
 use std::collections::HashSet;
-use std::test::Fail;
 
-#[test]
-fn copies_are_equal(rt: HostRuntime) -> Result<(), Fail> {
-    let name = Name::new(rt.alloc(), b"kiwi")?;
-    let copy = name.copy(rt.alloc())?;
-    assert_eq!(rt; copy.bytes(), b"kiwi".as_slice());
-    assert!(rt; copy == name);
-    assert!(rt; copy != Name::new(rt.alloc(), b"banjo")?);
-    let mut names = HashSet::new(rt.alloc());
+/// Whether a copy is found in a set of the name alone.
+fn is_found(alloc: Global, name: Name, copy: &Name) -> Result<bool, AllocError> {
+    let mut names = HashSet::new(alloc);
     names.insert(name)?;
-    assert!(rt; names.contains(&copy));
+    Ok(names.contains(copy))
+}
+
+/// A name and its copy.
+pub fn show_names(page: &mut Page, alloc: Global) -> Result<(), AllocError> {
+    page.title("A copy of a name is equal to it, not to another, and found in a set");
+    let name = Name::new(alloc, b"kiwi")?;
+    let copy = name.copy(alloc)?;
+    page.row(copy.bytes(), &(copy == name));
+    page.row(copy.bytes(), &(copy != Name::new(alloc, b"banjo")?));
+    page.row(copy.bytes(), &is_found(alloc, name, &copy));
     Ok(())
 }

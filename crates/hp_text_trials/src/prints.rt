@@ -1,70 +1,13 @@
-//! Each call once, on small values that are built by hand.
+//! Each call once, on small values. What stands in no text that is read is built by hand.
 
+use crate::page::Page;
+use crate::reading::{domain_of, problem_of};
 use hp_print::{atom_pat_text, domain_text, ground_text, pat_text, problem_text, tasks_text};
-use hp_syntax::{
-    AtomPat, Domain, Ground, Name, NetPat, Pair, Pat, PatKind, Problem, Span, Tail, TaskPat,
-};
+use hp_syntax::{Axiom, Ground, Name, NetPat, Pair, Problem, Rule};
 use std::alloc::{AllocError, Global};
-use std::test::Fail;
-
-/// The texts do not depend on where things stood.
-const SOMEWHERE: Span = Span { from: 3, to: 4 };
-
-fn name(alloc: Global, text: &str) -> Result<Name, AllocError> {
-    Name::new(alloc, text.as_bytes())
-}
-
-/// The names of the variables 0 and 1.
-fn names(alloc: Global) -> Result<Vec<Name>, AllocError> {
-    Ok(vec![in alloc; name(alloc, "?x")?, name(alloc, "?y")?]?)
-}
-
-fn pat(kind: PatKind) -> Pat {
-    Pat {
-        span: SOMEWHERE,
-        kind,
-    }
-}
-
-fn tail(var: u32) -> Option<Tail> {
-    Some(Tail {
-        span: SOMEWHERE,
-        var,
-    })
-}
-
-/// A list of the symbol `a` and a variable, with this tail.
-fn listing(alloc: Global, v: u32, tail: Option<Tail>) -> Result<Pat, AllocError> {
-    let a = pat(PatKind::Sym(name(alloc, "a")?));
-    let parts = vec![in alloc; a, pat(PatKind::Var(v))]?;
-    Ok(pat(PatKind::List(parts, tail)))
-}
-
-/// The call `(call + VARIABLE 1)`.
-fn sum(alloc: Global, v: u32) -> Result<Pat, AllocError> {
-    let args = vec![in alloc; pat(PatKind::Var(v)), pat(PatKind::Num(1))]?;
-    Ok(pat(PatKind::Call(name(alloc, "+")?, args)))
-}
-
-/// An atom of a variable.
-fn atom(alloc: Global, word: &str, v: u32) -> Result<AtomPat, AllocError> {
-    Ok(AtomPat {
-        span: SOMEWHERE,
-        name: name(alloc, word)?,
-        args: vec![in alloc; pat(PatKind::Var(v))]?,
-        tail: None,
-    })
-}
-
-fn task(alloc: Global, v: u32, immediate: bool) -> Result<NetPat, AllocError> {
-    Ok(NetPat::Task(TaskPat {
-        atom: atom(alloc, "go", v)?,
-        immediate,
-    }))
-}
 
 fn pair(alloc: Global) -> Result<Ground, AllocError> {
-    let symbol = Ground::Sym(name(alloc, "a")?);
+    let symbol = Ground::Sym(Name::new(alloc, b"a")?);
     Ok(Ground::List(vec![in alloc; symbol, Ground::Num(3)]?))
 }
 
@@ -73,133 +16,102 @@ fn nested(alloc: Global) -> Result<Ground, AllocError> {
     Ok(Ground::List(vec![in alloc; empty, Ground::Num(-7)]?))
 }
 
-/// Whether a ground term is written so.
-fn is_ground(alloc: Global, term: Ground, want: &str) -> Result<bool, AllocError> {
-    let text = ground_text(alloc, &term)?;
-    Ok(text.as_slice() == want.as_bytes())
-}
-
-#[test]
-fn ground_terms_are_written(rt: HostRuntime) -> Result<(), Fail> {
-    let alloc = rt.alloc();
-    assert!(rt; is_ground(alloc, pair(alloc)?, "(a 3)")?);
-    assert!(rt; is_ground(alloc, nested(alloc)?, "(() -7)")?);
-    assert!(rt; is_ground(alloc, Ground::Num(i64::MIN), "-9223372036854775808")?);
+fn show_grounds(page: &mut Page, alloc: Global) -> Result<(), AllocError> {
+    page.title("Ground terms are written, and so many bytes");
+    page.text(ground_text(alloc, &pair(alloc)?));
+    page.text(ground_text(alloc, &nested(alloc)?));
+    page.text(ground_text(alloc, &Ground::Num(i64::MIN)));
     Ok(())
 }
 
-/// Whether a term is written so.
-fn is_term(alloc: Global, term: Pat, want: &str) -> Result<bool, AllocError> {
-    let vars = names(alloc)?;
-    let text = pat_text(alloc, &term, vars.as_slice())?;
-    Ok(text.as_slice() == want.as_bytes())
+/// Axioms whose heads have each kind of term, and a tail.
+const AXIOMS: &str =
+    "(defdomain d ((:- (of () ?y (call + ?x 1) (a ?y) (a ?x . ?y)) ()) (:- (near ?x . ?y) ())))";
+
+fn show_head(page: &mut Page, alloc: Global, axiom: &Axiom) {
+    for term in &axiom.head.args {
+        page.text(pat_text(alloc, term, axiom.vars.as_slice()));
+    }
+    page.text(atom_pat_text(alloc, &axiom.head, axiom.vars.as_slice()));
 }
 
-#[test]
-fn terms_are_written(rt: HostRuntime) -> Result<(), Fail> {
-    let alloc = rt.alloc();
-    let empty = pat(PatKind::List(Vec::new(alloc), None));
-    assert!(rt; is_term(alloc, empty, "()")?);
-    assert!(rt; is_term(alloc, pat(PatKind::Var(1)), "?y")?);
-    assert!(rt; is_term(alloc, sum(alloc, 0)?, "(call + ?x 1)")?);
-    assert!(rt; is_term(alloc, listing(alloc, 1, None)?, "(a ?y)")?);
-    assert!(rt; is_term(alloc, listing(alloc, 0, tail(1))?, "(a ?x . ?y)")?);
-    Ok(())
-}
-
-#[test]
-fn atoms_are_written(rt: HostRuntime) -> Result<(), Fail> {
-    let alloc = rt.alloc();
-    let vars = names(alloc)?;
-    let mut near = atom(alloc, "near", 0)?;
-    near.tail = tail(1);
-    let text = atom_pat_text(alloc, &near, vars.as_slice())?;
-    assert_eq!(rt; text.as_slice(), "(near ?x . ?y)".as_bytes());
-    Ok(())
-}
-
-/// Two tasks in any order.
-fn unordered(alloc: Global) -> Result<NetPat, AllocError> {
-    let first = task(alloc, 0, false)?;
-    Ok(NetPat::Unordered(vec![in alloc; first, task(alloc, 1, true)?]?))
-}
-
-/// Whether tasks are written so.
-fn are_tasks(alloc: Global, tasks: NetPat, want: &str) -> Result<bool, AllocError> {
-    let vars = names(alloc)?;
-    let text = tasks_text(alloc, &tasks, vars.as_slice())?;
-    Ok(text.as_slice() == want.as_bytes())
-}
-
-#[test]
-fn task_lists_are_written(rt: HostRuntime) -> Result<(), Fail> {
-    let alloc = rt.alloc();
-    let both = "(:unordered (go ?x) (:immediate go ?y))";
-    assert!(rt; are_tasks(alloc, NetPat::Ordered(Vec::new(alloc)), "(:ordered)")?);
-    assert!(rt; are_tasks(alloc, task(alloc, 1, false)?, "(go ?y)")?);
-    assert!(rt; are_tasks(alloc, unordered(alloc)?, both)?);
-    Ok(())
+fn show_heads(page: &mut Page, alloc: Global, rules: &[Rule]) {
+    for rule in rules {
+        if let Rule::Axiom(axiom) = rule {
+            show_head(page, alloc, axiom);
+        }
+    }
 }
 
 /// A domain with rules is shown by a case of `hp_trials`.
-#[test]
-fn empty_domains_are_written(rt: HostRuntime) -> Result<(), Fail> {
-    let alloc = rt.alloc();
-    let domain = Domain {
-        name: name(alloc, "d")?,
-        rules: Vec::new(alloc),
-    };
-    let text = domain_text(alloc, &domain)?;
-    assert_eq!(rt; text.as_slice(), "(defdomain d (\n))\n".as_bytes());
+const EMPTY: &str = "(defdomain d ())";
+
+fn show_domains(page: &mut Page, alloc: Global) {
+    page.title("The terms of two heads are written, and the heads");
+    if let Some(domain) = domain_of(alloc, AXIOMS) {
+        show_heads(page, alloc, domain.rules.as_slice());
+    }
+    page.title("A domain is written");
+    if let Some(domain) = domain_of(alloc, EMPTY) {
+        page.text(domain_text(alloc, &domain));
+    }
+}
+
+fn show_tasks(page: &mut Page, alloc: Global, problem: &Problem) {
+    for pair in &problem.pairs {
+        page.text(tasks_text(alloc, &pair.tasks, problem.vars.as_slice()));
+    }
+}
+
+fn show_task_lists(page: &mut Page, alloc: Global) {
+    page.title("Task lists are written");
+    for text in [
+        "(defproblem p d () ())",
+        "(defproblem p d () (:unordered (go ?x) (:immediate go ?y)))",
+    ] {
+        if let Some(problem) = problem_of(alloc, text) {
+            show_tasks(page, alloc, &problem);
+        }
+    }
+}
+
+/// Two atoms, and two tasks in any order.
+const ONE_PAIR: &str = "(defproblem p d ((at ?x) (by ?y)) (:unordered (go ?x) (go ?y)))";
+
+/// Takes the last of tasks in any order out of a pair.
+fn last_task(pair: &mut Pair) -> Option<NetPat> {
+    match &mut pair.tasks {
+        NetPat::Unordered(tasks) => tasks.pop(),
+        _ => None,
+    }
+}
+
+/// Makes the last task of the first pair a pair without atoms.
+fn part(alloc: Global, problem: &mut Problem) -> Result<(), AllocError> {
+    if let Some(pair) = problem.pairs.first_mut()
+        && let Some(tasks) = last_task(pair)
+    {
+        let state = Vec::new(alloc);
+        problem.pairs.push(Pair { state, tasks })?;
+    }
     Ok(())
 }
 
-const PROBLEM: &str = "(defproblem p d
-((at ?x) (by ?y))
-(:unordered (go ?x))
-()
-(go ?y)
-)
-";
-
-/// Two atoms, and a task in any order.
-fn first_pair(alloc: Global) -> Result<Pair, AllocError> {
-    let at = atom(alloc, "at", 0)?;
-    let state = vec![in alloc; at, atom(alloc, "by", 1)?]?;
-    let tasks = vec![in alloc; task(alloc, 0, false)?]?;
-    Ok(Pair {
-        state,
-        tasks: NetPat::Unordered(tasks),
-    })
+fn show_pairs(page: &mut Page, alloc: Global, problem: &mut Problem) -> Result<(), AllocError> {
+    part(alloc, problem)?;
+    page.title("A problem of two pairs is written, behind the tasks of each");
+    show_tasks(page, alloc, problem);
+    page.text(problem_text(alloc, problem));
+    Ok(())
 }
 
-/// No atom, and one task.
-fn second_pair(alloc: Global) -> Result<Pair, AllocError> {
-    let tasks = task(alloc, 1, false)?;
-    Ok(Pair {
-        state: Vec::new(alloc),
-        tasks,
-    })
-}
-
-/// A problem of these pairs.
-fn problem_of(alloc: Global, pairs: Vec<Pair>) -> Result<Problem, AllocError> {
-    Ok(Problem {
-        name: name(alloc, "p")?,
-        domain: name(alloc, "d")?,
-        domain_span: SOMEWHERE,
-        vars: names(alloc)?,
-        pairs,
-    })
-}
-
-#[test]
-fn problems_are_written(rt: HostRuntime) -> Result<(), Fail> {
-    let alloc = rt.alloc();
-    let first = first_pair(alloc)?;
-    let pairs = vec![in alloc; first, second_pair(alloc)?]?;
-    let problem = problem_of(alloc, pairs)?;
-    let text = problem_text(alloc, &problem)?;
-    assert_eq!(rt; text.as_slice(), PROBLEM.as_bytes());
+/// Ground terms, terms, atoms, tasks, a domain and a problem.
+pub fn show_prints(page: &mut Page, alloc: Global) -> Result<(), AllocError> {
+    show_grounds(page, alloc)?;
+    show_domains(page, alloc);
+    show_task_lists(page, alloc);
+    if let Some(mut problem) = problem_of(alloc, ONE_PAIR) {
+        show_pairs(page, alloc, &mut problem)?;
+    }
     Ok(())
 }

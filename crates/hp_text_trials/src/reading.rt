@@ -1,0 +1,28 @@
+//! Domains and problems that are read and formed.
+
+use hp_forms::{domain, problem};
+use hp_syntax::{Domain, Problem};
+use hp_text::read;
+use std::alloc::Global;
+
+/// The domain that a text is, if it is one.
+pub fn domain_of(alloc: Global, text: &str) -> Option<Domain> {
+    let forest = read(alloc, text.as_bytes()).ok()?;
+    domain(alloc, &forest).ok()
+}
+
+/// Whether a text is a domain.
+pub fn is_domain(alloc: Global, text: &str) -> bool {
+    domain_of(alloc, text).is_some()
+}
+
+/// The problem that a text is, if it is one.
+pub fn problem_of(alloc: Global, text: &str) -> Option<Problem> {
+    let forest = read(alloc, text.as_bytes()).ok()?;
+    problem(alloc, &forest).ok()
+}
+
+/// Whether a text is a problem.
+pub fn is_problem(alloc: Global, text: &str) -> bool {
+    problem_of(alloc, text).is_some()
+}
