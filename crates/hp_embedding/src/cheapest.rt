@@ -13,13 +13,25 @@ use std::alloc::{AllocError, Global};
 use thiserror::Error;
 
 /// A plan that was found.
-#[derive(Drop)]
 pub struct Found {
     pub cost: i128,
     /// For each decomposition on the way its number among those of its parent.
     pub path: Vec<u64>,
     /// Its lines, as `plan` writes them of a first plan.
     pub text: Vec<u8>,
+}
+
+// A derived drop would do the same, but be proved anew wherever a plan is let go.
+impl Drop for Found {
+    fn drop(self) {
+        let Found {
+            cost: _,
+            path,
+            text,
+        } = self;
+        drop(path);
+        drop(text);
+    }
 }
 
 /// Why a search doesn't say which plan is the cheapest.

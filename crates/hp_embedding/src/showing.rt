@@ -56,10 +56,9 @@ pub fn show<W: Walk>(
     requires at { All (IsAtItsNode (W.tree walk.old)) (W.stands walk.old).rest }
 {
     match what {
-        Shown::Cheapest => print_cheapest(rt, alloc, walk)?,
-        Shown::Visits => print_visits(rt, walk)?,
-        Shown::Pruned => print_pruned(rt, walk)?,
-        Shown::WayBack => print_way_back(rt, walk)?,
+        Shown::Cheapest => print_cheapest(rt, alloc, walk),
+        Shown::Visits => Ok(print_visits(rt, walk)?),
+        Shown::Pruned => Ok(print_pruned(rt, walk)?),
+        Shown::WayBack => Ok(print_way_back(rt, walk)?),
     }
-    Ok(())
 }

@@ -3,6 +3,7 @@ ghost use Rattle.std.specs.Prelude.{◌≡◌, true, OnOk};
 
 use crate::steps::{leave, next_alone};
 use hp_net::Walk;
+use std::fmt::Debug;
 use std::io;
 
 /// One thing is dropped and another picked up: a plan of three decompositions.
@@ -16,12 +17,17 @@ pub const DOMAIN: &str = "(defdomain basic (
 
 pub const PROBLEM: &str = "(defproblem p1 basic ((have kiwi)) ((swap banjo kiwi)))";
 
+/// A call, and what it answered.
+fn print_answer<A: Debug>(rt: &impl Print, call: &str, answer: &A) -> io::Result<()> {
+    println!(rt; "{call} {answer:?}")
+}
+
 /// Five visits, each as it comes.
 pub fn print_visits<W: Walk>(rt: &impl Print, walk: &mut W) -> io::Result<()>
     requires { W.is_live walk.old ≡ true }
 {
     for _ in 0..5 {
-        println!(rt; "next {:?}", walk.next()?)?;
+        print_answer(rt, "next", &walk.next()?)?;
     }
     Ok(())
 }
@@ -31,7 +37,7 @@ pub fn print_pruned<W: Walk>(rt: &impl Print, walk: &mut W) -> io::Result<()>
     requires { W.is_live walk.old ≡ true }
 {
     for _ in 0..2 {
-        println!(rt; "next alone {:?}", next_alone(walk)?)?;
+        print_answer(rt, "next alone", &next_alone(walk)?)?;
     }
     Ok(())
 }
@@ -42,7 +48,7 @@ fn print_way_down<W: Walk>(rt: &impl Print, walk: &mut W) -> io::Result<()>
     ensures { OnOk result (W.is_live walk.new ≡ true) }
 {
     for _ in 0..4 {
-        println!(rt; "step {:?}", walk.step()?)?;
+        print_answer(rt, "step", &walk.step()?)?;
     }
     Ok(())
 }

@@ -93,7 +93,7 @@ fn in_turn(function: Step, span: Span, first: i64, rest: &[i64]) -> Result<i64, 
     Ok(total)
 }
 
-// A function carried from the left through all numbers.
+/// A function carried from the left through all numbers.
 fn from_left(function: Step, span: Span, numbers: &[i64]) -> Result<Answer, RunFault>
     ensures { answered result ≡ plain.from_left (step_of function) span (Some numbers.now) }
 {
@@ -179,7 +179,7 @@ fn of_both(function: OfTwo, m: i64, n: i64, span: Span) -> Result<Answer, RunFau
     }
 }
 
-// A function of two numbers, or nothing where there aren't two.
+/// A function of two numbers, or nothing where there aren't two.
 fn of_two(function: OfTwo, span: Span, numbers: &[i64]) -> Result<Answer, RunFault>
     ensures { answered result ≡ plain.of_two (two_of function) span (Some numbers.now) }
 {
@@ -189,7 +189,7 @@ fn of_two(function: OfTwo, span: Span, numbers: &[i64]) -> Result<Answer, RunFau
     }
 }
 
-// How far a number is from 0, or nothing where there isn't one number.
+/// How far a number is from 0, or nothing where there isn't one number.
 fn absolute(span: Span, numbers: &[i64]) -> Result<Answer, RunFault>
     ensures { answered result ≡ plain.of_one (λ s n. plain.number s (pos (unsigned_abs n))) span (Some numbers.now) }
 {

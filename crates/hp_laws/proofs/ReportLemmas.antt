@@ -27,7 +27,8 @@ module _ (tell : ℕ → Visit → List ℕ) where
   -- the texts that are told behind a plan
   told_behind : (k p : ℕ) (vs : List Visit)
       → ((k p : ℕ) → Begins (plan_texts tell k p vs) (plan_texts tell (k + 1) p vs))
-      → Begins (cond (nat_le k p) [] (plan_texts tell k p vs)) (cond (nat_le (k + 1) p) [] (plan_texts tell (k + 1) p vs))
+      → Begins (cond (nat_le k p) [] (plan_texts tell k p vs))
+      (cond (nat_le (k + 1) p) [] (plan_texts tell (k + 1) p vs))
   told_behind k p vs deep =
       cond_both (nat_le k p) [] (plan_texts tell k p vs)
       (λ xs. Begins xs (cond (nat_le (k + 1) p) [] (plan_texts tell (k + 1) p vs)))

@@ -49,4 +49,5 @@ pub problem_spelled : (p : Problem) → CanSpell (written.problem p) → length 
     → nesting_of_node (written.problem p) ≤ DEEPEST_NESTING
     → (f : Forest) × IsForest (written.problem_text p) f × (unplaced.forest f ≡ one (written.problem p))
 problem_spelled p c l n =
-    whole_spelled (written.problem_text p) (written.problem p) (problem_nowhere p) (laid_out _ _ (problem_placed p c)) l n
+    whole_spelled (written.problem_text p) (written.problem p) (problem_nowhere p) (laid_out _ _ (problem_placed p c))
+    l n

@@ -60,7 +60,8 @@ accepts_three (p ∷ d ∷ q ∷ z ∷ zs) w x y u v t a b i j k l m n = absurd 
 
 module _ (ws : List (String Global)) (w d q p n : String Global) (five : 5 ≤ length ws)
     (h : w ≡ get_or ws 0 w) (i : d ≡ get_or ws 1 d) (j : q ≡ get_or ws 2 q) (k : p ≡ get_or ws 3 p)
-    (l : n ≡ get_or ws 4 n) (t : List ℕ) (b : Bool) (e : b ≡ bytes_eq t (codes "plan")) (first : t ≡ string_bytes w) where
+    (l : n ≡ get_or ws 4 n) (t : List ℕ) (b : Bool) (e : b ≡ bytes_eq t (codes "plan"))
+    (first : t ≡ string_bytes w) where
   -- words with another first word are no command
   pub accepts_other : b ≡ false → accepts (map string_bytes ws) ≡ None
   accepts_other f = accepts_many ws w d q p n five h i j k l ∙ (rw (← first, ← e, f) refl)

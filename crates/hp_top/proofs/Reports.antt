@@ -129,5 +129,6 @@ module _ (tell : ℕ → Visit → List ℕ) (k : ℕ) (t : Tally) (v : Visit) (
       → plan_texts tell k p (v ∷ vs) ≡ tell (p + 1) v ++ cond (nat_le k (p + 1)) [] (plan_texts tell k (p + 1) vs)
   texts_first p h =
       as_seen v Plan
-      (λ w. plan_texts tell k p (w ∷ vs) ≡ tell (p + 1) w ++ cond (nat_le k (p + 1)) [] (plan_texts tell k (p + 1) vs)) h
+      (λ w. plan_texts tell k p (w ∷ vs)
+      ≡ tell (p + 1) w ++ cond (nat_le k (p + 1)) [] (plan_texts tell k (p + 1) vs)) h
       refl

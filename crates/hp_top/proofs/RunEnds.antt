@@ -436,7 +436,9 @@ module _ (c : Command) (file : List ℕ → ToldFile) (s : Status) (before now :
       how_short loaded l (ForText which why e) t =
           answer_short loaded
           (λ cause i. (
-            λ m. let x : Err (causes.Refused (refusal_of which why)) ≡ Err causes.NoMemory = sym e ∙ (i ∙ ap Err m) in cc,
+            λ m.
+                let x : Err (causes.Refused (refusal_of which why)) ≡ Err causes.NoMemory = sym e ∙ (i ∙ ap Err m) in
+                cc,
             λ w name m u. absurd (why_unread which w why (same_refusal loaded _ _ e (i ∙ ap Err m))),
           )) l (subst IsAnswer (sym (ap status_to e)) (why_answers which why)) t
       how_short loaded l (ForAnswer x e) t =
@@ -509,8 +511,8 @@ module _ (words : List (List ℕ)) (file : List ℕ → ToldFile) (s : Status) (
     ends_short (serving.NoCommand e t) =
         (refused_usage, OfOutcome status.Usage (outcome.NoCommand e refl), told_short _ s r (λ x. cc) (λ x. cc) t)
     ends_short (serving.ByCommand c e h) =
-        serves_short c file s before now r MayWrite (λ which name n u l. OfReading (read_line c e which name n u l)) files
-        told (λ a x. OfOutcome a.1 (outcome.ByCommand c e x)) any_text h
+        serves_short c file s before now r MayWrite (λ which name n u l. OfReading (read_line c e which name n u l))
+        files told (λ a x. OfOutcome a.1 (outcome.ByCommand c e x)) any_text h
     ends_short (serving.ByMaking seed n e h) =
         serves_short (made_command seed n) (told_made seed n) s no_faults no_faults r MayWrite
         (λ which name i q l. absurd (made_read which name seed n i q)) (made_files seed n) (λ name. refl)

@@ -78,7 +78,8 @@ pub data StopsAt {A : Type 0} (which : Input) (form : Form A) (cause : LoadError
       → StopsAt which form cause file before now
 
 -- what is loaded of a told file: what it is read as, or why it is read as nothing
-abbrev pub LoadsTold : {A : Type 0} → Input → Form A → ToldFile → (Input → ℕ) → (Input → ℕ) → Result A LoadError → Type 0
+abbrev pub LoadsTold : {A : Type 0} → Input → Form A → ToldFile → (Input → ℕ) → (Input → ℕ) → Result A LoadError
+    → Type 0
 LoadsTold which form file before now (Ok x) = Reads form file x
 LoadsTold which form file before now (Err cause) = StopsAt which form cause file before now
 
@@ -87,8 +88,8 @@ LoadsTold which form file before now (Err cause) = StopsAt which form cause file
 -- a domain is loaded of a told file, and then a problem of another
 abbrev pub LoadsBoth : ToldFile → ToldFile → (Input → ℕ) → (Input → ℕ) → Result (Domain × Problem) LoadError → Type 0
 LoadsBoth domain problem before now loaded =
-    Both (LoadsTold inputs.Domain domain_form domain before now) (LoadsTold inputs.Problem problem_form problem before now)
-    loaded
+    Both (LoadsTold inputs.Domain domain_form domain before now)
+    (LoadsTold inputs.Problem problem_form problem before now) loaded
 
 -- what was loaded into memory, as plain values
 abbrev pub plain_of : Result Loaded LoadError → Result (Domain × Problem) LoadError

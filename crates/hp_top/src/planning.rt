@@ -135,7 +135,8 @@ fn plan_found<W: Walk, K: Sink>(
     ensures counted { OnOk result (progress.new ≡ counted progress.old) }
     ensures stops { IfOk result (λ o. o ≡ stop_at plans (progress.old.plans + 1)) }
     ensures err { MatchOption (node_reached (W.tree walk.now) (W.stands walk.now)) ⊥
-        (λ n. IfErr result (λ h. Halts h (telling detail (progress.old.plans + 1) (visit (W.stands walk.now).path n Plan))
+        (λ n. IfErr result (λ h. Halts h
+        (telling detail (progress.old.plans + 1) (visit (W.stands walk.now).path n Plan))
         (sink_run (K.faults out.old) (K.faults out.new) (K.bytes out.old) (K.bytes out.new)))) }
     ensures later { K.faults out.old ≤ K.faults out.new }
 {

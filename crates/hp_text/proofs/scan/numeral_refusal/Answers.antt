@@ -10,6 +10,7 @@ returns-then-not-is_numeral c =
       | then-not-is_numeral-via-then-not-is_numeral w ↦ sym (no_numeral_passes c.args.token.now c.args.from
           (sym c.is_numeral.ensures ∙ w.if-not-is_numeral.true))
       | then-not-is_numeral-via-else-not-is_numeral+then-is_small_number w ↦
-          sym (whole_number_passes c.args.token.now c.args.from (w.is_small_number.ensures.whole w.if-is_small_number.true)
+          sym (whole_number_passes c.args.token.now c.args.from
+          (w.is_small_number.ensures.whole w.if-is_small_number.true)
           (w.is_small_number.ensures.range w.if-is_small_number.true))
     ]

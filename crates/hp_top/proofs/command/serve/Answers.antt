@@ -2,7 +2,7 @@ use Rattle.std.proofs.Common.{◌≡◌, Some, refl, subst, sym, map, string_byt
 use Rattle.hp_top.specs.Command.{accepts, make_command}
 use Rattle.hp_top.specs.Serving.{ByCommand, ByMaking}
 use Rattle.hp_top.specs.Words.{job_of, request_of}
-use Rattle.hp_top.proofs.RunEnds.{refused_words}
+use Rattle.hp_top.proofs.RunEnds.{refused_words, touched_by_command}
 use Rattle.hp_top.proofs.command.serve.Goals as goal
 
 pub returns-in-None-clause-untouched : goal.returns-in-None-clause-untouched
@@ -23,3 +23,11 @@ returns-in-Some-Files-clause-ends g c =
     (subst (λ r. Some (request_of r) ≡ accepts (map string_bytes c.args.words.now)) c.in-Some-Files.field-0-is
     c.in-Some-Files.ensures.asks))
     c.serve_command.ensures.serves
+
+pub returns-in-Some-Files-clause-touched : goal.returns-in-Some-Files-clause-touched
+returns-in-Some-Files-clause-touched g c = λ w.
+    touched_by_command _ (g.F.Folder.file c.args.folder.now) _ _ (job_of c.in-Some-Files.job) w _
+    (sym
+    (subst (λ r. Some (request_of r) ≡ accepts (map string_bytes c.args.words.now)) c.in-Some-Files.field-0-is
+    c.in-Some-Files.ensures.asks))
+    (c.serve_command.ensures.touched w)
