@@ -1,4 +1,4 @@
-use Rattle.std.proofs.Common.{◌≡◌, ℕ, suc, ◌+◌, ◌-◌, ◌<◌, ◌++◌, ap, arith}
+use Rattle.std.proofs.Common.{◌≡◌, ℕ, suc, ◌+◌, ◌-◌, ◌<◌, ◌++◌, ap, arith, rules}
 use Rattle.std.proofs.lemmas.Grind.{common_steps}
 use Rattle.hp_make.specs.Draws.{next, draw}
 use Rattle.hp_make.specs.Texts.{package_text, packages_text}
@@ -14,3 +14,6 @@ pub loop-number-preserved : goal.loop-number-preserved
 loop-number-preserved c =
     let first = packages_text-first c.loop-number.draws.state c.loop-number.number c.args.n c.loop-number-test.true in
     grind (arith, common_steps)
+
+pub loop-number-init : goal.loop-number-init
+loop-number-init c = search rules

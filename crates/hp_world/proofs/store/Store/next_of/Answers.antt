@@ -1,4 +1,4 @@
-use Rattle.std.proofs.Common.{◌≡◌, ◌∙◌, inl, inr, length, get_or, None, Some, arith}
+use Rattle.std.proofs.Common.{◌≡◌, ◌∙◌, inl, inr, length, get_or, None, Some, arith, rules}
 use Rattle.std.proofs.lemmas.Bool.{cases_lt}
 use Rattle.std.proofs.lemmas.Option.{get_or_from_slice_get}
 use Rattle.hp_world.proofs.AtomLemmas.{atom_below}
@@ -19,3 +19,6 @@ returns c = λ i l k.
       | inl m ↦ c.loop-place.invariant i l (omega (arith, m, c.len-place-end.ensures, c.loop-place-test.false)) k
       | inr m ↦ past_unnamed c.args.cells.now c.args.name places i m k
     ]
+
+pub loop-place-init : goal.loop-place-init
+loop-place-init c = search rules
