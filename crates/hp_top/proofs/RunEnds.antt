@@ -27,10 +27,10 @@ use Rattle.hp_top.specs.Making.{made_files, made_command}
 use Rattle.hp_top.specs.Outcome as outcome
 use Rattle.hp_top.specs.Outcome.{Files, Outcome, Comes, LoadsFile, Both, answer_to, walk_of_pairs, job_answer, unless_faulty, first_fault, answer_of_read, IsUnreadable, Why, InText, InForm, refused_status, refusal_status, refusal_of, refusal_answer}
 use Rattle.hp_top.specs.Loading as loading
-use Rattle.hp_top.specs.Loading.{ToldFile, Holds, Reads, IsUnread, StopsAt, LoadsBoth}
+use Rattle.hp_top.specs.Loading.{ToldFile, FolderRun, Holds, Reads, IsUnread, StopsAt, LoadsBoth}
 use Rattle.hp_top.specs.Run.{TellsFiles, IsOutcome, RefusesWords, IsReadLine, ReadFails, CouldWrite, OfOutcome, OfReading, WritesFront, WritesProperFront}
 use Rattle.hp_top.specs.Serving as serving
-use Rattle.hp_top.specs.Serving.{Serves, Ends, load_answer, no_faults, told_made}
+use Rattle.hp_top.specs.Serving.{Serves, Ends, load_answer, no_faults, made_run}
 use Rattle.hp_top.specs.Telling as telling
 use Rattle.hp_top.specs.Telling.{Tells}
 use Rattle.hp_top.specs.Touching.{InputRun, Touches, TouchesNamed}
@@ -49,17 +49,17 @@ missing f None e h = refl
 missing f (Some t) e h = let both : Some (Some t) ≡ Some None = sym e ∙ h in cc
 
 -- reading didn't fail: the status says so, or no count of faults rose
-abbrev pub ReadsWell : Status → (Input → ℕ) → (Input → ℕ) → Type 0
-ReadsWell s before now = (s ≢ status.ReadFault) ⊎ ((w : Input) → Rose (before w) (now w) → ⊥)
+abbrev pub ReadsWell : Status → FolderRun → Type 0
+ReadsWell s r = (s ≢ status.ReadFault) ⊎ ((w : Input) → Rose (r.before w) (r.now w) → ⊥)
 
 -- where reading didn't fail but an input is unread, its file is told to be missing
-unread_missing : (s : Status) (before now : Input → ℕ) (which : Input) (f : ToldFile) (o : Option (List ℕ))
-    → s ≡ status.ReadFault → ReadsWell s before now → f ≡ Some o → IsUnread which f before now → o ≡ None
-unread_missing s before now which f o e (inl x) t u = absurd (x e)
-unread_missing s before now which f o e (inr x) t (inl rose) = absurd (x which rose)
-unread_missing s before now which f o e (inr x) t (inr m) = missing f o t m
+unread_missing : (s : Status) (r : FolderRun) (which : Input) (f : ToldFile) (o : Option (List ℕ))
+    → s ≡ status.ReadFault → ReadsWell s r → f ≡ Some o → IsUnread which f r.before r.now → o ≡ None
+unread_missing s r which f o e (inl x) t u = absurd (x e)
+unread_missing s r which f o e (inr x) t (inl rose) = absurd (x which rose)
+unread_missing s r which f o e (inr x) t (inr m) = missing f o t m
 
-module _ (file : List ℕ → ToldFile) (c : Command) (before now : Input → ℕ) where
+module _ (folder : FolderRun) (c : Command) where
   -- a domain and a problem, or why they aren't loaded
   abbrev Loaded : Type 0
   Loaded = Result (Domain × Problem) LoadError
@@ -68,48 +68,48 @@ module _ (file : List ℕ → ToldFile) (c : Command) (before now : Input → �
   data Known (loaded : Loaded) : Type 0 where
     ForMemory : loaded ≡ Err causes.NoMemory → Known loaded
     ForReading : (which : Input) (name : List ℕ) → loaded ≡ Err (causes.Refused (refusals.Read which))
-        → named c which ≡ Some name → IsUnread which (file name) before now → Known loaded
+        → named c which ≡ Some name → IsUnread which (folder.file name) folder.before folder.now → Known loaded
     ForText : (which : Input) (why : Why) → loaded ≡ Err (causes.Refused (refusal_of which why)) → Known loaded
     ForAnswer : (x : Domain × Problem) → loaded ≡ Ok x → Known loaded
 
   -- what stops at a file that the command names
   stop_known : {A : Type 0} (which : Input) (form : Form A) (name : List ℕ) (cause : LoadError) (loaded : Loaded)
-      → named c which ≡ Some name → StopsAt which form cause (file name) before now → loaded ≡ Err cause
-      → Known loaded
+      → named c which ≡ Some name → StopsAt which form cause (folder.file name) folder.before folder.now
+      → loaded ≡ Err cause → Known loaded
   stop_known which form name cause loaded n (loading.StopsAt.WithoutMemory e) i = ForMemory (i ∙ ap Err e)
   stop_known which form name cause loaded n (loading.StopsAt.Unread e u) i = ForReading which name (i ∙ ap Err e) n u
   stop_known which form name cause loaded n (loading.StopsAt.Unreadable why e h) i = ForText which why (i ∙ ap Err e)
 
-  known : (loaded : Loaded) → LoadsBoth (file c.domain) (file c.problem) before now loaded → Known loaded
+  known : (loaded : Loaded) → LoadsBoth folder c.domain c.problem loaded → Known loaded
   known loaded (outcome.Then.Stopped e h i) = stop_known inputs.Domain domain_form c.domain e loaded refl h i
   known loaded (outcome.Then.Went d h (outcome.Then.Stopped e k j)) =
       stop_known inputs.Problem problem_form c.problem e loaded refl k j
   known loaded (outcome.Then.Went d h (outcome.Then.Went p k j)) = ForAnswer (d, p) j
 
-  module _ (files : Files) (told : TellsFiles file files) where
+  module _ (files : Files) (told : TellsFiles folder.file files) where
     -- a cause is one that the files have: memory isn't wanting, and what is unread is missing
     abbrev IsExact : LoadError → Type 0
     IsExact cause =
         (cause ≢ causes.NoMemory)
         × ((which : Input) (name : List ℕ) → cause ≡ causes.Refused (refusals.Read which)
-        → IsUnread which (file name) before now → files name ≡ None)
+        → IsUnread which (folder.file name) folder.before folder.now → files name ≡ None)
 
     -- what is read of a told file is loaded of the file
-    good_exact : {A : Type 0} (which : Input) (form : Form A) (name : List ℕ) (x : A) → Reads form (file name) x
+    good_exact : {A : Type 0} (which : Input) (form : Form A) (name : List ℕ) (x : A) → Reads form (folder.file name) x
         → LoadsFile which form (files name) (Ok x)
     good_exact which form name x h =
-        let t = told_text (λ t. IsRead form t x) (file name) (files name) (told name) h in
+        let t = told_text (λ t. IsRead form t x) (folder.file name) (files name) (told name) h in
         outcome.LoadsFile.Good t.0 x t.1 t.2 refl
 
     -- what stops at a told file refuses the file
     bad_exact : {A : Type 0} (which : Input) (form : Form A) (name : List ℕ) (cause : LoadError) → IsExact cause
-        → StopsAt which form cause (file name) before now
+        → StopsAt which form cause (folder.file name) folder.before folder.now
         → (r : Refusal) × LoadsFile which form (files name) (Err r) × (cause ≡ causes.Refused r)
     bad_exact which form name cause p (loading.StopsAt.WithoutMemory e) = absurd (p.0 e)
     bad_exact which form name cause p (loading.StopsAt.Unread e u) =
         (refusals.Read which, outcome.LoadsFile.Missing (p.1 which name e u) refl, e)
     bad_exact which form name cause p (loading.StopsAt.Unreadable why e h) =
-        let t = told_text (λ t. IsUnreadable form t why) (file name) (files name) (told name) h in
+        let t = told_text (λ t. IsUnreadable form t why) (folder.file name) (files name) (told name) h in
         (refusal_of which why, outcome.LoadsFile.Bad t.0 why t.1 t.2 refl, e)
 
     -- a refusal is a cause
@@ -118,7 +118,7 @@ module _ (file : List ℕ → ToldFile) (c : Command) (before now : Input → �
     as_told (Err r) = Err (causes.Refused r)
 
     both_exact : (loaded : Loaded) → ((cause : LoadError) → loaded ≡ Err cause → IsExact cause)
-        → LoadsBoth (file c.domain) (file c.problem) before now loaded
+        → LoadsBoth folder c.domain c.problem loaded
         → (x : Result (Domain × Problem) Refusal)
         × Both (LoadsFile inputs.Domain domain_form (files c.domain))
         (LoadsFile inputs.Problem problem_form (files c.problem)) x
@@ -147,7 +147,7 @@ module _ (file : List ℕ → ToldFile) (c : Command) (before now : Input → �
 
     -- what is told of files comes to what they come to
     comes_exact : (loaded : Loaded) → ((cause : LoadError) → loaded ≡ Err cause → IsExact cause)
-        → LoadsBoth (file c.domain) (file c.problem) before now loaded
+        → LoadsBoth folder c.domain c.problem loaded
         → Comes files c (answer_to load_answer c loaded)
     comes_exact loaded p h =
         let x = both_exact loaded p h in
@@ -155,14 +155,14 @@ module _ (file : List ℕ → ToldFile) (c : Command) (before now : Input → �
 
     -- unless memory is wanting or reading failed
     comes_well : (loaded : Loaded) (s : Status) → s ≢ status.NoMemory → s ≡ (answer_to load_answer c loaded).1
-        → ReadsWell s before now → LoadsBoth (file c.domain) (file c.problem) before now loaded
+        → ReadsWell s folder → LoadsBoth folder c.domain c.problem loaded
         → Comes files c (answer_to load_answer c loaded)
     comes_well loaded s n x w =
         comes_exact loaded
         (λ cause i. (
           λ e. n (x ∙ ap (λ l. (answer_to load_answer c l).1) (i ∙ ap Err e)),
           λ which name e u.
-              unread_missing s before now which (file name) (files name)
+              unread_missing s folder which (folder.file name) (files name)
               (x ∙ ap (λ l. (answer_to load_answer c l).1) (i ∙ ap Err e)) w (told name) u,
         ))
 
@@ -189,45 +189,46 @@ never_rose which rose = absurd (omega (arith, rose))
 
 -- a file that is made is there
 made_there : (seed n : ℕ) (which : Input) (name : List ℕ) → named (made_command seed n) which ≡ Some name
-    → told_made seed n name ≡ Some None → ⊥
+    → (made_run seed n).file name ≡ Some None → ⊥
 made_there seed n inputs.Domain name i m =
     let e : codes "domain" ≡ name = cc in
-    let f : Some (Some domain_text) ≡ Some None = subst (λ x. told_made seed n x ≡ Some None) (sym e) m in
+    let f : Some (Some domain_text) ≡ Some None = subst (λ x. (made_run seed n).file x ≡ Some None) (sym e) m in
     cc
 made_there seed n inputs.Problem name i m =
     let e : codes "problem" ≡ name = cc in
-    let f : Some (Some (problem_text seed n)) ≡ Some None = subst (λ x. told_made seed n x ≡ Some None) (sym e) m in
+    let f : Some (Some (problem_text seed n)) ≡ Some None =
+    subst (λ x. (made_run seed n).file x ≡ Some None) (sym e) m in
     cc
 
 -- no file that is made is left unread
 made_read : (which : Input) (name : List ℕ) (seed n : ℕ) → named (made_command seed n) which ≡ Some name
-    → IsUnread which (told_made seed n name) no_faults no_faults → ⊥
+    → IsUnread which ((made_run seed n).file name) no_faults no_faults → ⊥
 made_read which name seed n i (inl rose) = never_rose which rose
 made_read which name seed n i (inr m) = made_there seed n which name i m
 
 module _ (words : List (List ℕ)) (s : Status) (r : SinkRun) (files : Files) (written : List ℕ)
     (o : r.before ≡ Some written) (memory : s ≢ status.NoMemory) (write : s ≢ status.WriteFault) where
   -- what is served without want of memory and faults is an outcome, where what it comes to is one of the words
-  serves_well : (c : Command) (file : List ℕ → ToldFile) (before now : Input → ℕ) (fs : Files) → TellsFiles file fs
-      → ReadsWell s before now → ((a : Answer) → Comes fs c a → Outcome words files a)
-      → Serves c file s before now r → IsOutcome words files s written r.after
-  serves_well c file before now fs told k by h =
+  serves_well : (c : Command) (folder : FolderRun) (fs : Files) → TellsFiles folder.file fs → ReadsWell s folder
+      → ((a : Answer) → Comes fs c a → Outcome words files a) → Serves c folder s r
+      → IsOutcome words files s written r.after
+  serves_well c folder fs told k by h =
       let a = answer_to load_answer c h.loaded in
       let x = told_whole a s r h.tells memory write in
       made words files written a s r.before r.after o x
-      (by a (comes_well file c before now fs told h.loaded s memory x.0 k h.loads))
+      (by a (comes_well folder c fs told h.loaded s memory x.0 k h.loads))
 
   -- whatever ends without want of memory and faults is the outcome
-  pub ends_well : (file : List ℕ → ToldFile) (before now : Input → ℕ) → Ends words file s before now r
-      → TellsFiles file files → ReadsWell s before now → IsOutcome words files s written r.after
-  ends_well file before now (serving.NoCommand e t) told k =
+  pub ends_well : (folder : FolderRun) → Ends words folder s r → TellsFiles folder.file files → ReadsWell s folder
+      → IsOutcome words files s written r.after
+  ends_well folder (serving.NoCommand e t) told k =
       made words files written (refusal_answer refusals.Usage) s r.before r.after o
       (told_whole _ s r t memory write) (outcome.NoCommand e refl)
-  ends_well file before now (serving.ByCommand c e h) told k =
-      serves_well c file before now files told k (λ a x. outcome.ByCommand c e x) h
-  ends_well file before now (serving.ByMaking seed n e h) told k =
-      serves_well (made_command seed n) (told_made seed n) no_faults no_faults (made_files seed n) (λ name. refl)
-      (inr never_rose) (λ a x. outcome.ByMaking seed n e x) h
+  ends_well folder (serving.ByCommand c e h) told k =
+      serves_well c folder files told k (λ a x. outcome.ByCommand c e x) h
+  ends_well folder (serving.ByMaking seed n e h) told k =
+      serves_well (made_command seed n) (made_run seed n) (made_files seed n) (λ name. refl) (inr never_rose)
+      (λ a x. outcome.ByMaking seed n e x) h
 
 -- ---- statuses
 
@@ -344,35 +345,35 @@ why_unread which w (InForm (Expected what s)) e = cc
 why_unread which w (InForm (SeveralPairs s)) e = cc
 
 -- what is served, whatever it comes to
-module _ (c : Command) (file : List ℕ → ToldFile) (s : Status) (before now : Input → ℕ) (r : SinkRun) where
-  abbrev status_to : Loaded file c before now → Status
+module _ (c : Command) (folder : FolderRun) (s : Status) (r : SinkRun) where
+  abbrev status_to : Loaded folder c → Status
   status_to loaded = (answer_to load_answer c loaded).1
 
   -- what is loaded comes to no status but want of memory, a read fault and those of answers
-  never : (loaded : Loaded file c before now) (u : Status) → (status.NoMemory ≡ u → ⊥) → (status.ReadFault ≡ u → ⊥)
-      → (IsAnswer u → ⊥) → Known file c before now loaded → status_to loaded ≡ u → ⊥
+  never : (loaded : Loaded folder c) (u : Status) → (status.NoMemory ≡ u → ⊥) → (status.ReadFault ≡ u → ⊥)
+      → (IsAnswer u → ⊥) → Known folder c loaded → status_to loaded ≡ u → ⊥
   never loaded u m f a (ForMemory e) i = m (sym (ap status_to e) ∙ i)
   never loaded u m f a (ForReading which name e n h) i = f (sym (ap status_to e) ∙ i)
   never loaded u m f a (ForText which why e) i = a (subst IsAnswer (sym (ap status_to e) ∙ i) (why_answers which why))
   never loaded u m f a (ForAnswer x e) i = a (subst IsAnswer (sym (ap status_to e) ∙ i) (read_answers c x.0 x.1))
 
   -- what is served isn't refused as no command
-  serves_usage : Serves c file s before now r → s ≡ status.Usage → ⊥
+  serves_usage : Serves c folder s r → s ≡ status.Usage → ⊥
   serves_usage h u =
       told_status _ s r ⊥ h.tells (λ m f. other s _ _ (λ x. cc) m u) (λ m rose f. other s _ _ (λ x. cc) m u)
       (λ m w.
-      never h.loaded status.Usage (λ x. cc) (λ x. cc) (λ x. x) (known file c before now h.loaded h.loads) (sym m ∙ u))
+      never h.loaded status.Usage (λ x. cc) (λ x. cc) (λ x. x) (known folder c h.loaded h.loads) (sym m ∙ u))
 
   abbrev SinkRose : Type 0
   SinkRose = Rose r.faults_before r.faults_after
 
   -- a write fault comes only where the count of the sink rose
-  serves_write : Serves c file s before now r → s ≡ status.WriteFault → SinkRose
+  serves_write : Serves c folder s r → s ≡ status.WriteFault → SinkRose
   serves_write h u =
       told_status _ s r SinkRose h.tells (λ m f. absurd (other s _ _ (λ x. cc) m u)) (λ m rose f. rose)
       (λ m w.
       absurd
-      (never h.loaded status.WriteFault (λ x. cc) (λ x. cc) (λ x. x) (known file c before now h.loaded h.loads)
+      (never h.loaded status.WriteFault (λ x. cc) (λ x. cc) (λ x. x) (known folder c h.loaded h.loads)
       (sym m ∙ u)))
 
   -- the line of an input that couldn't be read was written, where it is one that a run may write
@@ -382,17 +383,18 @@ module _ (c : Command) (file : List ℕ → ToldFile) (s : Status) (before now :
     written : Wrote line r.before r.after
 
   module _ (MayWrite : List ℕ → Type 0)
-      (unread : (which : Input) (name : List ℕ) → named c which ≡ Some name → IsUnread which (file name) before now
-      → LoadsBoth (file c.domain) (file c.problem) before now (Err (causes.Refused (refusals.Read which)))
+      (unread : (which : Input) (name : List ℕ) → named c which ≡ Some name
+      → IsUnread which (folder.file name) folder.before folder.now
+      → LoadsBoth folder c.domain c.problem (Err (causes.Refused (refusals.Read which)))
       → MayWrite (refused_read which)) where
     -- what is loaded comes to a read fault only where an input is unread
-    how_read : (loaded : Loaded file c before now) → LoadsBoth (file c.domain) (file c.problem) before now loaded
-        → Known file c before now loaded → status_to loaded ≡ status.ReadFault
+    how_read : (loaded : Loaded folder c) → LoadsBoth folder c.domain c.problem loaded
+        → Known folder c loaded → status_to loaded ≡ status.ReadFault
         → Wrote (answer_to load_answer c loaded).0 r.before r.after → HasLine MayWrite
     how_read loaded l (ForMemory e) i w = let x : status.NoMemory ≡ status.ReadFault = sym (ap status_to e) ∙ i in cc
     how_read loaded l (ForReading which name e n u) i w = record {
       line = refused_read which;
-      may = unread which name n u (subst (LoadsBoth (file c.domain) (file c.problem) before now) e l);
+      may = unread which name n u (subst (LoadsBoth folder c.domain c.problem) e l);
       written = subst (λ x. Wrote (answer_to load_answer c x).0 r.before r.after) e w;
     }
     how_read loaded l (ForText which why e) i w =
@@ -401,36 +403,36 @@ module _ (c : Command) (file : List ℕ → ToldFile) (s : Status) (before now :
         absurd (subst IsAnswer (sym (ap status_to e) ∙ i) (read_answers c x.0 x.1))
 
     -- a read fault is one of an unread input
-    serves_read : Serves c file s before now r → s ≡ status.ReadFault → HasLine MayWrite
+    serves_read : Serves c folder s r → s ≡ status.ReadFault → HasLine MayWrite
     serves_read h u =
         told_status _ s r (HasLine MayWrite) h.tells (λ m f. absurd (other s _ _ (λ x. cc) m u))
         (λ m rose f. absurd (other s _ _ (λ x. cc) m u))
-        (λ m w. how_read h.loaded h.loads (known file c before now h.loaded h.loads) (sym m ∙ u) w)
+        (λ m w. how_read h.loaded h.loads (known folder c h.loaded h.loads) (sym m ∙ u) w)
 
-    module _ (fs : Files) (told : TellsFiles file fs) (come : (a : Answer) → Comes fs c a → MayWrite a.0)
+    module _ (fs : Files) (told : TellsFiles folder.file fs) (come : (a : Answer) → Comes fs c a → MayWrite a.0)
         (some : (text : List ℕ) × MayWrite text) where
       abbrev ServesShort : Type 0
       ServesShort = (text : List ℕ) × MayWrite text × IsShort text s r
 
       -- an answer that the files come to is told up to a front
-      answer_short : (loaded : Loaded file c before now)
-          → ((cause : LoadError) → loaded ≡ Err cause → IsExact file c before now fs told cause)
-          → LoadsBoth (file c.domain) (file c.problem) before now loaded → IsAnswer (status_to loaded)
+      answer_short : (loaded : Loaded folder c)
+          → ((cause : LoadError) → loaded ≡ Err cause → IsExact folder c fs told cause)
+          → LoadsBoth folder c.domain c.problem loaded → IsAnswer (status_to loaded)
           → Tells (answer_to load_answer c loaded) s r → ServesShort
       answer_short loaded p l i t =
           let a = answer_to load_answer c loaded in (
             a.0,
-            come a (comes_exact file c before now fs told loaded p l),
+            come a (comes_exact folder c fs told loaded p l),
             told_short a s r (λ e. subst IsAnswer e i) (λ e. subst IsAnswer e i) t,
           )
 
-      how_short : (loaded : Loaded file c before now) → LoadsBoth (file c.domain) (file c.problem) before now loaded
-          → Known file c before now loaded → Tells (answer_to load_answer c loaded) s r → ServesShort
+      how_short : (loaded : Loaded folder c) → LoadsBoth folder c.domain c.problem loaded
+          → Known folder c loaded → Tells (answer_to load_answer c loaded) s r → ServesShort
       how_short loaded l (ForMemory e) t =
           (some.0, some.1, nothing_short some.0 s r (subst (λ x. Tells (answer_to load_answer c x) s r) e t))
       how_short loaded l (ForReading which name e n u) t = (
         refused_read which,
-        unread which name n u (subst (LoadsBoth (file c.domain) (file c.problem) before now) e l),
+        unread which name n u (subst (LoadsBoth folder c.domain c.problem) e l),
         told_short _ s r (λ x. cc) (λ x. cc) (subst (λ x. Tells (answer_to load_answer c x) s r) e t),
       )
       how_short loaded l (ForText which why e) t =
@@ -446,31 +448,31 @@ module _ (c : Command) (file : List ℕ → ToldFile) (s : Status) (before now :
           (subst IsAnswer (sym (ap status_to e)) (read_answers c x.0 x.1)) t
 
       -- what is served has a text that a run may write, of which it wrote a front where it stopped short
-      serves_short : Serves c file s before now r → ServesShort
-      serves_short h = how_short h.loaded h.loads (known file c before now h.loaded h.loads) h.tells
+      serves_short : Serves c folder s r → ServesShort
+      serves_short h = how_short h.loaded h.loads (known folder c h.loaded h.loads) h.tells
 
-module _ (words : List (List ℕ)) (file : List ℕ → ToldFile) (s : Status) (before now : Input → ℕ) (r : SinkRun) where
+module _ (words : List (List ℕ)) (folder : FolderRun) (s : Status) (r : SinkRun) where
   -- words are refused only where they are no command
-  pub ends_usage : Ends words file s before now r → s ≡ status.Usage → accepts words ≡ None
+  pub ends_usage : Ends words folder s r → s ≡ status.Usage → accepts words ≡ None
   ends_usage (serving.NoCommand e t) u = e
-  ends_usage (serving.ByCommand c e h) u = absurd (serves_usage c file s before now r h u)
+  ends_usage (serving.ByCommand c e h) u = absurd (serves_usage c folder s r h u)
   ends_usage (serving.ByMaking seed n e h) u =
-      absurd (serves_usage (made_command seed n) (told_made seed n) s no_faults no_faults r h u)
+      absurd (serves_usage (made_command seed n) (made_run seed n) s r h u)
 
   -- a write fault comes only where the count of the sink rose
-  pub ends_write : Ends words file s before now r → s ≡ status.WriteFault → Rose r.faults_before r.faults_after
+  pub ends_write : Ends words folder s r → s ≡ status.WriteFault → Rose r.faults_before r.faults_after
   ends_write (serving.NoCommand e t) u =
       told_status _ s r (Rose r.faults_before r.faults_after) t (λ m f. absurd (other s _ _ (λ x. cc) m u))
       (λ m rose f. rose) (λ m w. absurd (other s _ _ (λ x. cc) m u))
-  ends_write (serving.ByCommand c e h) u = serves_write c file s before now r h u
+  ends_write (serving.ByCommand c e h) u = serves_write c folder s r h u
   ends_write (serving.ByMaking seed n e h) u =
-      serves_write (made_command seed n) (told_made seed n) s no_faults no_faults r h u
+      serves_write (made_command seed n) (made_run seed n) s r h u
 
   -- the line of an unread input of a command
   read_line : (c : Command) → accepts words ≡ Some (OnFiles c) → (which : Input) (name : List ℕ)
-      → named c which ≡ Some name → IsUnread which (file name) before now
-      → LoadsBoth (file c.domain) (file c.problem) before now (Err (causes.Refused (refusals.Read which)))
-      → IsReadLine words file before now (refused_read which)
+      → named c which ≡ Some name → IsUnread which (folder.file name) folder.before folder.now
+      → LoadsBoth folder c.domain c.problem (Err (causes.Refused (refusals.Read which)))
+      → IsReadLine words folder (refused_read which)
   read_line c e which name n u l = record {
     command = c;
     accepted = e;
@@ -483,22 +485,22 @@ module _ (words : List (List ℕ)) (file : List ℕ → ToldFile) (s : Status) (
   }
 
   -- a read fault is one of an input that the words name
-  pub ends_read : Ends words file s before now r → s ≡ status.ReadFault → ReadFails words file before now r
+  pub ends_read : Ends words folder s r → s ≡ status.ReadFault → ReadFails words folder r
   ends_read (serving.NoCommand e t) u =
       absurd
       (told_status _ s r ⊥ t (λ m f. other s _ _ (λ x. cc) m u) (λ m rose f. other s _ _ (λ x. cc) m u)
       (λ m w. other s _ _ (λ x. cc) m u))
   ends_read (serving.ByCommand c e h) u =
-      let x = serves_read c file s before now r (IsReadLine words file before now) (read_line c e) h u in
+      let x = serves_read c folder s r (IsReadLine words folder) (read_line c e) h u in
       record { line = x.line; cause = x.may; written = x.written }
   ends_read (serving.ByMaking seed n e h) u =
-      let x = serves_read (made_command seed n) (told_made seed n) s no_faults no_faults r (λ line. ⊥)
+      let x = serves_read (made_command seed n) (made_run seed n) s r (λ line. ⊥)
       (λ which name i q l. made_read which name seed n i q) h u in
       absurd x.may
 
-  module _ (files : Files) (told : TellsFiles file files) (some : (a : Answer) × Outcome words files a) where
+  module _ (files : Files) (told : TellsFiles folder.file files) (some : (a : Answer) × Outcome words files a) where
     abbrev MayWrite : List ℕ → Type 0
-    MayWrite text = CouldWrite words files file before now text
+    MayWrite text = CouldWrite words files folder text
 
     abbrev EndsShort : Type 0
     EndsShort = (text : List ℕ) × MayWrite text × IsShort text s r
@@ -507,24 +509,24 @@ module _ (words : List (List ℕ)) (file : List ℕ → ToldFile) (s : Status) (
     any_text = (some.0.0, OfOutcome some.0.1 some.1)
 
     -- for every run there is a text that it could write, of which it wrote a front where it stopped short
-    ends_short : Ends words file s before now r → EndsShort
+    ends_short : Ends words folder s r → EndsShort
     ends_short (serving.NoCommand e t) =
         (refused_usage, OfOutcome status.Usage (outcome.NoCommand e refl), told_short _ s r (λ x. cc) (λ x. cc) t)
     ends_short (serving.ByCommand c e h) =
-        serves_short c file s before now r MayWrite (λ which name n u l. OfReading (read_line c e which name n u l))
+        serves_short c folder s r MayWrite (λ which name n u l. OfReading (read_line c e which name n u l))
         files told (λ a x. OfOutcome a.1 (outcome.ByCommand c e x)) any_text h
     ends_short (serving.ByMaking seed n e h) =
-        serves_short (made_command seed n) (told_made seed n) s no_faults no_faults r MayWrite
+        serves_short (made_command seed n) (made_run seed n) s r MayWrite
         (λ which name i q l. absurd (made_read which name seed n i q)) (made_files seed n) (λ name. refl)
         (λ a x. OfOutcome a.1 (outcome.ByMaking seed n e x)) any_text h
 
     -- after want of memory a front of a text was written that the run could write
-    pub ends_front : Ends words file s before now r → s ≡ status.NoMemory → WritesFront words files file before now r
+    pub ends_front : Ends words folder s r → s ≡ status.NoMemory → WritesFront words files folder r
     ends_front h e = let x = ends_short h in record { text = x.0; could = x.1; written = x.2.front e }
 
     -- after a write fault a proper front of a text was written that the run could write
-    pub ends_proper : Ends words file s before now r → s ≡ status.WriteFault
-        → WritesProperFront words files file before now r
+    pub ends_proper : Ends words folder s r → s ≡ status.WriteFault
+        → WritesProperFront words files folder r
     ends_proper h e = let x = ends_short h in record { text = x.0; could = x.1; written = x.2.proper e }
 
 -- a status that is usage or a write fault is no want of memory

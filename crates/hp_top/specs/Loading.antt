@@ -22,6 +22,16 @@ use Rattle.hp_top.specs.Outcome.{Why, IsUnreadable, refusal_of, Both}
 abbrev pub ToldFile : Type 0
 ToldFile = Option (Option (List ℕ))
 
+-- what a call did to a folder: its files, which stay as they are told, and the count of faults of each input before
+-- and after
+pub record FolderRun : Type 0 where
+  pub file : List ℕ → ToldFile
+  pub before : Input → ℕ
+  pub now : Input → ℕ
+
+abbrev pub folder_run : (List ℕ → ToldFile) → (Input → ℕ) → (Input → ℕ) → FolderRun
+folder_run file before now = record { file = file; before = before; now = now }
+
 -- the front of a told file, up to one byte past the longest text
 abbrev pub ReadsFile : List ℕ → ToldFile → Type 0
 ReadsFile bytes None = Unit {0}
@@ -85,11 +95,11 @@ LoadsTold which form file before now (Err cause) = StopsAt which form cause file
 
 -- ---- both files
 
--- a domain is loaded of a told file, and then a problem of another
-abbrev pub LoadsBoth : ToldFile → ToldFile → (Input → ℕ) → (Input → ℕ) → Result (Domain × Problem) LoadError → Type 0
-LoadsBoth domain problem before now loaded =
-    Both (LoadsTold inputs.Domain domain_form domain before now)
-    (LoadsTold inputs.Problem problem_form problem before now) loaded
+-- a domain is loaded of the file of one name, and then a problem of that of another
+abbrev pub LoadsBoth : FolderRun → List ℕ → List ℕ → Result (Domain × Problem) LoadError → Type 0
+LoadsBoth folder domain problem loaded =
+    Both (LoadsTold inputs.Domain domain_form (folder.file domain) folder.before folder.now)
+    (LoadsTold inputs.Problem problem_form (folder.file problem) folder.before folder.now) loaded
 
 -- what was loaded into memory, as plain values
 abbrev pub plain_of : Result Loaded LoadError → Result (Domain × Problem) LoadError

@@ -5,7 +5,7 @@ use Rattle.hp_syntax.specs.declared.status.Status.{Status}
 use Rattle.hp_syntax.specs.declared.status.Status.TheVariants as status
 use Rattle.hp_top.specs.Command.{Command, OnFiles, accepts, named}
 use Rattle.hp_top.specs.Outcome.{Files, Outcome}
-use Rattle.hp_top.specs.Loading.{ToldFile, IsUnread, LoadsBoth}
+use Rattle.hp_top.specs.Loading.{ToldFile, FolderRun, IsUnread, LoadsBoth}
 use Rattle.hp_out.specs.declared.refusal.Refusal.TheVariants as refusals
 use Rattle.hp_top.specs.declared.loading.LoadError.TheVariants as causes
 use Rattle.hp_out.specs.Lines.{refused_usage, refused_read}
@@ -27,42 +27,37 @@ abbrev pub RefusesWords : Status → SinkRun → Type 0
 RefusesWords s r = ((s ≡ status.Usage) × Wrote refused_usage r.before r.after) ⊎ (s ≡ status.WriteFault)
 
 -- the line of an input that couldn't be read: the words name it, and what they name before it was loaded
-pub record IsReadLine (words : List (List ℕ)) (file : List ℕ → ToldFile) (before now : Input → ℕ)
-    (line : List ℕ) : Type 0 where
+pub record IsReadLine (words : List (List ℕ)) (folder : FolderRun) (line : List ℕ) : Type 0 where
   pub command : Command
   pub accepted : accepts words ≡ Some (OnFiles command)
   pub which : Input
   pub name : List ℕ
   pub has_name : named command which ≡ Some name
-  pub unread : IsUnread which (file name) before now
-  pub loads : LoadsBoth (file command.domain) (file command.problem) before now
-      (Err (causes.Refused (refusals.Read which)))
+  pub unread : IsUnread which (folder.file name) folder.before folder.now
+  pub loads : LoadsBoth folder command.domain command.problem (Err (causes.Refused (refusals.Read which)))
   pub line_is : line ≡ refused_read which
 
 -- an input that the words name couldn't be read, and the one line says so
-pub record ReadFails (words : List (List ℕ)) (file : List ℕ → ToldFile) (before now : Input → ℕ)
-    (r : SinkRun) : Type 0 where
+pub record ReadFails (words : List (List ℕ)) (folder : FolderRun) (r : SinkRun) : Type 0 where
   pub line : List ℕ
-  pub cause : IsReadLine words file before now line
+  pub cause : IsReadLine words folder line
   pub written : Wrote line r.before r.after
 
 -- a text that a run could write: the outcome's, or the line of an input that couldn't be read
-pub data CouldWrite (words : List (List ℕ)) (files : Files) (file : List ℕ → ToldFile)
-    (before now : Input → ℕ) (text : List ℕ) : Type 0 where
-  OfOutcome : (s : Status) → Outcome words files (text, s) → CouldWrite words files file before now text
-  OfReading : IsReadLine words file before now text → CouldWrite words files file before now text
+pub data CouldWrite (words : List (List ℕ)) (files : Files) (folder : FolderRun) (text : List ℕ) : Type 0 where
+  OfOutcome : (s : Status) → Outcome words files (text, s) → CouldWrite words files folder text
+  OfReading : IsReadLine words folder text → CouldWrite words files folder text
 
 -- of a text that the run could write so much was written
 pub record WritesSome (much : List ℕ → Option (List ℕ) → Option (List ℕ) → Type 0) (words : List (List ℕ))
-    (files : Files) (file : List ℕ → ToldFile) (before now : Input → ℕ) (r : SinkRun) : Type 0 where
+    (files : Files) (folder : FolderRun) (r : SinkRun) : Type 0 where
   pub text : List ℕ
-  pub could : CouldWrite words files file before now text
+  pub could : CouldWrite words files folder text
   pub written : much text r.before r.after
 
 -- a front of a text that the run could write was written, maybe all of it; or a proper front
-abbrev pub WritesFront : List (List ℕ) → Files → (List ℕ → ToldFile) → (Input → ℕ) → (Input → ℕ) → SinkRun → Type 0
+abbrev pub WritesFront : List (List ℕ) → Files → FolderRun → SinkRun → Type 0
 WritesFront = WritesSome WroteFront
 
-abbrev pub WritesProperFront : List (List ℕ) → Files → (List ℕ → ToldFile) → (Input → ℕ) → (Input → ℕ) → SinkRun
-    → Type 0
+abbrev pub WritesProperFront : List (List ℕ) → Files → FolderRun → SinkRun → Type 0
 WritesProperFront = WritesSome WroteProperFront

@@ -12,7 +12,7 @@ use Rattle.hp_top.specs.declared.loading.LoadError.TheVariants as causes
 use Rattle.hp_top.specs.Command.{Command, OnFiles, Making, accepts}
 use Rattle.hp_top.specs.Making.{made_files, made_command}
 use Rattle.hp_top.specs.Outcome.{refusal_answer, answer_to}
-use Rattle.hp_top.specs.Loading.{ToldFile, LoadsBoth}
+use Rattle.hp_top.specs.Loading.{FolderRun, folder_run, LoadsBoth}
 use Rattle.hp_top.specs.Telling.{Tells}
 
 -- what is written where the files aren't read, and the status
@@ -21,27 +21,22 @@ load_answer causes.NoMemory = (codes "", status.NoMemory)
 load_answer (causes.Refused r) = refusal_answer r
 
 -- how a command ends: its files are loaded, and what it comes to then is told
-pub record Serves (c : Command) (file : List ℕ → ToldFile) (s : Status) (before now : Input → ℕ)
-    (r : SinkRun) : Type 0 where
+pub record Serves (c : Command) (folder : FolderRun) (s : Status) (r : SinkRun) : Type 0 where
   pub loaded : Result (Domain × Problem) LoadError
-  pub loads : LoadsBoth (file c.domain) (file c.problem) before now loaded
+  pub loads : LoadsBoth folder c.domain c.problem loaded
   pub tells : Tells (answer_to load_answer c loaded) s r
 
 -- no input has met a fault
 abbrev pub no_faults : Input → ℕ
 no_faults which = 0
 
--- the files that are made are told whole
-abbrev pub told_made : ℕ → ℕ → List ℕ → ToldFile
-told_made seed packages name = Some (made_files seed packages name)
+-- the files that are made are told whole, and none fails
+abbrev pub made_run : ℕ → ℕ → FolderRun
+made_run seed packages = folder_run (λ name. Some (made_files seed packages name)) no_faults no_faults
 
 -- how a run ends: the words are no command, or they are one, which is served, or what they ask to be made is
-pub data Ends (words : List (List ℕ)) (file : List ℕ → ToldFile) (s : Status) (before now : Input → ℕ)
-    (r : SinkRun) : Type 0 where
-  NoCommand : accepts words ≡ None → Tells (refusal_answer refusals.Usage) s r
-      → Ends words file s before now r
-  ByCommand : (c : Command) → accepts words ≡ Some (OnFiles c) → Serves c file s before now r
-      → Ends words file s before now r
+pub data Ends (words : List (List ℕ)) (folder : FolderRun) (s : Status) (r : SinkRun) : Type 0 where
+  NoCommand : accepts words ≡ None → Tells (refusal_answer refusals.Usage) s r → Ends words folder s r
+  ByCommand : (c : Command) → accepts words ≡ Some (OnFiles c) → Serves c folder s r → Ends words folder s r
   ByMaking : (seed packages : ℕ) → accepts words ≡ Some (Making seed packages)
-      → Serves (made_command seed packages) (told_made seed packages) s no_faults no_faults r
-      → Ends words file s before now r
+      → Serves (made_command seed packages) (made_run seed packages) s r → Ends words folder s r

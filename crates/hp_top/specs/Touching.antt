@@ -28,12 +28,12 @@ IsLeft (Some None) rest = ⊥
 IsLeft (Some (Some text)) rest = (n : ℕ) × (n ≤ LARGEST_TEXT + 1) × (rest ≡ Some (drop n text))
 
 -- the input was begun by this file, and read no further than it may be
-pub record IsRead (file : ToldFile) (r : InputRun) : Type 0 where
+pub record WasRead (file : ToldFile) (r : InputRun) : Type 0 where
   pub begun : r.begun_after ≡ true
   pub rest : IsLeft file r.after
 
 abbrev pub Touches : ToldFile → InputRun → Type 0
-Touches file r = IsUntouched r ⊎ IsRead file r
+Touches file r = IsUntouched r ⊎ WasRead file r
 
 -- the words are a command that names a file for the input, which was read
 pub record IsNamed (words : List (List ℕ)) (file : List ℕ → ToldFile) (which : Input)
@@ -42,7 +42,7 @@ pub record IsNamed (words : List (List ℕ)) (file : List ℕ → ToldFile) (whi
   pub accepted : accepts words ≡ Some (OnFiles command)
   pub name : List ℕ
   pub has_name : named command which ≡ Some name
-  pub read : IsRead (file name) r
+  pub read : WasRead (file name) r
 
 -- the input is as it was, or it was read by the name that the words have for it
 abbrev pub TouchesNamed : List (List ℕ) → (List ℕ → ToldFile) → Input → InputRun → Type 0

@@ -5,6 +5,7 @@ ghost use Rattle.hp_io.specs.Rules.{Rose};
 ghost use Rattle.hp_io.specs.Inputs.{by_input};
 ghost use Rattle.hp_io.specs.declared.folder.Input.{Input};
 ghost use Rattle.hp_top.specs.Command.{accepts, make_command};
+ghost use Rattle.hp_top.specs.Loading.{folder_run};
 ghost use Rattle.hp_top.specs.Outcome.{Files};
 ghost use Rattle.hp_top.specs.Run.{TellsFiles, IsOutcome, RefusesWords, ReadFails, WritesFront, WritesProperFront};
 ghost use Rattle.hp_top.specs.Serving.{Serves, Ends};
@@ -33,8 +34,8 @@ fn serve_command<F: Folder, K: Sink>(
     out: &mut K,
 ) -> Status
     requires { IsAsked job }
-    ensures serves { Serves (make_command domain.now problem.now (job_of job)) (F.file folder.old)
-        result (F.faults folder.old) (F.faults folder.new)
+    ensures serves { Serves (make_command domain.now problem.now (job_of job))
+        (folder_run (F.file folder.old) (F.faults folder.old) (F.faults folder.new)) result
         (sink_run (K.faults out.old) (K.faults out.new) (K.bytes out.old) (K.bytes out.new)) }
     ensures files { (n : List ℕ) → F.file folder.new n ≡ F.file folder.old n }
     ensures later { (w : Input) → F.faults folder.old w ≤ F.faults folder.new w }
@@ -50,8 +51,8 @@ fn serve_command<F: Folder, K: Sink>(
 
 /// Serves the command that the words are.
 fn serve<F: Folder, K: Sink>(alloc: Global, words: &[String], folder: &mut F, out: &mut K) -> Status
-    ensures ends { Ends (map string_bytes words.now) (F.file folder.old) result
-        (F.faults folder.old) (F.faults folder.new)
+    ensures ends { Ends (map string_bytes words.now)
+        (folder_run (F.file folder.old) (F.faults folder.old) (F.faults folder.new)) result
         (sink_run (K.faults out.old) (K.faults out.new) (K.bytes out.old) (K.bytes out.new)) }
     ensures files { (n : List ℕ) → F.file folder.new n ≡ F.file folder.old n }
     ensures later { (w : Input) → F.faults folder.old w ≤ F.faults folder.new w }
@@ -118,19 +119,19 @@ pub fn run<F: Folder, K: Sink>(
     // After want of memory a front of a text was written that the run could write, maybe all of it,
     // and after a fault of writing a proper front.
     ensures front { (files : Files) → TellsFiles (F.file folder.old) files → result ≡ Status.NoMemory →
-        WritesFront (map string_bytes words.now) files (F.file folder.old)
-        (F.faults folder.old) (F.faults folder.new)
+        WritesFront (map string_bytes words.now) files
+        (folder_run (F.file folder.old) (F.faults folder.old) (F.faults folder.new))
         (sink_run (K.faults out.old) (K.faults out.new) (K.bytes out.old) (K.bytes out.new)) }
     ensures proper_front { (files : Files) → TellsFiles (F.file folder.old) files →
         result ≡ Status.WriteFault →
-        WritesProperFront (map string_bytes words.now) files (F.file folder.old)
-        (F.faults folder.old) (F.faults folder.new)
+        WritesProperFront (map string_bytes words.now) files
+        (folder_run (F.file folder.old) (F.faults folder.old) (F.faults folder.new))
         (sink_run (K.faults out.old) (K.faults out.new) (K.bytes out.old) (K.bytes out.new)) }
 
     // A fault of reading has its cause in an input that the words name, and of writing in the sink. Its
     // line is known to be written where the sink tells its bytes.
-    ensures read { result ≡ Status.ReadFault → ReadFails (map string_bytes words.now) (F.file folder.old)
-        (F.faults folder.old) (F.faults folder.new)
+    ensures read { result ≡ Status.ReadFault → ReadFails (map string_bytes words.now)
+        (folder_run (F.file folder.old) (F.faults folder.old) (F.faults folder.new))
         (sink_run (K.faults out.old) (K.faults out.new) (K.bytes out.old) (K.bytes out.new)) }
     ensures write { result ≡ Status.WriteFault → Rose (K.faults out.old) (K.faults out.new) }
 

@@ -10,7 +10,7 @@ ghost use Rattle.hp_syntax.specs.Views.{domain_of, problem_of};
 ghost use Rattle.hp_syntax.specs.TextForms.{IsRead};
 ghost use Rattle.hp_text.specs.Nodes.{forest_of};
 ghost use Rattle.hp_text.specs.Refusals.{RefusesText};
-ghost use Rattle.hp_top.specs.Loading.{ReadsFile, Reads, HasText, IsUnread, IsRefusedFor, StopsAt, LoadsBoth, plain_of, of_text, of_form};
+ghost use Rattle.hp_top.specs.Loading.{ReadsFile, Reads, HasText, IsUnread, IsRefusedFor, StopsAt, LoadsBoth, folder_run, plain_of, of_text, of_form};
 ghost use Rattle.hp_top.specs.Touching.{Touches, IsUntouched, input_run};
 
 use crate::reading::{ReadError, read_rest};
@@ -187,8 +187,8 @@ pub fn load<F: Folder>(
     domain: &str,
     problem: &str,
 ) -> Result<Loaded, LoadError>
-    ensures loads { LoadsBoth (F.file folder.old domain.now) (F.file folder.old problem.now)
-        (F.faults folder.old) (F.faults folder.new) (plain_of result) }
+    ensures loads { LoadsBoth (folder_run (F.file folder.old) (F.faults folder.old) (F.faults folder.new))
+        domain.now problem.now (plain_of result) }
     ensures text { IfOk result (λ l. HasText problem_form (problem_of l.problem)) }
     ensures files { (n : List ℕ) → F.file folder.new n ≡ F.file folder.old n }
     ensures later { (w : Input) → F.faults folder.old w ≤ F.faults folder.new w }

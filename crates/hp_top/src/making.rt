@@ -1,13 +1,12 @@
 //! A problem that is made, from its seed to what is told of its first plan.
 
-ghost use Rattle.std.specs.Prelude.{◌≤◌, Some, IfOk};
-ghost use Rattle.hp_make.specs.Texts.{domain_text, problem_text};
+ghost use Rattle.std.specs.Prelude.{◌≤◌, IfOk, codes};
 ghost use Rattle.hp_out.specs.Writing.{sink_run};
 ghost use Rattle.hp_syntax.specs.Grammar.{problem_form};
 ghost use Rattle.hp_syntax.specs.Views.{problem_of};
 ghost use Rattle.hp_top.specs.Loading.{HasText, LoadsBoth, plain_of};
 ghost use Rattle.hp_top.specs.Making.{made_command};
-ghost use Rattle.hp_top.specs.Serving.{Serves, no_faults, told_made};
+ghost use Rattle.hp_top.specs.Serving.{Serves, made_run};
 ghost use Rattle.hp_top.specs.Words.{IsMakeable};
 
 use crate::loading::{LoadError, Loaded, domain_in, problem_in};
@@ -22,8 +21,7 @@ use std::alloc::Global;
 /// Makes a domain and a problem of it, and reads them.
 fn load_made(alloc: Global, seed: u32, packages: u32) -> Result<Loaded, LoadError>
     requires { IsMakeable seed packages }
-    ensures loads { LoadsBoth (Some (Some domain_text)) (Some (Some (problem_text seed packages)))
-        no_faults no_faults (plain_of result) }
+    ensures loads { LoadsBoth (made_run seed packages) (codes "domain") (codes "problem") (plain_of result) }
     ensures text { IfOk result (λ l. HasText problem_form (problem_of l.problem)) }
 {
     let Ok(made) = make(alloc, seed, packages) else {
@@ -42,7 +40,7 @@ fn load_made(alloc: Global, seed: u32, packages: u32) -> Result<Loaded, LoadErro
 /// Makes the problem of a seed with so many packages, and sums up its first plan.
 pub fn serve_made<K: Sink>(alloc: Global, seed: u32, packages: u32, out: &mut K) -> Status
     requires { IsMakeable seed packages }
-    ensures serves { Serves (made_command seed packages) (told_made seed packages) result no_faults no_faults
+    ensures serves { Serves (made_command seed packages) (made_run seed packages) result
         (sink_run (K.faults out.old) (K.faults out.new) (K.bytes out.old) (K.bytes out.new)) }
     ensures later { K.faults out.old ≤ K.faults out.new }
 {

@@ -4,26 +4,26 @@ use Rattle.hp_top.proofs.command.run.Goals as goal
 
 pub returns-clause-exact : goal.returns-clause-exact
 returns-clause-exact g c = λ files before told old memory read write.
-    ends_well _ _ _ files before old memory write _ _ _ c.serve.ensures.ends told (inl read)
+    ends_well _ _ _ files before old memory write _ c.serve.ensures.ends told (inl read)
 
 pub returns-clause-complete : goal.returns-clause-complete
 returns-clause-complete g c = λ files before told old inputs sink memory.
-    ends_well _ _ _ files before old memory (λ e. sink (ends_write _ _ _ _ _ _ c.serve.ensures.ends e)) _ _ _
+    ends_well _ _ _ files before old memory (λ e. sink (ends_write _ _ _ _ c.serve.ensures.ends e)) _
     c.serve.ensures.ends told (inr inputs)
 
 pub returns-clause-usage : goal.returns-clause-usage
-returns-clause-usage g c = λ e. ends_usage _ _ _ _ _ _ c.serve.ensures.ends e
+returns-clause-usage g c = λ e. ends_usage _ _ _ _ c.serve.ensures.ends e
 
 pub returns-clause-read : goal.returns-clause-read
-returns-clause-read g c = λ e. ends_read _ _ _ _ _ _ c.serve.ensures.ends e
+returns-clause-read g c = λ e. ends_read _ _ _ _ c.serve.ensures.ends e
 
 pub returns-clause-write : goal.returns-clause-write
-returns-clause-write g c = λ e. ends_write _ _ _ _ _ _ c.serve.ensures.ends e
+returns-clause-write g c = λ e. ends_write _ _ _ _ c.serve.ensures.ends e
 
 pub returns-clause-front : goal.returns-clause-front
 returns-clause-front g c = λ files told e.
-    ends_front _ _ _ _ _ _ files told (c.every_run_has_an_outcome.ensures _ files) c.serve.ensures.ends e
+    ends_front _ _ _ _ files told (c.every_run_has_an_outcome.ensures _ files) c.serve.ensures.ends e
 
 pub returns-clause-proper_front : goal.returns-clause-proper_front
 returns-clause-proper_front g c = λ files told e.
-    ends_proper _ _ _ _ _ _ files told (c.every_run_has_an_outcome.ensures _ files) c.serve.ensures.ends e
+    ends_proper _ _ _ _ files told (c.every_run_has_an_outcome.ensures _ files) c.serve.ensures.ends e
