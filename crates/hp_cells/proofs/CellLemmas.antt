@@ -1,7 +1,7 @@
 -- The terms of cells, as they grow and are cut.
 use Rattle.std.proofs.Common.{◌≡◌, ◌↔◌, ℕ, zero, suc, ◌+◌, ◌<◌, ◌≤◌, Bool, true, false, cond, List, [], ◌∷◌, ◌++◌, Some, ◌⊎◌, inl, inr, length, take, slice_get, refl, sym, ap, subst, ◌∙◌, arith}
 use Rattle.std.proofs.lemmas.Option.{same_Some}
-use Rattle.hp_syntax.specs.Terms.{Term, Terms, Symbol, Number, Listed, NoTerm, More, same_term, nesting, member}
+use Rattle.hp_syntax.specs.Terms.{Term, Terms, Symbol, Number, Listed, NoTerm, More, same_term, term_nesting, member}
 use Rattle.hp_cells.specs.Cells.{AreDistinct, AreCells, StandsBefore, interned}
 use Rattle.hp_cells.proofs.PlaceLemmas.{same_in_longer, kept, before_or_last, stays, stood, some_passes, passes_at}
 use Rattle.hp_syntax.proofs.TermEquality.{same_sound, same_self}
@@ -68,7 +68,7 @@ cells_take n terms some cells = record {
 
 -- a term nests no deeper than its place is far
 pub nesting_bounded : (terms : List Term) → AreCells terms → (n i : ℕ) (t : Term) → i < n → slice_get terms i ≡ Some t
-    → nesting t ≤ i + 1
+    → term_nesting t ≤ i + 1
 nesting_bounded terms cells zero i t h e = absurd (omega arith)
 nesting_bounded terms cells (suc n) i (Symbol name) h e = omega arith
 nesting_bounded terms cells (suc n) i (Number m) h e = omega arith

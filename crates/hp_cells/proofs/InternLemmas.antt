@@ -4,7 +4,7 @@ use Rattle.std.specs.List.{list_any}
 use Rattle.std.proofs.lemmas.List.{map_push, take-map, length_push, length-take-le}
 use Rattle.std.proofs.lemmas.Option.{none-some, same_Some, slice_get_within, slice_get-get_or, slice_get_read}
 use Rattle.indexmap.specs.IndexSet.{insert_key}
-use Rattle.hp_syntax.specs.Terms.{Term, Terms, Listed, NoTerm, More, nesting, deepest}
+use Rattle.hp_syntax.specs.Terms.{Term, Terms, Listed, NoTerm, More, term_nesting, deepest}
 use Rattle.hp_cells.specs.Cells.{AreCells, Interns}
 use Rattle.hp_cells.specs.Keys.{Stands, KeepsBack, term_of, terms_of, IsKeyAt, AreInterned}
 use Rattle.hp_cells.specs.declared.keys.Key.{Key}
@@ -28,12 +28,12 @@ as_many keys view = ap length (sym view) ∙ length_terms_of keys
 
 -- a term nests at most one deeper than there are terms before it
 pub nesting_of_key : (terms : List Term) (key : Key) (t : Term) → AreCells terms → Stands terms key t
-    → nesting t ≤ length terms + 1
-nesting_of_key terms Nil t cells h = let e : nesting t ≡ 1 = ap nesting h in omega arith
-nesting_of_key terms (Sym name) t cells h = let e : nesting t ≡ 0 = ap nesting h in omega arith
-nesting_of_key terms (Num n) t cells h = let e : nesting t ≡ 0 = ap nesting h in omega arith
+    → term_nesting t ≤ length terms + 1
+nesting_of_key terms Nil t cells h = let e : term_nesting t ≡ 1 = ap term_nesting h in omega arith
+nesting_of_key terms (Sym name) t cells h = let e : term_nesting t ≡ 0 = ap term_nesting h in omega arith
+nesting_of_key terms (Num n) t cells h = let e : term_nesting t ≡ 0 = ap term_nesting h in omega arith
 nesting_of_key terms (Cons head tail) t cells h =
-    let e : nesting t ≡ 1 + max (nesting h.first) (deepest h.rest) = ap nesting h.whole in
+    let e : term_nesting t ≡ 1 + max (term_nesting h.first) (deepest h.rest) = ap term_nesting h.whole in
     let back = stands_back terms (Cons head tail) t h in
     let first = nesting_bounded terms cells (length terms) head h.first back.0 h.head_names in
     let rest : 1 + deepest h.rest ≤ tail + 1 =
@@ -75,7 +75,7 @@ module _ {keys : List Key} {depths : List ℕ} (all : AreInterned keys depths) w
       record {
         cells = subst AreCells (sym taken) (cells_take n (terms_of keys) some all.cells);
         stand = λ i key h. subst (λ ts. IsKeyAt ts i key) (sym taken) (by i key (stood n keys i key h));
-        nest = ap (take n) all.nest ∙ take-map nesting n (terms_of keys) ∙ ap (map nesting) (sym taken);
+        nest = ap (take n) all.nest ∙ take-map term_nesting n (terms_of keys) ∙ ap (map term_nesting) (sym taken);
         few = (let l = length-take-le n keys within in let f = all.few in omega arith);
       }
     where
@@ -118,16 +118,16 @@ module _ {keys : List Key} {depths : List ℕ} (all : AreInterned keys depths) w
 
     -- a key whose term is absent is interned behind the others
     interned_push : IsAbsent (terms_of keys) t → length keys + 1 < 2 ^ 32
-        → AreInterned (keys ++ key ∷ []) (depths ++ nesting t ∷ [])
+        → AreInterned (keys ++ key ∷ []) (depths ++ term_nesting t ∷ [])
     interned_push none few =
         let terms = terms_of keys in
         let cells = cells_push terms t all.cells none (parts_before terms key t stands) in
-        let nest = ap (λ ds. ds ++ nesting t ∷ []) all.nest ∙ sym (map_push nesting terms t) in
+        let nest = ap (λ ds. ds ++ term_nesting t ∷ []) all.nest ∙ sym (map_push term_nesting terms t) in
         record {
           cells = subst AreCells (sym terms_more) cells;
           stand = λ i k h.
               subst (λ ts. IsKeyAt ts i k) (sym terms_more) (longer_stand i k (before_or_last keys key i k h));
-          nest = nest ∙ ap (map nesting) (sym terms_more);
+          nest = nest ∙ ap (map term_nesting) (sym terms_more);
           few = (let l = length_push keys key in omega arith);
         }
 
@@ -136,7 +136,7 @@ module _ {keys : List Key} {depths : List ℕ} (all : AreInterned keys depths) w
     Interned place was =
         let after : List Key = if was then keys else keys ++ key ∷ [] in
         IsThere after place key
-        → AreInterned after (if not was then depths ++ nesting t ∷ [] else depths)
+        → AreInterned after (if not was then depths ++ term_nesting t ∷ [] else depths)
         × Interns t place (terms_of keys) (terms_of after)
 
     -- a key that was inserted is interned, and its place names its term
@@ -166,7 +166,7 @@ pub after_insert : {before after : List Key} {depths held noted : List ℕ} {ter
     {depth place : ℕ} (key : Key) → AreInterned before depths → terms_of before ≡ terms
     → Stands terms key (term_of terms key) → length before + 1 < 2 ^ 32
     → after ≡ insert_key the_impl.ghosts.eq before key → added ≡ not (has_key before key)
-    → IsThere after place key → held ≡ depths → depth ≡ nesting (term_of terms key)
+    → IsThere after place key → held ≡ depths → depth ≡ term_nesting (term_of terms key)
     → noted ≡ (if added then held ++ depth ∷ [] else held)
     → AreInterned after noted × Interns (term_of terms key) place terms (terms_of after)
 after_insert {before} {after} {depths} {held} {noted} {terms} {added} {depth} {place} key
@@ -174,7 +174,7 @@ after_insert {before} {after} {depths} {held} {noted} {terms} {added} {depth} {p
     let t = term_of terms key in
     let stood = subst (λ ts. Stands ts key t) (sym view) stands in
     let p = interned_with all key t stood place few (subst (λ ks. IsThere ks place key) inserted there) in
-    let noted_is : noted ≡ (if not (has_key before key) then depths ++ nesting t ∷ [] else depths) =
+    let noted_is : noted ≡ (if not (has_key before key) then depths ++ term_nesting t ∷ [] else depths) =
     notes ∙ (λ i. if new i then keeps i ++ depth_is i ∷ [] else keeps i) in
     (rw (inserted, noted_is) p.0, subst (λ ts. Interns t place ts (terms_of after)) view (rw inserted p.1))
 

@@ -1,7 +1,7 @@
 -- Keys, and the terms that they stand for.
 use Rattle.std.specs.Prelude.{◌≡◌, ℕ, ◌<◌, ◌^◌, List, [], ◌∷◌, ◌++◌, Some, length, map, slice_get, slice_index_or}
 use Rattle.std.specs.List.{fold}
-use Rattle.hp_syntax.specs.Terms.{Term, Terms, Symbol, Number, Listed, NoTerm, More, nesting}
+use Rattle.hp_syntax.specs.Terms.{Term, Terms, Symbol, Number, Listed, NoTerm, More, term_nesting}
 use Rattle.hp_cells.specs.Cells.{AreCells, IsCons}
 use Rattle.hp_cells.specs.declared.keys.Key.{Key}
 use Rattle.hp_cells.specs.declared.keys.Key.TheVariants.{Nil, Sym, Num, Cons}
@@ -50,5 +50,5 @@ pub record IsKeyAt (terms : List Term) (i : ℕ) (key : Key) : Type 0 where
 pub record AreInterned (keys : List Key) (depths : List ℕ) : Type 0 where
   pub cells : AreCells (terms_of keys)
   pub stand : (i : ℕ) (key : Key) → slice_get keys i ≡ Some key → IsKeyAt (terms_of keys) i key
-  pub nest : depths ≡ map nesting (terms_of keys)
+  pub nest : depths ≡ map term_nesting (terms_of keys)
   pub few : length keys < 2 ^ 32

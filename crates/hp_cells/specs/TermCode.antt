@@ -7,22 +7,22 @@ use Rattle.std.proofs.lemmas.List.Sums.{fold-append}
 use Rattle.hp_syntax.specs.Terms.{Term, Terms, Symbol, Number, Listed, NoTerm, More}
 
 -- a step puts a symbol, a number or the empty list on a stack, or takes a term and a list from it for the longer list
-abbrev pub Step : Type 0
-Step = List ℕ ⊎ (ℤ ⊎ Bool)
+abbrev pub BuildStep : Type 0
+BuildStep = List ℕ ⊎ (ℤ ⊎ Bool)
 
 -- the steps that build a term
 abbrev mutual
-  pub steps : Term → List Step
+  pub steps : Term → List BuildStep
   steps (Symbol name) = inl name ∷ []
   steps (Number n) = inr (inl n) ∷ []
   steps (Listed ts) = list_steps ts
 
-  pub list_steps : Terms → List Step
+  pub list_steps : Terms → List BuildStep
   list_steps NoTerm = inr (inr false) ∷ []
   list_steps (More t ts) = steps t ++ list_steps ts ++ inr (inr true) ∷ []
 
 -- the stack after a step
-abbrev pub stacked : List Term → Step → List Term
+abbrev pub stacked : List Term → BuildStep → List Term
 stacked stack (inl name) = Symbol name ∷ stack
 stacked stack (inr (inl n)) = Number n ∷ stack
 stacked stack (inr (inr false)) = Listed NoTerm ∷ stack
@@ -35,7 +35,7 @@ top [] = Listed NoTerm
 top (t ∷ stack) = t
 
 -- the term that steps build
-abbrev pub built : List Step → Term
+abbrev pub built : List BuildStep → Term
 built xs = top (fold stacked [] xs)
 
 -- the steps of a term put it on the stack
@@ -61,7 +61,7 @@ built-steps t = ap top (fold-steps t [])
 
 abbrev pub term_code : Coded Term
 term_code =
-    code_by (List Step) (coded_list (coded⊎ (coded_list coded_ℕ) (coded⊎ coded_ℤ coded_bool))) steps built built-steps
+    code_by (List BuildStep) (coded_list (coded⊎ (coded_list coded_ℕ) (coded⊎ coded_ℤ coded_bool))) steps built built-steps
 
 abbrev pub terms_code : Coded (List Term)
 terms_code = coded_list term_code

@@ -1,6 +1,6 @@
 //! The terms that cells name.
 ghost use Rattle.std.specs.Prelude.{◌≡◌, ℕ, ◌+◌, ◌<◌, ◌≤◌, ◌^◌, [], ◌∷◌, ◌++◌, Some, IfOk, OnErr, length, take, slice_get, vec_len, vec_capacity, if◌then◌else◌};
-ghost use Rattle.hp_syntax.specs.Terms.{Term, Terms, Symbol, Number, Listed, NoTerm, More, nesting};
+ghost use Rattle.hp_syntax.specs.Terms.{Term, Terms, Symbol, Number, Listed, NoTerm, More, term_nesting};
 ghost use Rattle.hp_cells.specs.Cells.{AreCells, NamesList, Interns};
 ghost use Rattle.hp_cells.specs.Keys.{term_of, Stands};
 ghost use Rattle.hp_cells.specs.Shows.{Shows, LooksBack};
@@ -129,7 +129,7 @@ impl Cells {
     /// empty one 1. It is found without a walk through the term.
     pub fn depth(&self, cell: Cell) -> usize
         requires { cell < length self.now }
-        ensures depth { (t : Term) → slice_get self.now cell ≡ Some t → result ≡ nesting t }
+        ensures depth { (t : Term) → slice_get self.now cell ≡ Some t → result ≡ term_nesting t }
         ensures fits { result < 2 ^ 32 }
     {
         self.depths[cell.place as usize] as usize
@@ -149,7 +149,7 @@ impl Cells {
     // The cell of the term that a key stands for and that nests so deep.
     fn intern(&mut self, key: Key, depth: usize) -> Result<Cell, AllocError>
         requires stands { Stands self.old key (term_of self.old key) }
-        requires depth { depth ≡ nesting (term_of self.old key) }
+        requires depth { depth ≡ term_nesting (term_of self.old key) }
         ensures ok { IfOk result (λ cell. Interns (term_of self.old key) cell self.old self.new) }
         ensures err { OnErr result (self.new ≡ self.old) }
     {

@@ -3,11 +3,11 @@ use Rattle.std.proofs.Common.{◌≡◌, ℕ, List, [], ◌∷◌, ◌++◌, len
 use Rattle.std.specs.List.{flat_map}
 use Rattle.hp_syntax.specs.declared.pattern.Pat.{Pat}
 use Rattle.hp_syntax.specs.Syntax.{Pattern, Expression, Tasks}
-use Rattle.hp_syntax.specs.Checks.{Place, count, pattern_faults, patterns_faults, expression_faults, expressions_faults, tasks_faults, task_list_faults}
+use Rattle.hp_syntax.specs.Checks.{Region, count, pattern_faults, patterns_faults, expression_faults, expressions_faults, tasks_faults, task_list_faults}
 use Rattle.hp_syntax.specs.Views.{as_patterns, patterns_of, as_expressions, as_task_list}
 
 -- the faults of patterns are those of each
-pub patterns_faults-each : (place : Place) (ps : List Pattern)
+pub patterns_faults-each : (place : Region) (ps : List Pattern)
     → patterns_faults place (as_patterns ps) ≡ flat_map (pattern_faults place) ps
 unfolding patterns_faults
 patterns_faults-each place [] = refl
@@ -26,7 +26,7 @@ expressions_faults-each level [] = refl
 expressions_faults-each level (e ∷ es) = ap (λ fs. expression_faults level e ++ fs) (expressions_faults-each level es)
 
 -- the faults of the parts of a task list are those of each
-pub task_list_faults-each : (place : Place) (ts : List Tasks)
+pub task_list_faults-each : (place : Region) (ts : List Tasks)
     → task_list_faults place (as_task_list ts) ≡ flat_map (tasks_faults place) ts
 unfolding task_list_faults
 task_list_faults-each place [] = refl

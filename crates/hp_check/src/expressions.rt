@@ -6,7 +6,7 @@ ghost use Rattle.hp_syntax.specs.Checks.{earlier, first_of};
 ghost use Rattle.hp_syntax.specs.Views.{expression_of, expressions_of, order_of, precondition_of};
 
 use crate::patterns::{atom, pattern};
-use crate::watch::{Place, Watch};
+use crate::watch::{Region, Watch};
 use hp_syntax::limits::DEEPEST_EXPRESSION;
 use hp_syntax::{CheckKind, Expr, ExprKind, Pre, SortOrder};
 
@@ -17,18 +17,18 @@ pub fn expression(watch: &mut Watch, level: usize, part: &Expr)
         (first_of (checks.expression_faults level (expression_of part.now))) }
 {
     let too_deep = level == DEEPEST_EXPRESSION + 1;
-    watch.found_if(too_deep, CheckKind::ExprNested, Place::Body, part.span);
+    watch.found_if(too_deep, CheckKind::ExprNested, Region::Body, part.span);
     let deeper = level.saturating_add(1);
     match &part.kind {
-        ExprKind::Atom(held) => atom(watch, Place::Body, held),
+        ExprKind::Atom(held) => atom(watch, Region::Body, held),
         ExprKind::And(parts) | ExprKind::Or(parts) => expressions(watch, deeper, parts.as_slice()),
         ExprKind::Not(part) => expression(watch, deeper, part),
         ExprKind::Forall(_, range, body) => {
             expression(watch, deeper, range);
             expression(watch, deeper, body);
         }
-        ExprKind::Assign(_, value) => pattern(watch, Place::Body, value),
-        ExprKind::Call(call) => pattern(watch, Place::Body, call),
+        ExprKind::Assign(_, value) => pattern(watch, Region::Body, value),
+        ExprKind::Call(call) => pattern(watch, Region::Body, call),
     }
 }
 
@@ -46,7 +46,7 @@ fn order(watch: &mut Watch, order: &SortOrder)
     ensures { watch.new.first ≡ earlier watch.old.first (first_of (checks.order_faults (order_of order.now))) }
 {
     if let SortOrder::Unknown(_, span) = order {
-        watch.found(CheckKind::UnknownOrder, Place::Body, *span);
+        watch.found(CheckKind::UnknownOrder, Region::Body, *span);
     }
 }
 

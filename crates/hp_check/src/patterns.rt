@@ -8,18 +8,18 @@ ghost use Rattle.hp_syntax.specs.Views.{pattern_of, patterns_of, atom_of, atoms_
 ghost use Rattle.hp_check.specs.Places.{place_of};
 
 use crate::calls::arity_of;
-use crate::watch::{Place, Watch};
+use crate::watch::{Region, Watch};
 use hp_syntax::{AtomPat, CheckKind, Name, Pat, PatKind, Span, Tail};
 
-fn variable(watch: &mut Watch, place: Place, span: Span)
+fn variable(watch: &mut Watch, place: Region, span: Span)
     ensures { watch.new.first ≡ earlier watch.old.first (first_of (checks.variable_faults (place_of place) span)) }
 {
-    if let Place::Problem = place {
+    if let Region::Problem = place {
         watch.found(CheckKind::VariableInProblem, place, span);
     }
 }
 
-fn tail(watch: &mut Watch, place: Place, tail: Option<Tail>)
+fn tail(watch: &mut Watch, place: Region, tail: Option<Tail>)
     ensures { watch.new.first ≡ earlier watch.old.first (first_of (checks.tail_faults (place_of place) tail)) }
 {
     if let Some(tail) = tail {
@@ -29,7 +29,7 @@ fn tail(watch: &mut Watch, place: Place, tail: Option<Tail>)
 
 /// A call is one of the call table, with as many arguments.
 #[inline(never)]
-fn arity(watch: &mut Watch, place: Place, span: Span, name: &Name, count: usize)
+fn arity(watch: &mut Watch, place: Region, span: Span, name: &Name, count: usize)
     ensures { watch.new.first ≡ earlier watch.old.first (first_of
         (checks.arity_faults (calls.arity_of name.now) count (place_of place) span)) }
 {
@@ -40,10 +40,10 @@ fn arity(watch: &mut Watch, place: Place, span: Span, name: &Name, count: usize)
 }
 
 /// A call doesn't stand in a head.
-fn head(watch: &mut Watch, place: Place, span: Span)
+fn head(watch: &mut Watch, place: Region, span: Span)
     ensures { watch.new.first ≡ earlier watch.old.first (first_of (checks.head_faults (place_of place) span)) }
 {
-    if let Place::Head = place {
+    if let Region::Head = place {
         watch.found(CheckKind::CallInHead, place, span);
     }
 }
@@ -52,7 +52,7 @@ fn head(watch: &mut Watch, place: Place, span: Span)
 #[cycle(pattern)]
 #[tactic(auto, unfolding(hp_syntax::specs::Views::pattern_of, hp_syntax::specs::Checks::pattern_faults))]
 #[inline(always)]
-pub fn pattern(watch: &mut Watch, place: Place, pat: &Pat)
+pub fn pattern(watch: &mut Watch, place: Region, pat: &Pat)
     ensures { watch.new.first ≡ earlier watch.old.first
         (first_of (checks.pattern_faults (place_of place) (pattern_of pat.now))) }
 {
@@ -73,7 +73,7 @@ pub fn pattern(watch: &mut Watch, place: Place, pat: &Pat)
 
 #[cycle(pattern)]
 #[inline(never)]
-fn patterns(watch: &mut Watch, place: Place, pats: &[Pat])
+fn patterns(watch: &mut Watch, place: Region, pats: &[Pat])
     ensures { watch.new.first ≡ earlier watch.old.first
         (first_of (checks.patterns_faults (place_of place) (patterns_of pats.now))) }
 {
@@ -83,7 +83,7 @@ fn patterns(watch: &mut Watch, place: Place, pats: &[Pat])
 }
 
 /// An atom.
-pub fn atom(watch: &mut Watch, place: Place, atom: &AtomPat)
+pub fn atom(watch: &mut Watch, place: Region, atom: &AtomPat)
     ensures { watch.new.first ≡ earlier watch.old.first
         (first_of (checks.atom_faults (place_of place) (atom_of atom.now))) }
 {
@@ -92,7 +92,7 @@ pub fn atom(watch: &mut Watch, place: Place, atom: &AtomPat)
 }
 
 /// Each atom of a list.
-pub fn atoms(watch: &mut Watch, place: Place, list: &[AtomPat])
+pub fn atoms(watch: &mut Watch, place: Region, list: &[AtomPat])
     ensures { watch.new.first ≡ earlier watch.old.first
         (first_of (checks.atoms_faults (place_of place) (atoms_of list.now))) }
 {

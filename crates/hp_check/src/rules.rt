@@ -10,7 +10,7 @@ ghost use Rattle.hp_syntax.specs.Views.{effect_of, operator_of, branch_of, metho
 use crate::expressions::{expression, precondition};
 use crate::patterns::{atom, atoms, pattern};
 use crate::tasks::tasks;
-use crate::watch::{Place, Watch};
+use crate::watch::{Region, Watch};
 use hp_syntax::limits::MOST_VARIABLES;
 use hp_syntax::{
     Axiom, Branch, CheckKind, Clause, Domain, Effect, Method, Name, Operator, Pair, Problem, Rule,
@@ -21,17 +21,17 @@ fn variables(watch: &mut Watch, vars: &[Name], span: Span)
     ensures { watch.new.first ≡ earlier watch.old.first (first_of (checks.vars_faults vars.now span)) }
 {
     let too_many = vars.len() > MOST_VARIABLES;
-    watch.found_if(too_many, CheckKind::TooManyVariables, Place::Body, span);
+    watch.found_if(too_many, CheckKind::TooManyVariables, Region::Body, span);
 }
 
 fn effect(watch: &mut Watch, effect: &Effect)
     ensures { watch.new.first ≡ earlier watch.old.first (first_of (checks.effect_faults (effect_of effect.now))) }
 {
     match effect {
-        Effect::Atom(changed) | Effect::Protection(changed) => atom(watch, Place::Body, changed),
+        Effect::Atom(changed) | Effect::Protection(changed) => atom(watch, Region::Body, changed),
         Effect::Forall(_, range, changed) => {
             expression(watch, 1, range);
-            atoms(watch, Place::Body, changed.as_slice());
+            atoms(watch, Region::Body, changed.as_slice());
         }
     }
 }
@@ -50,18 +50,18 @@ fn operator(watch: &mut Watch, operator: &Operator)
         (first_of (checks.operator_faults (operator_of operator.now))) }
 {
     variables(watch, operator.vars.as_slice(), operator.span);
-    atom(watch, Place::Head, &operator.head);
+    atom(watch, Region::Head, &operator.head);
     precondition(watch, &operator.pre);
     effects(watch, operator.dels.as_slice());
     effects(watch, operator.adds.as_slice());
-    pattern(watch, Place::Body, &operator.cost);
+    pattern(watch, Region::Body, &operator.cost);
 }
 
 fn branch(watch: &mut Watch, branch: &Branch)
     ensures { watch.new.first ≡ earlier watch.old.first (first_of (checks.branch_faults (branch_of branch.now))) }
 {
     precondition(watch, &branch.pre);
-    tasks(watch, Place::Body, &branch.tasks);
+    tasks(watch, Region::Body, &branch.tasks);
 }
 
 fn branches(watch: &mut Watch, list: &[Branch])
@@ -77,7 +77,7 @@ fn method(watch: &mut Watch, method: &Method)
     ensures { watch.new.first ≡ earlier watch.old.first (first_of (checks.method_faults (method_of method.now))) }
 {
     variables(watch, method.vars.as_slice(), method.span);
-    atom(watch, Place::Head, &method.head);
+    atom(watch, Region::Head, &method.head);
     branches(watch, method.branches.as_slice());
 }
 
@@ -100,7 +100,7 @@ fn axiom(watch: &mut Watch, rule: &Axiom)
     ensures { watch.new.first ≡ earlier watch.old.first (first_of (checks.axiom_faults (axiom_of rule.now))) }
 {
     variables(watch, rule.vars.as_slice(), rule.span);
-    atom(watch, Place::Head, &rule.head);
+    atom(watch, Region::Head, &rule.head);
     clauses(watch, rule.clauses.as_slice());
 }
 
@@ -127,8 +127,8 @@ pub fn domain_part(watch: &mut Watch, domain: &Domain)
 fn pair(watch: &mut Watch, pair: &Pair)
     ensures { watch.new.first ≡ earlier watch.old.first (first_of (checks.pair_faults (pair_of pair.now))) }
 {
-    atoms(watch, Place::Problem, pair.state.as_slice());
-    tasks(watch, Place::Problem, &pair.tasks);
+    atoms(watch, Region::Problem, pair.state.as_slice());
+    tasks(watch, Region::Problem, &pair.tasks);
 }
 
 fn pairs(watch: &mut Watch, list: &[Pair])
@@ -146,7 +146,7 @@ fn named_domain(watch: &mut Watch, named: &Name, domain: &Name, span: Span)
         (first_of (cond (bytes_eq named.now domain.now) [] (checks.found OtherDomain checks.InProblem span))) }
 {
     if named != domain {
-        watch.found(CheckKind::OtherDomain, Place::Problem, span);
+        watch.found(CheckKind::OtherDomain, Region::Problem, span);
     }
 }
 

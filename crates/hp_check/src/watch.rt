@@ -8,7 +8,7 @@ use hp_syntax::{CheckFault, CheckKind, Span};
 
 /// Where a part stands: in the head of a rule, elsewhere in it, or in a problem.
 #[derive(Clone, Copy, PartialEq, Eq)]
-pub enum Place {
+pub enum Region {
     Head,
     Body,
     Problem,
@@ -42,12 +42,12 @@ impl Watch {
     /// A fault was found. Kept out of line, so that what finds none stays small.
     #[cold]
     #[inline(never)]
-    pub fn found(&mut self, kind: CheckKind, place: Place, span: Span)
+    pub fn found(&mut self, kind: CheckKind, place: Region, span: Span)
         ensures { self.new.first ≡ earlier self.old.first (first_of (found kind (place_of place) span)) }
     {
         let fault = CheckFault {
             kind,
-            in_problem: place == Place::Problem,
+            in_problem: place == Region::Problem,
             span,
         };
         self.first = match self.first {
@@ -57,7 +57,7 @@ impl Watch {
     }
 
     /// A fault was found where a test passes.
-    pub fn found_if(&mut self, test: bool, kind: CheckKind, place: Place, span: Span)
+    pub fn found_if(&mut self, test: bool, kind: CheckKind, place: Region, span: Span)
         ensures { self.new.first ≡ earlier self.old.first (first_of (found_if test kind (place_of place) span)) }
     {
         if test {

@@ -11,7 +11,7 @@ use Rattle.hp_syntax.specs.declared.fault.RunFault.{RunFault}
 use Rattle.hp_net.specs.declared.walk.Step.TheVariants as steps
 use Rattle.hp_net.specs.Standings.{Standing, next_of, pruned, step_or_end}
 use Rattle.hp_syntax.specs.Walk.{Sight, Visit, Did, Plan, CutHere, FaultHere, begins, skip}
-use Rattle.hp_embedding.specs.declared.cheapest.Found.{Found}
+use Rattle.hp_embedding.specs.declared.cheapest.CheapestPlan.{CheapestPlan}
 use Rattle.hp_embedding.specs.declared.cheapest.SearchError.{SearchError}
 use Rattle.hp_embedding.specs.declared.cheapest.SearchError.TheVariants as errors
 use Rattle.hp_embedding.specs.Search.{NeverFalls, reaches, lower, least_cost, cost_of, IsAt, IsOf, Explains, Goes}
@@ -97,7 +97,7 @@ abbrev IsNoCheaper : Visit → Visit → Type 0
 IsNoCheaper v w = begins v.path w.path ≡ true → v.node.cost ≤ℤ w.node.cost
 
 -- a front of the visits is passed, which leaves the least cost as it is
-goes_past : (a b : Option Found) (vs front ws : List Visit) → vs ≡ front ++ ws → length ws < length vs
+goes_past : (a b : Option CheapestPlan) (vs front ws : List Visit) → vs ≡ front ++ ws → length ws < length vs
     → (NeverFalls vs → least_cost (cost_of b) ws ≡ least_cost (cost_of a) vs)
     → (b ≡ a) ⊎ IfSome b (λ f. Any (IsOf f) vs) → Goes a b vs ws
 goes_past a b vs front ws e shorter least plan = record {
@@ -111,7 +111,7 @@ goes_past a b vs front ws e shorter least plan = record {
 }
 
 -- a decomposition is passed
-pub goes_did : (a : Option Found) (v : Visit) (vs ws : List Visit) → vs ≡ v ∷ ws → v.sight ≡ Did → Goes a a vs ws
+pub goes_did : (a : Option CheapestPlan) (v : Visit) (vs ws : List Visit) → vs ≡ v ∷ ws → v.sight ≡ Did → Goes a a vs ws
 goes_did a v vs ws e d =
     goes_past a a vs (v ∷ []) ws e (omega (arith, ap length e))
     (λ h. let same : least_cost (cost_of a) (v ∷ ws) ≡ least_cost (cost_of a) ws = rw d refl in
@@ -119,7 +119,7 @@ goes_did a v vs ws e d =
     (inl refl)
 
 -- a cut is passed
-pub goes_cut : (a : Option Found) (v : Visit) (vs ws : List Visit) → vs ≡ v ∷ ws → v.sight ≡ CutHere → Goes a a vs ws
+pub goes_cut : (a : Option CheapestPlan) (v : Visit) (vs ws : List Visit) → vs ≡ v ∷ ws → v.sight ≡ CutHere → Goes a a vs ws
 goes_cut a v vs ws e d =
     goes_past a a vs (v ∷ []) ws e (omega (arith, ap length e))
     (λ h. let same : least_cost (cost_of a) (v ∷ ws) ≡ least_cost (cost_of a) ws = rw d refl in
@@ -127,7 +127,7 @@ goes_cut a v vs ws e d =
     (inl refl)
 
 -- a decomposition is passed, and what lies below it is left out
-pub goes_pruned : (a : Option Found) (v : Visit) (vs ws : List Visit) → vs ≡ v ∷ ws → v.sight ≡ Did
+pub goes_pruned : (a : Option CheapestPlan) (v : Visit) (vs ws : List Visit) → vs ≡ v ∷ ws → v.sight ≡ Did
     → reaches (cost_of a) v.node.cost ≡ true → Goes a a vs (skip v.path ws)
 goes_pruned a v vs ws e d r =
     let rest = skip_rest v.path ws in
@@ -140,7 +140,7 @@ goes_pruned a v vs ws e d r =
     (inl refl)
 
 -- a decomposition is passed, and what lies below it is left out where it costs no less than the best so far
-pub goes_down : (a : Option Found) (v : Visit) (vs : List Visit) (t r : Standing) → vs ≡ v ∷ t.rest → v.sight ≡ Did
+pub goes_down : (a : Option CheapestPlan) (v : Visit) (vs : List Visit) (t r : Standing) → vs ≡ v ∷ t.rest → v.sight ≡ Did
     → t.path ≡ v.path → (b : Bool) → reaches (cost_of a) v.node.cost ≡ b → r ≡ cond b (pruned t) t
     → Goes a a vs r.rest
 goes_down a v vs t r e d p true h k =
@@ -156,7 +156,7 @@ at_left P t r true k a =
 at_left P t r false k a = subst (All P) (sym (ap (λ s. s.rest) k)) a
 
 -- what was found at a node is the plan of the first visit
-found_first : (b : Option Found) (v : Visit) (vs ws : List Visit) → vs ≡ v ∷ ws → v.sight ≡ Plan
+found_first : (b : Option CheapestPlan) (v : Visit) (vs ws : List Visit) → vs ≡ v ∷ ws → v.sight ≡ Plan
     → IfSome b (λ f. IsAt f v.node v.path) → IfSome b (λ f. Any (IsOf f) vs)
 found_first None v vs ws e d h = tt
 found_first (Some f) v vs ws e d h =
@@ -164,7 +164,7 @@ found_first (Some f) v vs ws e d h =
     subst (Any (IsOf f)) (sym e) first
 
 -- a plan is kept or passed
-pub goes_plan : (a b : Option Found) (v : Visit) (vs ws : List Visit) → vs ≡ v ∷ ws → v.sight ≡ Plan
+pub goes_plan : (a b : Option CheapestPlan) (v : Visit) (vs ws : List Visit) → vs ≡ v ∷ ws → v.sight ≡ Plan
     → cost_of b ≡ lower (cost_of a) v.node.cost → (b ≡ a) ⊎ IfSome b (λ f. IsAt f v.node v.path) → Goes a b vs ws
 goes_plan a b v vs ws e d low kept =
     goes_past a b vs (v ∷ []) ws e (omega (arith, ap length e))
@@ -189,14 +189,14 @@ fault_left f (v ∷ vs) e = (zero, v, omega arith, refl, fault_seen f v.sight v 
 -- ---- the whole search
 
 -- what is known of a search midway, of the visits at its beginning and of those left
-pub record Searched (best : Option Found) (all left : List Visit) : Type 0 where
+pub record Searched (best : Option CheapestPlan) (all left : List Visit) : Type 0 where
   pub among : All (Contains all) left
   pub falls : NeverFalls all → NeverFalls left
   pub least : NeverFalls all → least_cost (cost_of best) left ≡ least_cost None all
   pub plan : IfSome best (λ f. Any (IsOf f) all)
 
 -- a search begins with nothing found
-pub searched_none : (best : Option Found) (all : List Visit) → best ≡ None → Searched best all all
+pub searched_none : (best : Option CheapestPlan) (all : List Visit) → best ≡ None → Searched best all all
 searched_none best all e = record {
   among = All-contains_itself all;
   falls = λ h. h;
@@ -210,7 +210,7 @@ any_among P all left a h =
     let c : Contains all h.1 = All-contains (Contains all) left h.1 a (h.0, h.2, h.3) in
     (c.0, h.1, c.1, c.2, h.4)
 
-some_among : (best : Option Found) (all left : List Visit) → All (Contains all) left
+some_among : (best : Option CheapestPlan) (all left : List Visit) → All (Contains all) left
     → IfSome best (λ f. Any (IsOf f) left) → IfSome best (λ f. Any (IsOf f) all)
 some_among None all left a h = tt
 some_among (Some f) all left a h = any_among (IsOf f) all left a h
@@ -220,7 +220,7 @@ all_among all left more a b =
     All-weaker (Contains left) (Contains all) (λ x c. All-contains (Contains all) left x a c) more b
 
 -- one visit more
-pub searched_on : (a b : Option Found) (all left more : List Visit) → Searched a all left → Goes a b left more
+pub searched_on : (a b : Option CheapestPlan) (all left more : List Visit) → Searched a all left → Goes a b left more
     → Searched b all more
 searched_on a b all left more s g = record {
   among = all_among all left more s.among g.among;

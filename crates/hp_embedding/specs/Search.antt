@@ -5,7 +5,7 @@ use Rattle.std.specs.List.{All, AllPairs, Any}
 use Rattle.hp_net.specs.Standings.{told}
 use Rattle.hp_syntax.specs.Report.{told_plan}
 use Rattle.hp_syntax.specs.Walk.{Node, Visit, Did, Plan, CutHere, FaultHere, begins}
-use Rattle.hp_embedding.specs.declared.cheapest.Found.{Found}
+use Rattle.hp_embedding.specs.declared.cheapest.CheapestPlan.{CheapestPlan}
 use Rattle.hp_embedding.specs.declared.cheapest.SearchError.{SearchError}
 use Rattle.hp_embedding.specs.declared.cheapest.SearchError.TheVariants as errors
 
@@ -33,17 +33,17 @@ least_cost best (v ∷ vs) =
       | FaultHere f ↦ least_cost best vs
     ]
 
-abbrev pub cost_of : Option Found → Option ℤ
+abbrev pub cost_of : Option CheapestPlan → Option ℤ
 cost_of o = option_map (λ f. f.cost) o
 
 -- what was found is the plan of a node
-pub record IsAt (f : Found) (n : Node) (p : List ℕ) : Type 0 where
+pub record IsAt (f : CheapestPlan) (n : Node) (p : List ℕ) : Type 0 where
   pub cost : f.cost ≡ n.cost
   pub path : f.path.items ≡ told p
   pub text : f.text.items ≡ told_plan false 1 n
 
 -- what was found is the plan of a visit
-abbrev pub IsOf : Found → Visit → Type 0
+abbrev pub IsOf : CheapestPlan → Visit → Type 0
 IsOf f v = (v.sight ≡ Plan) × IsAt f v.node v.path
 
 -- a fault is told only where it was met
@@ -52,7 +52,7 @@ Explains errors.NoMemory vs = Unit {0}
 Explains (errors.Fault f) vs = Any (λ v. v.sight ≡ FaultHere f) vs
 
 -- after one visit fewer are left, and the cheapest plan of what was left is the cheapest of what is
-pub record Goes (a b : Option Found) (vs ws : List Visit) : Type 0 where
+pub record Goes (a b : Option CheapestPlan) (vs ws : List Visit) : Type 0 where
   pub shorter : length ws < length vs
   pub among : All (Contains vs) ws
   pub falls : NeverFalls vs → NeverFalls ws
@@ -60,6 +60,6 @@ pub record Goes (a b : Option Found) (vs ws : List Visit) : Type 0 where
   pub plan : (b ≡ a) ⊎ IfSome b (λ f. Any (IsOf f) vs)
 
 -- after one visit the search goes on, or nothing was left
-abbrev pub Turned : Bool → Option Found → Option Found → List Visit → List Visit → Type 0
+abbrev pub Turned : Bool → Option CheapestPlan → Option CheapestPlan → List Visit → List Visit → Type 0
 Turned true a b vs ws = Goes a b vs ws
 Turned false a b vs ws = (vs ≡ []) × (b ≡ a)

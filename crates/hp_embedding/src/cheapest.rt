@@ -13,7 +13,7 @@ use std::alloc::{AllocError, Global};
 use thiserror::Error;
 
 /// A plan that was found.
-pub struct Found {
+pub struct CheapestPlan {
     pub cost: i128,
     /// For each decomposition on the way its number among those of its parent.
     pub path: Vec<u64>,
@@ -22,9 +22,9 @@ pub struct Found {
 }
 
 // A derived drop would do the same, but be proved anew wherever a plan is let go.
-impl Drop for Found {
+impl Drop for CheapestPlan {
     fn drop(self) {
-        let Found {
+        let CheapestPlan {
             cost: _,
             path,
             text,
@@ -44,7 +44,7 @@ pub enum SearchError {
 }
 
 /// Whether a plan is known that costs no more than this.
-fn reaches(best: &Option<Found>, cost: i128) -> bool
+fn reaches(best: &Option<CheapestPlan>, cost: i128) -> bool
     ensures { result ≡ reaches (cost_of best.now) cost }
 {
     match best {
@@ -54,7 +54,7 @@ fn reaches(best: &Option<Found>, cost: i128) -> bool
 }
 
 /// The plan that a walk stands at.
-fn reached<W: Walk>(alloc: Global, walk: &W) -> Result<Found, AllocError>
+fn reached<W: Walk>(alloc: Global, walk: &W) -> Result<CheapestPlan, AllocError>
     requires live { W.is_live walk.now ≡ true }
     ensures { IfOk result (λ f. MatchOption (node_reached (W.tree walk.now) (W.stands walk.now)) ⊥
         (λ n. IsAt f n (W.stands walk.now).path)) }
@@ -63,7 +63,7 @@ fn reached<W: Walk>(alloc: Global, walk: &W) -> Result<Found, AllocError>
     let mut tray = Tray::new(alloc);
     let mut pen = Pen::new(&mut tray);
     match pen.plan_lines(1, walk, false) {
-        Ok(()) => Ok(Found {
+        Ok(()) => Ok(CheapestPlan {
             cost: walk.cost(),
             path,
             text: tray.bytes,
@@ -73,7 +73,7 @@ fn reached<W: Walk>(alloc: Global, walk: &W) -> Result<Found, AllocError>
 }
 
 /// Keeps the plan that a walk stands at, where none is known that costs no more.
-fn keep<W: Walk>(alloc: Global, walk: &W, best: &mut Option<Found>) -> Result<(), AllocError>
+fn keep<W: Walk>(alloc: Global, walk: &W, best: &mut Option<CheapestPlan>) -> Result<(), AllocError>
     requires live { W.is_live walk.now ≡ true }
     ensures lower { OnOk result (MatchOption (node_reached (W.tree walk.now) (W.stands walk.now)) ⊥
         (λ n. cost_of best.new ≡ lower (cost_of best.old) n.cost)) }
@@ -87,7 +87,7 @@ fn keep<W: Walk>(alloc: Global, walk: &W, best: &mut Option<Found>) -> Result<()
 }
 
 /// Leaves out what lies below the decomposition just made, where a plan is known that costs no more already.
-fn leave_out<W: Walk>(walk: &mut W, best: &Option<Found>)
+fn leave_out<W: Walk>(walk: &mut W, best: &Option<CheapestPlan>)
     requires live { W.is_live walk.old ≡ true }
     requires did { (W.stands walk.old).at_did ≡ true }
     ensures stands { MatchOption (node_reached (W.tree walk.old) (W.stands walk.old)) ⊥
@@ -105,7 +105,7 @@ fn leave_out<W: Walk>(walk: &mut W, best: &Option<Found>)
 fn visit<W: Walk>(
     alloc: Global,
     walk: &mut W,
-    best: &mut Option<Found>,
+    best: &mut Option<CheapestPlan>,
 ) -> Result<bool, SearchError>
     requires live { W.is_live walk.old ≡ true }
     requires at { All (IsAtItsNode (W.tree walk.old)) (W.stands walk.old).rest }
@@ -133,7 +133,7 @@ fn visit<W: Walk>(
 /// The cheapest plan that is left to a walk. What lies below a decomposition is left out where a plan is known that
 /// costs no more than the steps so far: so this finds the cheapest where the cost never falls on the way down. Where
 /// a step may have a negative cost, what is left out might have been cheaper.
-pub fn cheapest<W: Walk>(alloc: Global, walk: &mut W) -> Result<Option<Found>, SearchError>
+pub fn cheapest<W: Walk>(alloc: Global, walk: &mut W) -> Result<Option<CheapestPlan>, SearchError>
     requires live { W.is_live walk.old ≡ true }
     requires at { All (IsAtItsNode (W.tree walk.old)) (W.stands walk.old).rest }
     ensures cheapest { IfOk result (λ best. NeverFalls (W.stands walk.old).rest

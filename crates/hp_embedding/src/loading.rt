@@ -27,7 +27,7 @@ use thiserror::Error;
 
 /// Why two texts can't be walked.
 #[derive(Clone, Copy, Debug, PartialEq, Eq, Error)]
-pub enum LoadError {
+pub enum InputError {
     #[error("a text is refused")]
     Text(TextRefusal),
     #[error("a form is refused")]
@@ -36,26 +36,26 @@ pub enum LoadError {
     Check(CheckFault),
 }
 
-fn domain_in(alloc: Global, text: &str) -> Result<Domain, LoadError>
+fn domain_in(alloc: Global, text: &str) -> Result<Domain, InputError>
     ensures { IfOk result (λ d. IsRead domain_form text.now (domain_of d)) }
 {
     match read(alloc, text.as_bytes()) {
-        Ok(forest) => into_domain(alloc, forest).map_err(LoadError::Form),
-        Err(refusal) => Err(LoadError::Text(refusal)),
+        Ok(forest) => into_domain(alloc, forest).map_err(InputError::Form),
+        Err(refusal) => Err(InputError::Text(refusal)),
     }
 }
 
-fn problem_in(alloc: Global, text: &str) -> Result<Problem, LoadError>
+fn problem_in(alloc: Global, text: &str) -> Result<Problem, InputError>
     ensures { IfOk result (λ p. IsRead problem_form text.now (problem_of p)) }
 {
     match read(alloc, text.as_bytes()) {
-        Ok(forest) => into_problem(alloc, forest).map_err(LoadError::Form),
-        Err(refusal) => Err(LoadError::Text(refusal)),
+        Ok(forest) => into_problem(alloc, forest).map_err(InputError::Form),
+        Err(refusal) => Err(InputError::Text(refusal)),
     }
 }
 
 /// Reads two texts, and checks them.
-pub fn accepted(alloc: Global, domain: &str, problem: &str) -> Result<(Domain, Problem), LoadError>
+pub fn accepted(alloc: Global, domain: &str, problem: &str) -> Result<(Domain, Problem), InputError>
     ensures domain { IfOk result (λ r. IsRead domain_form domain.now (domain_of r.0)) }
     ensures problem { IfOk result (λ r. IsRead problem_form problem.now (problem_of r.1)) }
     ensures checked { IfOk result (λ r. first_fault (domain_of r.0) (problem_of r.1) ≡ None) }
@@ -64,7 +64,7 @@ pub fn accepted(alloc: Global, domain: &str, problem: &str) -> Result<(Domain, P
     let problem = problem_in(alloc, problem)?;
     match first_fault(&domain, &problem) {
         None => Ok((domain, problem)),
-        Some(fault) => Err(LoadError::Check(fault)),
+        Some(fault) => Err(InputError::Check(fault)),
     }
 }
 

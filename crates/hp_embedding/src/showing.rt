@@ -3,7 +3,7 @@ ghost use Rattle.std.specs.Prelude.{◌≡◌, true};
 ghost use Rattle.std.specs.List.{All};
 ghost use Rattle.hp_top.specs.Telling.{IsAtItsNode};
 
-use crate::cheapest::{Found, cheapest};
+use crate::cheapest::{CheapestPlan, cheapest};
 use crate::swap::{print_pruned, print_visits, print_way_back};
 use hp_io::HostSink;
 use hp_net::Walk;
@@ -20,7 +20,7 @@ pub enum Shown {
 }
 
 /// What a plan costs, where it was found, and its lines.
-fn print_found(rt: &impl Print, found: &Found) -> anyhow::Result<()> {
+fn print_found(rt: &impl Print, found: &CheapestPlan) -> anyhow::Result<()> {
     println!(rt;
         "the cheapest costs {}, at path {:?}",
         found.cost, found.path

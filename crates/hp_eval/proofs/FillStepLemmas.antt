@@ -18,7 +18,7 @@ use Rattle.hp_syntax.specs.declared.pattern.Tail.{Tail}
 use Rattle.hp_syntax.specs.declared.fault.RunFault.{RunFault}
 use Rattle.hp_syntax.specs.declared.fault.FaultKind.TheVariants.{TooDeep}
 use Rattle.hp_syntax.specs.Syntax.{Pattern, Patterns, Variable, Listing, Call, NoPattern, Before, Atom}
-use Rattle.hp_syntax.specs.Terms.{Term, Terms, Symbol, Listed, NoTerm, More, nesting, deepest}
+use Rattle.hp_syntax.specs.Terms.{Term, Terms, Symbol, Listed, NoTerm, More, term_nesting, deepest}
 use Rattle.hp_syntax.specs.Calls.{fault_at, call}
 use Rattle.hp_syntax.specs.Values.{Bindings, bound, on_ok, list_of, value, values}
 use Rattle.hp_syntax.specs.Goals as plain
@@ -257,8 +257,8 @@ deepest_more fs left (plain.Known t) most d h a =
         ≡ option_map (max (max most d)) (option_map deepest o)
     of_ground None = refl
     of_ground (Some ts) =
-        let q : nesting t ≡ d = same_Some (nesting t) d h in
-        let r : max most (max (nesting t) (deepest ts)) ≡ max (max most d) (deepest ts) = omega arith in ap Some r
+        let q : term_nesting t ≡ d = same_Some (term_nesting t) d h in
+        let r : max most (max (term_nesting t) (deepest ts)) ≡ max (max most d) (deepest ts) = omega arith in ap Some r
 deepest_more fs left (plain.Free v) most d h a = absurd cc
 deepest_more fs left (plain.Partly ps t) most d h a = absurd cc
 
@@ -573,7 +573,7 @@ goal_with a f = record { name = a.name; parts = f.0; tail = f.1 }
 
 -- a name in front of the parts doesn't make their list deeper
 named_depth : (a : Atom) (ts : Terms)
-    → nat_lt DEEPEST_TERM (nesting (Listed (More (Symbol a.name) ts))) ≡ too_deep (Some ts)
+    → nat_lt DEEPEST_TERM (term_nesting (Listed (More (Symbol a.name) ts))) ≡ too_deep (Some ts)
 named_depth a ts = let q : max 0 (deepest ts) ≡ deepest ts = omega arith in ap (λ n. nat_lt DEEPEST_TERM (1 + n)) q
 
 -- a goal whose parts are ground and nest too deep is a fault

@@ -3,7 +3,7 @@ use Rattle.std.proofs.Common.{◌≡◌, ℕ, ◌<◌, ◌≤◌, Bool, true, fa
 use Rattle.hp_syntax.specs.declared.limits.TheConstants.{DEEPEST_TERM}
 use Rattle.hp_syntax.specs.declared.pattern.Span.{Span}
 use Rattle.hp_syntax.specs.declared.fault.FaultKind.TheVariants.{TooDeep}
-use Rattle.hp_syntax.specs.Terms.{Term, Terms, Symbol, Number, Listed, NoTerm, More, nesting}
+use Rattle.hp_syntax.specs.Terms.{Term, Terms, Symbol, Number, Listed, NoTerm, More, term_nesting}
 use Rattle.hp_syntax.specs.Calls.{fault_at, truth, no_call, of_list, numbers}
 use Rattle.hp_syntax.specs.Values.{on_ok, list_of}
 use Rattle.hp_eval.specs.GoalViews.{row_of}
@@ -60,11 +60,11 @@ numbers_step s (Number n) ts = by_case (numbers ts)
 -- ---- depth
 
 -- a list that nests deeper than terms may is a fault
-pub list_too_deep : (s : Span) (ts : Terms) → nat_lt DEEPEST_TERM (nesting (Listed ts)) ≡ true
+pub list_too_deep : (s : Span) (ts : Terms) → nat_lt DEEPEST_TERM (term_nesting (Listed ts)) ≡ true
     → list_of s ts ≡ Err (fault_at TooDeep s)
 list_too_deep s ts h = ap (λ b. cond b (Err (fault_at TooDeep s)) (Ok (Listed ts))) h
 
 -- a list that nests no deeper than terms may is a value
-pub list_fits : (s : Span) (ts : Terms) → nat_lt DEEPEST_TERM (nesting (Listed ts)) ≡ false
+pub list_fits : (s : Span) (ts : Terms) → nat_lt DEEPEST_TERM (term_nesting (Listed ts)) ≡ false
     → list_of s ts ≡ Ok (Listed ts)
 list_fits s ts h = ap (λ b. cond b (Err (fault_at TooDeep s)) (Ok (Listed ts))) h

@@ -6,10 +6,10 @@ use Rattle.hp_syntax.specs.declared.fault.RunFault.{RunFault}
 use Rattle.hp_syntax.specs.declared.fault.FaultKind.TheVariants.{Overflow, NotNumber}
 use Rattle.hp_syntax.specs.Terms.{Term, Symbol, Number, Listed, NoTerm, same_term, is_part}
 use Rattle.hp_syntax.specs.Calls as plain
-use Rattle.hp_eval.specs.declared.arithmetic.Answer.{Answer}
-use Rattle.hp_eval.specs.declared.arithmetic.Answer.TheVariants as answers
-use Rattle.hp_eval.specs.declared.arithmetic.Step.{Step}
-use Rattle.hp_eval.specs.declared.arithmetic.Step.TheVariants as steps
+use Rattle.hp_eval.specs.declared.arithmetic.Called.{Called}
+use Rattle.hp_eval.specs.declared.arithmetic.Called.TheVariants as answers
+use Rattle.hp_eval.specs.declared.arithmetic.Carried.{Carried}
+use Rattle.hp_eval.specs.declared.arithmetic.Carried.TheVariants as steps
 use Rattle.hp_eval.specs.declared.arithmetic.OfTwo.{OfTwo}
 use Rattle.hp_eval.specs.declared.arithmetic.OfTwo.TheVariants as twos
 use Rattle.hp_eval.specs.declared.arithmetic.OfNumbers.{OfNumbers}
@@ -18,24 +18,24 @@ use Rattle.hp_eval.specs.declared.rows.Row.{Row}
 use Rattle.hp_eval.specs.declared.rows.Row.TheVariants as rows
 
 -- the term that an answer stands for
-abbrev pub answer_term : Answer → Term
+abbrev pub answer_term : Called → Term
 answer_term (answers.Number n) = Number n
 answer_term answers.True = Symbol (codes "t")
 answer_term answers.Nothing = Listed NoTerm
 
-abbrev pub answered : Result Answer RunFault → Result Term RunFault
+abbrev pub answered : Result Called RunFault → Result Term RunFault
 answered (Ok a) = Ok (answer_term a)
 answered (Err f) = Err f
 
-abbrev pub numbered : Result ℤ RunFault → Result Term RunFault
-numbered (Ok n) = Ok (Number n)
-numbered (Err f) = Err f
+abbrev pub as_number : Result ℤ RunFault → Result Term RunFault
+as_number (Ok n) = Ok (Number n)
+as_number (Err f) = Err f
 
 -- a number that fits, or the fault of one that doesn't
 abbrev pub fitted : Span → ℤ → Result ℤ RunFault
 fitted s n = cond (plain.fits n) (Ok n) (Err (plain.fault_at Overflow s))
 
-abbrev pub step_of : Step → ℤ → ℤ → ℤ
+abbrev pub step_of : Carried → ℤ → ℤ → ℤ
 step_of steps.Sum = λ m n. m +ℤ n
 step_of steps.Product = λ m n. m *ℤ n
 

@@ -30,9 +30,3 @@ AreOfFirst [] b = Unit {0}
 AreOfFirst (plain.Sat e ∷ xs) b = b ≡ e
 AreOfFirst (plain.Cut ∷ xs) b = Unit {0}
 AreOfFirst (plain.Fault f ∷ xs) b = Unit {0}
-
--- a Sat binds what these bindings bind, to the same terms
-abbrev pub Keeps : Bindings → Happening → Type 0
-Keeps e (plain.Sat b) = (v : ℕ) (t : Term) → bound e v ≡ Some t → bound b v ≡ Some t
-Keeps e plain.Cut = Unit {0}
-Keeps e (plain.Fault f) = Unit {0}

@@ -3,14 +3,14 @@ use Rattle.std.specs.Prelude.{◌≡◌, ℕ, Bool, true, false, nat_lt, List, O
 use Rattle.std.specs.Global.{Global}
 use Rattle.std.specs.List.{All}
 use Rattle.hp_syntax.specs.declared.limits.TheConstants.{DEEPEST_TERM}
-use Rattle.hp_syntax.specs.Terms.{Term, Terms, Listed, nesting, deepest}
+use Rattle.hp_syntax.specs.Terms.{Term, Terms, Listed, term_nesting, deepest}
 use Rattle.hp_syntax.specs.Goals as plain
 use Rattle.hp_syntax.specs.Goals.{Fillings, NoFilling, Then, Filling, all_known, ground_parts}
 use Rattle.hp_cells.specs.Cells.{NamesList}
 use Rattle.hp_cells.specs.Keys.{parts_of}
 use Rattle.hp_eval.specs.declared.goals.Filled.{Filled}
-use Rattle.hp_eval.specs.declared.goals.Rest.{Rest}
-use Rattle.hp_eval.specs.declared.goals.Rest.TheVariants as rests
+use Rattle.hp_eval.specs.declared.goals.TailParts.{TailParts}
+use Rattle.hp_eval.specs.declared.goals.TailParts.TheVariants as rests
 use Rattle.hp_eval.specs.GoalViews.{term_at, fillings_of, is_below}
 
 -- parts, and others behind them
@@ -27,12 +27,12 @@ abbrev pub parts_at : List Term → ℕ → Terms
 parts_at terms cell = parts_of (term_at terms cell)
 
 -- what stands behind the parts of a list
-abbrev pub rest_of : List Term → Rest → Filling
+abbrev pub rest_of : List Term → TailParts → Filling
 rest_of terms (rests.Listed cell) = (all_known (parts_at terms cell), None)
 rest_of terms (rests.Free v) = (NoFilling, Some v)
 
 -- a rest that is a list is one by its cell
-abbrev pub RestBelow : List Term → Rest → Type 0
+abbrev pub RestBelow : List Term → TailParts → Type 0
 RestBelow terms (rests.Listed cell) = NamesList terms cell
 RestBelow terms (rests.Free v) = Unit {0}
 
@@ -50,7 +50,7 @@ AreKnown fs = (ts : Terms) × (ground_parts fs None ≡ Some ts)
 
 -- how deep a part nests, where it is ground
 abbrev pub depth_of : plain.Filled → Option ℕ
-depth_of (plain.Known t) = Some (nesting t)
+depth_of (plain.Known t) = Some (term_nesting t)
 depth_of (plain.Free v) = None
 depth_of (plain.Partly fs tail) = None
 
@@ -61,4 +61,4 @@ ground_depth fs = option_map deepest (ground_parts fs None)
 -- the list of some ground parts nests too deep
 abbrev pub too_deep : Option Terms → Bool
 too_deep None = false
-too_deep (Some ts) = nat_lt DEEPEST_TERM (nesting (Listed ts))
+too_deep (Some ts) = nat_lt DEEPEST_TERM (term_nesting (Listed ts))

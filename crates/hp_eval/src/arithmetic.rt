@@ -3,13 +3,13 @@ ghost use Rattle.std.specs.Prelude.{◌≡◌, ℤ, ◌≤◌, Ok, Err, Some, Fi
 ghost use Rattle.std.specs.Int.{w64, int_pow};
 ghost use Rattle.std.specs.Option.{SomeIff};
 ghost use Rattle.hp_syntax.specs.Calls as plain;
-ghost use Rattle.hp_eval.specs.CallRows.{step_of, two_of, numbers_called, answered, numbered, fitted};
+ghost use Rattle.hp_eval.specs.CallRows.{step_of, two_of, numbers_called, answered, as_number, fitted};
 
 use hp_syntax::{FaultKind, RunFault, Span};
 
 /// What a call gives: a number, the symbol `t`, or the empty list.
 #[derive(Clone, Copy)]
-pub(crate) enum Answer {
+pub(crate) enum Called {
     Number(i64),
     True,
     Nothing,
@@ -17,7 +17,7 @@ pub(crate) enum Answer {
 
 /// A function of two numbers that is carried from the left through all arguments.
 #[derive(Clone, Copy)]
-pub(crate) enum Step {
+pub(crate) enum Carried {
     Sum,
     Product,
 }
@@ -40,16 +40,16 @@ pub(crate) enum OfTwo {
 /// A function of numbers.
 #[derive(Clone, Copy)]
 pub(crate) enum OfNumbers {
-    InTurn(Step),
+    InTurn(Carried),
     OfTwo(OfTwo),
     Absolute,
 }
 
 /// What a test gives.
-pub(crate) fn truth(holds: bool) -> Answer
+pub(crate) fn truth(holds: bool) -> Called
     ensures { answered (Ok result) ≡ plain.truth holds }
 {
-    if holds { Answer::True } else { Answer::Nothing }
+    if holds { Called::True } else { Called::Nothing }
 }
 
 fn fault(kind: FaultKind, span: Span) -> RunFault
@@ -67,24 +67,24 @@ fn fitting(n: Option<i64>, span: Span) -> Result<i64, RunFault>
     }
 }
 
-fn number(n: Option<i64>, span: Span) -> Result<Answer, RunFault>
+fn number(n: Option<i64>, span: Span) -> Result<Called, RunFault>
     ensures { (v : ℤ) → SomeIff n (FitsSigned w64 v) v → answered result ≡ plain.number span v }
 {
     let n = fitting(n, span)?;
-    Ok(Answer::Number(n))
+    Ok(Called::Number(n))
 }
 
-fn checked_step(function: Step, m: i64, n: i64) -> Option<i64>
+fn checked_step(function: Carried, m: i64, n: i64) -> Option<i64>
     ensures { SomeIff result (FitsSigned w64 (step_of function m n)) (step_of function m n) }
 {
     match function {
-        Step::Sum => m.checked_add(n),
-        Step::Product => m.checked_mul(n),
+        Carried::Sum => m.checked_add(n),
+        Carried::Product => m.checked_mul(n),
     }
 }
 
-fn in_turn(function: Step, span: Span, first: i64, rest: &[i64]) -> Result<i64, RunFault>
-    ensures { numbered result ≡ plain.in_turn (step_of function) span first rest.now }
+fn in_turn(function: Carried, span: Span, first: i64, rest: &[i64]) -> Result<i64, RunFault>
+    ensures { as_number result ≡ plain.in_turn (step_of function) span first rest.now }
 {
     let mut total = first;
     for n in rest {
@@ -94,19 +94,19 @@ fn in_turn(function: Step, span: Span, first: i64, rest: &[i64]) -> Result<i64, 
 }
 
 /// A function carried from the left through all numbers.
-fn from_left(function: Step, span: Span, numbers: &[i64]) -> Result<Answer, RunFault>
+fn from_left(function: Carried, span: Span, numbers: &[i64]) -> Result<Called, RunFault>
     ensures { answered result ≡ plain.from_left (step_of function) span (Some numbers.now) }
 {
     match numbers {
-        [] => Ok(Answer::Nothing),
+        [] => Ok(Called::Nothing),
         [first, rest @ ..] => {
             let total = in_turn(function, span, *first, rest)?;
-            Ok(Answer::Number(total))
+            Ok(Called::Number(total))
         }
     }
 }
 
-fn quotient(m: i64, n: i64, span: Span) -> Result<Answer, RunFault>
+fn quotient(m: i64, n: i64, span: Span) -> Result<Called, RunFault>
     ensures { answered result ≡ plain.quotient span m n }
 {
     if n == 0 {
@@ -116,13 +116,13 @@ fn quotient(m: i64, n: i64, span: Span) -> Result<Answer, RunFault>
     }
 }
 
-fn remainder(m: i64, n: i64, span: Span) -> Result<Answer, RunFault>
+fn remainder(m: i64, n: i64, span: Span) -> Result<Called, RunFault>
     ensures { answered result ≡ plain.remainder span m n }
 {
     if n == 0 {
         Err(fault(FaultKind::ZeroDivisor, span))
     } else {
-        Ok(Answer::Number(m.wrapping_rem(n)))
+        Ok(Called::Number(m.wrapping_rem(n)))
     }
 }
 
@@ -152,7 +152,7 @@ fn checked_power(m: i64, n: u64) -> Option<i64>
     }
 }
 
-fn power(m: i64, n: i64, span: Span) -> Result<Answer, RunFault>
+fn power(m: i64, n: i64, span: Span) -> Result<Called, RunFault>
     ensures { answered result ≡ plain.power span m n }
 {
     if n < 0 {
@@ -162,7 +162,7 @@ fn power(m: i64, n: i64, span: Span) -> Result<Answer, RunFault>
     }
 }
 
-fn of_both(function: OfTwo, m: i64, n: i64, span: Span) -> Result<Answer, RunFault>
+fn of_both(function: OfTwo, m: i64, n: i64, span: Span) -> Result<Called, RunFault>
     ensures { answered result ≡ two_of function span m n }
 {
     match function {
@@ -170,8 +170,8 @@ fn of_both(function: OfTwo, m: i64, n: i64, span: Span) -> Result<Answer, RunFau
         OfTwo::Quotient => quotient(m, n, span),
         OfTwo::Remainder => remainder(m, n, span),
         OfTwo::Power => power(m, n, span),
-        OfTwo::Least => Ok(Answer::Number(m.min(n))),
-        OfTwo::Greatest => Ok(Answer::Number(m.max(n))),
+        OfTwo::Least => Ok(Called::Number(m.min(n))),
+        OfTwo::Greatest => Ok(Called::Number(m.max(n))),
         OfTwo::Less => Ok(truth(m < n)),
         OfTwo::AtMost => Ok(truth(m <= n)),
         OfTwo::AtLeast => Ok(truth(m >= n)),
@@ -180,22 +180,22 @@ fn of_both(function: OfTwo, m: i64, n: i64, span: Span) -> Result<Answer, RunFau
 }
 
 /// A function of two numbers, or nothing where there aren't two.
-fn of_two(function: OfTwo, span: Span, numbers: &[i64]) -> Result<Answer, RunFault>
+fn of_two(function: OfTwo, span: Span, numbers: &[i64]) -> Result<Called, RunFault>
     ensures { answered result ≡ plain.of_two (two_of function) span (Some numbers.now) }
 {
     match numbers {
         [m, n] => of_both(function, *m, *n, span),
-        _ => Ok(Answer::Nothing),
+        _ => Ok(Called::Nothing),
     }
 }
 
 /// How far a number is from 0, or nothing where there isn't one number.
-fn absolute(span: Span, numbers: &[i64]) -> Result<Answer, RunFault>
+fn absolute(span: Span, numbers: &[i64]) -> Result<Called, RunFault>
     ensures { answered result ≡ plain.of_one (λ s n. plain.number s (pos (unsigned_abs n))) span (Some numbers.now) }
 {
     match numbers {
         [n] => number(n.checked_abs(), span),
-        _ => Ok(Answer::Nothing),
+        _ => Ok(Called::Nothing),
     }
 }
 
@@ -204,7 +204,7 @@ pub(crate) fn of_numbers(
     function: OfNumbers,
     span: Span,
     numbers: &[i64],
-) -> Result<Answer, RunFault>
+) -> Result<Called, RunFault>
     ensures { answered result ≡ numbers_called function span numbers.now }
 {
     match function {

@@ -8,7 +8,7 @@ ghost use Rattle.hp_eval.specs.CallRows.{answered, answer_term, table_row, numbe
 ghost use Rattle.hp_eval.specs.Growth.{Grows, Gives, GivesBy};
 ghost use Rattle.hp_eval.specs.GoalViews.{term_at, row_of};
 
-use crate::arithmetic::{Answer, of_numbers, truth};
+use crate::arithmetic::{Called, of_numbers, truth};
 use crate::event::EvalStop;
 use crate::lists::is_listed;
 use crate::rows::{Row, row_named};
@@ -68,18 +68,18 @@ fn is_member(item: Cell, list: Cell, cells: &Cells) -> bool
     false
 }
 
-fn of_terms(args: &[Cell], equal: bool, cells: &Cells) -> Answer
+fn of_terms(args: &[Cell], equal: bool, cells: &Cells) -> Called
     requires args { All (λ c. c < length cells.now) args.now }
     ensures { answered (Ok result)
         ≡ plain.of_terms (λ x y. beq equal (same_term x y)) (row_of (map (term_at cells.now) args.now)) }
 {
     match args {
         [x, y] => truth(equal == are_same(*x, *y, cells)),
-        _ => Answer::Nothing,
+        _ => Called::Nothing,
     }
 }
 
-fn of_list(args: &[Cell], span: Span, cells: &Cells) -> Result<Answer, RunFault>
+fn of_list(args: &[Cell], span: Span, cells: &Cells) -> Result<Called, RunFault>
     requires args { All (λ c. c < length cells.now) args.now }
     ensures { answered result ≡ plain.of_list is_part span (row_of (map (term_at cells.now) args.now)) }
 {
@@ -94,7 +94,7 @@ fn of_list(args: &[Cell], span: Span, cells: &Cells) -> Result<Answer, RunFault>
                 })
             }
         }
-        _ => Ok(Answer::Nothing),
+        _ => Ok(Called::Nothing),
     }
 }
 
@@ -104,7 +104,7 @@ fn answer_of(
     args: &[Cell],
     span: Span,
     cells: &Cells,
-) -> Result<Answer, EvalStop>
+) -> Result<Called, EvalStop>
     requires args { All (λ c. c < length cells.now) args.now }
     ensures { GivesBy answer_term result
         (plain.called (table_row row) (row_of (map (term_at cells.now) args.now)) span) }
@@ -121,21 +121,21 @@ fn answer_of(
             let answer = of_list(args, span, cells)?;
             Ok(answer)
         }
-        Row::Unknown => Ok(Answer::Nothing),
+        Row::Unknown => Ok(Called::Nothing),
     }
 }
 
-fn answer_cell(alloc: Global, answer: Answer, cells: &mut Cells) -> Result<Cell, AllocError>
+fn answer_cell(alloc: Global, answer: Called, cells: &mut Cells) -> Result<Cell, AllocError>
     ensures names { IfOk result (λ cell. slice_get cells.new cell ≡ Some (answer_term answer)) }
     ensures cells { Grows cells.old cells.new }
 {
     match answer {
-        Answer::Number(n) => cells.num(n),
-        Answer::True => {
+        Called::Number(n) => cells.num(n),
+        Called::True => {
             let name = Name::new(alloc, b"t")?;
             cells.sym(&name)
         }
-        Answer::Nothing => Ok(cells.nil()),
+        Called::Nothing => Ok(cells.nil()),
     }
 }
 

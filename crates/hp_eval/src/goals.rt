@@ -61,7 +61,7 @@ impl Drop for Goal {
 // What stands behind the parts of a list: the parts of another, which is empty where there is no tail, or a free
 // variable.
 #[derive(Clone, Copy)]
-enum Rest {
+enum TailParts {
     Listed(Cell),
     Free(u32),
 }
@@ -139,17 +139,17 @@ fn fill_parts(
 }
 
 // What a tail stands for, which must be a list unless it stands for nothing.
-fn fill_tail(tail: &Option<Tail>, slots: &Slots, cells: &Cells) -> Result<Rest, EvalStop>
+fn fill_tail(tail: &Option<Tail>, slots: &Slots, cells: &Cells) -> Result<TailParts, EvalStop>
     requires slots { AreBelow (length cells.now) slots.now }
     ensures gives { GivesBy (rest_of cells.now) result
         (plain.fill_tail tail.now (bindings_of cells.now slots.now)) }
     ensures below { IfOk result (RestBelow cells.now) }
 {
     match tail {
-        None => Ok(Rest::Listed(cells.nil())),
+        None => Ok(TailParts::Listed(cells.nil())),
         Some(tail) => match bound_cell(tail.var, slots) {
-            None => Ok(Rest::Free(tail.var)),
-            Some(cell) => Ok(Rest::Listed(list_or_fault(cell, tail.span, cells)?)),
+            None => Ok(TailParts::Free(tail.var)),
+            Some(cell) => Ok(TailParts::Listed(list_or_fault(cell, tail.span, cells)?)),
         },
     }
 }
@@ -157,7 +157,7 @@ fn fill_tail(tail: &Option<Tail>, slots: &Slots, cells: &Cells) -> Result<Rest, 
 // Puts the parts of the rest behind these, and answers the free variable that stands behind them.
 fn append_rest(
     parts: &mut Vec<Filled>,
-    rest: Rest,
+    rest: TailParts,
     cells: &Cells,
 ) -> Result<Option<u32>, AllocError>
     requires rest { RestBelow cells.now rest }
@@ -167,8 +167,8 @@ fn append_rest(
     ensures below { IfOk result (λ tail. AreFilledBelow (length cells.now) parts.new.items) }
 {
     match rest {
-        Rest::Free(v) => Ok(Some(v)),
-        Rest::Listed(list) => {
+        TailParts::Free(v) => Ok(Some(v)),
+        TailParts::Listed(list) => {
             append_list(parts, list, cells)?;
             Ok(None)
         }
@@ -232,7 +232,7 @@ fn are_too_deep(parts: &[Filled], tail: Option<u32>, cells: &Cells) -> bool
 // A list of these parts and of the rest behind them: known where all of them are.
 fn fill_list(
     mut parts: Vec<Filled>,
-    rest: Rest,
+    rest: TailParts,
     span: Span,
     cells: &mut Cells,
 ) -> Result<Filled, EvalStop>
@@ -244,8 +244,8 @@ fn fill_list(
     ensures cells { Grows cells.old cells.new }
 {
     match rest {
-        Rest::Free(v) => Ok(Filled::List(parts, Some(v))),
-        Rest::Listed(list) => match deepest(parts.as_slice(), cells) {
+        TailParts::Free(v) => Ok(Filled::List(parts, Some(v))),
+        TailParts::Listed(list) => match deepest(parts.as_slice(), cells) {
             Some(_) => known_list(parts, list, span, cells),
             None => {
                 append_list(&mut parts, list, cells)?;

@@ -1,11 +1,11 @@
 //! Laws of satisfiers.
 //!
 //! Each function does nothing, and its contract is the law.
+ghost use Rattle.hp_syntax.specs.Events.{EventExtends};
 ghost use Rattle.std.specs.Prelude.{◌≡◌, List, take};
 ghost use Rattle.std.specs.List.{All};
 ghost use Rattle.hp_syntax.specs.Terms.{Term};
 ghost use Rattle.hp_eval.specs.Slotted.{Slotted, undone, bindings_of};
-ghost use Rattle.hp_eval.specs.Events.{Keeps};
 
 use crate::sats::Sats;
 
@@ -18,5 +18,5 @@ pub fn rest_is_kept<B, S: Sats<B>>()
 /// Each Sat that is left binds what was bound at the start, to the same terms.
 pub fn satisfiers_extend_the_start<B, S: Sats<B>>()
     ensures { (s : S) (b : B) (c : List Term) (e : Slotted) → S.suits s b → S.fits s e
-        → All (Keeps (bindings_of c (undone (S.start s) e))) (S.rest s b c e) }
+        → All (EventExtends (bindings_of c (undone (S.start s) e))) (S.rest s b c e) }
 {}

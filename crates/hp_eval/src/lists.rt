@@ -2,7 +2,7 @@
 ghost use Rattle.std.specs.Prelude.{◌≡◌, ◌<◌, Some, IfOk, length, map, nat_lt, slice_get};
 ghost use Rattle.std.specs.List.{All};
 ghost use Rattle.hp_cells.specs.Cells.{NamesList};
-ghost use Rattle.hp_syntax.specs.Terms.{Term, Terms, Symbol, Listed, More, nesting};
+ghost use Rattle.hp_syntax.specs.Terms.{Term, Terms, Symbol, Listed, More, term_nesting};
 ghost use Rattle.hp_syntax.specs.Values as plain;
 ghost use Rattle.hp_eval.specs.GoalViews.{term_at};
 ghost use Rattle.hp_eval.specs.Growth.{Grows, Gives};
@@ -61,7 +61,7 @@ pub(crate) fn list_onto(
 
 fn is_too_deep(list: Cell, cells: &Cells) -> bool
     requires list { list < length cells.now }
-    ensures { (t : Term) → slice_get cells.now list ≡ Some t → result ≡ nat_lt DEEPEST_TERM (nesting t) }
+    ensures { (t : Term) → slice_get cells.now list ≡ Some t → result ≡ nat_lt DEEPEST_TERM (term_nesting t) }
 {
     cells.depth(list) > DEEPEST_TERM
 }

@@ -3,7 +3,7 @@ ghost use Rattle.std.specs.Prelude.{◌≡◌, bytes_eq};
 ghost use Rattle.hp_syntax.specs.Calls as plain;
 ghost use Rattle.hp_eval.specs.CallRows.{table_row, test_row};
 
-use crate::arithmetic::{OfNumbers, OfTwo, Step};
+use crate::arithmetic::{Carried, OfNumbers, OfTwo};
 use hp_syntax::Name;
 
 /// A row of the call table.
@@ -49,9 +49,9 @@ pub(crate) fn row_named(name: &Name) -> Row
     ensures { table_row result ≡ plain.row name.now }
 {
     if is(name, b"+") {
-        Row::OfNumbers(OfNumbers::InTurn(Step::Sum))
+        Row::OfNumbers(OfNumbers::InTurn(Carried::Sum))
     } else if is(name, b"*") {
-        Row::OfNumbers(OfNumbers::InTurn(Step::Product))
+        Row::OfNumbers(OfNumbers::InTurn(Carried::Product))
     } else if is(name, b"-") {
         Row::OfNumbers(OfNumbers::OfTwo(OfTwo::Difference))
     } else if is(name, b"/") {

@@ -5,8 +5,7 @@ use Rattle.std.proofs.lemmas.Bool.{cases_eq}
 use Rattle.std.proofs.lemmas.Option.{none-some, slice_get_within}
 use Rattle.std.proofs.lemmas.List.{length-set}
 use Rattle.hp_syntax.specs.Terms.{Term}
-use Rattle.hp_syntax.specs.Values.{Bindings, bound, flat_option}
-use Rattle.hp_laws.specs.Readings.{Extends}
+use Rattle.hp_syntax.specs.Values.{Bindings, bound, flat_option, Extends}
 
 -- what was set at a place stands there
 pub slice_get-set_same : {X : Type 0} (xs : List X) (i : ℕ) (x : X) → i < length xs

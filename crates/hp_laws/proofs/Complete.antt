@@ -8,7 +8,7 @@ use Rattle.std.proofs.lemmas.List.{append-nil, length_push}
 use Rattle.hp_syntax.specs.Syntax.{Rule, Pair}
 use Rattle.hp_syntax.specs.Terms.{Term}
 use Rattle.hp_syntax.specs.Networks.{Network, Empty, Task, Ordered, Unordered, Place, is_empty, part_at}
-use Rattle.hp_syntax.specs.Walk.{Node, Child, DidChild, children, Did, Plan, CutHere, Visit, visit, number_after, numbered, child_visits, visits_within, visits, root}
+use Rattle.hp_syntax.specs.Walk.{Node, Child, DidChild, children, Did, Plan, CutHere, Visit, visit, number_after, numbered_children, child_visits, visits_within, visits, root}
 use Rattle.hp_laws.specs.Derivations.{Situation, Choosing, Performs, Decomposes, Derives, Nothing, ByOperator, ByMethod, Leads, ByStep, BySubtasks, situation_at, node_in, first_situation, IsNext}
 use Rattle.hp_laws.proofs.JoinLemmas.{contains_first, contains_later, contains_cases, contains_none, contains_join}
 use Rattle.hp_laws.proofs.ChildLemmas.{leads_did}
@@ -29,16 +29,16 @@ next_not_empty n s k p t q h =
     ap (λ (x : Situation). is_empty x.network) q ∙ not_empty s.network p t h.immediate h.there
 
 -- a child has a number
-has_number : (i : ℕ) (cs : List Child) (c : Child) → Contains cs c → (j : ℕ) × Contains (numbered i cs) (j, c)
+has_number : (i : ℕ) (cs : List Child) (c : Child) → Contains cs c → (j : ℕ) × Contains (numbered_children i cs) (j, c)
 has_number i [] c h = absurd (contains_none c h)
 has_number i (x ∷ cs) c h =
     ⊎_elim (λ e. (
       i,
-      subst (λ y. Contains ((i, x) ∷ numbered (number_after i x) cs) (i, y)) e
-          (contains_first (i, x) (numbered (number_after i x) cs)),
+      subst (λ y. Contains ((i, x) ∷ numbered_children (number_after i x) cs) (i, y)) e
+          (contains_first (i, x) (numbered_children (number_after i x) cs)),
     ))
     (λ k. let r = has_number (number_after i x) cs c k in
-    (r.0, contains_later (i, x) (r.0, c) (numbered (number_after i x) cs) r.1)) (contains_cases x c cs h)
+    (r.0, contains_later (i, x) (r.0, c) (numbered_children (number_after i x) cs) r.1)) (contains_cases x c cs h)
 
 -- a plan with these steps, this cost and this situation at its end, after so many choices
 abbrev pub IsPlanWith : ℕ → List Term → ℤ → Situation → Visit → Type 0
@@ -57,17 +57,17 @@ module _ (rules : List Rule) (nest : ℕ) where
   plan_here (suc d) n p e =
       subst (λ vs. Contains vs (visit p n Plan))
       (sym (cond-true (is_empty n.network) (visit p n Plan ∷ [])
-      (flat_map (child_visits (visits_within rules nest d) n p) (numbered 0 (children rules nest n))) e))
+      (flat_map (child_visits (visits_within rules nest d) n p) (numbered_children 0 (children rules nest n))) e))
       (contains_first (visit p n Plan) [])
 
   -- what is seen below a child is seen below its parent
   seen_above : (d : ℕ) (n m : Node) (p : List ℕ) (i : ℕ) (v : Visit) → is_empty n.network ≡ false
-      → Contains (numbered 0 (children rules nest n)) (i, DidChild m)
+      → Contains (numbered_children 0 (children rules nest n)) (i, DidChild m)
       → Contains (visits_within rules nest d m (p ++ i ∷ [])) v → Contains (visits_within rules nest (suc d) n p) v
   unfolding visits_within
   seen_above d n m p i v e c h =
       let each = child_visits (visits_within rules nest d) n p in
-      let cs = numbered 0 (children rules nest n) in
+      let cs = numbered_children 0 (children rules nest n) in
       subst (λ vs. Contains vs v) (sym (cond-false (is_empty n.network) (visit p n Plan ∷ []) (flat_map each cs) e))
       (contains_join each cs (i, DidChild m) v c
       (contains_later (visit (p ++ i ∷ []) m Did) v (visits_within rules nest d m (p ++ i ∷ [])) h))

@@ -13,7 +13,7 @@ use Rattle.hp_syntax.specs.Preconditions.{precondition_events}
 use Rattle.hp_syntax.specs.Networks.{Network, Empty, Task, Ordered, Unordered, Place, part_at, candidates, tasks_value}
 use Rattle.hp_syntax.specs.Changes.{Changes, Applied, Going, Went, Stops, apply, effects}
 use Rattle.hp_syntax.specs.Applying.{Now, Guarded}
-use Rattle.hp_syntax.specs.Walk.{Node, Child, DidChild, CutChild, FaultChild, child_of, operated, after_effects, decomposed, Choice, choice_children, operator_children, chosen, method_children, rule_children, task_children, children, number_after, numbered}
+use Rattle.hp_syntax.specs.Walk.{Node, Child, DidChild, CutChild, FaultChild, child_of, operated, after_effects, decomposed, Choice, choice_children, operator_children, chosen, method_children, rule_children, task_children, children, number_after, numbered_children}
 use Rattle.hp_laws.proofs.JoinLemmas.{all_from, map_join, join_same, contains_first, contains_later, contains_cases, contains_none}
 
 -- a node, or a child, that has another depth
@@ -119,12 +119,12 @@ module _ (k : ℕ) (n : Node) where
         (candidates n.network n.focus))
 
 -- what a list of numbered children contains is one of the children
-pub contained_child : (i j : ℕ) (c : Child) (cs : List Child) → Contains (numbered i cs) (j, c) → Contains cs c
+pub contained_child : (i j : ℕ) (c : Child) (cs : List Child) → Contains (numbered_children i cs) (j, c) → Contains cs c
 contained_child i j c [] h = absurd (contains_none (j, c) h)
 contained_child i j c (x ∷ cs) h =
     ⊎_elim (λ e. subst (λ y. Contains (y ∷ cs) c) (sym (ap (λ y. y.1) e)) (contains_first c cs))
     (λ k. contains_later x c cs (contained_child (number_after i x) j c cs k))
-    (contains_cases (i, x) (j, c) (numbered (number_after i x) cs) h)
+    (contains_cases (i, x) (j, c) (numbered_children (number_after i x) cs) h)
 
 -- a child has this depth, where it is a node
 abbrev HasDepth : ℕ → Child → Type 0
@@ -139,7 +139,7 @@ has_depth k (FaultChild f) = tt
 
 -- a child of a node that has a decomposition left has one less
 pub child_depth : (rules : List Rule) (nest : ℕ) (n m : Node) (d i : ℕ) → n.depth ≡ suc d
-    → Contains (numbered 0 (children rules nest n)) (i, DidChild m) → m.depth ≡ d
+    → Contains (numbered_children 0 (children rules nest n)) (i, DidChild m) → m.depth ≡ d
 child_depth rules nest n m d i e c =
     let k = contained_child 0 i (DidChild m) (children rules nest n) c in
     let a : All (HasDepth (n.depth - 1)) (map (child_at_depth (n.depth - 1)) (children rules nest n)) =

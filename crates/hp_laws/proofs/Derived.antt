@@ -9,7 +9,7 @@ use Rattle.std.proofs.lemmas.List.Elements.{All-cons, All-weaker}
 use Rattle.hp_syntax.specs.Syntax.{Rule, Pair}
 use Rattle.hp_syntax.specs.Terms.{Term}
 use Rattle.hp_syntax.specs.Networks.{Network, Empty, Task, Ordered, Unordered, is_empty}
-use Rattle.hp_syntax.specs.Walk.{Node, Child, DidChild, CutChild, FaultChild, children, Sight, Did, Plan, CutHere, FaultHere, Visit, visit, numbered, child_visits, visits_within, visits, root, walk}
+use Rattle.hp_syntax.specs.Walk.{Node, Child, DidChild, CutChild, FaultChild, children, Sight, Did, Plan, CutHere, FaultHere, Visit, visit, numbered_children, child_visits, visits_within, visits, root, walk}
 use Rattle.hp_laws.specs.Derivations.{Choosing, Performs, Decomposes, Derives, Nothing, ByOperator, ByMethod, Leads, ByStep, BySubtasks, situation_at, first_situation}
 use Rattle.hp_laws.proofs.JoinLemmas.{all_one, all_join, all_from}
 use Rattle.hp_laws.proofs.DepthLemmas.{contained_child}
@@ -156,7 +156,7 @@ module _ (rules : List Rule) (nest : ℕ) where
       (λ e s. empty_network n.network e) (λ e s. absurd cc))
   all_finished (suc d) n p =
       let each = child_visits (visits_within rules nest d) n p in
-      let cs = numbered 0 (children rules nest n) in
+      let cs = numbered_children 0 (children rules nest n) in
       cond_both (is_empty n.network) (visit p n Plan ∷ []) (flat_map each cs) (All IsFinished)
       (λ e. all_one IsFinished (visit p n Plan) (λ s. empty_network n.network e))
       (λ e. all_join each IsFinished cs (all_from (λ c. All IsFinished (each c))

@@ -7,7 +7,7 @@ use Rattle.hp_syntax.specs.Terms.{Term}
 use Rattle.hp_syntax.specs.Events.{State, Sat, axioms_of}
 use Rattle.hp_syntax.specs.Preconditions.{precondition_events}
 use Rattle.hp_syntax.specs.Applying.{Now}
-use Rattle.hp_laws.specs.Derivations.{Situation, Choosing, Performs, Derives, Nothing, ByOperator, ByMethod, Step, Executes}
+use Rattle.hp_laws.specs.Derivations.{Situation, Choosing, Performs, Derives, Nothing, ByOperator, ByMethod, PlanStep, Executes}
 
 -- what stands at a number is contained
 contains_at : {X : Type 0} (xs : List X) (k : ℕ) (x : X) → slice_get xs k ≡ Some x → Contains xs x
@@ -20,7 +20,7 @@ held s = (s.state, s.guards)
 module _ (rules : List Rule) (nest : ℕ) where
   -- an operator that does a task is a step
   step_of : (c : Choosing) (before after : Situation) (t : Term) (k : ℤ) → Performs rules nest c before t k after
-      → Step rules nest (held before) t k (held after)
+      → PlanStep rules nest (held before) t k (held after)
   step_of c before after t k f = record {
     operator = f.operator;
     matched = f.matched;

@@ -10,7 +10,7 @@ use Rattle.hp_syntax.specs.declared.pattern.Tail.{Tail}
 use Rattle.hp_syntax.specs.declared.fault.RunFault.{RunFault}
 use Rattle.hp_syntax.specs.Syntax.{Pattern, Patterns, Variable, Listing, Call, NoPattern, Before, Atom}
 use Rattle.hp_syntax.specs.Syntax as syntax
-use Rattle.hp_syntax.specs.Terms.{Term, Terms, Symbol, Listed, NoTerm, More, nesting}
+use Rattle.hp_syntax.specs.Terms.{Term, Terms, Symbol, Listed, NoTerm, More, term_nesting}
 use Rattle.hp_syntax.specs.Calls.{call, fault_at}
 use Rattle.hp_syntax.specs.Values.{Bindings, bound, on_ok, value_of_variable, parts_of, list_of, value, values, atom_value}
 use Rattle.hp_syntax.specs.Goals.{Filled, Known, Free, Partly, Fillings, NoFilling, Then, Goal, Filling, all_known, ground_parts, fill_variable, fill_bound_tail, list_filled, fill, fill_parts, goal_of, fill_goal}
@@ -19,7 +19,7 @@ use Rattle.hp_laws.proofs.ResultLemmas.{map_some, on_ok_ok, on_ok_from, on_ok_tw
 
 -- a list that doesn't nest too deep is the list of its parts
 pub list_of_ok : (s : Span) (ts : Terms) (t : Term) → list_of s ts ≡ Ok t → t ≡ Listed ts
-list_of_ok s ts t h = of_test (nat_lt DEEPEST_TERM (nesting (Listed ts))) h
+list_of_ok s ts t h = of_test (nat_lt DEEPEST_TERM (term_nesting (Listed ts))) h
   where
     of_test : (b : Bool) → ◌≡◌ {A = Result Term RunFault} (cond b (Err (fault_at TooDeep s)) (Ok (Listed ts))) (Ok t)
         → t ≡ Listed ts

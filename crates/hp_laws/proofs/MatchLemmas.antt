@@ -11,9 +11,9 @@ use Rattle.hp_syntax.specs.declared.pattern.Tail.{Tail}
 use Rattle.hp_syntax.specs.Syntax.{Pattern, Patterns, Variable, Listing, Call, NoPattern, Before, Atom}
 use Rattle.hp_syntax.specs.Syntax as syntax
 use Rattle.hp_syntax.specs.Terms.{Term, Terms, Symbol, Number, Listed, NoTerm, More, same_term}
-use Rattle.hp_syntax.specs.Values.{Bindings, bound, flat_option}
+use Rattle.hp_syntax.specs.Values.{Bindings, bound, flat_option, Extends}
 use Rattle.hp_syntax.specs.Matching.{met, meet, match_tail, match_pattern, match_parts, match_atom}
-use Rattle.hp_laws.specs.Readings.{parts_if_list, tail_read, reading, readings, atom_reading, Extends}
+use Rattle.hp_laws.specs.Readings.{parts_if_list, tail_read, reading, readings, atom_reading}
 use Rattle.hp_syntax.proofs.TermEquality.{same_term-Decides, same_sound}
 use Rattle.hp_laws.proofs.ResultLemmas.{and_then_some, and_then_from, map_some}
 use Rattle.hp_laws.proofs.BindingLemmas.{slice_get_some, bound_within, bound-set_same, extends_through, extends_equal, extends_set, set_extends}

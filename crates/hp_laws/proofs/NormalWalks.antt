@@ -7,7 +7,7 @@ use Rattle.std.proofs.lemmas.List.Elements.{All-weaker}
 use Rattle.hp_syntax.specs.Syntax.{Rule, Pair}
 use Rattle.hp_syntax.specs.Networks.{Network, Empty, Task, Place, is_empty, normal, part_at, with_part, finish, expand}
 use Rattle.hp_syntax.specs.GroundPatterns.{network_said}
-use Rattle.hp_syntax.specs.Walk.{Node, DidChild, children, numbered, root, visits, walk}
+use Rattle.hp_syntax.specs.Walk.{Node, DidChild, children, numbered_children, root, visits, walk}
 use Rattle.hp_laws.specs.Derivations.{Choosing, Leads, ByStep, BySubtasks}
 use Rattle.hp_laws.specs.TreeLaws.{IsNormal}
 use Rattle.hp_laws.proofs.NetworkLemmas.{normal_in_form, form_from_normal, normal_from_form, normal-normal, part_at-with_part, with_part_in_form}
@@ -61,7 +61,7 @@ module _ (rules : List Rule) (nest : ℕ) where
       (expand_normal n.network f.place (Task f.task f.next.immediate) f.subtasks h.form f.next.there))
 
   -- a normal node has normal children
-  child_normal : (n m : Node) (i : ℕ) → Contains (numbered 0 (children rules nest n)) (i, DidChild m)
+  child_normal : (n m : Node) (i : ℕ) → Contains (numbered_children 0 (children rules nest n)) (i, DidChild m)
       → IsNormalAt n → IsNormalAt m
   child_normal n m i c =
       let l = did_leads rules nest n m (contained_child 0 i (DidChild m) (children rules nest n) c) in

@@ -9,7 +9,7 @@ use Rattle.std.proofs.lemmas.List.Kept.{AllPairs-cons}
 use Rattle.hp_syntax.specs.Syntax.{Rule}
 use Rattle.hp_syntax.specs.Networks.{is_empty}
 use Rattle.hp_laws.specs.TreeLaws.{IsReached, IsBefore, PlanOf, ComesBefore}
-use Rattle.hp_syntax.specs.Walk.{Node, Child, DidChild, CutChild, FaultChild, children, Did, Plan, CutHere, FaultHere, Visit, visit, number_after, numbered, child_visits, visits_within, visits}
+use Rattle.hp_syntax.specs.Walk.{Node, Child, DidChild, CutChild, FaultChild, children, Did, Plan, CutHere, FaultHere, Visit, visit, number_after, numbered_children, child_visits, visits_within, visits}
 use Rattle.hp_laws.proofs.JoinLemmas.{all_from, all_one, all_join, one_pair, pairs_weaker, pairs_join}
 use Rattle.hp_laws.proofs.VisitLemmas.{all_visits_within}
 
@@ -30,11 +30,11 @@ IsDid CutChild = ⊥
 IsDid (FaultChild f) = ⊥
 
 -- the numbers of children begin at the first number
-numbers_from : (i : ℕ) (cs : List Child) → All (λ x. i ≤ x.0) (numbered i cs)
+numbers_from : (i : ℕ) (cs : List Child) → All (λ x. i ≤ x.0) (numbered_children i cs)
 numbers_from i [] = All-nil (λ x. i ≤ x.0)
 numbers_from i (c ∷ cs) =
-    All-cons (λ x. i ≤ x.0) (i, c) (numbered (number_after i c) cs) (omega arith)
-    (All-weaker (λ x. number_after i c ≤ x.0) (λ x. i ≤ x.0) (λ x l. from c x.0 l) (numbered (number_after i c) cs)
+    All-cons (λ x. i ≤ x.0) (i, c) (numbered_children (number_after i c) cs) (omega arith)
+    (All-weaker (λ x. number_after i c ≤ x.0) (λ x. i ≤ x.0) (λ x l. from c x.0 l) (numbered_children (number_after i c) cs)
     (numbers_from (number_after i c) cs))
   where
     from : (c : Child) (j : ℕ) → number_after i c ≤ j → i ≤ j
@@ -43,12 +43,12 @@ numbers_from i (c ∷ cs) =
     from (FaultChild f) j l = l
 
 -- a number behind that of a node is greater
-numbers_rise : (i : ℕ) (cs : List Child) → AllPairs (λ x y. IsDid x.1 → x.0 < y.0) (numbered i cs)
+numbers_rise : (i : ℕ) (cs : List Child) → AllPairs (λ x y. IsDid x.1 → x.0 < y.0) (numbered_children i cs)
 numbers_rise i [] = λ j k d l m. absurd (omega arith)
 numbers_rise i (c ∷ cs) =
-    AllPairs-cons (λ x y. IsDid x.1 → x.0 < y.0) (i, c) (numbered (number_after i c) cs)
+    AllPairs-cons (λ x y. IsDid x.1 → x.0 < y.0) (i, c) (numbered_children (number_after i c) cs)
     (All-weaker (λ y. number_after i c ≤ y.0) (λ y. IsDid c → i < y.0) (λ y l. from c y.0 l)
-    (numbered (number_after i c) cs) (numbers_from (number_after i c) cs)) (numbers_rise (number_after i c) cs)
+    (numbered_children (number_after i c) cs) (numbers_from (number_after i c) cs)) (numbers_rise (number_after i c) cs)
   where
     from : (c : Child) (j : ℕ) → number_after i c ≤ j → IsDid c → i < j
     from (DidChild m) j l h = l
@@ -107,16 +107,16 @@ module _ (rules : List Rule) (nest : ℕ) where
       (λ e. plan_behind k n p) (λ e f g. absurd g))
   behind (suc d) k n p =
       cond_both (is_empty n.network) (visit p n Plan ∷ [])
-      (flat_map (child_visits (visits_within rules nest d) n p) (numbered 0 (children rules nest n)))
+      (flat_map (child_visits (visits_within rules nest d) n p) (numbered_children 0 (children rules nest n)))
       (All (InOrder (visit p k Did)))
       (λ e. all_one (InOrder (visit p k Did)) (visit p n Plan) (plan_behind k n p))
       (λ e. all_join (child_visits (visits_within rules nest d) n p) (InOrder (visit p k Did))
-      (numbered 0 (children rules nest n))
+      (numbered_children 0 (children rules nest n))
       (all_from (λ c. All (InOrder (visit p k Did)) (child_visits (visits_within rules nest d) n p c))
       (λ c. All-weaker (OfNumber p c) (InOrder (visit p k Did))
       (λ v a f g. let b = (a g).1 in inl (rw b.1 (before_below p c.0 b.0)))
       (child_visits (visits_within rules nest d) n p c) (of_number d n p c.0 c.1))
-      (numbered 0 (children rules nest n))))
+      (numbered_children 0 (children rules nest n))))
 
   -- the visits of a child come in order, where those below it do
   order_of_child : (d : ℕ) (n : Node) (p : List ℕ)
@@ -134,11 +134,11 @@ module _ (rules : List Rule) (nest : ℕ) where
   order_within zero n p = one_pair InOrder (visit p n (cond (is_empty n.network) Plan CutHere))
   order_within (suc d) n p =
       cond_both (is_empty n.network) (visit p n Plan ∷ [])
-      (flat_map (child_visits (visits_within rules nest d) n p) (numbered 0 (children rules nest n)))
+      (flat_map (child_visits (visits_within rules nest d) n p) (numbered_children 0 (children rules nest n)))
       (AllPairs InOrder)
       (λ e. one_pair InOrder (visit p n Plan))
       (λ e. let of = child_visits (visits_within rules nest d) n p in
-      let cs = numbered 0 (children rules nest n) in
+      let cs = numbered_children 0 (children rules nest n) in
       pairs_join of InOrder cs
       (all_from (λ c. AllPairs InOrder (of c)) (λ c. order_of_child d n p (λ m q. order_within d m q) c.0 c.1) cs)
       (pairs_weaker (λ x y. IsDid x.1 → x.0 < y.0) (λ x y. All (λ v. All (InOrder v) (of y)) (of x))

@@ -8,29 +8,29 @@ use Rattle.std.proofs.lemmas.List.{append-nil}
 use Rattle.std.proofs.lemmas.List.Elements.{All-weaker}
 use Rattle.hp_syntax.specs.Syntax.{Rule}
 use Rattle.hp_syntax.specs.Networks.{is_empty}
-use Rattle.hp_syntax.specs.Walk.{Node, Child, DidChild, CutChild, FaultChild, children, Visit, numbered, visits, did_at, node_at}
+use Rattle.hp_syntax.specs.Walk.{Node, Child, DidChild, CutChild, FaultChild, children, Visit, numbered_children, visits, did_at, node_at}
 use Rattle.hp_laws.proofs.JoinLemmas.{contains_cases, contains_none}
 use Rattle.hp_laws.proofs.VisitLemmas.{all_visits_of_tree}
 
 -- a numbered Did stands at its number among the Dids, counted from the first number
-pub did_of_numbered : (j i : ℕ) (m : Node) (cs : List Child) → Contains (numbered j cs) (i, DidChild m)
+pub did_of_numbered : (j i : ℕ) (m : Node) (cs : List Child) → Contains (numbered_children j cs) (i, DidChild m)
     → (k : ℕ) × (i ≡ j + k) × (did_at cs k ≡ Some m)
 did_of_numbered j i m [] h = absurd (contains_none (i, DidChild m) h)
 did_of_numbered j i m (DidChild x ∷ cs) h =
     ⊎_elim (λ e. let f : DidChild x ≡ DidChild m = ap (λ y. y.1) e in
     let g : j ≡ i = ap (λ y. y.0) e in (0, omega arith, cc))
     (λ h. let r = did_of_numbered (suc j) i m cs h in let e = r.1 in (suc r.0, omega arith, r.2))
-    (contains_cases (j, DidChild x) (i, DidChild m) (numbered (suc j) cs) h)
+    (contains_cases (j, DidChild x) (i, DidChild m) (numbered_children (suc j) cs) h)
 did_of_numbered j i m (CutChild ∷ cs) h =
     ⊎_elim (λ e. let f : CutChild ≡ DidChild m = ap (λ y. y.1) e in absurd cc)
-    (λ h. did_of_numbered j i m cs h) (contains_cases (j, CutChild) (i, DidChild m) (numbered j cs) h)
+    (λ h. did_of_numbered j i m cs h) (contains_cases (j, CutChild) (i, DidChild m) (numbered_children j cs) h)
 did_of_numbered j i m (FaultChild f ∷ cs) h =
     ⊎_elim (λ e. let g : FaultChild f ≡ DidChild m = ap (λ y. y.1) e in absurd cc)
-    (λ h. did_of_numbered j i m cs h) (contains_cases (j, FaultChild f) (i, DidChild m) (numbered j cs) h)
+    (λ h. did_of_numbered j i m cs h) (contains_cases (j, FaultChild f) (i, DidChild m) (numbered_children j cs) h)
 
 module _ (rules : List Rule) (nest : ℕ) where
   -- the child with a number is the Did that the number names
-  pub did_at_number : (n m : Node) (i : ℕ) → Contains (numbered 0 (children rules nest n)) (i, DidChild m)
+  pub did_at_number : (n m : Node) (i : ℕ) → Contains (numbered_children 0 (children rules nest n)) (i, DidChild m)
       → did_at (children rules nest n) i ≡ Some m
   did_at_number n m i h =
       let r = did_of_numbered 0 i m (children rules nest n) h in

@@ -7,9 +7,9 @@ use Rattle.hp_syntax.specs.Syntax.{Pattern, Patterns, Variable, Listing, Call, N
 use Rattle.hp_syntax.specs.Syntax as syntax
 use Rattle.hp_syntax.specs.Terms.{Term, Terms, Symbol, Number, More}
 use Rattle.hp_syntax.specs.Calls.{call}
-use Rattle.hp_syntax.specs.Values.{Bindings, bound, on_ok, value_of_variable, parts_of, list_of, value, values, atom_value}
+use Rattle.hp_syntax.specs.Values.{Bindings, bound, on_ok, value_of_variable, parts_of, list_of, value, values, atom_value, Extends}
 use Rattle.hp_laws.proofs.ResultLemmas.{on_ok_ok, on_ok_from}
-use Rattle.hp_laws.specs.Readings.{Extends, Occurs, OccursAmong, Agree}
+use Rattle.hp_laws.specs.Readings.{Occurs, OccursAmong, Agree}
 
 -- relations of two results
 abbrev pub Relation : Type 1

@@ -6,7 +6,7 @@ use Rattle.std.proofs.lemmas.Bool.{cond_both}
 use Rattle.std.proofs.lemmas.List.Elements.{All-cons, All-weaker, All-head, All-tail}
 use Rattle.hp_syntax.specs.Syntax.{Rule}
 use Rattle.hp_syntax.specs.Networks.{is_empty}
-use Rattle.hp_syntax.specs.Walk.{Node, Child, DidChild, CutChild, FaultChild, children, Sight, Did, Plan, CutHere, FaultHere, Visit, visit, numbered, child_visits, visits_within, visits, heard_visits}
+use Rattle.hp_syntax.specs.Walk.{Node, Child, DidChild, CutChild, FaultChild, children, Sight, Did, Plan, CutHere, FaultHere, Visit, visit, numbered_children, child_visits, visits_within, visits, heard_visits}
 use Rattle.hp_laws.proofs.JoinLemmas.{all_one, all_join_contains}
 use Rattle.hp_laws.proofs.DepthLemmas.{child_depth}
 
@@ -28,7 +28,7 @@ heard_all P (v ∷ vs) a =
 abbrev pub Passes : List Rule → ℕ → (ℕ → Node → List ℕ → Visit → Type 0) → Type 0
 Passes rules nest P =
     (d : ℕ) (n m : Node) (p : List ℕ) (i : ℕ) (v : Visit)
-    → Contains (numbered 0 (children rules nest n)) (i, DidChild m) → is_empty n.network ≡ false
+    → Contains (numbered_children 0 (children rules nest n)) (i, DidChild m) → is_empty n.network ≡ false
     → P d m (p ++ i ∷ []) v → P (suc d) n p v
 
 module _ (rules : List Rule) (nest : ℕ) (P : ℕ → Node → List ℕ → Visit → Type 0)
@@ -36,7 +36,7 @@ module _ (rules : List Rule) (nest : ℕ) (P : ℕ → Node → List ℕ → Vis
   -- it holds of the visits of a child of a node, where it holds below the child
   of_child : (d : ℕ) (n : Node) (p : List ℕ) (i : ℕ) (c : Child)
       → ((m : Node) (q : List ℕ) → All (P d m q) (visits_within rules nest d m q)) → is_empty n.network ≡ false
-      → Contains (numbered 0 (children rules nest n)) (i, c)
+      → Contains (numbered_children 0 (children rules nest n)) (i, c)
       → All (P (suc d) n p) (child_visits (visits_within rules nest d) n p (i, c))
   of_child d n p i (DidChild m) deep e c =
       All-cons (P (suc d) n p) (visit (p ++ i ∷ []) m Did) (visits_within rules nest d m (p ++ i ∷ []))
@@ -55,17 +55,17 @@ module _ (rules : List Rule) (nest : ℕ) (P : ℕ → Node → List ℕ → Vis
       (here zero n p (cond (is_empty n.network) Plan CutHere))
   all_visits_by_depth (suc d) n p =
       cond_both (is_empty n.network) (visit p n Plan ∷ [])
-      (flat_map (child_visits (visits_within rules nest d) n p) (numbered 0 (children rules nest n)))
+      (flat_map (child_visits (visits_within rules nest d) n p) (numbered_children 0 (children rules nest n)))
       (All (P (suc d) n p))
       (λ e. all_one (P (suc d) n p) (visit p n Plan) (here (suc d) n p Plan))
       (λ e. all_join_contains (child_visits (visits_within rules nest d) n p) (P (suc d) n p)
-      (numbered 0 (children rules nest n))
+      (numbered_children 0 (children rules nest n))
       (λ c h. of_child d n p c.0 c.1 (λ m q. all_visits_by_depth d m q) e h))
 
 module _ (rules : List Rule) (nest : ℕ) (P : Node → List ℕ → Visit → Type 0)
     (here : (n : Node) (p : List ℕ) (x : Sight) → P n p (visit p n x))
     (step : (n m : Node) (p : List ℕ) (i : ℕ) (v : Visit)
-    → Contains (numbered 0 (children rules nest n)) (i, DidChild m) → is_empty n.network ≡ false
+    → Contains (numbered_children 0 (children rules nest n)) (i, DidChild m) → is_empty n.network ≡ false
     → P m (p ++ i ∷ []) v → P n p v) where
   -- what holds at each node and passes to the node above holds of all visits
   pub all_visits_within : (d : ℕ) (n : Node) (p : List ℕ) → All (P n p) (visits_within rules nest d n p)
@@ -80,7 +80,7 @@ module _ (rules : List Rule) (nest : ℕ) (P : Node → List ℕ → Visit → T
 module _ (rules : List Rule) (nest : ℕ) (P : Node → List ℕ → Visit → Type 0)
     (here : (n : Node) (p : List ℕ) (x : Sight) → P n p (visit p n x))
     (step : (d : ℕ) (n m : Node) (p : List ℕ) (i : ℕ) (v : Visit)
-    → Contains (numbered 0 (children rules nest n)) (i, DidChild m) → is_empty n.network ≡ false
+    → Contains (numbered_children 0 (children rules nest n)) (i, DidChild m) → is_empty n.network ≡ false
     → n.depth ≡ suc d → m.depth ≡ d → P m (p ++ i ∷ []) v → P n p v) where
   -- where the depth is that of the node, a node with children has a decomposition left, and its child one less
   pub all_visits_of_depth : (d : ℕ) (n : Node) (p : List ℕ) → n.depth ≡ d

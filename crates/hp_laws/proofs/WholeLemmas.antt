@@ -7,7 +7,7 @@ use Rattle.std.proofs.lemmas.List.Elements.{All-map, All-weaker, All-head, All-t
 use Rattle.hp_syntax.specs.Syntax.{Rule, Pair}
 use Rattle.hp_syntax.specs.Networks.{is_empty}
 use Rattle.hp_laws.specs.TreeLaws.{IsFaultless, IsWhole, without_depth}
-use Rattle.hp_syntax.specs.Walk.{Node, Child, DidChild, CutChild, FaultChild, children, Sight, Did, Plan, CutHere, FaultHere, Visit, visit, numbered, child_visits, visits_within, visits, heard_visits, root, walk}
+use Rattle.hp_syntax.specs.Walk.{Node, Child, DidChild, CutChild, FaultChild, children, Sight, Did, Plan, CutHere, FaultHere, Visit, visit, numbered_children, child_visits, visits_within, visits, heard_visits, root, walk}
 use Rattle.hp_laws.proofs.JoinLemmas.{all_joined, all_unmapped, map_join, join_map, join_same}
 use Rattle.hp_laws.proofs.DepthLemmas.{at_depth, child_at_depth, children_at_depth}
 use Rattle.hp_laws.proofs.HearingLemmas.{all_heard}
@@ -18,7 +18,7 @@ numbered_at_depth k c = (c.0, child_at_depth k c.1)
 
 -- children of another depth have the same numbers
 same_numbers : (k i : ℕ) (cs : List Child)
-    → numbered i (map (child_at_depth k) cs) ≡ map (numbered_at_depth k) (numbered i cs)
+    → numbered_children i (map (child_at_depth k) cs) ≡ map (numbered_at_depth k) (numbered_children i cs)
 same_numbers k i [] = refl
 same_numbers k i (DidChild m ∷ cs) = ap (λ xs. (i, DidChild (at_depth k m)) ∷ xs) (same_numbers k (suc i) cs)
 same_numbers k i (CutChild ∷ cs) = ap (λ xs. (i, CutChild) ∷ xs) (same_numbers k i cs)
@@ -36,7 +36,7 @@ module _ (rules : List Rule) (nest : ℕ) where
   empty_is_plan zero n p e = ap (λ s. visit p n s ∷ []) (cond-true (is_empty n.network) Plan CutHere e)
   empty_is_plan (suc d) n p e =
       cond-true (is_empty n.network) (visit p n Plan ∷ [])
-      (flat_map (child_visits (visits_within rules nest d) n p) (numbered 0 (children rules nest n))) e
+      (flat_map (child_visits (visits_within rules nest d) n p) (numbered_children 0 (children rules nest n))) e
 
   -- the visits of a child of a node that has another depth
   abbrev of_child : ℕ → ℕ → Node → List ℕ → ℕ × Child → List Visit
@@ -45,18 +45,18 @@ module _ (rules : List Rule) (nest : ℕ) where
   -- a node with tasks has the visits of its children, which are those of another depth
   visits_of_children : (d k : ℕ) (n : Node) (p : List ℕ) → is_empty n.network ≡ false
       → visits_within rules nest (suc d) (at_depth k n) p
-      ≡ flat_map (of_child d k n p) (numbered 0 (children rules nest n))
+      ≡ flat_map (of_child d k n p) (numbered_children 0 (children rules nest n))
   unfolding visits_within
   visits_of_children d k n p e =
       cond-false (is_empty n.network) (visit p (at_depth k n) Plan ∷ [])
       (flat_map (child_visits (visits_within rules nest d) (at_depth k n) p)
-      (numbered 0 (children rules nest (at_depth k n)))) e
-      ∙ (ap (λ cs. flat_map (child_visits (visits_within rules nest d) (at_depth k n) p) (numbered 0 cs))
+      (numbered_children 0 (children rules nest (at_depth k n)))) e
+      ∙ (ap (λ cs. flat_map (child_visits (visits_within rules nest d) (at_depth k n) p) (numbered_children 0 cs))
       (children_at_depth k n rules nest)
       ∙ (ap (flat_map (child_visits (visits_within rules nest d) (at_depth k n) p))
       (same_numbers (k - 1) 0 (children rules nest n))
       ∙ join_map (child_visits (visits_within rules nest d) (at_depth k n) p) (numbered_at_depth (k - 1))
-      (numbered 0 (children rules nest n))))
+      (numbered_children 0 (children rules nest n))))
 
   -- where no decomposition is left and there is no cut, there are no tasks
   no_tasks : (n : Node) (p : List ℕ) → AreWhole (visits_within rules nest zero n p) → is_empty n.network ≡ true
@@ -101,7 +101,7 @@ module _ (rules : List Rule) (nest : ℕ) where
       ∙ ap (map without_depth) (sym (empty_is_plan (suc e) (at_depth k n) p h)))
       (λ h. let here = of_child d j n p in
       let there = of_child e k n p in
-      let cs = numbered 0 (children rules nest n) in
+      let cs = numbered_children 0 (children rules nest n) in
       let w = subst AreWhole (visits_of_children d j n p h) a in
       ap (map without_depth) (visits_of_children d j n p h)
       ∙ (map_join here without_depth cs

@@ -10,7 +10,7 @@ use Rattle.hp_syntax.specs.Networks.{Network, Task, Place, tasks_value, normal, 
 use Rattle.hp_syntax.specs.Changes.{Changes, Went, added, apply, effects}
 use Rattle.hp_syntax.specs.Applying.{Now}
 use Rattle.hp_syntax.specs.GroundPatterns.{atoms_said, network_said}
-use Rattle.hp_syntax.specs.Walk.{Node, Choice, chosen}
+use Rattle.hp_syntax.specs.Walk.{Node, root, chosen_branch}
 
 -- what holds and is protected, what is left to do, and where the newest subtasks stand
 pub record Situation : Type 0 where
@@ -28,7 +28,7 @@ situation_at n = record { state = n.state; guards = n.guards; network = n.networ
 
 -- the situation in which a problem's pair begins
 abbrev pub first_situation : Pair → Situation
-first_situation pair = situation (added [] (atoms_said pair.state)) [] (normal (network_said pair.tasks), None)
+first_situation pair = situation_at (root pair 0)
 
 -- a choice by numbers: which candidate, which rule of the domain, and which event of its precondition
 pub record Choosing : Type 0 where
@@ -118,7 +118,7 @@ IsEarlier c d =
 -- ---- steps alone
 
 -- an operator leads from what holds and is protected to what does after
-pub record Step (rules : List Rule) (nest : ℕ) (before : State × List Term) (task : Term) (cost : ℤ)
+pub record PlanStep (rules : List Rule) (nest : ℕ) (before : State × List Term) (task : Term) (cost : ℤ)
     (after : State × List Term) : Type 0 where
   pub operator : Operator
   pub matched : Bindings
@@ -134,5 +134,5 @@ pub record Step (rules : List Rule) (nest : ℕ) (before : State × List Term) (
 abbrev pub Executes : List Rule → ℕ → State × List Term → List Term → ℤ → State × List Term → Type 0
 Executes rules nest before [] cost after = (before ≡ after) × (cost ≡ pos 0)
 Executes rules nest before (t ∷ ts) cost after =
-    (first : ℤ) × (rest : ℤ) × (between : State × List Term) × Step rules nest before t first between
+    (first : ℤ) × (rest : ℤ) × (between : State × List Term) × PlanStep rules nest before t first between
     × Executes rules nest between ts rest after × (cost ≡ first +ℤ rest)

@@ -34,11 +34,6 @@ unfoldable mutual
 abbrev pub atom_reading : Atom → Bindings → Option Term
 atom_reading a e = option_map (λ ts. Listed (More (Symbol a.name) ts)) (readings a.args a.tail e)
 
--- bindings of the same variables, of which the second keep what the first have
-pub record Extends (e b : Bindings) : Type 0 where
-  pub as_many : length b ≡ length e
-  pub keeps : (v : ℕ) (t : Term) → bound e v ≡ Some t → bound b v ≡ Some t
-
 -- a variable stands in a pattern, or as its tail
 abbrev pub IsTail : ℕ → Option Tail → Type 0
 IsTail v None = ⊥

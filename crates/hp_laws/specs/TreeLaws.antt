@@ -63,5 +63,5 @@ abbrev pub without_depth : Visit → Visit
 without_depth v = record v { node = record v.node { depth = 0 } }
 
 -- a list begins another
-abbrev pub Begins : {A : Type 0} → List A → List A → Type 0
-Begins {A} xs ys = (rest : List A) × (xs ++ rest ≡ ys)
+abbrev pub IsPrefix : {A : Type 0} → List A → List A → Type 0
+IsPrefix {A} xs ys = (rest : List A) × (xs ++ rest ≡ ys)

@@ -7,10 +7,10 @@ ghost use Rattle.hp_syntax.specs.declared.fault.RunFault.{RunFault};
 ghost use Rattle.hp_syntax.specs.Goals.{Goal, fill_goal, ground_parts};
 ghost use Rattle.hp_syntax.specs.Events.{parts_bound, tail_is_bound};
 ghost use Rattle.hp_syntax.specs.Matching.{match_pattern, match_atom};
-ghost use Rattle.hp_laws.specs.Readings.{reading, atom_reading, Extends, Occurs, Agree};
+ghost use Rattle.hp_laws.specs.Readings.{reading, atom_reading, Occurs, Agree};
 ghost use Rattle.hp_syntax.specs.Syntax.{Pattern, Atom};
 ghost use Rattle.hp_syntax.specs.Terms.{Term, Terms, Symbol, Listed, More};
-ghost use Rattle.hp_syntax.specs.Values.{Bindings, value, atom_value};
+ghost use Rattle.hp_syntax.specs.Values.{Bindings, value, atom_value, Extends};
 
 /// Matching finds bindings that keep those before and under which the pattern reads as the term; all others that do
 /// so keep those found; and it finds some wherever there are any.

@@ -7,7 +7,7 @@ ghost use Rattle.std.specs.Prelude.{◌≡◌, ◌≢◌, ◌≤◌, ◌+◌, �
 ghost use Rattle.hp_syntax.specs.Networks.{Network, Empty, Place, normal, part_at};
 ghost use Rattle.hp_syntax.specs.Report.{plan_texts};
 ghost use Rattle.hp_syntax.specs.Syntax.{Rule, Pair};
-ghost use Rattle.hp_laws.specs.TreeLaws.{HasNext, IsNormal, IsFaultless, IsWhole, IsReached, ComesBefore, without_depth, Begins};
+ghost use Rattle.hp_laws.specs.TreeLaws.{HasNext, IsNormal, IsFaultless, IsWhole, IsReached, ComesBefore, without_depth, IsPrefix};
 ghost use Rattle.hp_syntax.specs.Walk.{Node, Visit, Plan, root, visits, walk, node_at};
 
 /// What may be done next is always a task, and in a network that is normal and not empty there is one. The same
@@ -59,5 +59,5 @@ pub fn walks_without_faults_are_the_tree()
 /// The texts of the first k plans begin those of the first k + 1, whatever is told of a plan.
 pub fn texts_grow_by_plans()
     ensures { (walk : List Visit) (tell : ℕ → Visit → List ℕ) (k : ℕ)
-        → Begins (plan_texts tell k 0 walk) (plan_texts tell (k + 1) 0 walk) }
+        → IsPrefix (plan_texts tell k 0 walk) (plan_texts tell (k + 1) 0 walk) }
 {}

@@ -78,8 +78,8 @@ refused_read inputs.Domain = codes "refused read domain\n"
 refused_read inputs.Problem = codes "refused read problem\n"
 
 -- a text that is refused, and why
-abbrev pub refused : Input → List ℕ → List ℕ
-refused which why = codes "refused " ++ input_word which ++ codes " " ++ why ++ codes "\n"
+abbrev pub refused_line : Input → List ℕ → List ℕ
+refused_line which why = codes "refused " ++ input_word which ++ codes " " ++ why ++ codes "\n"
 
 -- where the task of a note stands
 abbrev pub note_place : Bool → Span → List ℕ

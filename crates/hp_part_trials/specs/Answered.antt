@@ -1,4 +1,5 @@
 -- The events of a list of answers, each Sat with one binding more than the start's, and the slots that they leave.
+use Rattle.hp_syntax.specs.Events.{EventExtends}
 use Rattle.std.specs.Prelude.{◌≡◌, ℕ, zero, suc, ◌<◌, ◌≤◌, List, [], ◌∷◌, length, map, take, Option, Some, None, slice_get, slice_set}
 use Rattle.std.specs.List.{All}
 use Rattle.std.proofs.Common.{refl, ap, ap₂, sym}
@@ -11,44 +12,44 @@ use Rattle.hp_eval.specs.declared.event.Event.{Event}
 use Rattle.hp_eval.specs.declared.event.Event.TheVariants as events
 use Rattle.hp_eval.specs.Slotted.{Slotted, AreBelow, with_bound, undone, named, bindings_of}
 use Rattle.hp_eval.specs.SlotLaws.{bindings_agree}
-use Rattle.hp_eval.specs.Events.{Happening, Keeps}
+use Rattle.hp_eval.specs.Events.{Happening}
 use Rattle.hp_eval.proofs.SlotLemmas.{below_bound}
-use Rattle.hp_part_trials.specs.declared.answers.Answer.{Answer}
-use Rattle.hp_part_trials.specs.declared.answers.Answer.TheVariants.{Sat, Cut, Fault}
+use Rattle.hp_part_trials.specs.declared.answers.Reply.{Reply}
+use Rattle.hp_part_trials.specs.declared.answers.Reply.TheVariants.{Sat, Cut, Fault}
 
 -- the events of answers: a Sat binds the variable to its cell above the start's bindings
-abbrev pub answered : List Term → Slotted → ℕ → List Answer → List Happening
+abbrev pub answered : List Term → Slotted → ℕ → List Reply → List Happening
 answered c s v [] = []
 answered c s v (Sat cell ∷ xs) = plain.Sat (bindings_of c (with_bound v cell s)) ∷ answered c s v xs
 answered c s v (Cut ∷ xs) = plain.Cut ∷ answered c s v xs
 answered c s v (Fault f ∷ xs) = plain.Fault f ∷ []
 
-abbrev pub first_of : List Answer → Option Answer
+abbrev pub first_of : List Reply → Option Reply
 first_of [] = None
 first_of (x ∷ xs) = Some x
 
-abbrev pub event_told : Option Answer → Event
+abbrev pub event_told : Option Reply → Event
 event_told None = events.End
 event_told (Some (Sat cell)) = events.Sat
 event_told (Some Cut) = events.Cut
 event_told (Some (Fault f)) = events.Fault f
 
 -- with a Sat the variable is bound to its cell
-abbrev pub told : Option Answer → ℕ → Slotted → Slotted
-told None v s = s
-told (Some (Sat cell)) v s = with_bound v cell s
-told (Some Cut) v s = s
-told (Some (Fault f)) v s = s
+abbrev pub after_answer : Option Reply → ℕ → Slotted → Slotted
+after_answer None v s = s
+after_answer (Some (Sat cell)) v s = with_bound v cell s
+after_answer (Some Cut) v s = s
+after_answer (Some (Fault f)) v s = s
 
 -- each Sat binds a cell below a count
-abbrev pub AnswersBelow : ℕ → List Answer → Type 0
+abbrev pub AnswersBelow : ℕ → List Reply → Type 0
 AnswersBelow n [] = Unit {0}
 AnswersBelow n (Sat cell ∷ xs) = (cell < n) × AnswersBelow n xs
 AnswersBelow n (Cut ∷ xs) = AnswersBelow n xs
 AnswersBelow n (Fault f ∷ xs) = AnswersBelow n xs
 
 -- the slots hold the bindings of a mark, under which a variable isn't bound, and all cells are below a count
-pub record AreTold (v mark kept : ℕ) (xs : List Answer) (e : Slotted) : Type 0 where
+pub record AreTold (v mark kept : ℕ) (xs : List Reply) (e : Slotted) : Type 0 where
   pub above : mark ≤ length e.trail
   pub unbound : slice_get (undone mark e).values v ≡ Some None
   pub start : AreBelow kept (undone mark e)
@@ -66,19 +67,19 @@ value_kept c (o ∷ vs) (suc v) cell zero t h k = k
 value_kept c (o ∷ vs) (suc v) cell (suc w) t h k = value_kept c vs v cell w t h k
 
 -- each Sat keeps what the start's bindings bind
-pub answers_keep : (c : List Term) (s : Slotted) (v : ℕ) (xs : List Answer) → slice_get s.values v ≡ Some None
-    → All (Keeps (bindings_of c s)) (answered c s v xs)
-answers_keep c s v [] h = All-nil (Keeps (bindings_of c s))
+pub answers_keep : (c : List Term) (s : Slotted) (v : ℕ) (xs : List Reply) → slice_get s.values v ≡ Some None
+    → All (EventExtends (bindings_of c s)) (answered c s v xs)
+answers_keep c s v [] h = All-nil (EventExtends (bindings_of c s))
 answers_keep c s v (Sat cell ∷ xs) h =
-    All-cons (Keeps (bindings_of c s)) (plain.Sat (bindings_of c (with_bound v cell s))) (answered c s v xs)
+    All-cons (EventExtends (bindings_of c s)) (plain.Sat (bindings_of c (with_bound v cell s))) (answered c s v xs)
     (λ w t k. value_kept c s.values v cell w t h k) (answers_keep c s v xs h)
 answers_keep c s v (Cut ∷ xs) h =
-    All-cons (Keeps (bindings_of c s)) plain.Cut (answered c s v xs) tt (answers_keep c s v xs h)
+    All-cons (EventExtends (bindings_of c s)) plain.Cut (answered c s v xs) tt (answers_keep c s v xs h)
 answers_keep c s v (Fault f ∷ xs) h =
-    All-cons (Keeps (bindings_of c s)) (plain.Fault f) [] tt (All-nil (Keeps (bindings_of c s)))
+    All-cons (EventExtends (bindings_of c s)) (plain.Fault f) [] tt (All-nil (EventExtends (bindings_of c s)))
 
 -- answers are the same events over terms that agree below a count
-pub answers_agree : (n : ℕ) (c d : List Term) (s : Slotted) (v : ℕ) (xs : List Answer) → AreBelow n s
+pub answers_agree : (n : ℕ) (c d : List Term) (s : Slotted) (v : ℕ) (xs : List Reply) → AreBelow n s
     → AnswersBelow n xs → take n c ≡ take n d → answered c s v xs ≡ answered d s v xs
 answers_agree n c d s v [] below own h = refl
 answers_agree n c d s v (Sat cell ∷ xs) below own h =

@@ -3,7 +3,7 @@ ghost use Rattle.std.specs.Prelude.{◌≡◌, ℕ, List, length, drop, slice_ge
 ghost use Rattle.hp_syntax.specs.Terms.{Term};
 ghost use Rattle.hp_eval.specs.Events.{left_after};
 ghost use Rattle.hp_eval.specs.Slotted.{Slotted, no_bindings};
-ghost use Rattle.hp_part_trials.specs.Answered.{answered, first_of, event_told, told, AnswersBelow, AreTold};
+ghost use Rattle.hp_part_trials.specs.Answered.{answered, first_of, event_told, after_answer, AnswersBelow, AreTold};
 
 use hp_cells::{Cell, Cells};
 use hp_eval::{Event, Sats, Slots};
@@ -12,7 +12,7 @@ use std::alloc::AllocError;
 
 /// An event; a Sat with what it binds.
 #[derive(Clone, Copy)]
-pub enum Answer {
+pub enum Reply {
     Sat(Cell),
     Cut,
     Fault(RunFault),
@@ -20,7 +20,7 @@ pub enum Answer {
 
 /// Answers from a list. Each Sat binds the same variable above the bindings of the start.
 pub struct Answers {
-    answers: Vec<Answer>,
+    answers: Vec<Reply>,
     place: usize,
     mark: usize,
     var: u32,
@@ -43,47 +43,47 @@ impl Drop for Answers {
 }
 
 // The answers from a place on.
-fn left(answers: &[Answer], place: usize) -> &[Answer]
+fn left(answers: &[Reply], place: usize) -> &[Reply]
     ensures { result.now ≡ drop place answers.now }
 {
     answers.get(place..).unwrap_or(&[])
 }
 
 // The place behind the next answer; behind a fault there is no other.
-fn place_behind(answers: &[Answer], place: usize) -> usize
+fn place_behind(answers: &[Reply], place: usize) -> usize
     ensures rest { (c : List Term) (s : Slotted) (v : ℕ) → answered c s v (drop result answers.now)
         ≡ left_after (answered c s v (drop place answers.now)) }
     ensures below { (n : ℕ) → AnswersBelow n (drop place answers.now) → AnswersBelow n (drop result answers.now) }
 {
     match answers.get(place) {
-        Some(Answer::Sat(_)) => place + 1,
-        Some(Answer::Cut) => place + 1,
-        Some(Answer::Fault(_)) => answers.len(),
+        Some(Reply::Sat(_)) => place + 1,
+        Some(Reply::Cut) => place + 1,
+        Some(Reply::Fault(_)) => answers.len(),
         None => place,
     }
 }
 
 // Binds the variable with a Sat, and tells the event.
-fn tell_first(answer: &Answer, var: u32, slots: &mut Slots) -> Event
+fn tell_first(answer: &Reply, var: u32, slots: &mut Slots) -> Event
     requires { slice_get slots.old.values var ≡ Some None }
     ensures event { result ≡ event_told (Some answer.now) }
-    ensures slots { slots.new ≡ told (Some answer.now) var slots.old }
+    ensures slots { slots.new ≡ after_answer (Some answer.now) var slots.old }
 {
     match answer {
-        Answer::Sat(cell) => {
+        Reply::Sat(cell) => {
             slots.bind(var, *cell);
             Event::Sat
         }
-        Answer::Cut => Event::Cut,
-        Answer::Fault(fault) => Event::Fault(*fault),
+        Reply::Cut => Event::Cut,
+        Reply::Fault(fault) => Event::Fault(*fault),
     }
 }
 
 // Tells the first of the answers, or the end.
-fn tell(answers: &[Answer], var: u32, slots: &mut Slots) -> Event
+fn tell(answers: &[Reply], var: u32, slots: &mut Slots) -> Event
     requires { slice_get slots.old.values var ≡ Some None }
     ensures event { result ≡ event_told (first_of answers.now) }
-    ensures slots { slots.new ≡ told (first_of answers.now) var slots.old }
+    ensures slots { slots.new ≡ after_answer (first_of answers.now) var slots.old }
 {
     match answers {
         [] => Event::End,
@@ -141,7 +141,7 @@ impl Sats<u8> for Answers {
 }
 
 /// Answers above no bindings, of which each Sat binds the variable 1.
-pub fn answers_of(answers: Vec<Answer>, cells: &Cells) -> Answers
+pub fn answers_of(answers: Vec<Reply>, cells: &Cells) -> Answers
     requires { AnswersBelow (length cells.now) answers.items }
     ensures fits { AreTold result.var result.mark result.kept (drop result.place result.answers.items)
         (no_bindings 2) }

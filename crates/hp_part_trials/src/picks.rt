@@ -3,7 +3,7 @@ ghost use Rattle.std.specs.Prelude.{◌≡◌, ◌<◌, ◌≤◌, IfOk, OnOk, l
 ghost use Rattle.hp_eval.specs.Slotted.{no_bindings};
 ghost use Rattle.hp_part_trials.specs.Answered.{AnswersBelow};
 
-use crate::answers::{Answer, answers_of};
+use crate::answers::{Reply, answers_of};
 use crate::page::Page;
 use hp_cells::{Cell, Cells};
 use hp_eval::{Event, Sats, Slots};
@@ -107,7 +107,7 @@ const DOWNWARD: SortKey = SortKey {
 fn heard(
     cells: &mut Cells,
     slots: &mut Slots,
-    answers: Vec<Answer>,
+    answers: Vec<Reply>,
 ) -> Result<([Told; 5], bool), AllocError>
     requires answers { AnswersBelow (length cells.old) answers.items }
     requires slots { slots.old ≡ no_bindings 2 }
@@ -122,7 +122,7 @@ fn heard(
 fn heard_first(
     cells: &mut Cells,
     slots: &mut Slots,
-    answers: Vec<Answer>,
+    answers: Vec<Reply>,
 ) -> Result<[Told; 5], AllocError>
     requires answers { AnswersBelow (length cells.old) answers.items }
     requires slots { slots.old ≡ no_bindings 2 }
@@ -136,7 +136,7 @@ fn heard_in_order(
     alloc: Global,
     cells: &mut Cells,
     slots: &mut Slots,
-    answers: Vec<Answer>,
+    answers: Vec<Reply>,
 ) -> Result<[Told; 5], AllocError>
     requires answers { AnswersBelow (length cells.old) answers.items }
     requires slots { slots.old ≡ no_bindings 2 }
@@ -165,10 +165,10 @@ fn show_answers(page: &mut Page, alloc: Global, cells: &mut Cells) -> Result<(),
     let Numbers { nine, .. } = three_numbers(cells)?;
     let mut slots = Slots::new(alloc, 2)?;
     let answers = vec![in alloc;
-        Answer::Cut,
-        Answer::Sat(nine),
-        Answer::Fault(FAULT),
-        Answer::Cut,
+        Reply::Cut,
+        Reply::Sat(nine),
+        Reply::Fault(FAULT),
+        Reply::Cut,
     ]?;
     let (told, is_live) = heard(cells, &mut slots, answers)?;
     show_events(page, &told);
@@ -185,12 +185,7 @@ fn show_first(page: &mut Page, alloc: Global, cells: &mut Cells) -> Result<(), A
     page.title("The first satisfier is the last: of a Cut, 9, 1 and a Cut");
     let Numbers { nine, one, .. } = three_numbers(cells)?;
     let mut slots = Slots::new(alloc, 2)?;
-    let answers = vec![in alloc;
-        Answer::Cut,
-        Answer::Sat(nine),
-        Answer::Sat(one),
-        Answer::Cut,
-    ]?;
+    let answers = vec![in alloc; Reply::Cut, Reply::Sat(nine), Reply::Sat(one), Reply::Cut]?;
     let told = heard_first(cells, &mut slots, answers)?;
     show_events(page, &told);
     page.line("?1 is 9 at the second", &is_second(&told, nine));
@@ -202,10 +197,10 @@ fn show_sorted(page: &mut Page, alloc: Global, cells: &mut Cells) -> Result<(), 
     let Numbers { nine, one, five } = three_numbers(cells)?;
     let mut slots = Slots::new(alloc, 2)?;
     let answers = vec![in alloc;
-        Answer::Sat(one),
-        Answer::Cut,
-        Answer::Sat(nine),
-        Answer::Sat(five),
+        Reply::Sat(one),
+        Reply::Cut,
+        Reply::Sat(nine),
+        Reply::Sat(five),
     ]?;
     let told = heard_in_order(alloc, cells, &mut slots, answers)?;
     let wanted = [Some(nine), Some(five), Some(one), None, None];

@@ -1,4 +1,4 @@
--- Notes while cells grow and further events are heard.
+-- NotedSats while cells grow and further events are heard.
 use Rattle.std.proofs.Common.{◌≡◌, ℕ, ◌≤◌, Bool, true, false, cond, ℤ, List, [], ◌∷◌, ◌++◌, ◌||◌, map, length, Result, Ok, Err, refl, sym, ◌∙◌, ap, ap₂, subst, arith}
 use Rattle.std.specs.List.{All}
 use Rattle.std.proofs.lemmas.List.{append-nil, length-take-le}
@@ -7,7 +7,7 @@ use Rattle.hp_syntax.specs.Terms.{Term}
 use Rattle.hp_syntax.specs.Syntax.{Order}
 use Rattle.hp_syntax.specs.Values.{Bindings}
 use Rattle.hp_syntax.specs.Events.{Sat, Cut}
-use Rattle.hp_syntax.specs.Preconditions.{Keyed, Keys, NoKey, comes_before, sorted, sorted_events}
+use Rattle.hp_syntax.specs.Preconditions.{Keyed, Keys, NoKey, sorts_before, sorted, sorted_events}
 use Rattle.hp_eval.specs.declared.event.EvalStop.{EvalStop}
 use Rattle.hp_eval.specs.declared.event.EvalStop.TheVariants as stops
 use Rattle.hp_eval.specs.Slotted.{Slotted, slotted, AreBelow, Binds, undone}
@@ -15,7 +15,7 @@ use Rattle.hp_eval.specs.Growth.{Grows}
 use Rattle.hp_eval.proofs.SlotLemmas.{below_undone}
 use Rattle.hp_eval.proofs.GrowthLemmas.{bindings_stay, below_grows}
 use Rattle.hp_pick.specs.declared.noted.Noted.{Noted}
-use Rattle.hp_pick.specs.declared.noted.Notes.{Notes}
+use Rattle.hp_pick.specs.declared.noted.NotedSats.{NotedSats}
 use Rattle.hp_eval.specs.Events.{Happening}
 use Rattle.hp_pick.specs.Noted.{IsNoted, entry_of, noted_events, with_notes, HearsOn, Hears, HearsInOrder}
 
@@ -44,14 +44,14 @@ module _ (c d : List Term) (g : Grows c d) (start : Slotted) where
       (entries_stay ns (All-tail (IsNoted (length c) start) n ns h))
 
   -- notes give the same over cells that were added to
-  pub with_notes_grown : (notes : Notes) (k : Keyed) → All (IsNoted (length c) start) notes.sats.items
+  pub with_notes_grown : (notes : NotedSats) (k : Keyed) → All (IsNoted (length c) start) notes.sats.items
       → with_notes d notes k ≡ with_notes c notes k
   with_notes_grown notes (NoKey f) h = refl
   with_notes_grown notes (Keys xs cut) h =
       ap (λ es. Keys (es ++ xs) (notes.cut || cut)) (entries_stay notes.sats.items h)
 
 -- with no notes a list gives what it gives
-pub with_no_notes : (c : List Term) (notes : Notes) (k : Keyed) → notes.sats.items ≡ [] → notes.cut ≡ false
+pub with_no_notes : (c : List Term) (notes : NotedSats) (k : Keyed) → notes.sats.items ≡ [] → notes.cut ≡ false
     → with_notes c notes k ≡ k
 with_no_notes c notes (NoKey f) h q = refl
 with_no_notes c notes (Keys xs cut) h q = ap₂ (λ ns b. Keys (map (entry_of c) ns ++ xs) (b || cut)) h q
@@ -76,15 +76,15 @@ stops_in_order c order (stops.Fault f) k h = ap (sorted_events order) h
 stops_in_order c order stops.NoMemory k h = tt
 
 -- what was heard of a whole list is given in order, where its satisfiers were put in order
-pub heard_in_order : (c : List Term) (order : Order) (notes : Notes) (k : Keyed) (ns : List Noted)
+pub heard_in_order : (c : List Term) (order : Order) (notes : NotedSats) (k : Keyed) (ns : List Noted)
     → k ≡ with_notes c notes (Keys [] false)
-    → map (entry_of c) ns ≡ sorted (comes_before order) (map (entry_of c) notes.sats.items)
+    → map (entry_of c) ns ≡ sorted (sorts_before order) (map (entry_of c) notes.sats.items)
     → sorted_events order k ≡ noted_events c ns notes.cut
 heard_in_order c order notes k ns h q =
     let events : List (ℤ × Bindings) → Bool → List Happening =
     λ es cut. map (λ x. Sat x.1) es ++ cond cut (Cut ∷ []) [] in
     ap (sorted_events order) h
-    ∙ (ap₂ (λ es cut. events (sorted (comes_before order) es) cut) (append-nil (map (entry_of c) notes.sats.items))
+    ∙ (ap₂ (λ es cut. events (sorted (sorts_before order) es) cut) (append-nil (map (entry_of c) notes.sats.items))
     (no_more notes.cut)
     ∙ ap (λ es. events es notes.cut) (sym q))
   where

@@ -7,7 +7,7 @@ use Rattle.std.proofs.lemmas.List.Elements.{All-push}
 use Rattle.std.proofs.lemmas.Option.{slice_get-get_or}
 use Rattle.hp_eval.specs.Slotted.{Slotted, slotted, Binds, AreBelow, flat, without, undone}
 use Rattle.hp_pick.specs.declared.noted.Noted.{Noted}
-use Rattle.hp_pick.specs.Noted.{Extends, IsNoted}
+use Rattle.hp_pick.specs.Noted.{KeepsCells, IsNoted}
 
 -- a variable that stands for a cell when another is cleared stood for it before
 set_kept : (values : List (Option ℕ)) (w v cell : ℕ) → slice_get (slice_set values w None) v ≡ Some (Some cell)
@@ -30,15 +30,15 @@ length-without [] values = refl
 length-without (w ∷ vs) values = length-without vs (slice_set values w None) ∙ length-set values w None
 
 -- what stands in slots keeps what stood there at a mark
-extends_undone : (n : ℕ) (e : Slotted) → Extends e.values (undone n e)
+extends_undone : (n : ℕ) (e : Slotted) → KeepsCells e.values (undone n e)
 extends_undone n e = record {
   as_many = length-without (drop n e.trail) e.values;
   keeps = λ v cell h. without_kept (drop n e.trail) e.values v cell h;
 }
 
 -- what stands in slots keeps what stands below it
-pub extends_below : (start e : Slotted) → Binds start e → Extends e.values start
-extends_below start e h = subst (Extends e.values) h.undoes (extends_undone (length start.trail) e)
+pub extends_below : (start e : Slotted) → Binds start e → KeepsCells e.values start
+extends_below start e h = subst (KeepsCells e.values) h.undoes (extends_undone (length start.trail) e)
 
 -- one value more is copied
 pub copied_more : (values : List (Option ℕ)) (v : ℕ) → v < length values
@@ -52,7 +52,7 @@ pub noted_more : (count : ℕ) (start e : Slotted) (ns : List Noted) (n : Noted)
     → All (IsNoted count start) (ns ++ n ∷ [])
 noted_more count start e ns n above below same few h =
     All-push (IsNoted count start) ns n h record {
-      extends = subst (λ values. Extends values start) (sym same) (extends_below start e above);
+      extends = subst (λ values. KeepsCells values start) (sym same) (extends_below start e above);
       below = subst (λ values. AreBelow count (slotted values [])) (sym same) below;
       few = few;
     }

@@ -12,7 +12,7 @@ use Rattle.std.proofs.lemmas.Cmp.{int_cmp_total}
 use Rattle.std.proofs.lemmas.List.Sorted.{ranks_by, IsStrictWeakOrder-flip, answers_always}
 use Rattle.hp_syntax.specs.Syntax.{Order, Up, Down, Unknown}
 use Rattle.hp_syntax.specs.Terms.{Term}
-use Rattle.hp_syntax.specs.Preconditions.{comes_before, put_in, sorted}
+use Rattle.hp_syntax.specs.Preconditions.{sorts_before, put_in, sorted}
 use Rattle.hp_pick.specs.declared.noted.Noted.{Noted}
 use Rattle.hp_pick.specs.Noted.{entry_of}
 use Rattle.hp_pick.proofs.StableLemmas.{inserted, in_order, sorted_in_order}
@@ -32,7 +32,7 @@ module _ {X : Type 0} (key : X → ℤ) where
   rises = subst IsStrictWeakOrder (λ i x y. is_lt-int_cmp (key x) (key y) i) (ranks_by int_cmp_total key)
 
   -- each order of keys is an order
-  pub orders : (k : Order) → IsStrictWeakOrder (λ x y. comes_before k (key x) (key y))
+  pub orders : (k : Order) → IsStrictWeakOrder (λ x y. sorts_before k (key x) (key y))
   orders Up = rises
   orders Down = IsStrictWeakOrder-flip (λ x y. int_lt (key x) (key y)) rises
   orders (Unknown name span) = rises
@@ -64,22 +64,22 @@ module _ (before : ℤ → ℤ → Bool) (c : List Term) where
 
 -- a stable sort of noted satisfiers by an order of their numbers puts their entries into that order
 pub entries_in_order : (k : Order) (c : List Term) (ns ms : List Noted)
-    → IsSortedBy (λ x y. comes_before k x.number y.number) ms
-    → IsStableBy (λ x y. comes_before k x.number y.number) ns ms
-    → map (entry_of c) ms ≡ sorted (comes_before k) (map (entry_of c) ns)
+    → IsSortedBy (λ x y. sorts_before k x.number y.number) ms
+    → IsStableBy (λ x y. sorts_before k x.number y.number) ns ms
+    → map (entry_of c) ms ≡ sorted (sorts_before k) (map (entry_of c) ns)
 entries_in_order k c ns ms up stable =
     ap (map (entry_of c))
-    (sorted_in_order (λ x y. comes_before k x.number y.number) (orders (λ (n : Noted). n.number) k) ns ms up stable)
-    ∙ map-in_order (comes_before k) c ns
+    (sorted_in_order (λ x y. sorts_before k x.number y.number) (orders (λ (n : Noted). n.number) k) ns ms up stable)
+    ∙ map-in_order (sorts_before k) c ns
 
 -- the same of a sort by a closure, where each of its calls compares two numbers by the order
 pub sort_by_order : {F : Type 0} {g : Mut F (Bor Noted × (Bor Noted × Unit {0})) Ordering} {f : F} (k : Order)
     (c : List Term) (ns ms : List Noted) → IsSortedByClosure g f ms → IsStableByClosure g f ns ms
     → ((q : F) (a : Bor Noted × (Bor Noted × Unit {0})) (r : Ordering) (q' : F) → Called g q a r q'
-    → is_lt r ≡ comes_before k a.0.now.number a.1.0.now.number)
-    → map (entry_of c) ms ≡ sorted (comes_before k) (map (entry_of c) ns)
+    → is_lt r ≡ sorts_before k a.0.now.number a.1.0.now.number)
+    → map (entry_of c) ms ≡ sorted (sorts_before k) (map (entry_of c) ns)
 sort_by_order {g = g} {f = f} k c ns ms up stable h =
-    let lt : Noted → Noted → Bool = λ m n. comes_before k m.number n.number in
+    let lt : Noted → Noted → Bool = λ m n. sorts_before k m.number n.number in
     let o = orders (λ (n : Noted). n.number) k in
     let compares = answers_always g (λ a r. is_lt r ≡ lt a.0.now a.1.0.now) f h in
     entries_in_order k c ns ms (up lt o compares) (stable lt o compares)

@@ -15,7 +15,7 @@ use Rattle.hp_eval.specs.CallRows.{number_of}
 use Rattle.hp_eval.specs.Slotted.{Slotted, slotted, AreBelow, named}
 use Rattle.hp_eval.specs.Events.{Happening}
 use Rattle.hp_pick.specs.declared.noted.Noted.{Noted}
-use Rattle.hp_pick.specs.declared.noted.Notes.{Notes}
+use Rattle.hp_pick.specs.declared.noted.NotedSats.{NotedSats}
 
 -- the number that a variable's term is, or the fault where it is none
 abbrev pub number_at : Span → Option Term → Result ℤ RunFault
@@ -31,23 +31,23 @@ abbrev pub noted_events : List Term → List Noted → Bool → List Happening
 noted_events c ns cut = map (λ x. Sat x.1) (map (entry_of c) ns) ++ cond cut (Cut ∷ []) []
 
 -- values keep what variables stood for before
-pub record Extends (values : List (Option ℕ)) (start : Slotted) : Type 0 where
+pub record KeepsCells (values : List (Option ℕ)) (start : Slotted) : Type 0 where
   pub as_many : length start.values ≡ length values
   pub keeps : (v cell : ℕ) → slice_get start.values v ≡ Some (Some cell) → slice_get values v ≡ Some (Some cell)
 
 -- the values of a satisfier keep those of the start, and their cells are below a count
 pub record IsNoted (count : ℕ) (start : Slotted) (n : Noted) : Type 0 where
-  pub extends : Extends n.values.items start
+  pub extends : KeepsCells n.values.items start
   pub below : AreBelow count (slotted n.values.items [])
   pub few : length n.values.items < 2 ^ 32
 
 -- what was noted of the front of a list, with what the remainder gives
-abbrev pub with_notes : List Term → Notes → Keyed → Keyed
+abbrev pub with_notes : List Term → NotedSats → Keyed → Keyed
 with_notes c notes (NoKey f) = NoKey f
 with_notes c notes (Keys xs cut) = Keys (map (entry_of c) notes.sats.items ++ xs) (notes.cut || cut)
 
 -- a Sat with these bindings is noted, or its variable's fault is answered; for want of memory the answer is free
-abbrev pub AddsSat : Key → List Term → Result (Unit {0}) EvalStop → Bindings → Notes → Notes → Type 0
+abbrev pub AddsSat : Key → List Term → Result (Unit {0}) EvalStop → Bindings → NotedSats → NotedSats → Type 0
 AddsSat k c (Ok done) e old new =
     (rest : Keyed) → with_notes c old (keyed_by k.span (bound e k.var) e rest) ≡ with_notes c new rest
 AddsSat k c (Err (stops.Fault f)) e old new = (rest : Keyed) → keyed_by k.span (bound e k.var) e rest ≡ NoKey f
@@ -61,13 +61,13 @@ HearsOn (Err (stops.Fault f)) whole left alone = whole ≡ NoKey f
 HearsOn (Err stops.NoMemory) whole left alone = Unit {0}
 
 -- a whole list is heard: what it gives is the notes alone, or the fault; for want of memory the answer is free
-abbrev pub Hears : List Term → Result Notes EvalStop → Keyed → Type 0
+abbrev pub Hears : List Term → Result NotedSats EvalStop → Keyed → Type 0
 Hears c (Ok notes) whole = whole ≡ with_notes c notes (Keys [] false)
 Hears c (Err (stops.Fault f)) whole = whole ≡ NoKey f
 Hears c (Err stops.NoMemory) whole = Unit {0}
 
 -- a whole list is heard and put in order: its events are the satisfiers and a Cut behind them, or the fault
-abbrev pub HearsInOrder : List Term → Result Notes EvalStop → List Happening → Type 0
+abbrev pub HearsInOrder : List Term → Result NotedSats EvalStop → List Happening → Type 0
 HearsInOrder c (Ok notes) whole = whole ≡ noted_events c notes.sats.items notes.cut
 HearsInOrder c (Err (stops.Fault f)) whole = whole ≡ Fault f ∷ []
 HearsInOrder c (Err stops.NoMemory) whole = Unit {0}

@@ -8,10 +8,10 @@ use Rattle.hp_syntax.specs.declared.pattern.Span.{Span}
 use Rattle.hp_syntax.specs.Syntax.{Order, Key}
 use Rattle.hp_syntax.specs.Terms.{Term, Symbol, Number, Listed}
 use Rattle.hp_syntax.specs.Values.{Bindings, bound, flat_option}
-use Rattle.hp_syntax.specs.Events.{Sat, Cut, Fault}
-use Rattle.hp_syntax.specs.Preconditions.{Keyed, Keys, NoKey, keyed_with, keyed_by, cut_with, keyed, put_in, sorted, comes_before, sorted_events}
+use Rattle.hp_syntax.specs.Events.{Sat, Cut, Fault, EventExtends}
+use Rattle.hp_syntax.specs.Preconditions.{Keyed, Keys, NoKey, keyed_with, keyed_by, cut_with, keyed, put_in, sorted, sorts_before, sorted_events}
 use Rattle.hp_eval.specs.Slotted.{Slotted, slotted, AreBelow, undone, flat, named, bindings_of}
-use Rattle.hp_eval.specs.Events.{Happening, Keeps}
+use Rattle.hp_eval.specs.Events.{Happening}
 use Rattle.hp_eval.specs.SlotLaws.{bindings_agree}
 use Rattle.hp_eval.proofs.AttemptLemmas.{place_bound}
 use Rattle.hp_eval.proofs.SlotLemmas.{bindings_some}
@@ -27,12 +27,12 @@ module _ (e : Bindings) where
   -- each satisfier keeps the bindings
   abbrev KeysKeep : Keyed → Type 0
   KeysKeep (NoKey f) = Unit {0}
-  KeysKeep (Keys xs cut) = All (λ x. Keeps e (Sat x.1)) xs
+  KeysKeep (Keys xs cut) = All (λ x. EventExtends e (Sat x.1)) xs
 
   -- a satisfier with a number keeps them where it does, before others that do
-  with_keeps : (n : ℤ) (b : Bindings) (k : Keyed) → Keeps e (Sat b) → KeysKeep k → KeysKeep (keyed_with n b k)
+  with_keeps : (n : ℤ) (b : Bindings) (k : Keyed) → EventExtends e (Sat b) → KeysKeep k → KeysKeep (keyed_with n b k)
   with_keeps n b (NoKey f) h all = tt
-  with_keeps n b (Keys xs cut) h all = All-cons (λ x. Keeps e (Sat x.1)) (n, b) xs h all
+  with_keeps n b (Keys xs cut) h all = All-cons (λ x. EventExtends e (Sat x.1)) (n, b) xs h all
 
   -- a Cut changes no satisfier
   cut_keeps : (k : Keyed) → KeysKeep k → KeysKeep (cut_with k)
@@ -40,7 +40,7 @@ module _ (e : Bindings) where
   cut_keeps (Keys xs cut) all = all
 
   -- a satisfier of which the number is asked keeps them where it does, before others that do
-  by_keeps : (s : Span) (t : Option Term) (b : Bindings) (k : Keyed) → Keeps e (Sat b) → KeysKeep k
+  by_keeps : (s : Span) (t : Option Term) (b : Bindings) (k : Keyed) → EventExtends e (Sat b) → KeysKeep k
       → KeysKeep (keyed_by s t b k)
   by_keeps s None b k h all = tt
   by_keeps s (Some (Number n)) b k h all = with_keeps n b k h all
@@ -48,59 +48,59 @@ module _ (e : Bindings) where
   by_keeps s (Some (Listed ts)) b k h all = tt
 
   -- the satisfiers of a list keep what each event of it keeps
-  keyed_keeps : (k : Key) (xs : List Happening) → All (Keeps e) xs → KeysKeep (keyed k xs)
-  keyed_keeps k [] all = All-nil (λ x. Keeps e (Sat x.1))
+  keyed_keeps : (k : Key) (xs : List Happening) → All (EventExtends e) xs → KeysKeep (keyed k xs)
+  keyed_keeps k [] all = All-nil (λ x. EventExtends e (Sat x.1))
   keyed_keeps k (Sat b ∷ xs) all =
-      by_keeps k.span (bound b k.var) b (keyed k xs) (All-head (Keeps e) (Sat b) xs all)
-      (keyed_keeps k xs (All-tail (Keeps e) (Sat b) xs all))
-  keyed_keeps k (Cut ∷ xs) all = cut_keeps (keyed k xs) (keyed_keeps k xs (All-tail (Keeps e) Cut xs all))
+      by_keeps k.span (bound b k.var) b (keyed k xs) (All-head (EventExtends e) (Sat b) xs all)
+      (keyed_keeps k xs (All-tail (EventExtends e) (Sat b) xs all))
+  keyed_keeps k (Cut ∷ xs) all = cut_keeps (keyed k xs) (keyed_keeps k xs (All-tail (EventExtends e) Cut xs all))
   keyed_keeps k (Fault f ∷ xs) all = tt
 
   module _ (before : ℤ → ℤ → Bool) where
     -- satisfiers keep them with one put in that does
-    put_in_keeps : (x : ℤ × Bindings) (ys : List (ℤ × Bindings)) → Keeps e (Sat x.1)
-        → All (λ y. Keeps e (Sat y.1)) ys → All (λ y. Keeps e (Sat y.1)) (put_in before x ys)
-    put_in_keeps x [] h all = All-cons (λ y. Keeps e (Sat y.1)) x [] h all
+    put_in_keeps : (x : ℤ × Bindings) (ys : List (ℤ × Bindings)) → EventExtends e (Sat x.1)
+        → All (λ y. EventExtends e (Sat y.1)) ys → All (λ y. EventExtends e (Sat y.1)) (put_in before x ys)
+    put_in_keeps x [] h all = All-cons (λ y. EventExtends e (Sat y.1)) x [] h all
     put_in_keeps x (y ∷ ys) h all =
-        by (before y.0 x.0) (put_in_keeps x ys h (All-tail (λ z. Keeps e (Sat z.1)) y ys all))
+        by (before y.0 x.0) (put_in_keeps x ys h (All-tail (λ z. EventExtends e (Sat z.1)) y ys all))
       where
-        by : (b : Bool) → All (λ z. Keeps e (Sat z.1)) (put_in before x ys)
-            → All (λ z. Keeps e (Sat z.1)) (cond b (y ∷ put_in before x ys) (x ∷ y ∷ ys))
+        by : (b : Bool) → All (λ z. EventExtends e (Sat z.1)) (put_in before x ys)
+            → All (λ z. EventExtends e (Sat z.1)) (cond b (y ∷ put_in before x ys) (x ∷ y ∷ ys))
         by true rest =
-            All-cons (λ z. Keeps e (Sat z.1)) y (put_in before x ys) (All-head (λ z. Keeps e (Sat z.1)) y ys all) rest
-        by false rest = All-cons (λ z. Keeps e (Sat z.1)) x (y ∷ ys) h all
+            All-cons (λ z. EventExtends e (Sat z.1)) y (put_in before x ys) (All-head (λ z. EventExtends e (Sat z.1)) y ys all) rest
+        by false rest = All-cons (λ z. EventExtends e (Sat z.1)) x (y ∷ ys) h all
 
     -- satisfiers that are sorted keep what they kept
-    sorted_keeps : (xs : List (ℤ × Bindings)) → All (λ x. Keeps e (Sat x.1)) xs
-        → All (λ x. Keeps e (Sat x.1)) (sorted before xs)
+    sorted_keeps : (xs : List (ℤ × Bindings)) → All (λ x. EventExtends e (Sat x.1)) xs
+        → All (λ x. EventExtends e (Sat x.1)) (sorted before xs)
     sorted_keeps [] all = all
     sorted_keeps (x ∷ xs) all =
-        put_in_keeps x (sorted before xs) (All-head (λ y. Keeps e (Sat y.1)) x xs all)
-        (sorted_keeps xs (All-tail (λ y. Keeps e (Sat y.1)) x xs all))
+        put_in_keeps x (sorted before xs) (All-head (λ y. EventExtends e (Sat y.1)) x xs all)
+        (sorted_keeps xs (All-tail (λ y. EventExtends e (Sat y.1)) x xs all))
 
   -- a Cut keeps any bindings
-  cut_behind : (cut : Bool) → All (Keeps e) (cond cut (Cut ∷ []) [])
-  cut_behind true = All-cons (Keeps e) Cut [] tt (All-nil (Keeps e))
-  cut_behind false = All-nil (Keeps e)
+  cut_behind : (cut : Bool) → All (EventExtends e) (cond cut (Cut ∷ []) [])
+  cut_behind true = All-cons (EventExtends e) Cut [] tt (All-nil (EventExtends e))
+  cut_behind false = All-nil (EventExtends e)
 
   -- satisfiers and a Cut behind them keep what the satisfiers keep
-  sats_keep : (xs : List (ℤ × Bindings)) (cut : Bool) → All (λ x. Keeps e (Sat x.1)) xs
-      → All (Keeps e) (map (λ x. Sat x.1) xs ++ cond cut (Cut ∷ []) [])
+  sats_keep : (xs : List (ℤ × Bindings)) (cut : Bool) → All (λ x. EventExtends e (Sat x.1)) xs
+      → All (EventExtends e) (map (λ x. Sat x.1) xs ++ cond cut (Cut ∷ []) [])
   sats_keep xs cut all =
-      All-append (Keeps e) (map (λ x. Sat x.1) xs) (cond cut (Cut ∷ []) [])
-      (All-map (Keeps e) (λ x. Sat x.1) xs all) (cut_behind cut)
+      All-append (EventExtends e) (map (λ x. Sat x.1) xs) (cond cut (Cut ∷ []) [])
+      (All-map (EventExtends e) (λ x. Sat x.1) xs all) (cut_behind cut)
 
   -- the events of a list in order keep what its satisfiers keep
-  sorted_events_keep : (order : Order) (k : Keyed) → KeysKeep k → All (Keeps e) (sorted_events order k)
-  sorted_events_keep order (NoKey f) all = All-cons (Keeps e) (Fault f) [] tt (All-nil (Keeps e))
+  sorted_events_keep : (order : Order) (k : Keyed) → KeysKeep k → All (EventExtends e) (sorted_events order k)
+  sorted_events_keep order (NoKey f) all = All-cons (EventExtends e) (Fault f) [] tt (All-nil (EventExtends e))
   sorted_events_keep order (Keys xs cut) all =
-      sats_keep (sorted (comes_before order) xs) cut (sorted_keeps (comes_before order) xs all)
+      sats_keep (sorted (sorts_before order) xs) cut (sorted_keeps (sorts_before order) xs all)
 
 -- ---- what was noted
 
 -- a noted satisfier keeps the bindings of the start
 noted_keeps : (c : List Term) (kept : ℕ) (start : Slotted) (n : Noted) → IsNoted kept start n
-    → Keeps (bindings_of c start) (Sat (entry_of c n).1)
+    → EventExtends (bindings_of c start) (Sat (entry_of c n).1)
 noted_keeps c kept start n h v t k = by (flat (slice_get start.values v)) refl (sym (bound_named c start v) ∙ k)
   where
     by : (o : Option ℕ) → flat (slice_get start.values v) ≡ o → named c (flat (slice_get start.values v)) ≡ Some t
@@ -112,10 +112,10 @@ noted_keeps c kept start n h v t k = by (flat (slice_get start.values v)) refl (
 
 -- what was noted keeps the bindings of the start
 entries_keep : (c : List Term) (kept : ℕ) (start : Slotted) (ns : List Noted) → All (IsNoted kept start) ns
-    → All (λ x. Keeps (bindings_of c start) (Sat x.1)) (map (entry_of c) ns)
+    → All (λ x. EventExtends (bindings_of c start) (Sat x.1)) (map (entry_of c) ns)
 entries_keep c kept start ns all =
-    All-map (λ x. Keeps (bindings_of c start) (Sat x.1)) (entry_of c) ns
-    (All-weaker (IsNoted kept start) (λ n. Keeps (bindings_of c start) (Sat (entry_of c n).1))
+    All-map (λ x. EventExtends (bindings_of c start) (Sat x.1)) (entry_of c) ns
+    (All-weaker (IsNoted kept start) (λ n. EventExtends (bindings_of c start) (Sat (entry_of c n).1))
     (noted_keeps c kept start) ns all)
 
 -- entries are the same over terms that agree below the kept number
@@ -151,13 +151,13 @@ either_same k suits fits start mark kept (Some x) e c d xs ys h s f q =
 
 -- each Sat that is left keeps the bindings of the mark
 pub either_extend : (k : Key) (suits fits : Type 0) (start mark : ℕ) (o : Option Heard) (e : Slotted)
-    (c : List Term) (xs : List Happening) → (suits → fits → All (Keeps (bindings_of c (undone start e))) xs)
+    (c : List Term) (xs : List Happening) → (suits → fits → All (EventExtends (bindings_of c (undone start e))) xs)
     → SuitsEither suits o → FitsEither fits start mark o e
-    → All (Keeps (bindings_of c (undone mark e))) (rest_in_order k xs c o)
+    → All (EventExtends (bindings_of c (undone mark e))) (rest_in_order k xs c o)
 either_extend k suits fits start mark None e c xs h s f =
     sorted_events_keep (bindings_of c (undone mark e)) k.order (keyed k xs)
     (keyed_keeps (bindings_of c (undone mark e)) k xs
-    (subst (λ n. All (Keeps (bindings_of c (undone n e))) xs) (sym f.0) (h s f.1)))
+    (subst (λ n. All (EventExtends (bindings_of c (undone n e))) xs) (sym f.0) (h s f.1)))
 either_extend k suits fits start mark (Some x) e c xs h s f =
     sats_keep (bindings_of c (undone mark e)) (map (entry_of c) (drop x.given x.notes.sats.items)) x.notes.cut
     (entries_keep c x.kept (undone mark e) (drop x.given x.notes.sats.items)

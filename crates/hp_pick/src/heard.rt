@@ -4,10 +4,10 @@ ghost use Rattle.std.specs.List.{All};
 ghost use Rattle.hp_syntax.specs.Terms.{Term};
 ghost use Rattle.hp_eval.specs.Slotted.{AreBelow, Binds, undone, bindings_of};
 ghost use Rattle.hp_eval.specs.Events.{Happening, event_of, left_after, AreOfFirst};
-ghost use Rattle.hp_pick.specs.Noted.{Extends, IsNoted, HearsInOrder};
+ghost use Rattle.hp_pick.specs.Noted.{KeepsCells, IsNoted, HearsInOrder};
 ghost use Rattle.hp_pick.specs.Heard.{left_of, FitsHeard};
 
-use crate::noted::Notes;
+use crate::noted::NotedSats;
 use hp_cells::Cell;
 use hp_eval::{EvalStop, Event, Slots};
 use std::alloc::{AllocError, Global};
@@ -15,7 +15,7 @@ use std::alloc::{AllocError, Global};
 /// A list that was heard: the satisfiers in their order, of which so many were given, and whether a Cut is to come
 /// behind them.
 pub(crate) struct Heard {
-    pub(crate) notes: Notes,
+    pub(crate) notes: NotedSats,
     pub(crate) given: usize,
     // How many cells stood when the list was heard.
     pub(crate) kept: usize,
@@ -54,7 +54,7 @@ fn fill(v: u32, value: Option<Cell>, slots: &mut Slots)
 
 // Binds the variables that aren't bound to what they are to stand for.
 fn fill_all(values: &[Option<Cell>], slots: &mut Slots)
-    requires keeps { Extends values.now slots.old }
+    requires keeps { KeepsCells values.now slots.old }
     requires few { length values.now < 2 ^ 32 }
     ensures values { slots.new.values ≡ values.now }
     ensures above { Binds slots.old slots.new }
@@ -69,7 +69,7 @@ impl Heard {
     /// at the start, and so many cells stand.
     pub(crate) fn start(
         alloc: Global,
-        found: Result<Notes, EvalStop>,
+        found: Result<NotedSats, EvalStop>,
         kept: usize,
         slots: &mut Slots,
     ) -> (Heard, Result<Event, AllocError>)
@@ -96,18 +96,18 @@ impl Heard {
                 (heard, Ok(event))
             }
             Err(EvalStop::Fault(fault)) => (
-                Heard::new(Notes::new(alloc), kept, true),
+                Heard::new(NotedSats::new(alloc), kept, true),
                 Ok(Event::Fault(fault)),
             ),
             Err(EvalStop::NoMemory) => (
-                Heard::new(Notes::new(alloc), kept, false),
+                Heard::new(NotedSats::new(alloc), kept, false),
                 Err(AllocError),
             ),
         }
     }
 
     // What was noted of a list, of which nothing was given.
-    fn new(notes: Notes, kept: usize, is_live: bool) -> Heard
+    fn new(notes: NotedSats, kept: usize, is_live: bool) -> Heard
         ensures { result ≡ record { notes = notes; given = 0; kept = kept; is_live = is_live; is_open = true } }
     {
         Heard {

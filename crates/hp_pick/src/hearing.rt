@@ -4,12 +4,12 @@ ghost use Rattle.std.specs.List.{All};
 ghost use Rattle.std.specs.List.Sorted.{IsPermutation};
 ghost use Rattle.hp_syntax.specs.Terms.{Term};
 ghost use Rattle.hp_syntax.specs.Views.{key_of, order_of};
-ghost use Rattle.hp_syntax.specs.Preconditions.{keyed, comes_before, sorted, sorted_events};
+ghost use Rattle.hp_syntax.specs.Preconditions.{keyed, sorts_before, sorted, sorted_events};
 ghost use Rattle.hp_eval.specs.Slotted.{AreBelow, undone};
 ghost use Rattle.hp_eval.specs.Growth.{Grows};
 ghost use Rattle.hp_pick.specs.Noted.{IsNoted, entry_of, with_notes, HearsOn, Hears, HearsInOrder};
 
-use crate::noted::{Noted, Notes, note};
+use crate::noted::{Noted, NotedSats, note};
 use hp_cells::Cells;
 use hp_eval::{EvalStop, Sats, Slots};
 use hp_syntax::{SortKey, SortOrder};
@@ -23,7 +23,7 @@ fn hear_next<B, S: Sats<B>>(
     base: &B,
     cells: &mut Cells,
     slots: &mut Slots,
-    notes: &mut Notes,
+    notes: &mut NotedSats,
 ) -> Result<bool, EvalStop>
     requires live { S.is_live inner.old ≡ true }
     requires open { S.is_open inner.old ≡ true }
@@ -59,7 +59,7 @@ fn hear<B, S: Sats<B>>(
     base: &B,
     cells: &mut Cells,
     slots: &mut Slots,
-) -> Result<Notes, EvalStop>
+) -> Result<NotedSats, EvalStop>
     requires live { S.is_live inner.old ≡ true }
     requires open { S.is_open inner.old ≡ true }
     requires base { S.suits inner.old base.now }
@@ -76,7 +76,7 @@ fn hear<B, S: Sats<B>>(
     ensures cells { Grows cells.old cells.new }
     ensures open { S.is_open inner.new ≡ true }
 {
-    let mut notes = Notes::new(alloc);
+    let mut notes = NotedSats::new(alloc);
     while hear_next(alloc, inner, key, base, cells, slots, &mut notes)? {}
     Ok(notes)
 }
@@ -89,7 +89,7 @@ fn hear_whole<B, S: Sats<B>>(
     base: &B,
     cells: &mut Cells,
     slots: &mut Slots,
-) -> Result<Notes, EvalStop>
+) -> Result<NotedSats, EvalStop>
     requires live { S.is_live inner.old ≡ true }
     requires open { S.is_open inner.old ≡ true }
     requires base { S.suits inner.old base.now }
@@ -111,7 +111,7 @@ fn hear_whole<B, S: Sats<B>>(
 // Puts satisfiers into the order of their numbers. Equal ones keep their order. An error leaves them as they are.
 fn sort(sats: &mut Vec<Noted>, order: &SortOrder) -> Result<(), AllocError>
     ensures sorted { OnOk result ((c : List Term) → map (entry_of c) sats.new.items
-        ≡ sorted (comes_before (order_of order.now)) (map (entry_of c) sats.old.items)) }
+        ≡ sorted (sorts_before (order_of order.now)) (map (entry_of c) sats.old.items)) }
     ensures permutation { IsPermutation sats.old.items sats.new.items }
 {
     match order {
@@ -128,7 +128,7 @@ pub(crate) fn hear_in_order<B, S: Sats<B>>(
     base: &B,
     cells: &mut Cells,
     slots: &mut Slots,
-) -> Result<Notes, EvalStop>
+) -> Result<NotedSats, EvalStop>
     requires live { S.is_live inner.old ≡ true }
     requires open { S.is_open inner.old ≡ true }
     requires base { S.suits inner.old base.now }

@@ -27,24 +27,24 @@ impl Drop for Noted {
 }
 
 /// The satisfiers of a list, and whether a Cut stood in it.
-pub(crate) struct Notes {
+pub(crate) struct NotedSats {
     pub(crate) sats: Vec<Noted>,
     pub(crate) cut: bool,
 }
 
-impl Drop for Notes {
+impl Drop for NotedSats {
     fn drop(self) {
-        let Notes { sats, cut: _ } = self;
+        let NotedSats { sats, cut: _ } = self;
         drop(sats);
     }
 }
 
-impl Notes {
-    pub(crate) fn new(alloc: Global) -> Notes
+impl NotedSats {
+    pub(crate) fn new(alloc: Global) -> NotedSats
         ensures sats { result.sats.items ≡ [] }
         ensures cut { result.cut ≡ false }
     {
-        Notes {
+        NotedSats {
             sats: Vec::new(alloc),
             cut: false,
         }
@@ -98,13 +98,13 @@ fn values_of(alloc: Global, slots: &Slots) -> Result<Vec<Option<Cell>>, AllocErr
     Ok(values)
 }
 
-// Notes a Sat whose bindings are in the slots.
+// NotedSats a Sat whose bindings are in the slots.
 fn note_sat(
     alloc: Global,
     key: &SortKey,
     cells: &Cells,
     slots: &Slots,
-    notes: &mut Notes,
+    notes: &mut NotedSats,
 ) -> Result<(), EvalStop>
     requires below { AreBelow (length cells.now) slots.now }
     ensures adds { AddsSat (key_of key.now) cells.now result (bindings_of cells.now slots.now) notes.old notes.new }
@@ -118,7 +118,7 @@ fn note_sat(
     Ok(())
 }
 
-/// Notes the first event of a list, whose bindings are in the slots if it is a Sat: true where more may come, false at
+/// NotedSats the first event of a list, whose bindings are in the slots if it is a Sat: true where more may come, false at
 /// the end.
 pub(crate) fn note(
     alloc: Global,
@@ -126,7 +126,7 @@ pub(crate) fn note(
     key: &SortKey,
     cells: &Cells,
     slots: &Slots,
-    notes: &mut Notes,
+    notes: &mut NotedSats,
 ) -> Result<bool, EvalStop>
     requires below { AreBelow (length cells.now) slots.now }
     ensures step { (xs : List Happening) → event ≡ event_of xs → AreOfFirst xs (bindings_of cells.now slots.now)

@@ -35,6 +35,7 @@ impl<S: Drop> Drop for Sorted<S> {
 }
 
 impl<S> Sorted<S> {
+    ghost use Rattle.hp_syntax.specs.Events.{EventExtends};
     ghost use Rattle.std.specs.Prelude.{◌≡◌, ◌<◌, List, length};
     ghost use Rattle.hp_syntax.specs.Terms.{Term};
     ghost use Rattle.hp_syntax.specs.Preconditions.{keyed, sorted_events};
@@ -70,7 +71,6 @@ impl<S> Sorted<S> {
 impl<B, S: Sats<B>> Sats<B> for Sorted<S> {
     ghost use Rattle.hp_syntax.specs.Views.{key_of};
     ghost use Rattle.hp_eval.specs.Slotted.{bindings_of, undone};
-    ghost use Rattle.hp_eval.specs.Events.{Keeps};
     ghost use Rattle.hp_pick.specs.Heard.{rest_in_order, SuitsEither, FitsEither, kept_of, live_of, open_of};
     ghost use Rattle.hp_pick.specs.SortedLaws.{either_hold, either_same, either_extend};
 

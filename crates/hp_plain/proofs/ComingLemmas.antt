@@ -7,7 +7,7 @@ use Rattle.std.proofs.lemmas.List.{append-nil}
 use Rattle.std.proofs.lemmas.List.Elements.{All-nil, All-cons, All-append, All-head, All-tail, All-weaker, All-map}
 use Rattle.hp_syntax.specs.Syntax.{Rule}
 use Rattle.hp_syntax.specs.Networks.{is_empty}
-use Rattle.hp_syntax.specs.Walk.{Node, Child, DidChild, CutChild, FaultChild, children, Did, Plan, CutHere, FaultHere, Visit, visit, numbered, child_visits, visits_within, visits, begins, skip}
+use Rattle.hp_syntax.specs.Walk.{Node, Child, DidChild, CutChild, FaultChild, children, Did, Plan, CutHere, FaultHere, Visit, visit, numbered_children, child_visits, visits_within, visits, begins, skip}
 use Rattle.hp_net.specs.Standings.{next_below}
 use Rattle.hp_laws.proofs.JoinLemmas.{all_from}
 use Rattle.hp_laws.proofs.DepthLemmas.{child_at_depth, children_at_depth}
@@ -38,7 +38,7 @@ module _ (rules : List Rule) (nest : ℕ) where
 
   -- the visits of numbered children, where each has this depth
   numbered_visits : (d i : ℕ) (n : Node) (p : List ℕ) (cs : List Child) → All (IsDeep d) cs
-      → flat_map (child_visits (visits_within rules nest d) n p) (numbered i cs)
+      → flat_map (child_visits (visits_within rules nest d) n p) (numbered_children i cs)
       ≡ visits_of rules nest n p i (map ChildComes cs)
   unfolding visits_of visits
   numbered_visits d i n p [] h = refl
@@ -69,7 +69,7 @@ module _ (rules : List Rule) (nest : ℕ) where
       let one : n.depth - 1 ≡ d = omega arith in
       let deep = subst (λ k. All (IsDeep k) (children rules nest n)) one (children_deep n) in
       elim (is_empty n.network) as (λ b. cond b (visit p n Plan ∷ [])
-      (flat_map (child_visits (visits_within rules nest d) n p) (numbered 0 (children rules nest n)))
+      (flat_map (child_visits (visits_within rules nest d) n p) (numbered_children 0 (children rules nest n)))
       ≡ visits_of rules nest n p 0
       (cond b (PlanComes ∷ []) (cond (n.depth == 0) (ChildComes CutChild ∷ []) (map ChildComes
       (children rules nest n))))) [

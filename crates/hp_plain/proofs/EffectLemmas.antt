@@ -17,7 +17,7 @@ use Rattle.hp_syntax.specs.Views.{pattern_of, atom_of, atoms_of, expression_of, 
 use Rattle.hp_syntax.specs.Applying.{ChangesOf}
 use Rattle.hp_syntax.specs.Events as plain
 use Rattle.hp_syntax.specs.Events.{Event, State, sat}
-use Rattle.hp_syntax.specs.Changes.{changes_of as gathered_changes, cost_value, effects, Changes, Going, Went, Stops, and_go, go_on, Gathered, gathered, of_atoms, of_protection, atom_values, values_for_each, effects_values, effect_values}
+use Rattle.hp_syntax.specs.Changes.{changes_of as gathered_changes, cost_value, effects, Changes, Going, Went, Stops, and_go, go_on, Gathered, both_gathered, of_atoms, of_protection, atom_values, values_for_each, effects_values, effect_values}
 use Rattle.hp_eval.specs.declared.event.EvalStop.{EvalStop}
 use Rattle.hp_eval.specs.declared.event.EvalStop.TheVariants as stops
 use Rattle.hp_eval.specs.GoalViews.{term_at}
@@ -33,8 +33,8 @@ use Rattle.hp_eval.specs.Slotted.{Slotted, AreBelow, bindings_of}
 use Rattle.hp_plain.specs.declared.found.Found.{Found}
 use Rattle.hp_plain.specs.declared.effects.Side.{Side}
 use Rattle.hp_plain.specs.declared.effects.Side.TheVariants.{Deletes, Adds}
-use Rattle.hp_plain.specs.declared.effects.Halt.{Halt}
-use Rattle.hp_plain.specs.declared.effects.Halt.TheVariants.{Cut, Fault, NoMemory}
+use Rattle.hp_plain.specs.declared.effects.Obstacle.{Obstacle}
+use Rattle.hp_plain.specs.declared.effects.Obstacle.TheVariants.{Cut, Fault, NoMemory}
 use Rattle.hp_plain.specs.Founds.{found_event, found_events}
 use Rattle.hp_plain.proofs.FoundLemmas.{state_stays}
 use Rattle.hp_plain.specs.Effected.{part_of_atoms, part_of_protections, halt_of, with_gathered, of_atom, of_guard, only_atoms, values_at, both, HasPut, StopsHere}
@@ -51,7 +51,7 @@ same_changes : {A : Type 0} (c d : ChangesOf A) → c.unguard ≡ d.unguard → 
 same_changes c d u e a g =
     ap₂ (λ p q. changes_with p q c.add c.guard) u e ∙ ap₂ (λ p q. changes_with d.unguard d.delete p q) a g
 
--- with nothing gathered changes are as they were
+-- with nothing both_gathered changes are as they were
 with_nothing : (side : Side) (c : Changes) → c ≡ with_gathered side (of_atoms []) c
 with_nothing Deletes c =
     same_changes c (with_gathered Deletes (of_atoms []) c) (sym (append-nil c.unguard)) (sym (append-nil c.delete)) refl
@@ -59,14 +59,14 @@ with_nothing Deletes c =
 with_nothing Adds c =
     same_changes c (with_gathered Adds (of_atoms []) c) refl refl (sym (append-nil c.add)) (sym (append-nil c.guard))
 
--- what is gathered later stands behind what was gathered before
+-- what is both_gathered later stands behind what was both_gathered before
 with_both : (side : Side) (x y : Gathered) (c : Changes)
-    → with_gathered side y (with_gathered side x c) ≡ with_gathered side (gathered x y) c
+    → with_gathered side y (with_gathered side x c) ≡ with_gathered side (both_gathered x y) c
 with_both Deletes x y c =
-    same_changes (with_gathered Deletes y (with_gathered Deletes x c)) (with_gathered Deletes (gathered x y) c)
+    same_changes (with_gathered Deletes y (with_gathered Deletes x c)) (with_gathered Deletes (both_gathered x y) c)
     (append_assoc c.unguard x.protections y.protections) (append_assoc c.delete x.atoms y.atoms) refl refl
 with_both Adds x y c =
-    same_changes (with_gathered Adds y (with_gathered Adds x c)) (with_gathered Adds (gathered x y) c) refl refl
+    same_changes (with_gathered Adds y (with_gathered Adds x c)) (with_gathered Adds (both_gathered x y) c) refl refl
     (append_assoc c.add x.atoms y.atoms) (append_assoc c.guard x.protections y.protections)
 
 module _ (old new : List Term) (g : Grows old new) (c : ChangesOf ℕ) (below : ChangesBelow (length old) c) where
@@ -168,9 +168,9 @@ nothing_before : (left : Going Gathered) → left ≡ both (Went (of_atoms [])) 
 nothing_before (Went h) = refl
 nothing_before (Stops x) = refl
 
--- what was gathered before an effect stands before what it gathers
+-- what was both_gathered before an effect stands before what it gathers
 both_assoc : (x y : Gathered) (left : Going Gathered)
-    → both (Went x) (both (Went y) left) ≡ both (Went (gathered x y)) left
+    → both (Went x) (both (Went y) left) ≡ both (Went (both_gathered x y)) left
 both_assoc x y (Went h) =
     ap₂ (λ p q. Went (record { atoms = p; protections = q })) (sym (append_assoc x.atoms y.atoms h.atoms))
     (sym (append_assoc x.protections y.protections h.protections))
@@ -192,7 +192,7 @@ module _ (side : Side) (whole : Going Gathered) (old : Changes) where
       → left ≡ both first rest → Along side whole left terms old now
       → HasPut side first later (changes_of terms now) after → Along side whole rest later old after
   along_more terms later now after first left rest e h p = record {
-    values = gathered h.values p.values;
+    values = both_gathered h.values p.values;
     splits =
         h.splits
         ∙ (ap (both (Went h.values)) (e ∙ ap (λ x. both x rest) p.went) ∙ both_assoc h.values p.values rest);
@@ -201,7 +201,7 @@ module _ (side : Side) (whole : Going Gathered) (old : Changes) where
   }
 
   -- where an effect stops the whole does
-  pub along_stops : (terms : List Term) (now : ChangesOf ℕ) (first left rest : Going Gathered) (halt : Halt)
+  pub along_stops : (terms : List Term) (now : ChangesOf ℕ) (first left rest : Going Gathered) (halt : Obstacle)
       → left ≡ both first rest → Along side whole left terms old now → StopsHere halt first → StopsHere halt whole
   along_stops terms now first left rest Cut e h s =
       h.splits ∙ ap (both (Went h.values)) (e ∙ ap (λ x. both x rest) s)
@@ -277,14 +277,14 @@ each_effect axioms nest s e x vars expr atoms h = ap (λ y. effect_values axioms
 -- ---- an operator's effects and its cost
 
 -- what stops stops what would go on
-stops_go : {A B : Type 0} (halt : Halt) (x : Going A) (f : A → Going B) → StopsHere halt x
+stops_go : {A B : Type 0} (halt : Obstacle) (x : Going A) (f : A → Going B) → StopsHere halt x
     → StopsHere halt (and_go x f)
 stops_go Cut x f h = ap (λ y. and_go y f) h
 stops_go (Fault k) x f h = ap (λ y. and_go y f) h
 stops_go NoMemory x f h = tt
 
 -- the same of what equals it
-stops_same : {A : Type 0} (halt : Halt) (x y : Going A) → x ≡ y → StopsHere halt y → StopsHere halt x
+stops_same : {A : Type 0} (halt : Obstacle) (x y : Going A) → x ≡ y → StopsHere halt y → StopsHere halt x
 stops_same Cut x y e h = e ∙ h
 stops_same (Fault k) x y e h = e ∙ h
 stops_same NoMemory x y e h = tt
@@ -317,7 +317,7 @@ module _ (axioms : List Axiom) (nest : ℕ) (s : State) (o : Operator) (e : Bind
   effects_are = refl
 
   -- where the delete list stops the whole does
-  pub dels_stop : (halt : Halt) → StopsHere halt dels_going → StopsHere halt whole_going
+  pub dels_stop : (halt : Obstacle) → StopsHere halt dels_going → StopsHere halt whole_going
   dels_stop halt h = stops_same halt whole_going _ effects_are (stops_go halt dels_going with_adds h)
 
   module _ (d : Gathered) (dels : dels_going ≡ Went d) where
@@ -325,7 +325,7 @@ module _ (axioms : List Axiom) (nest : ℕ) (s : State) (o : Operator) (e : Bind
     behind_dels = effects_are ∙ ap (λ x. and_go x with_adds) dels
 
     -- where the add list stops the whole does
-    pub adds_stop : (halt : Halt) → StopsHere halt adds_going → StopsHere halt whole_going
+    pub adds_stop : (halt : Obstacle) → StopsHere halt adds_going → StopsHere halt whole_going
     adds_stop halt h = stops_same halt whole_going _ behind_dels (stops_go halt adds_going (with_cost d) h)
 
     module _ (a : Gathered) (adds : adds_going ≡ Went a) where
@@ -333,7 +333,7 @@ module _ (axioms : List Axiom) (nest : ℕ) (s : State) (o : Operator) (e : Bind
       behind_adds = behind_dels ∙ ap (λ x. and_go x (with_cost d)) adds
 
       -- where the cost stops the whole does
-      pub cost_stop : (halt : Halt) → StopsHere halt (cost_value (pattern_of o.cost) e) → StopsHere halt whole_going
+      pub cost_stop : (halt : Obstacle) → StopsHere halt (cost_value (pattern_of o.cost) e) → StopsHere halt whole_going
       cost_stop halt h =
           stops_same halt whole_going _ behind_adds
           (stops_go halt (cost_value (pattern_of o.cost) e) (λ c. Went (gathered_changes d a, c)) h)
@@ -342,7 +342,7 @@ module _ (axioms : List Axiom) (nest : ℕ) (s : State) (o : Operator) (e : Bind
       pub all_go : (n : ℤ) → cost_value (pattern_of o.cost) e ≡ Went n → whole_going ≡ Went (gathered_changes d a, n)
       all_go n h = behind_adds ∙ ap (λ x. and_go x (λ c. Went (gathered_changes d a, c))) h
 
--- what both lists gathered, from no changes on, are the changes
+-- what both lists both_gathered, from no changes on, are the changes
 pub gathered_both : (none dels adds : Changes) (d a : Gathered)
     → none ≡ record { unguard = []; delete = []; add = []; guard = [] } → dels ≡ with_gathered Deletes d none
     → adds ≡ with_gathered Adds a dels → adds ≡ gathered_changes d a

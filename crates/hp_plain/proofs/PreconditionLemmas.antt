@@ -5,7 +5,7 @@ use Rattle.std.proofs.lemmas.List.Elements.{All-take}
 use Rattle.hp_syntax.specs.Terms.{Term}
 use Rattle.hp_syntax.specs.Events as plain
 use Rattle.hp_syntax.specs.Events.{Event, State, sat}
-use Rattle.hp_syntax.specs.Preconditions.{heard, up_to_sat, Keyed, Keys, NoKey, keyed, sorted, comes_before, sorted_events, precondition_events}
+use Rattle.hp_syntax.specs.Preconditions.{heard, up_to_sat, Keyed, Keys, NoKey, keyed, sorted, sorts_before, sorted_events, precondition_events}
 use Rattle.hp_syntax.specs.Syntax.{Axiom, Order}
 use Rattle.hp_syntax.specs.Values.{Bindings}
 use Rattle.hp_syntax.specs.Views.{expression_of, key_of, precondition_of}
@@ -183,7 +183,7 @@ sats_heard (x ∷ xs) cut = ap (λ ys. plain.Sat x.1 ∷ ys) (sats_heard xs cut)
 -- what is heard in order is heard whole
 pub sorted_heard_whole : (order : Order) (k : Keyed) → heard (sorted_events order k) ≡ sorted_events order k
 sorted_heard_whole order (NoKey f) = refl
-sorted_heard_whole order (Keys xs cut) = sats_heard (sorted (comes_before order) xs) cut
+sorted_heard_whole order (Keys xs cut) = sats_heard (sorted (sorts_before order) xs) cut
 
 -- ---- preconditions by their kinds
 

@@ -27,7 +27,7 @@ use Rattle.hp_plain.specs.declared.spot.Spot.{Spot}
 use Rattle.hp_plain.specs.Comings.{Coming, PlanComes, ChildComes, comings, visits_of, dids_in, Level, Stack, given_at, path_to, root_of, standing_of, told_of, with_left, taken, IsStack}
 use Rattle.hp_plain.specs.Frames.{end_comings, left_of, level_of, IsFrame, Opens, Comes}
 use Rattle.hp_plain.specs.Rests.{by_candidates, IsRest, MaybeRun}
-use Rattle.hp_plain.specs.Searches.{rules_in_search, levels_of, stack_of, tree_in, stands_in, IsSearch, Moves, Goes, IsTaken, Begins}
+use Rattle.hp_plain.specs.Searches.{rules_in_search, levels_of, stack_of, tree_in, stands_in, IsSearch, Moves, Goes, IsTaken, BeginsAt}
 use Rattle.hp_plain.specs.Spots.{node_of, IsSpot, HasFew}
 use Rattle.hp_plain.proofs.NodeLemmas.{node_stays, spot_grows}
 use Rattle.hp_plain.proofs.RestSteps.{maybe_run_stays, queue_stays, run_grows}
@@ -466,7 +466,7 @@ begin_stands rules nest n =
 pub search_begins : (s : Search) (spot : Spot) → IsSpot (length s.cells) spot
     → Opens (rules_in_search s) s.nest s.cells spot s.top → All HasFew (rules_in_search s) → s.above.items ≡ []
     → s.path.items ≡ [] → s.at_did ≡ false → s.over ≡ false
-    → Begins (rules_in_search s) s.nest (node_of s.cells spot) s
+    → BeginsAt (rules_in_search s) s.nest (node_of s.cells spot) s
 search_begins s spot fits opens few above path did on =
     let rules = rules_in_search s in
     let n = node_of s.cells spot in

@@ -5,7 +5,7 @@ use Rattle.hp_syntax.specs.Syntax.{Atom}
 use Rattle.hp_syntax.specs.Terms.{Term}
 use Rattle.hp_syntax.specs.Applying.{ChangesOf}
 use Rattle.hp_syntax.specs.Events as plain
-use Rattle.hp_syntax.specs.Changes.{Changes, Going, Went, Stops, and_go, go_on, Gathered, gathered, of_atoms, of_protection, atom_values}
+use Rattle.hp_syntax.specs.Changes.{Changes, Going, Went, Stops, and_go, go_on, Gathered, both_gathered, of_atoms, of_protection, atom_values}
 use Rattle.hp_eval.specs.declared.event.EvalStop.{EvalStop}
 use Rattle.hp_eval.specs.declared.event.EvalStop.TheVariants as stops
 use Rattle.hp_world.specs.Stages.{changes_of, ChangesBelow}
@@ -13,8 +13,8 @@ use Rattle.hp_effect.specs.declared.changes.Part.{Part}
 use Rattle.hp_effect.specs.declared.changes.Part.TheVariants.{Unguard, Delete, Add, Guard}
 use Rattle.hp_plain.specs.declared.effects.Side.{Side}
 use Rattle.hp_plain.specs.declared.effects.Side.TheVariants.{Deletes, Adds}
-use Rattle.hp_plain.specs.declared.effects.Halt.{Halt}
-use Rattle.hp_plain.specs.declared.effects.Halt.TheVariants.{Cut, Fault, NoMemory}
+use Rattle.hp_plain.specs.declared.effects.Obstacle.{Obstacle}
+use Rattle.hp_plain.specs.declared.effects.Obstacle.TheVariants.{Cut, Fault, NoMemory}
 use Rattle.hp_plain.specs.declared.effects.Effected.{Effected}
 use Rattle.hp_plain.specs.declared.effects.Effected.TheVariants as effected
 
@@ -28,7 +28,7 @@ part_of_protections Deletes = Unguard
 part_of_protections Adds = Guard
 
 -- where an evaluation stops the effects do
-abbrev pub halt_of : EvalStop → Halt
+abbrev pub halt_of : EvalStop → Obstacle
 halt_of (stops.Fault f) = Fault f
 halt_of stops.NoMemory = NoMemory
 
@@ -57,7 +57,7 @@ values_at as' (plain.Fault f) = Stops (plain.Fault f)
 
 -- one effect, and then others
 abbrev pub both : Going Gathered → Going Gathered → Going Gathered
-both x y = and_go x (λ g. and_go y (λ h. Went (gathered g h)))
+both x y = and_go x (λ g. and_go y (λ h. Went (both_gathered g h)))
 
 -- ---- what is put into changes
 
@@ -70,13 +70,13 @@ pub record HasPut (side : Side) (going : Going Gathered) (terms : List Term) (ol
   pub below : ChangesBelow (length terms) new
 
 -- effects stop here; for want of memory it is free
-abbrev pub StopsHere : {A : Type 0} → Halt → Going A → Type 0
+abbrev pub StopsHere : {A : Type 0} → Obstacle → Going A → Type 0
 StopsHere Cut going = going ≡ Stops plain.Cut
 StopsHere (Fault f) going = going ≡ Stops (plain.Fault f)
 StopsHere NoMemory going = Unit {0}
 
 -- effects went and are put, or stop
-abbrev pub PutsAll : {A : Type 0} → Side → Result A Halt → Going Gathered → List Term → Changes → ChangesOf ℕ
+abbrev pub PutsAll : {A : Type 0} → Side → Result A Obstacle → Going Gathered → List Term → Changes → ChangesOf ℕ
     → Type 0
 PutsAll side (Ok _) going terms old new = HasPut side going terms old new
 PutsAll side (Err halt) going terms old new = StopsHere halt going
@@ -88,12 +88,12 @@ pub record HasGone (going : Going (Changes × ℤ)) (terms : List Term) (changes
   pub went : going ≡ Went (changes_of terms changes, cost)
   pub below : ChangesBelow (length terms) changes
 
-abbrev pub GoesAll : Result (ChangesOf ℕ × ℤ) Halt → Going (Changes × ℤ) → List Term → Type 0
+abbrev pub GoesAll : Result (ChangesOf ℕ × ℤ) Obstacle → Going (Changes × ℤ) → List Term → Type 0
 GoesAll (Ok x) going terms = HasGone going terms x.0 x.1
 GoesAll (Err halt) going terms = StopsHere halt going
 
 -- the cost of an operator, whose changes are these
-abbrev pub GoesInto : Result ℤ Halt → Going (Changes × ℤ) → List Term → ChangesOf ℕ → Type 0
+abbrev pub GoesInto : Result ℤ Obstacle → Going (Changes × ℤ) → List Term → ChangesOf ℕ → Type 0
 GoesInto (Ok cost) going terms changes = HasGone going terms changes cost
 GoesInto (Err halt) going terms changes = StopsHere halt going
 

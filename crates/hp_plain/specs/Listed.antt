@@ -8,11 +8,10 @@ use Rattle.std.proofs.lemmas.Option.{none-some}
 use Rattle.hp_syntax.specs.Terms.{Term}
 use Rattle.hp_syntax.specs.Values.{bound}
 use Rattle.hp_syntax.specs.Events as plain
-use Rattle.hp_syntax.specs.Events.{Event}
+use Rattle.hp_syntax.specs.Events.{Event, EventExtends}
 use Rattle.hp_syntax.specs.Preconditions.{heard}
 use Rattle.hp_eval.specs.Slotted.{Slotted, AreBelow, no_bindings, undone, bindings_of}
 use Rattle.hp_eval.specs.SlotLaws.{bindings_agree}
-use Rattle.hp_eval.specs.Events.{Keeps}
 use Rattle.hp_plain.specs.declared.found.Found.{Found}
 use Rattle.hp_plain.specs.declared.found.Found.TheVariants.{Sat, Cut, Fault}
 use Rattle.hp_plain.specs.Founds.{found_event, found_events, Fits, AllFit, Finds, FindsUpTo}
@@ -64,21 +63,21 @@ none_stands c (suc n) zero t h = none-some t h
 none_stands c (suc n) (suc v) t h = none_stands c n v t h
 
 -- each event keeps the bindings of slots in which nothing is bound
-blank_kept : (c : List Term) (n : ℕ) (x : Event) → Keeps (bindings_of c (no_bindings n)) x
+blank_kept : (c : List Term) (n : ℕ) (x : Event) → EventExtends (bindings_of c (no_bindings n)) x
 blank_kept c n (plain.Sat e) = λ v t h. absurd (none_stands c n v t h)
 blank_kept c n plain.Cut = tt
 blank_kept c n (plain.Fault f) = tt
 
-all_kept : (c : List Term) (n : ℕ) (xs : List Event) → All (Keeps (bindings_of c (no_bindings n))) xs
-all_kept c n [] = All-nil (Keeps (bindings_of c (no_bindings n)))
+all_kept : (c : List Term) (n : ℕ) (xs : List Event) → All (EventExtends (bindings_of c (no_bindings n))) xs
+all_kept c n [] = All-nil (EventExtends (bindings_of c (no_bindings n)))
 all_kept c n (x ∷ xs) =
-    All-cons (Keeps (bindings_of c (no_bindings n))) x xs (blank_kept c n x) (all_kept c n xs)
+    All-cons (EventExtends (bindings_of c (no_bindings n))) x xs (blank_kept c n x) (all_kept c n xs)
 
 -- what is left keeps what was bound at the start, which is nothing
 pub left_extends : (kept : ℕ) (c : List Term) (found : List Found) (place : ℕ) (s : Slotted) → FitsListed kept found s
-    → All (Keeps (bindings_of c (undone 0 s))) (left_from c found place)
+    → All (EventExtends (bindings_of c (undone 0 s))) (left_from c found place)
 left_extends kept c found place s h =
-    subst (λ e. All (Keeps (bindings_of c e)) (left_from c found place)) (sym h.blank)
+    subst (λ e. All (EventExtends (bindings_of c e)) (left_from c found place)) (sym h.blank)
     (all_kept c (length s.values) (left_from c found place))
 
 -- ---- events that are taken one by one

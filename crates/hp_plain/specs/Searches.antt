@@ -82,7 +82,7 @@ IsTaken old (comes.Child (turns.Did spot)) o new = (o ≡ Some steps.Did) × IsE
 -- ---- beginning
 
 -- a search stands at the root of a tree, and all its visits are left
-pub record Begins (rules : List Rule) (nest : ℕ) (n : Node) (s : Search) : Type 0 where
+pub record BeginsAt (rules : List Rule) (nest : ℕ) (n : Node) (s : Search) : Type 0 where
   pub tree : tree_in s ≡ record { rules = rules; nest = nest; root = n }
   pub stands : stands_in s ≡ standing [] (visits rules nest n []) false
   pub search : IsSearch s

@@ -30,34 +30,34 @@ pub(crate) enum Effected {
 
 // Why effects stop.
 #[derive(Drop)]
-enum Halt {
+enum Obstacle {
     Cut,
     Fault(RunFault),
     NoMemory,
 }
 
-impl From<EvalStop> for Halt {
+impl From<EvalStop> for Obstacle {
     ghost use Rattle.std.specs.Prelude.{◌≡◌};
     ghost use Rattle.hp_plain.specs.Effected.{halt_of};
 
     ghost from_gives = { λ stop halt. halt ≡ halt_of stop };
 
-    fn from(stop: EvalStop) -> Halt {
+    fn from(stop: EvalStop) -> Obstacle {
         match stop {
-            EvalStop::Fault(fault) => Halt::Fault(fault),
-            EvalStop::NoMemory => Halt::NoMemory,
+            EvalStop::Fault(fault) => Obstacle::Fault(fault),
+            EvalStop::NoMemory => Obstacle::NoMemory,
         }
     }
 }
 
-impl From<AllocError> for Halt {
+impl From<AllocError> for Obstacle {
     ghost use Rattle.std.specs.Prelude.{◌≡◌};
-    ghost use Rattle.hp_plain.specs.declared.effects.Halt.TheVariants.{NoMemory};
+    ghost use Rattle.hp_plain.specs.declared.effects.Obstacle.TheVariants.{NoMemory};
 
     ghost from_gives = { λ _ halt. halt ≡ NoMemory };
 
-    fn from(_refused: AllocError) -> Halt {
-        Halt::NoMemory
+    fn from(_refused: AllocError) -> Obstacle {
+        Obstacle::NoMemory
     }
 }
 
@@ -97,7 +97,7 @@ fn put_atom(
     slots: &Slots,
     cells: &mut Cells,
     changes: &mut Changes,
-) -> Result<(), Halt>
+) -> Result<(), Obstacle>
     requires slots { AreBelow (length cells.old) slots.now }
     requires below { ChangesBelow (length cells.old) changes.old }
     ensures puts { PutsAll side result (of_atom (atom_value (atom_of atom.now) (bindings_of cells.old slots.now)))
@@ -115,7 +115,7 @@ fn put_protection(
     slots: &Slots,
     cells: &mut Cells,
     changes: &mut Changes,
-) -> Result<(), Halt>
+) -> Result<(), Obstacle>
     requires slots { AreBelow (length cells.old) slots.now }
     requires below { ChangesBelow (length cells.old) changes.old }
     ensures puts { PutsAll side result (of_guard (atom_value (atom_of atom.now) (bindings_of cells.old slots.now)))
@@ -133,7 +133,7 @@ fn put_atoms(
     slots: &Slots,
     cells: &mut Cells,
     changes: &mut Changes,
-) -> Result<(), Halt>
+) -> Result<(), Obstacle>
     requires slots { AreBelow (length cells.old) slots.now }
     requires below { ChangesBelow (length cells.old) changes.old }
     ensures puts { PutsAll side result
@@ -154,7 +154,7 @@ fn put_found(
     found: &Found,
     cells: &mut Cells,
     changes: &mut Changes,
-) -> Result<(), Halt>
+) -> Result<(), Obstacle>
     requires found { BindsBelow (length cells.old) found.now }
     requires below { ChangesBelow (length cells.old) changes.old }
     ensures puts { PutsAll side result (values_at (atoms_of atoms.now) (found_event cells.old found.now))
@@ -163,8 +163,8 @@ fn put_found(
 {
     match found {
         Found::Sat(slots) => put_atoms(side, atoms, slots, cells, changes),
-        Found::Cut => Err(Halt::Cut),
-        Found::Fault(fault) => Err(Halt::Fault(*fault)),
+        Found::Cut => Err(Obstacle::Cut),
+        Found::Fault(fault) => Err(Obstacle::Fault(*fault)),
     }
 }
 
@@ -175,7 +175,7 @@ fn put_each(
     found: &[Found],
     cells: &mut Cells,
     changes: &mut Changes,
-) -> Result<(), Halt>
+) -> Result<(), Obstacle>
     requires found { All (BindsBelow (length cells.old)) found.now }
     requires below { ChangesBelow (length cells.old) changes.old }
     ensures puts { PutsAll side result
@@ -199,7 +199,7 @@ impl Scene<'_> {
         nest: u32,
         cells: &mut Cells,
         changes: &mut Changes,
-    ) -> Result<(), Halt>
+    ) -> Result<(), Obstacle>
         requires few { length slots.now.values ≤ 256 }
         requires slots { AreBelow (length cells.old) slots.now }
         requires world { StageBelow (length cells.old) (stage_in self.now) }
@@ -229,7 +229,7 @@ impl Scene<'_> {
         nest: u32,
         cells: &mut Cells,
         changes: &mut Changes,
-    ) -> Result<(), Halt>
+    ) -> Result<(), Obstacle>
         requires few { length slots.now.values ≤ 256 }
         requires slots { AreBelow (length cells.old) slots.now }
         requires world { StageBelow (length cells.old) (stage_in self.now) }
@@ -254,7 +254,7 @@ impl Scene<'_> {
         nest: u32,
         cells: &mut Cells,
         changes: &mut Changes,
-    ) -> Result<i64, Halt>
+    ) -> Result<i64, Obstacle>
         requires few { length slots.now.values ≤ 256 }
         requires slots { AreBelow (length cells.old) slots.now }
         requires world { StageBelow (length cells.old) (stage_in self.now) }
@@ -277,7 +277,7 @@ impl Scene<'_> {
         slots: &Slots,
         nest: u32,
         cells: &mut Cells,
-    ) -> Result<(Changes, i64), Halt>
+    ) -> Result<(Changes, i64), Obstacle>
         requires few { length slots.now.values ≤ 256 }
         requires slots { AreBelow (length cells.old) slots.now }
         requires world { StageBelow (length cells.old) (stage_in self.now) }
@@ -309,9 +309,9 @@ impl Scene<'_> {
     {
         match self.changes_and_cost(operator, slots, nest, cells) {
             Ok((changes, cost)) => Ok(Effected::Went(changes, cost)),
-            Err(Halt::Cut) => Ok(Effected::Cut),
-            Err(Halt::Fault(fault)) => Ok(Effected::Fault(fault)),
-            Err(Halt::NoMemory) => Err(AllocError),
+            Err(Obstacle::Cut) => Ok(Effected::Cut),
+            Err(Obstacle::Fault(fault)) => Ok(Effected::Fault(fault)),
+            Err(Obstacle::NoMemory) => Err(AllocError),
         }
     }
 }

@@ -3,7 +3,7 @@ ghost use Rattle.std.specs.Prelude.{◌≡◌, ◌≢◌, ◌-◌, [], true, fal
 ghost use Rattle.std.specs.List.{All};
 ghost use Rattle.hp_syntax.specs.Views.{domain_of};
 ghost use Rattle.hp_plain.specs.Spots.{node_of, HasFew, IsSpot};
-ghost use Rattle.hp_plain.specs.Searches.{Begins, tree_in, stands_in, IsSearch, IsEntered, IsTaken, Moves, Goes};
+ghost use Rattle.hp_plain.specs.Searches.{BeginsAt, tree_in, stands_in, IsSearch, IsEntered, IsTaken, Moves, Goes};
 ghost use Rattle.hp_net.specs.Standings.{next_below, gone_back, pruned};
 
 use crate::frame::{Come, Frame};
@@ -62,7 +62,7 @@ impl<'a> Search<'a> {
     ) -> Result<Search<'a>, AllocError>
         requires few { All HasFew (domain_of domain.now).rules }
         requires spot { IsSpot (length cells) spot }
-        ensures { IfOk result (λ s. Begins (domain_of domain.now).rules nest (node_of cells spot) s) }
+        ensures { IfOk result (λ s. BeginsAt (domain_of domain.now).rules nest (node_of cells spot) s) }
     {
         let book = Rulebook::new(alloc, domain)?;
         let base = Base {

@@ -9,15 +9,15 @@ use Rattle.hp_syntax.specs.GroundPatterns.{term_said, terms_said, network_said, 
 use Rattle.hp_syntax.specs.Networks.{tasks_value, task_list_value}
 use Rattle.hp_syntax.specs.Networks as networks
 use Rattle.hp_syntax.specs.Syntax.{Pattern, Patterns, Variable, Symbol, Number, Listing, Call, NoPattern, Before, Atom, Tasks, TaskList, Task, Ordered, Unordered, NoTasks, Then, Pair}
-use Rattle.hp_syntax.specs.Terms.{Terms, Listed, NoTerm, nesting, deepest}
+use Rattle.hp_syntax.specs.Terms.{Terms, Listed, NoTerm, term_nesting, deepest}
 use Rattle.hp_syntax.specs.Values.{Bindings, on_ok, value, values, tail_value, list_of}
 use Rattle.hp_plain.specs.Begins.{SaysItself, IsGround}
 use Rattle.hp_ready.specs.Plain.{IsCallFree, AreCallFree, IsPlainAtom, ArePlainTasks, IsPlainTaskList, IsPlainPair}
 use Rattle.hp_ready.proofs.FaultLemmas.{both_empty, each_empty}
 
 -- a list that doesn't nest too deep is the list of its parts
-list_made : (s : Span) (ts : Terms) → nesting (Listed ts) ≤ DEEPEST_TERM → list_of s ts ≡ Ok (Listed ts)
-list_made s ts l = rw (le-ltb DEEPEST_TERM (nesting (Listed ts)) l) refl
+list_made : (s : Span) (ts : Terms) → term_nesting (Listed ts) ≤ DEEPEST_TERM → list_of s ts ≡ Ok (Listed ts)
+list_made s ts l = rw (le-ltb DEEPEST_TERM (term_nesting (Listed ts)) l) refl
 
 -- where no variable is found as a tail no terms stand behind the parts
 no_tail : (tail : Option Tail) (e : Bindings) → tail_faults InProblem tail ≡ [] → tail_value tail e ≡ Ok NoTerm
@@ -29,7 +29,7 @@ mutual
 
   -- the value of a pattern is what it says
   value_said : (p : Pattern) (e : Bindings) → IsCallFree p → pattern_faults InProblem p ≡ []
-      → nesting (term_said p) ≤ DEEPEST_TERM → value p e ≡ Ok (term_said p)
+      → term_nesting (term_said p) ≤ DEEPEST_TERM → value p e ≡ Ok (term_said p)
   value_said (Variable s v) e c f l = absurd cc
   value_said (Symbol s name) e c f l = refl
   value_said (Number s n) e c f l = refl

@@ -3,7 +3,7 @@ use Rattle.std.specs.Prelude.{ℕ, ◌≤◌}
 use Rattle.std.specs.List.{All}
 use Rattle.hp_syntax.specs.GroundPatterns.{term_said, terms_said, atom_said}
 use Rattle.hp_syntax.specs.Syntax.{Pattern, Patterns, Variable, Symbol, Number, Listing, Call, NoPattern, Before, Atom, Tasks, TaskList, Task, Ordered, Unordered, NoTasks, Then, Pair}
-use Rattle.hp_syntax.specs.Terms.{nesting, deepest}
+use Rattle.hp_syntax.specs.Terms.{term_nesting, deepest}
 
 -- no call stands in a pattern
 abbrev mutual
@@ -21,7 +21,7 @@ abbrev mutual
 -- a pattern without calls, whose term nests no deeper than this
 pub record IsPlain (most : ℕ) (p : Pattern) : Type 0 where
   pub call_free : IsCallFree p
-  pub shallow : nesting (term_said p) ≤ most
+  pub shallow : term_nesting (term_said p) ≤ most
 
 -- patterns without calls, whose terms nest no deeper than this
 pub record ArePlain (most : ℕ) (ps : Patterns) : Type 0 where
@@ -31,7 +31,7 @@ pub record ArePlain (most : ℕ) (ps : Patterns) : Type 0 where
 -- an atom without calls, whose term nests no deeper than this
 pub record IsPlainAtom (most : ℕ) (a : Atom) : Type 0 where
   pub call_free : AreCallFree a.args
-  pub shallow : nesting (atom_said a) ≤ most
+  pub shallow : term_nesting (atom_said a) ≤ most
 
 -- tasks whose atoms are all plain
 abbrev mutual

@@ -29,18 +29,20 @@ apply s g c = applied same_term s g c
 
 -- ---- the changes and the cost of an operator
 
--- going through an operator's effects: it went, or a Cut or a Fault stops it
+-- going through an operator's effects: it went, or a cut or a fault stops it
 pub data Going (A : Type 0) : Type 0 where
   Went : (x : A) → Going A
-  Stops : (x : Event) → Going A
+  CutShort : Going A
+  Failed : (f : RunFault) → Going A
 
 abbrev pub and_go : {A B : Type 0} → Going A → (A → Going B) → Going B
 and_go (Went x) f = f x
-and_go (Stops x) f = Stops x
+and_go CutShort f = CutShort
+and_go (Failed e) f = Failed e
 
 abbrev pub go_on : {A : Type 0} → Result A RunFault → Going A
 go_on (Ok x) = Went x
-go_on (Err f) = Stops (Fault f)
+go_on (Err f) = Failed f
 
 abbrev pub atom_values : List Atom → Bindings → Going (List Term)
 atom_values [] e = Went []
@@ -50,8 +52,8 @@ atom_values (a ∷ rest) e =
 -- the values of the atoms under each Sat in turn; a Cut or a Fault stops here
 abbrev pub values_for_each : List Atom → List Event → Going (List Term)
 values_for_each as' [] = Went []
-values_for_each as' (Cut ∷ xs) = Stops Cut
-values_for_each as' (Fault f ∷ xs) = Stops (Fault f)
+values_for_each as' (Cut ∷ xs) = CutShort
+values_for_each as' (Fault f ∷ xs) = Failed f
 values_for_each as' (Sat e ∷ xs) =
     and_go (atom_values as' e) (λ ts. and_go (values_for_each as' xs) (λ us. Went (ts ++ us)))
 
@@ -60,8 +62,8 @@ pub record Gathered : Type 0 where
   pub atoms : List Term
   pub protections : List Term
 
-abbrev pub gathered : Gathered → Gathered → Gathered
-gathered x y = record { atoms = x.atoms ++ y.atoms; protections = x.protections ++ y.protections }
+abbrev pub both_gathered : Gathered → Gathered → Gathered
+both_gathered x y = record { atoms = x.atoms ++ y.atoms; protections = x.protections ++ y.protections }
 
 abbrev pub of_atoms : List Term → Gathered
 of_atoms ts = record { atoms = ts; protections = [] }
@@ -75,13 +77,13 @@ module _ (axioms : List Axiom) (nest : ℕ) (s : State) where
   effect_values (Change a) e = and_go (go_on (atom_value a e)) (λ t. Went (of_atoms (t ∷ [])))
   effect_values (Protection a) e = and_go (go_on (atom_value a e)) (λ t. Went (of_protection t))
   effect_values (Each vs E as') e =
-      and_go (values_for_each as' (heard (sat axioms s nest E e))) (λ ts. Went (of_atoms ts))
+      and_go (values_for_each as' (heard (sat axioms nest s E e))) (λ ts. Went (of_atoms ts))
 
   -- of a list of effects, from left to right
   abbrev pub effects_values : List Effect → Bindings → Going Gathered
   effects_values [] e = Went (of_atoms [])
   effects_values (x ∷ xs) e =
-      and_go (effect_values x e) (λ g. and_go (effects_values xs e) (λ h. Went (gathered g h)))
+      and_go (effect_values x e) (λ g. and_go (effects_values xs e) (λ h. Went (both_gathered g h)))
 
 abbrev pub pattern_span : Pattern → Span
 pattern_span (Variable s v) = s
@@ -93,8 +95,8 @@ pattern_span (Call s name args) = s
 -- a cost must be a number
 abbrev pub cost_of : Span → Term → Going ℤ
 cost_of s (Number n) = Went n
-cost_of s (Symbol name) = Stops (Fault (fault_at NotNumber s))
-cost_of s (Listed ts) = Stops (Fault (fault_at NotNumber s))
+cost_of s (Symbol name) = Failed (fault_at NotNumber s)
+cost_of s (Listed ts) = Failed (fault_at NotNumber s)
 
 abbrev pub cost_value : Pattern → Bindings → Going ℤ
 cost_value p e = and_go (go_on (value p e)) (cost_of (pattern_span p))

@@ -13,21 +13,21 @@ use Rattle.hp_syntax.specs.Syntax.{Pattern, Patterns, Variable, Symbol, Number, 
 -- ---- which faults stand in each part
 
 -- where a part stands
-pub data Place : Type 0 where
-  InHead : Place
-  InBody : Place
-  InProblem : Place
+pub data Region : Type 0 where
+  InHead : Region
+  InBody : Region
+  InProblem : Region
 
-abbrev pub is_in_problem : Place → Bool
+abbrev pub is_in_problem : Region → Bool
 is_in_problem InHead = false
 is_in_problem InBody = false
 is_in_problem InProblem = true
 
-abbrev pub found : CheckKind → Place → Span → List CheckFault
+abbrev pub found : CheckKind → Region → Span → List CheckFault
 found kind place span = record { kind = kind; in_problem = is_in_problem place; span = span } ∷ []
 
 -- a fault where a test passes
-abbrev pub found_if : Bool → CheckKind → Place → Span → List CheckFault
+abbrev pub found_if : Bool → CheckKind → Region → Span → List CheckFault
 found_if b kind place span = cond b (found kind place span) []
 
 abbrev pub count : Patterns → ℕ
@@ -35,28 +35,28 @@ count NoPattern = 0
 count (Before p ps) = 1 + count ps
 
 -- a call is known, with as many arguments
-abbrev pub arity_faults : Option Arity → ℕ → Place → Span → List CheckFault
+abbrev pub arity_faults : Option Arity → ℕ → Region → Span → List CheckFault
 arity_faults None n place span = found UnknownCall place span
 arity_faults (Some a) n place span = cond (takes a n) [] (found CallArity place span)
 
 -- and doesn't stand in a head
-abbrev pub head_faults : Place → Span → List CheckFault
+abbrev pub head_faults : Region → Span → List CheckFault
 head_faults InHead span = found CallInHead InHead span
 head_faults InBody span = []
 head_faults InProblem span = []
 
 -- a variable doesn't stand in a problem
-abbrev pub variable_faults : Place → Span → List CheckFault
+abbrev pub variable_faults : Region → Span → List CheckFault
 variable_faults InHead span = []
 variable_faults InBody span = []
 variable_faults InProblem span = found VariableInProblem InProblem span
 
-abbrev pub tail_faults : Place → Option Tail → List CheckFault
+abbrev pub tail_faults : Region → Option Tail → List CheckFault
 tail_faults place None = []
 tail_faults place (Some t) = variable_faults place t.span
 
 unfoldable mutual
-  pub pattern_faults : Place → Pattern → List CheckFault
+  pub pattern_faults : Region → Pattern → List CheckFault
   pattern_faults place (Variable s v) = variable_faults place s
   pattern_faults place (Symbol s name) = []
   pattern_faults place (Number s n) = []
@@ -64,14 +64,14 @@ unfoldable mutual
   pattern_faults place (Call s name args) =
       arity_faults (arity_of name) (count args) place s ++ head_faults place s ++ patterns_faults place args
 
-  pub patterns_faults : Place → Patterns → List CheckFault
+  pub patterns_faults : Region → Patterns → List CheckFault
   patterns_faults place NoPattern = []
   patterns_faults place (Before p ps) = pattern_faults place p ++ patterns_faults place ps
 
-abbrev pub atom_faults : Place → Atom → List CheckFault
+abbrev pub atom_faults : Region → Atom → List CheckFault
 atom_faults place a = patterns_faults place a.args ++ tail_faults place a.tail
 
-abbrev pub atoms_faults : Place → List Atom → List CheckFault
+abbrev pub atoms_faults : Region → List Atom → List CheckFault
 atoms_faults place atoms = flat_map (atom_faults place) atoms
 
 -- an expression one level too deep
@@ -105,12 +105,12 @@ precondition_faults (First e) = expression_faults 1 e
 precondition_faults (Sorted key e) = order_faults key.order ++ expression_faults 1 e
 
 unfoldable mutual
-  pub tasks_faults : Place → Tasks → List CheckFault
+  pub tasks_faults : Region → Tasks → List CheckFault
   tasks_faults place (Task a immediate) = atom_faults place a
   tasks_faults place (Ordered parts) = task_list_faults place parts
   tasks_faults place (Unordered parts) = task_list_faults place parts
 
-  pub task_list_faults : Place → TaskList → List CheckFault
+  pub task_list_faults : Region → TaskList → List CheckFault
   task_list_faults place NoTasks = []
   task_list_faults place (Then t ts) = tasks_faults place t ++ task_list_faults place ts
 

@@ -1,5 +1,5 @@
 -- Logical expressions: what looking for their satisfiers in a state meets.
-use Rattle.std.specs.Prelude.{ℕ, zero, suc, Bool, true, ◌&&◌, cond, List, [], ◌∷◌, ◌++◌, length, Option, Some, None, is_some, Result, Ok, Err, flat_map, filter_map}
+use Rattle.std.specs.Prelude.{ℕ, zero, suc, Bool, true, false, ◌&&◌, cond, List, [], ◌∷◌, ◌++◌, length, Option, Some, None, is_some, Result, Ok, Err, flat_map, filter_map}
 use Rattle.hp_syntax.specs.declared.pattern.Tail.{Tail}
 use Rattle.hp_syntax.specs.declared.fault.RunFault.{RunFault}
 use Rattle.hp_syntax.specs.declared.fault.FaultKind.TheVariants.{NotGround}
@@ -7,7 +7,7 @@ use Rattle.hp_syntax.specs.Syntax.{Pattern, Patterns, Variable, Listing, Call, N
 use Rattle.hp_syntax.specs.Syntax as syntax
 use Rattle.hp_syntax.specs.Terms.{Term, Listed, NoTerm, More, Symbol, Number}
 use Rattle.hp_syntax.specs.Calls.{fault_at}
-use Rattle.hp_syntax.specs.Values.{Bindings, unbound, bound, value, atom_value}
+use Rattle.hp_syntax.specs.Values.{Bindings, Extends, unbound, bound, value, atom_value}
 use Rattle.hp_syntax.specs.Matching.{meet}
 use Rattle.hp_syntax.specs.Goals.{Goal, fill_goal, match_goal, start_goal}
 
@@ -31,10 +31,38 @@ abbrev pub sat_if : Option Bindings → List Event
 sat_if None = []
 sat_if (Some e) = Sat e ∷ []
 
--- the first list that isn't empty
-abbrev pub or_else : {A : Type 0} → List A → List A → List A
-or_else [] ys = ys
-or_else (x ∷ xs) ys = x ∷ xs
+abbrev pub is_sat : Event → Bool
+is_sat (Sat e) = true
+is_sat Cut = false
+is_sat (Fault f) = false
+
+abbrev pub is_fault : Event → Bool
+is_fault (Sat e) = false
+is_fault Cut = false
+is_fault (Fault f) = true
+
+-- a Sat extends these bindings
+abbrev pub EventExtends : Bindings → Event → Type 0
+EventExtends e (Sat b) = Extends e b
+EventExtends e Cut = Unit {0}
+EventExtends e (Fault f) = Unit {0}
+
+-- ---- branches
+
+-- a branch with its events, or else another where it has none
+abbrev pub chosen_or : {A : Type 0} → A → List Event → Option (A × List Event) → Option (A × List Event)
+chosen_or x [] other = other
+chosen_or x (y ∷ ys) other = Some (x, y ∷ ys)
+
+-- the first branch whose list of events isn't empty, with that list
+abbrev pub chosen : {A : Type 0} → (A → List Event) → List A → Option (A × List Event)
+chosen events [] = None
+chosen events (x ∷ xs) = chosen_or x (events x) (chosen events xs)
+
+-- the events of the branch that is chosen
+abbrev pub chosen_events : {A : Type 0} → Option (A × List Event) → List Event
+chosen_events None = []
+chosen_events (Some c) = c.1
 
 -- ---- negation
 
@@ -137,32 +165,10 @@ concluded_value (Ok t) q e = sat_if (match_goal q t e)
 
 -- an axiom's bindings conclude the value of its head, which the goal must match; a head with a variable that
 -- stands for nothing is a fault at the head, whatever else valuing it would meet
-abbrev pub concluded : Atom → Goal → Bindings → Bindings → List Event
-concluded h q e b =
+abbrev pub concluded : Atom → Bindings → Goal → Bindings → List Event
+concluded h b q e =
     cond (parts_bound h.args b && tail_is_bound h.tail b) (concluded_value (atom_value h b) q e)
     (Fault (fault_at NotGround h.span) ∷ [])
-
--- the first list of the branches that isn't empty
-abbrev pub first_list : (Expression → List Event) → List Clause → List Event
-first_list f [] = []
-first_list f (c ∷ cs) = or_else (f c.body) (first_list f cs)
-
--- the events of a goal by an axiom whose head started, given those of the axiom's branches
-abbrev pub started_events : (Axiom → Bindings → List Event) → Axiom → Goal → Bindings → Option Bindings → List Event
-started_events branches x q e None = []
-started_events branches x q e (Some b) = through (branches x b) (concluded x.head q e)
-
-abbrev pub axiom_events : (Axiom → Bindings → List Event) → Goal → Bindings → Axiom → List Event
-axiom_events branches q e x =
-    started_events branches x q e (start_goal x.head q (unbound (length x.vars)))
-
--- a fault of filling is all there is; else the state's atoms, and then the axioms in the order of the domain
-abbrev pub goal_events : State → List Axiom → (Axiom → Bindings → List Event) → Bindings → Result Goal RunFault
-    → List Event
-goal_events s axioms branches e (Err f) = Fault f ∷ []
-goal_events s axioms branches e (Ok q) = state_events s q e ++ flat_map (axiom_events branches q e) axioms
-
--- ---- levels
 
 -- the axioms of a domain, in order
 abbrev pub axiom_if : Rule → Option Axiom
@@ -173,13 +179,37 @@ axiom_if (Refines m) = None
 abbrev pub axioms_of : List Rule → List Axiom
 axioms_of rules = filter_map axiom_if rules
 
--- where no level is left an axiom that starts is a cut; else its branches are one level down
-abbrev pub branch_events : Option (Expression → Bindings → List Event) → Axiom → Bindings → List Event
+-- the events of an expression one axiom level down, where a level is left
+abbrev pub Below : Type 0
+Below = Option (Expression → Bindings → List Event)
+
+-- the first branch of an axiom that has any events one level down; where no level is left, a cut
+abbrev pub branch_events : Below → Axiom → Bindings → List Event
 branch_events None x b = Cut ∷ []
-branch_events (Some below) x b = first_list (λ E. below E b) x.clauses
+branch_events (Some below) x b = chosen_events (chosen (λ c. below c.body b) x.clauses)
+
+-- what each Sat of an axiom's branches concludes, where its head started
+abbrev pub started_events : Below → Axiom → Option Bindings → Goal → Bindings → List Event
+started_events below x None q e = []
+started_events below x (Some b) q e = through (branch_events below x b) (λ d. concluded x.head d q e)
+
+-- a goal is satisfied by an axiom whose head starts from it
+abbrev pub axiom_events : Below → Axiom → Goal → Bindings → List Event
+axiom_events below x q e = started_events below x (start_goal x.head q (unbound (length x.vars))) q e
+
+-- a goal is satisfied by the state's atoms, and then by the axioms in the order of the domain
+abbrev pub goal_events : List Axiom → Below → State → Goal → Bindings → List Event
+goal_events axioms below s q e = state_events s q e ++ flat_map (λ x. axiom_events below x q e) axioms
+
+-- a fault of filling an atom is all there is
+abbrev pub filled_events : List Axiom → Below → State → Result Goal RunFault → Bindings → List Event
+filled_events axioms below s (Err f) e = Fault f ∷ []
+filled_events axioms below s (Ok q) e = goal_events axioms below s q e
+
+abbrev pub atom_events : List Axiom → Below → State → Atom → Bindings → List Event
+atom_events axioms below s a e = filled_events axioms below s (fill_goal a e) e
 
 -- the satisfiers of an expression in a state, with so many axiom levels left
-unfoldable pub sat : List Axiom → State → ℕ → Expression → Bindings → List Event
-sat axioms s zero E e = events (λ a b. goal_events s axioms (branch_events None) b (fill_goal a b)) E e
-sat axioms s (suc n) E e =
-    events (λ a b. goal_events s axioms (branch_events (Some (sat axioms s n))) b (fill_goal a b)) E e
+unfoldable pub sat : List Axiom → ℕ → State → Expression → Bindings → List Event
+sat axioms zero s E e = events (atom_events axioms None s) E e
+sat axioms (suc n) s E e = events (atom_events axioms (Some (sat axioms n s)) s) E e

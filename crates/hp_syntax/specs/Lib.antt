@@ -21,6 +21,7 @@ pub mod PlaceTexts
 pub mod GroundViews
 pub mod Calls
 pub mod Values
+pub mod Lists
 pub mod Matching
 pub mod Goals
 pub mod Events

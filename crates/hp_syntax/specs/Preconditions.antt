@@ -7,21 +7,15 @@ use Rattle.hp_syntax.specs.Syntax.{Order, Up, Down, Unknown, Key, Precondition, 
 use Rattle.hp_syntax.specs.Terms.{Term, Symbol, Number, Listed}
 use Rattle.hp_syntax.specs.Calls.{fault_at}
 use Rattle.hp_syntax.specs.Values.{Bindings, bound}
-use Rattle.hp_syntax.specs.Events.{Event, Sat, Cut, Fault, State, sat}
+use Rattle.hp_syntax.specs.Events.{Event, Sat, Cut, Fault, is_sat, is_fault, State, sat}
+use Rattle.hp_syntax.specs.Lists.{up_to}
 
--- a list is heard up to and including its first fault
+-- a list of events is heard up to and including its first fault
 abbrev pub heard : List Event → List Event
-heard [] = []
-heard (Fault f ∷ xs) = Fault f ∷ []
-heard (Sat e ∷ xs) = Sat e ∷ heard xs
-heard (Cut ∷ xs) = Cut ∷ heard xs
+heard xs = up_to is_fault xs
 
--- up to and including the first Sat
 abbrev pub up_to_sat : List Event → List Event
-up_to_sat [] = []
-up_to_sat (Sat e ∷ xs) = Sat e ∷ []
-up_to_sat (Cut ∷ xs) = Cut ∷ up_to_sat xs
-up_to_sat (Fault f ∷ xs) = Fault f ∷ up_to_sat xs
+up_to_sat xs = up_to is_sat xs
 
 -- ---- sorting
 
@@ -51,11 +45,11 @@ keyed k (Sat e ∷ xs) = keyed_by k.span (bound e k.var) e (keyed k xs)
 keyed k (Cut ∷ xs) = cut_with (keyed k xs)
 keyed k (Fault f ∷ xs) = NoKey f
 
--- one number comes before another
-abbrev pub comes_before : Order → ℤ → ℤ → Bool
-comes_before Up m n = int_lt m n
-comes_before Down m n = int_lt n m
-comes_before (Unknown name span) m n = int_lt m n
+-- one number is sorted before another
+abbrev pub sorts_before : Order → ℤ → ℤ → Bool
+sorts_before Up m n = int_lt m n
+sorts_before Down m n = int_lt n m
+sorts_before (Unknown name span) m n = int_lt m n
 
 -- put before the first that doesn't come before it, so that equal ones keep their order
 abbrev pub put_in : (ℤ → ℤ → Bool) → ℤ × Bindings → List (ℤ × Bindings) → List (ℤ × Bindings)
@@ -70,10 +64,10 @@ sorted before (x ∷ xs) = put_in before x (sorted before xs)
 abbrev pub sorted_events : Order → Keyed → List Event
 sorted_events order (NoKey f) = Fault f ∷ []
 sorted_events order (Keys xs cut) =
-    map (λ x. Sat x.1) (sorted (comes_before order) xs) ++ cond cut (Cut ∷ []) []
+    map (λ x. Sat x.1) (sorted (sorts_before order) xs) ++ cond cut (Cut ∷ []) []
 
 -- the events of a precondition with so many axiom levels
 unfoldable pub precondition_events : List Axiom → ℕ → State → Precondition → Bindings → List Event
-precondition_events axioms nest s (Plain E) e = heard (sat axioms s nest E e)
-precondition_events axioms nest s (First E) e = up_to_sat (heard (sat axioms s nest E e))
-precondition_events axioms nest s (Sorted k E) e = sorted_events k.order (keyed k (heard (sat axioms s nest E e)))
+precondition_events axioms nest s (Plain E) e = heard (sat axioms nest s E e)
+precondition_events axioms nest s (First E) e = up_to_sat (heard (sat axioms nest s E e))
+precondition_events axioms nest s (Sorted k E) e = sorted_events k.order (keyed k (heard (sat axioms nest s E e)))

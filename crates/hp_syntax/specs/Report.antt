@@ -8,7 +8,7 @@ use Rattle.hp_syntax.specs.declared.status.Status.TheVariants as status
 use Rattle.hp_syntax.specs.Terms.{Term}
 use Rattle.hp_syntax.specs.TermTexts.{num_text, term_text}
 use Rattle.hp_syntax.specs.PlaceTexts.{at_span}
-use Rattle.hp_syntax.specs.Walk.{Node, Visit, Did, Plan, CutHere, FaultHere}
+use Rattle.hp_syntax.specs.Walk.{Node, Visit, Did, Plan, CutHere, FaultHere, is_plan, is_fault_here}
 
 -- ---- plans
 
@@ -105,12 +105,8 @@ with_cut t = tally t.plans t.expansions true
 abbrev pub plan_texts : (ℕ → Visit → List ℕ) → ℕ → ℕ → List Visit → List ℕ
 plan_texts tell k p [] = []
 plan_texts tell k p (v ∷ vs) =
-    elim v.sight [
-      | Plan ↦ tell (p + 1) v ++ cond (nat_le k (p + 1)) [] (plan_texts tell k (p + 1) vs)
-      | Did ↦ plan_texts tell k p vs
-      | CutHere ↦ plan_texts tell k p vs
-      | FaultHere f ↦ []
-    ]
+    cond (is_plan v.sight) (tell (p + 1) v ++ cond (nat_le k (p + 1)) [] (plan_texts tell k (p + 1) vs))
+    (cond (is_fault_here v.sight) [] (plan_texts tell k p vs))
 
 -- an ending, and what was seen by then
 pub record Ended : Type 0 where

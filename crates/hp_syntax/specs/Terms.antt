@@ -29,14 +29,14 @@ abbrev mutual
 
 -- how deep a term nests: a list one deeper than its deepest part, and the empty one 1
 abbrev mutual
-  pub nesting : Term → ℕ
-  nesting (Symbol name) = 0
-  nesting (Number n) = 0
-  nesting (Listed ts) = 1 + deepest ts
+  pub term_nesting : Term → ℕ
+  term_nesting (Symbol name) = 0
+  term_nesting (Number n) = 0
+  term_nesting (Listed ts) = 1 + deepest ts
 
   pub deepest : Terms → ℕ
   deepest NoTerm = 0
-  deepest (More t ts) = max (nesting t) (deepest ts)
+  deepest (More t ts) = max (term_nesting t) (deepest ts)
 
 -- a term is one of the parts of a list
 abbrev pub is_part : Term → Terms → Bool

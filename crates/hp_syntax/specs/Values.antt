@@ -1,5 +1,5 @@
 -- Bindings, and the value of a pattern under them.
-use Rattle.std.specs.Prelude.{ℕ, nat_lt, cond, List, Option, Some, None, Result, Ok, Err, slice_get, replicate}
+use Rattle.std.specs.Prelude.{◌≡◌, ℕ, nat_lt, cond, List, length, Option, Some, None, Result, Ok, Err, slice_get, replicate}
 use Rattle.hp_syntax.specs.declared.limits.TheConstants.{DEEPEST_TERM}
 use Rattle.hp_syntax.specs.declared.pattern.Span.{Span}
 use Rattle.hp_syntax.specs.declared.pattern.Tail.{Tail}
@@ -7,7 +7,7 @@ use Rattle.hp_syntax.specs.declared.fault.RunFault.{RunFault}
 use Rattle.hp_syntax.specs.declared.fault.FaultKind.TheVariants.{NotGround, NotList, TooDeep}
 use Rattle.hp_syntax.specs.Syntax.{Pattern, Patterns, Variable, Listing, Call, NoPattern, Before, Atom}
 use Rattle.hp_syntax.specs.Syntax as syntax
-use Rattle.hp_syntax.specs.Terms.{Term, Terms, Symbol, Number, Listed, NoTerm, More, nesting}
+use Rattle.hp_syntax.specs.Terms.{Term, Terms, Symbol, Number, Listed, NoTerm, More, term_nesting}
 use Rattle.hp_syntax.specs.Calls.{fault_at, call}
 
 -- what each variable of a rule stands for, by number, where it stands for a term
@@ -26,6 +26,11 @@ flat_option (Some x) = x
 abbrev pub bound : Bindings → ℕ → Option Term
 bound e v = flat_option (slice_get e v)
 
+-- bindings of the same variables, of which the second keep what the first have
+pub record Extends (e b : Bindings) : Type 0 where
+  pub as_many : length b ≡ length e
+  pub keeps : (v : ℕ) (t : Term) → bound e v ≡ Some t → bound b v ≡ Some t
+
 -- a value, gone on with unless it is a fault
 abbrev pub on_ok : {A B : Type 0} → Result A RunFault → (A → Result B RunFault) → Result B RunFault
 on_ok (Ok x) f = f x
@@ -43,7 +48,7 @@ parts_of s (Number n) = Err (fault_at NotList s)
 
 -- a list of these parts, which must not nest too deep
 abbrev pub list_of : Span → Terms → Result Term RunFault
-list_of s ts = cond (nat_lt DEEPEST_TERM (nesting (Listed ts))) (Err (fault_at TooDeep s)) (Ok (Listed ts))
+list_of s ts = cond (nat_lt DEEPEST_TERM (term_nesting (Listed ts))) (Err (fault_at TooDeep s)) (Ok (Listed ts))
 
 -- what stands behind the parts of a list: nothing, or the parts of the tail's term
 abbrev pub tail_value : Option Tail → Bindings → Result Terms RunFault

@@ -6,10 +6,11 @@ use Rattle.hp_syntax.specs.Syntax.{Tasks, Operator, Branch, Method, Rule, Does, 
 use Rattle.hp_syntax.specs.Terms.{Term}
 use Rattle.hp_syntax.specs.Values.{Bindings, unbound}
 use Rattle.hp_syntax.specs.Matching.{match_atom}
-use Rattle.hp_syntax.specs.Events.{Event, Sat, Cut, Fault, State, axioms_of}
+use Rattle.hp_syntax.specs.Events.{Event, Sat, Cut, Fault, State, chosen, axioms_of}
+use Rattle.hp_syntax.specs.Lists.{up_to}
 use Rattle.hp_syntax.specs.Preconditions.{precondition_events}
 use Rattle.hp_syntax.specs.Networks.{Network, Empty, Task, Ordered, Unordered, Place, tasks_value, is_empty, normal, part_at, candidates, finish, expand}
-use Rattle.hp_syntax.specs.Changes.{Changes, Applied, Going, Went, Stops, added, apply, effects}
+use Rattle.hp_syntax.specs.Changes.{Changes, Applied, Going, Went, CutShort, Failed, added, apply, effects}
 use Rattle.hp_syntax.specs.Applying.{Now, Guarded}
 use Rattle.hp_syntax.specs.GroundPatterns.{atoms_said, network_said}
 
@@ -53,7 +54,8 @@ operated n p t c (Now s g) =
     }) ∷ []
 
 abbrev pub after_effects : Node → Place → Term → Going (Changes × ℤ) → List Child
-after_effects n p t (Stops x) = child_of (λ e. []) x
+after_effects n p t CutShort = CutChild ∷ []
+after_effects n p t (Failed f) = FaultChild f ∷ []
 after_effects n p t (Went r) = operated n p t r.1 (apply n.state n.guards r.0)
 
 -- after a method: its subtasks stand in the place of its task
@@ -70,22 +72,10 @@ decomposed n p (Ok sub) =
       depth = n.depth - 1;
     }) ∷ []
 
--- the events of a branch's precondition, with its tasks
-pub record Choice : Type 0 where
-  pub tasks : Tasks
-  pub events : List Event
-
-abbrev pub choice : Tasks → List Event → Choice
-choice ts xs = record { tasks = ts; events = xs }
-
--- this branch, unless its list is empty
-abbrev pub chosen_or : Tasks → List Event → Option Choice → Option Choice
-chosen_or ts [] other = other
-chosen_or ts (x ∷ xs) other = Some (choice ts (x ∷ xs))
-
-abbrev pub choice_children : Node → Place → Option Choice → List Child
-choice_children n p None = []
-choice_children n p (Some c) = flat_map (child_of (λ b. decomposed n p (tasks_value c.tasks b))) c.events
+-- by the branch that is chosen, for each satisfier of its precondition
+abbrev pub branch_children : Node → Place → Option (Branch × List Event) → List Child
+branch_children n p None = []
+branch_children n p (Some c) = flat_map (child_of (λ b. decomposed n p (tasks_value c.0.tasks b))) c.1
 
 -- the rules of the domain, and how deep axioms may call one another, are fixed
 module _ (rules : List Rule) (nest : ℕ) where
@@ -96,15 +86,13 @@ module _ (rules : List Rule) (nest : ℕ) where
       flat_map (child_of (λ b. after_effects n p t (effects (axioms_of rules) nest n.state o b)))
       (precondition_events (axioms_of rules) nest n.state o.pre e)
 
-  -- the first branch whose list of events isn't empty
-  abbrev pub chosen : State → List Branch → Bindings → Option Choice
-  chosen s [] e = None
-  chosen s (b ∷ bs) e =
-      chosen_or b.tasks (precondition_events (axioms_of rules) nest s b.pre e) (chosen s bs e)
+  -- the first branch whose precondition has any events
+  abbrev pub chosen_branch : State → List Branch → Bindings → Option (Branch × List Event)
+  chosen_branch s bs e = chosen (λ b. precondition_events (axioms_of rules) nest s b.pre e) bs
 
   abbrev pub method_children : Node → Place → Method → Option Bindings → List Child
   method_children n p m None = []
-  method_children n p m (Some e) = choice_children n p (chosen n.state m.branches e)
+  method_children n p m (Some e) = branch_children n p (chosen_branch n.state m.branches e)
 
   -- by a rule, where its head matches the task
   abbrev pub rule_children : Node → Place → Term → Rule → List Child
@@ -133,6 +121,24 @@ pub data Sight : Type 0 where
   CutHere : Sight
   FaultHere : (f : RunFault) → Sight
 
+abbrev pub is_did : Sight → Bool
+is_did Did = true
+is_did Plan = false
+is_did CutHere = false
+is_did (FaultHere f) = false
+
+abbrev pub is_plan : Sight → Bool
+is_plan Did = false
+is_plan Plan = true
+is_plan CutHere = false
+is_plan (FaultHere f) = false
+
+abbrev pub is_fault_here : Sight → Bool
+is_fault_here Did = false
+is_fault_here Plan = false
+is_fault_here CutHere = false
+is_fault_here (FaultHere f) = true
+
 -- a visit: the path from the root as numbers of Dids, the node that it reaches, and what is seen
 pub record Visit : Type 0 where
   pub path : List ℕ
@@ -149,9 +155,9 @@ number_after i CutChild = i
 number_after i (FaultChild f) = i
 
 -- the children with the numbers of the Dids, of which the first has this one
-abbrev pub numbered : ℕ → List Child → List (ℕ × Child)
-numbered i [] = []
-numbered i (c ∷ cs) = (i, c) ∷ numbered (number_after i c) cs
+abbrev pub numbered_children : ℕ → List Child → List (ℕ × Child)
+numbered_children i [] = []
+numbered_children i (c ∷ cs) = (i, c) ∷ numbered_children (number_after i c) cs
 
 -- what is seen by a child of a node, and below it
 abbrev pub child_visits : (Node → List ℕ → List Visit) → Node → List ℕ → ℕ × Child → List Visit
@@ -165,21 +171,14 @@ unfoldable pub visits_within : List Rule → ℕ → ℕ → Node → List ℕ �
 visits_within rules nest zero n p = visit p n (cond (is_empty n.network) Plan CutHere) ∷ []
 visits_within rules nest (suc d) n p =
     cond (is_empty n.network) (visit p n Plan ∷ [])
-    (flat_map (child_visits (visits_within rules nest d) n p) (numbered 0 (children rules nest n)))
+    (flat_map (child_visits (visits_within rules nest d) n p) (numbered_children 0 (children rules nest n)))
 
 unfoldable pub visits : List Rule → ℕ → Node → List ℕ → List Visit
 visits rules nest n p = visits_within rules nest n.depth n p
 
 -- a list of visits is heard up to and including its first fault
 abbrev pub heard_visits : List Visit → List Visit
-heard_visits [] = []
-heard_visits (v ∷ vs) =
-    elim v.sight [
-      | FaultHere f ↦ v ∷ []
-      | Did ↦ v ∷ heard_visits vs
-      | Plan ↦ v ∷ heard_visits vs
-      | CutHere ↦ v ∷ heard_visits vs
-    ]
+heard_visits vs = up_to (λ v. is_fault_here v.sight) vs
 
 -- the root of a pair at a depth
 unfoldable pub root : Pair → ℕ → Node

@@ -21,8 +21,14 @@ pub const DEEPEST_TERM: usize = 64;
 /// The most plans that may be asked for.
 pub const MOST_PLANS: u64 = 1_000_000_000;
 
-/// The greatest depth that may be asked for.
+/// The greatest depth of plans that may be asked for.
 pub const GREATEST_DEPTH: u32 = 1_000;
+
+/// The greatest depth to which a tree may be walked by the engine that copies.
+pub const DEEPEST_WALK: u32 = 1_000;
+
+/// The depth to which a problem that is made is walked.
+pub const MADE_DEPTH: u32 = 1_000;
 
 /// How deep axioms may call one another, as it may be asked at most.
 pub const MOST_LEVELS: u32 = 128;

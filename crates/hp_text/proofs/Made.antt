@@ -12,7 +12,7 @@ use Rattle.hp_text.specs.declared.forest.Node.{Node}
 use Rattle.hp_text.specs.declared.forest.NodeKind.TheVariants as kinds
 use Rattle.hp_text.specs.Nodes.{node_of, nodes_of}
 use Rattle.hp_text.specs.NodeLaws.{node_of-name, node_of-number, node_of-list}
-use Rattle.hp_text.specs.Places.{IsBetween, IsNodeAt, IsRead}
+use Rattle.hp_text.specs.Places.{IsBetween, IsNodeAt, AreRead}
 use Rattle.hp_text.proofs.PlaceLemmas.{between_brackets}
 use Rattle.hp_text.proofs.Runs.{read_more, read_spelled}
 
@@ -59,7 +59,7 @@ number_at text from to n z begins ends kind token place spells =
 -- a list with the span of its brackets
 pub list_at : (text : List ℕ) (from end : ℕ) (n : Node) (nodes : Vec Node Global) → n.span.from ≡ from
     → n.span.to ≡ end + 1 → n.kind ≡ kinds.List nodes → end < length text → kind_at text from ≡ Opening
-    → kind_at text end ≡ Closing → IsRead text (from + 1) end (map node_of nodes.items) → IsNodeAt text from n
+    → kind_at text end ≡ Closing → AreRead text (from + 1) end (map node_of nodes.items) → IsNodeAt text from n
 list_at text from end n nodes begins ends kind within opens closes r =
     let e : node_of n ≡ plain.Group n.span (nodes_of nodes.items) = node_of-list n nodes kind in
     let order : from + 1 ≤ end = r.order in
@@ -80,8 +80,8 @@ list_at text from end n nodes begins ends kind within opens closes r =
 
 -- a node that is pushed, and the gap behind it
 pub read_pushed : (text : List ℕ) (from at' to : ℕ) (ns more : List Node) (n : Node) → more ≡ ns ++ n ∷ []
-    → IsRead text from at' (map node_of ns) → IsNodeAt text at' n → IsGap text n.span.to to
-    → IsRead text from to (map node_of more)
+    → AreRead text from at' (map node_of ns) → IsNodeAt text at' n → IsGap text n.span.to to
+    → AreRead text from to (map node_of more)
 read_pushed text from at' to ns more n e r h gap =
     let s : span_of (node_of n) ≡ n.span = sym h.span in
     let begins : (span_of (node_of n)).from ≡ at' = rw s h.begins in

@@ -5,7 +5,7 @@ use Rattle.hp_syntax.specs.Refusal.{open_before, IsClear}
 use Rattle.hp_syntax.specs.Forest.{Node, Forest, Bare, Grow, span_of, Spells, SpellsNode, IsForest}
 use Rattle.hp_syntax.proofs.TextLemmas.{level_over_gap}
 use Rattle.hp_text.specs.Nodes.{grown}
-use Rattle.hp_text.specs.Places.{IsRead, joined}
+use Rattle.hp_text.specs.Places.{AreRead, joined}
 use Rattle.hp_text.proofs.PlaceLemmas.{gap_none, gap_gap}
 
 -- a gap before a forest is part of what spells it
@@ -24,7 +24,7 @@ joined_bare [] = refl
 joined_bare (m ∷ ns) = ap (Grow m) (joined_bare ns)
 
 -- nothing is read over a gap
-pub read_none : (text : List ℕ) (from to : ℕ) → IsGap text from to → IsRead text from to []
+pub read_none : (text : List ℕ) (from to : ℕ) → IsGap text from to → AreRead text from to []
 read_none text from to g = record {
   order = g.order;
   spelled = λ end f s. gap_then text from to end f g s;
@@ -32,10 +32,10 @@ read_none text from to g = record {
 }
 
 -- one more node is read, and the gap behind it
-pub read_more : (text : List ℕ) (from at' to : ℕ) (ns : List Node) (n : Node) → IsRead text from at' ns
+pub read_more : (text : List ℕ) (from at' to : ℕ) (ns : List Node) (n : Node) → AreRead text from at' ns
     → (span_of n).from ≡ at' → at' ≤ (span_of n).to → SpellsNode text n
     → open_before text (span_of n).to ≡ open_before text at' → IsGap text (span_of n).to to
-    → IsRead text from to (ns ++ n ∷ [])
+    → AreRead text from to (ns ++ n ∷ [])
 read_more text from at' to ns n r begins ends spelled same gap = record {
   order = let o : from ≤ at' = r.order in let q : (span_of n).to ≤ to = gap.order in omega arith;
   spelled =
@@ -46,11 +46,11 @@ read_more text from at' to ns n r begins ends spelled same gap = record {
 }
 
 -- what was read is spelled up to there
-pub read_spelled : (text : List ℕ) (from to : ℕ) (ns : List Node) → IsRead text from to ns
+pub read_spelled : (text : List ℕ) (from to : ℕ) (ns : List Node) → AreRead text from to ns
     → Spells text from to (grown ns)
 read_spelled text from to ns r = rw (← joined_bare ns) (r.spelled to Bare (gap_none text to to refl))
 
 -- a whole text that was read
 pub read_whole : (text : List ℕ) (to : ℕ) (ns : List Node) → IsClear text (length text + 1) → to ≡ length text
-    → IsRead text 0 to ns → IsForest text (grown ns)
+    → AreRead text 0 to ns → IsForest text (grown ns)
 read_whole text to ns c e r = record { spelled = rw (← e) (read_spelled text 0 to ns r); clear = c }

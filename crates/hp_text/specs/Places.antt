@@ -34,7 +34,7 @@ joined [] g = g
 joined (n ∷ ns) g = plain.Grow n (joined ns g)
 
 -- nodes that were read between two places: any forest that is spelled from there on goes on with them
-pub record IsRead (text : List ℕ) (from to : ℕ) (ns : List plain.Node) : Type 0 where
+pub record AreRead (text : List ℕ) (from to : ℕ) (ns : List plain.Node) : Type 0 where
   pub order : from ≤ to
   pub spelled : (end : ℕ) (g : plain.Forest) → Spells text to end g → Spells text from end (joined ns g)
   pub brackets : open_before text to ≡ open_before text from

@@ -7,7 +7,7 @@ ghost use Rattle.hp_syntax.specs.Refusal.{Refusal, IsClear, IsRefused};
 ghost use Rattle.hp_syntax.specs.Text.{Opening, Closing, NameByte, IsOutside, kind_at};
 ghost use Rattle.hp_text.specs.Refusals.{RefusesText};
 ghost use Rattle.hp_text.specs.Nodes.{node_of, forest_of};
-ghost use Rattle.hp_text.specs.Places.{IsBetween, IsStop, IsNodeAt, IsRead};
+ghost use Rattle.hp_text.specs.Places.{IsBetween, IsStop, IsNodeAt, AreRead};
 
 use crate::forest::{Forest, Node, NodeKind, TextRefusal};
 use crate::gap::{skip_gap, token_end};
@@ -18,7 +18,7 @@ use std::alloc::{AllocError, Global};
 
 /// The nodes up to a closing bracket or the end of the text, and where that is.
 #[derive(Drop)]
-struct Run {
+struct NodesTo {
     nodes: Vec<Node>,
     end: usize,
 }
@@ -60,10 +60,10 @@ fn nodes(
     bytes: &[u8],
     from: usize,
     pending: &mut Vec<Node>,
-) -> Result<Run, AllocError>
+) -> Result<NodesTo, AllocError>
     requires clear { IsClear bytes.now (length bytes.now + 1) }
     requires place { IsBetween bytes.now from }
-    ensures read { IfOk result (λ r. IsRead bytes.now from r.end (map node_of r.nodes.items)) }
+    ensures read { IfOk result (λ r. AreRead bytes.now from r.end (map node_of r.nodes.items)) }
     ensures stop { IfOk result (λ r. IsStop bytes.now r.end) }
     ensures closing { IfOk result (λ r. r.end < length bytes.now → kind_at bytes.now r.end ≡ Closing) }
     ensures pending { IfOk result (λ _. pending.new.items ≡ pending.old.items) }
@@ -76,7 +76,7 @@ fn nodes(
         pending.push(next)?;
     }
     let nodes = pending.split_off(others)?;
-    Ok(Run { nodes, end })
+    Ok(NodesTo { nodes, end })
 }
 
 // The node that begins at a place.

@@ -3,7 +3,7 @@ use Rattle.std.specs.Int.{w64}
 use Rattle.std.proofs.lemmas.Int.{to_z-of_z}
 use Rattle.std.proofs.lemmas.Result.{err_from_is_err_and}
 use Rattle.hp_syntax.specs.Calls as plain
-use Rattle.hp_eval.specs.CallRows.{step_of, numbered}
+use Rattle.hp_eval.specs.CallRows.{step_of, as_number}
 use Rattle.hp_eval.proofs.CallLemmas.{turned_on, turned_off}
 use Rattle.hp_eval.proofs.arithmetic.in_turn.Goals as goal
 
@@ -25,8 +25,8 @@ returns-in_err-total c =
     let n = get_or c.args.rest.now c.loop-n.n-index (pos 0) in
     let n-fits : FitsSigned w64 n = search rules in
     let p = err_from_is_err_and c.from_residual.result c.from_residual.ensures.1 in
-    ap numbered p.1
-    ∙ (ap (λ e. numbered (Err e)) p.2
+    ap as_number p.1
+    ∙ (ap (λ e. as_number (Err e)) p.2
     ∙ (turned_off f c.args.span c.args.rest.now c.loop-n.n-index (to_z w64 c.loop-n.total-bits) (to_z w64 (of_z w64 n))
     c.loop-n-test.true (to_z-of_z w64 n n-fits) c.in_err-total.field-0.0
     (c.in_err-total.ensures _ c.checked_step.ensures)

@@ -1,7 +1,7 @@
 use Rattle.std.proofs.Common.{◌≡◌, List, length, ◌-◌, ◌+◌, ◌*◌, ◌≤◌, ◌++◌, map}
 use Rattle.hp_text.specs.declared.forest.Node.{Node}
 use Rattle.hp_text.specs.Nodes.{node_of}
-use Rattle.hp_text.specs.Places.{IsStop, IsRead}
+use Rattle.hp_text.specs.Places.{IsStop, AreRead}
 use Rattle.hp_text.proofs.reader.+read.Given as goal
 
 -- each list begins behind its opening bracket, and each function calls the next
@@ -21,7 +21,7 @@ invariant-nodes-loop-end l = record {
   count : l.others ≡ length l.initial.pending.items;
   gathered :
       (own : List Node) × ((l.pending.items ≡ l.initial.pending.items ++ own)
-      × IsRead l.bytes l.from l.end (map node_of own));
+      × AreRead l.bytes l.from l.end (map node_of own));
 }
 
 abbrev pub decreases-nodes-loop-end : goal.decreases-nodes-loop-end

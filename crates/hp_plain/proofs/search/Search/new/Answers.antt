@@ -2,7 +2,7 @@ use Rattle.std.proofs.Common.{sym, subst, refl, false}
 use Rattle.std.specs.List.{All}
 use Rattle.hp_syntax.specs.Views.{domain_of}
 use Rattle.hp_plain.specs.declared.search.Search.{Search}
-use Rattle.hp_plain.specs.Searches.{Begins}
+use Rattle.hp_plain.specs.Searches.{BeginsAt}
 use Rattle.hp_plain.specs.Spots.{node_of, HasFew}
 use Rattle.hp_plain.proofs.SearchLemmas.{search_begins, few_axioms}
 use Rattle.hp_plain.proofs.search.Search.new.Goals as goal
@@ -25,7 +25,7 @@ returns c =
       at_did = false;
       over = false;
     } in
-    subst (λ d. Begins (domain_of d).rules c.args.nest (node_of c.args.cells c.args.spot) s) same
+    subst (λ d. BeginsAt (domain_of d).rules c.args.nest (node_of c.args.cells c.args.spot) s) same
     (search_begins s c.args.spot c.requires.spot (c.in_ok-top.ensures c.args.cells c.requires.spot)
     (subst (λ d. All HasFew (domain_of d).rules) (sym same) c.requires.few) c.new-4.ensures.items c.new-3.ensures.items
     refl refl)
