@@ -11,7 +11,7 @@ use Rattle.hp_out.specs.declared.refusal.Refusal.{Refusal}
 use Rattle.hp_out.specs.declared.refusal.Refusal.TheVariants as refusals
 use Rattle.hp_out.proofs.FrontLemmas.{whole_front, front_longer}
 use Rattle.hp_syntax.specs.declared.check.CheckFault.{CheckFault}
-use Rattle.hp_syntax.specs.declared.limits.TheConstants.{GREATEST_DEPTH, USUAL_LEVELS}
+use Rattle.hp_syntax.specs.declared.limits.TheConstants.{MADE_DEPTH, USUAL_LEVELS}
 use Rattle.hp_syntax.specs.declared.status.Status.{Status}
 use Rattle.hp_syntax.specs.declared.status.Status.TheVariants as status
 use Rattle.hp_syntax.specs.Grammar.{domain_form, problem_form}
@@ -276,7 +276,7 @@ job_answers : (j : Job) (d : Domain) (p : Problem) → IsAnswer (job_answer j d 
 job_answers (Planning k n o) d p = plan_answers k o.states (walk_of_pairs d.rules o.levels p.pairs n)
 job_answers Checking d p = tt
 job_answers Showing d p = tt
-job_answers (Summing seed n) d p = report_answers line_of 1 (walk_of_pairs d.rules USUAL_LEVELS p.pairs GREATEST_DEPTH)
+job_answers (Summing seed n) d p = report_answers line_of 1 (walk_of_pairs d.rules USUAL_LEVELS p.pairs MADE_DEPTH)
 
 checks_answer : (f : Option CheckFault) (a : Answer) → IsAnswer a.1 → IsAnswer (unless_faulty f a).1
 checks_answer (Some f) a h = refused_answers (text_of f.in_problem)

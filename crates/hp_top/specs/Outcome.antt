@@ -7,7 +7,7 @@ use Rattle.hp_out.specs.RefusalTexts.{refusal_text}
 use Rattle.hp_out.specs.declared.refusal.Refusal.{Refusal}
 use Rattle.hp_out.specs.declared.refusal.Refusal.TheVariants as refusals
 use Rattle.hp_syntax.specs.declared.check.CheckFault.{CheckFault}
-use Rattle.hp_syntax.specs.declared.limits.TheConstants.{GREATEST_DEPTH, USUAL_LEVELS}
+use Rattle.hp_syntax.specs.declared.limits.TheConstants.{MADE_DEPTH, USUAL_LEVELS}
 use Rattle.hp_syntax.specs.declared.status.Status.{Status}
 use Rattle.hp_syntax.specs.declared.status.Status.TheVariants as status
 use Rattle.hp_syntax.specs.declared.status.Status.TheVariants.{Done, DomainRefused, ProblemRefused}
@@ -87,7 +87,7 @@ job_answer (Planning k n o) d p = plan_answer k n o d p
 job_answer Checking d p = (check_text d p, Done)
 job_answer Showing d p = (domain_text d ++ problem_text p, Done)
 job_answer (Summing seed packages) d p =
-    made_answer seed packages p (walk_of_pairs d.rules USUAL_LEVELS p.pairs GREATEST_DEPTH)
+    made_answer seed packages p (walk_of_pairs d.rules USUAL_LEVELS p.pairs MADE_DEPTH)
 
 -- the first fault that the checks find, or else this
 abbrev pub unless_faulty : Option CheckFault → Answer → Answer

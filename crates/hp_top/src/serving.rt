@@ -31,7 +31,7 @@ use hp_ready::laws::{
     accepted_pairs_are_ground, checked_rules_have_few_variables, problems_have_one_pair,
 };
 use hp_syntax::Status;
-use hp_syntax::limits::{GREATEST_DEPTH, USUAL_LEVELS};
+use hp_syntax::limits::{DEEPEST_WALK, MADE_DEPTH, USUAL_LEVELS};
 use std::alloc::{AllocError, Global};
 
 /// The status of a run whose text was told, or whose telling stopped.
@@ -54,7 +54,7 @@ fn walk_of(
 ) -> Result<PlainWalk<'_>, AllocError>
     requires text { HasText problem_form (problem_of loaded.now.problem) }
     requires checked { first_fault (domain_of loaded.now.domain) (problem_of loaded.now.problem) ≡ None }
-    requires depth { depth ≤ GREATEST_DEPTH }
+    requires depth { depth ≤ DEEPEST_WALK }
     ensures live { IfOk result (λ w. w.live ≡ true) }
     ensures at { IfOk result (λ w. All (IsAtItsNode (tree_walked w)) (stands_walked w).rest) }
     ensures walk { IfOk result (λ w. heard_visits (stands_walked w).rest
@@ -113,7 +113,7 @@ fn serve_sum<K: Sink>(
         (sink_run (K.faults out.old) (K.faults out.new) (K.bytes out.old) (K.bytes out.new)) }
     ensures later { K.faults out.old ≤ K.faults out.new }
 {
-    let Ok(mut walk) = walk_of(alloc, loaded, GREATEST_DEPTH, USUAL_LEVELS) else {
+    let Ok(mut walk) = walk_of(alloc, loaded, MADE_DEPTH, USUAL_LEVELS) else {
         return Status::NoMemory;
     };
     status_told(sum_up(alloc, seed, packages, &loaded.problem, &mut walk, out))
