@@ -19,7 +19,7 @@ use hp_plain::PlainWalk;
 use hp_ready::laws::{
     accepted_pairs_are_ground, checked_rules_have_few_variables, problems_have_one_pair,
 };
-use hp_syntax::limits::USUAL_LEVELS;
+use hp_syntax::limits::{DEEPEST_WALK, USUAL_LEVELS};
 use hp_syntax::{Domain, Problem};
 use hp_text::{TextRefusal, read};
 use std::alloc::{AllocError, Global};
@@ -77,7 +77,7 @@ pub fn walk<'a>(
 ) -> Result<PlainWalk<'a>, AllocError>
     requires text { HasText problem_form (problem_of problem.now) }
     requires checked { first_fault (domain_of domain.now) (problem_of problem.now) ≡ None }
-    requires depth { depth ≤ 1000 }
+    requires depth { depth ≤ DEEPEST_WALK }
     ensures tree { (p : Pair) → (problem_of problem.now).pairs ≡ p ∷ [] → IfOk result (λ w. tree_walked w ≡ record {
       rules = (domain_of domain.now).rules;
       nest = USUAL_LEVELS;
