@@ -2,16 +2,16 @@
 use Rattle.std.proofs.Common.{◌≡◌, ℕ, ◌-◌, ◌<◌, ℤ, Bool, List, [], ◌∷◌, ◌++◌, length, Option, Some, None, Result, Ok, Err, refl, sym, ◌∙◌, ap, ap₂, subst, ◌⊎◌, inl, inr}
 use Rattle.std.specs.Prelude.{◌+ℤ◌, Contains, slice_get, flat_map}
 use Rattle.hp_syntax.specs.declared.fault.RunFault.{RunFault}
-use Rattle.hp_syntax.specs.Syntax.{Operator, Rule, Does, Refines, Concludes}
+use Rattle.hp_syntax.specs.Syntax.{Operator, Branch, Rule, Does, Refines, Concludes}
 use Rattle.hp_syntax.specs.Terms.{Term}
 use Rattle.hp_syntax.specs.Values.{Bindings, unbound}
 use Rattle.hp_syntax.specs.Matching.{match_atom}
 use Rattle.hp_syntax.specs.Events.{Event, Sat, Cut, Fault, State, axioms_of}
 use Rattle.hp_syntax.specs.Preconditions.{precondition_events}
 use Rattle.hp_syntax.specs.Networks.{Network, Empty, Task, Ordered, Unordered, Place, tasks_value, normal, part_at, candidates, finish, expand}
-use Rattle.hp_syntax.specs.Changes.{Changes, Applied, Going, Went, Stops, apply, effects}
+use Rattle.hp_syntax.specs.Changes.{Changes, Applied, Going, Went, CutShort, Failed, apply, effects}
 use Rattle.hp_syntax.specs.Applying.{Now, Guarded}
-use Rattle.hp_syntax.specs.Walk.{Node, Child, DidChild, CutChild, FaultChild, child_of, operated, after_effects, decomposed, Choice, choice_children, operator_children, chosen, method_children, rule_children, task_children, children}
+use Rattle.hp_syntax.specs.Walk.{Node, Child, DidChild, CutChild, FaultChild, child_of, operated, after_effects, decomposed, branch_children, operator_children, chosen_branch, method_children, rule_children, task_children, children}
 use Rattle.hp_laws.specs.Derivations.{situation, situation_at, Choosing, IsNext, node_in, Leads, ByStep, BySubtasks, IsEarlier}
 use Rattle.hp_laws.proofs.Listings.{Listing, Joined, IsOther, restated, no_listing, one_listing, option_listing, join_listing, map_has, has_mapped}
 
@@ -97,10 +97,9 @@ module _ (n : Node) (p : Place) where
 
   -- so does what stops it or lets it go
   of_going : (t : Term) (r : Going (Changes × ℤ)) → Listing IsOther (λ l m. OfGoing t r m) (after_effects n p t r)
-  of_going t (Stops x) =
-      restated IsOther (OfEvent (λ b m. ⊥) x) (λ l m. OfGoing t (Stops x) m) (child_of (λ e. []) x)
-      (λ l m (b, q, h). absurd h) (λ l m (y, q, h). absurd cc)
-      (of_event (λ b m. ⊥) (λ e. []) (λ b. no_listing IsOther (λ l m. ⊥) (λ l m h. h)) x)
+  of_going t CutShort = one_listing (λ m. OfGoing t CutShort m) CutChild (λ m e. absurd cc) (λ m (x, q, h). absurd cc)
+  of_going t (Failed f) =
+      one_listing (λ m. OfGoing t (Failed f) m) (FaultChild f) (λ m e. absurd cc) (λ m (x, q, h). absurd cc)
   of_going t (Went x) =
       restated IsOther (λ l m. OfApplied t x.1 (apply n.state n.guards x.0) m) (λ l m. OfGoing t (Went x) m)
       (operated n p t x.1 (apply n.state n.guards x.0)) (λ l m h. (x, refl, h))
@@ -120,19 +119,19 @@ module _ (n : Node) (p : Place) where
       (λ m (sub, q, h). let w : x ≡ sub = cc in ap (λ y. DidChild (after_method n p y)) w ∙ ap DidChild (sym h))
 
   -- the node after the tasks of a branch, by an event of it
-  abbrev OfBranch : Choice → ℕ → Node → Type 0
-  OfBranch c = OfEvents (λ b m. OfValue (tasks_value c.tasks b) m) c.events
+  abbrev OfBranch : Branch × List Event → ℕ → Node → Type 0
+  OfBranch c = OfEvents (λ b m. OfValue (tasks_value c.0.tasks b) m) c.1
 
   -- the node after the tasks of a branch that was chosen
-  abbrev OfChoice : Option Choice → ℕ → Node → Type 0
-  OfChoice o k m = (c : Choice) × (o ≡ Some c) × OfBranch c k m
+  abbrev OfChosen : Option (Branch × List Event) → ℕ → Node → Type 0
+  OfChosen o k m = (c : Branch × List Event) × (o ≡ Some c) × OfBranch c k m
 
   -- the branch that was chosen gives such nodes, by the number of the event
-  of_choice : (o : Option Choice) → Listing (λ i j. i < j) (OfChoice o) (choice_children n p o)
-  of_choice =
-      option_listing (λ i j. i < j) OfBranch (choice_children n p) refl
-      (λ c. of_events (λ b m. OfValue (tasks_value c.tasks b) m) (λ b. decomposed n p (tasks_value c.tasks b))
-      (λ b. of_value (tasks_value c.tasks b)) c.events)
+  of_chosen : (o : Option (Branch × List Event)) → Listing (λ i j. i < j) (OfChosen o) (branch_children n p o)
+  of_chosen =
+      option_listing (λ i j. i < j) OfBranch (branch_children n p) refl
+      (λ c. of_events (λ b m. OfValue (tasks_value c.0.tasks b) m) (λ b. decomposed n p (tasks_value c.0.tasks b))
+      (λ b. of_value (tasks_value c.0.tasks b)) c.1)
 
   module _ (rules : List Rule) (nest : ℕ) where
     -- the node after an operator whose head matched, by an event of its precondition
@@ -147,7 +146,7 @@ module _ (n : Node) (p : Place) where
         (e : Bindings) × (match_atom o.head t (unbound (length o.vars)) ≡ Some e) × OfMatched t o e k m
     OfRule t (Refines w) k m =
         (e : Bindings) × (match_atom w.head t (unbound (length w.vars)) ≡ Some e)
-        × OfChoice (chosen rules nest n.state w.branches e) k m
+        × OfChosen (chosen_branch rules nest n.state w.branches e) k m
     OfRule t (Concludes x) k m = ⊥
 
     -- a rule gives such nodes, by the number of the event
@@ -160,8 +159,8 @@ module _ (n : Node) (p : Place) where
         (precondition_events (axioms_of rules) nest n.state o.pre e))
         (match_atom o.head t (unbound (length o.vars)))
     of_rule t (Refines w) =
-        option_listing (λ i j. i < j) (λ e. OfChoice (chosen rules nest n.state w.branches e))
-        (method_children rules nest n p w) refl (λ e. of_choice (chosen rules nest n.state w.branches e))
+        option_listing (λ i j. i < j) (λ e. OfChosen (chosen_branch rules nest n.state w.branches e))
+        (method_children rules nest n p w) refl (λ e. of_chosen (chosen_branch rules nest n.state w.branches e))
         (match_atom w.head t (unbound (length w.vars)))
     of_rule t (Concludes x) = no_listing (λ i j. i < j) (OfRule t (Concludes x)) (λ k m h. h)
 

@@ -4,16 +4,16 @@ use Rattle.std.specs.Prelude.{Contains, ℤ, flat_map}
 use Rattle.std.specs.List.{All}
 use Rattle.std.proofs.lemmas.List.Elements.{All-map, All-contains}
 use Rattle.hp_syntax.specs.declared.fault.RunFault.{RunFault}
-use Rattle.hp_syntax.specs.Syntax.{Operator, Method, Rule, Does, Refines, Concludes}
+use Rattle.hp_syntax.specs.Syntax.{Operator, Branch, Method, Rule, Does, Refines, Concludes}
 use Rattle.hp_syntax.specs.Terms.{Term}
 use Rattle.hp_syntax.specs.Values.{Bindings, unbound}
 use Rattle.hp_syntax.specs.Matching.{match_atom}
 use Rattle.hp_syntax.specs.Events.{Event, Sat, Cut, Fault, axioms_of}
 use Rattle.hp_syntax.specs.Preconditions.{precondition_events}
 use Rattle.hp_syntax.specs.Networks.{Network, Empty, Task, Ordered, Unordered, Place, part_at, candidates, tasks_value}
-use Rattle.hp_syntax.specs.Changes.{Changes, Applied, Going, Went, Stops, apply, effects}
+use Rattle.hp_syntax.specs.Changes.{Changes, Applied, Going, Went, CutShort, Failed, apply, effects}
 use Rattle.hp_syntax.specs.Applying.{Now, Guarded}
-use Rattle.hp_syntax.specs.Walk.{Node, Child, DidChild, CutChild, FaultChild, child_of, operated, after_effects, decomposed, Choice, choice_children, operator_children, chosen, method_children, rule_children, task_children, children, number_after, numbered_children}
+use Rattle.hp_syntax.specs.Walk.{Node, Child, DidChild, CutChild, FaultChild, child_of, operated, after_effects, decomposed, branch_children, operator_children, chosen_branch, method_children, rule_children, task_children, children, number_after, numbered_children}
 use Rattle.hp_laws.proofs.JoinLemmas.{all_from, map_join, join_same, contains_first, contains_later, contains_cases, contains_none}
 
 -- a node, or a child, that has another depth
@@ -47,9 +47,8 @@ module _ (k : ℕ) (n : Node) where
 
   effects_at_depth : (p : Place) (t : Term) (g : Going (Changes × ℤ))
       → after_effects (at_depth k n) p t g ≡ map (child_at_depth (k - 1)) (after_effects n p t g)
-  effects_at_depth p t (Stops (Sat e)) = refl
-  effects_at_depth p t (Stops Cut) = refl
-  effects_at_depth p t (Stops (Fault x)) = refl
+  effects_at_depth p t CutShort = refl
+  effects_at_depth p t (Failed f) = refl
   effects_at_depth p t (Went r) = applied_at_depth p t r.1 (apply n.state n.guards r.0)
 
   -- so is the child after a method
@@ -58,12 +57,12 @@ module _ (k : ℕ) (n : Node) where
   subtasks_at_depth p (Ok sub) = refl
   subtasks_at_depth p (Err f) = refl
 
-  choice_at_depth : (p : Place) (o : Option Choice)
-      → choice_children (at_depth k n) p o ≡ map (child_at_depth (k - 1)) (choice_children n p o)
-  choice_at_depth p None = refl
-  choice_at_depth p (Some c) =
-      events_at_depth (k - 1) (λ b. decomposed (at_depth k n) p (tasks_value c.tasks b))
-      (λ b. decomposed n p (tasks_value c.tasks b)) (λ b. subtasks_at_depth p (tasks_value c.tasks b)) c.events
+  branch_at_depth : (p : Place) (o : Option (Branch × List Event))
+      → branch_children (at_depth k n) p o ≡ map (child_at_depth (k - 1)) (branch_children n p o)
+  branch_at_depth p None = refl
+  branch_at_depth p (Some c) =
+      events_at_depth (k - 1) (λ b. decomposed (at_depth k n) p (tasks_value c.0.tasks b))
+      (λ b. decomposed n p (tasks_value c.0.tasks b)) (λ b. subtasks_at_depth p (tasks_value c.0.tasks b)) c.1
 
   module _ (rules : List Rule) (nest : ℕ) where
     -- the children by a rule of a node of another depth are its children, of one decomposition less
@@ -81,7 +80,7 @@ module _ (k : ℕ) (n : Node) where
         → method_children rules nest (at_depth k n) p m e
         ≡ map (child_at_depth (k - 1)) (method_children rules nest n p m e)
     method_at_depth p m None = refl
-    method_at_depth p m (Some e) = choice_at_depth p (chosen rules nest n.state m.branches e)
+    method_at_depth p m (Some e) = branch_at_depth p (chosen_branch rules nest n.state m.branches e)
 
     rule_at_depth : (p : Place) (t : Term) (r : Rule)
         → rule_children rules nest (at_depth k n) p t r

@@ -9,11 +9,12 @@ use Rattle.std.proofs.lemmas.List.Elements.{All-cons, All-weaker}
 use Rattle.hp_syntax.specs.Syntax.{Rule, Pair}
 use Rattle.hp_syntax.specs.Terms.{Term}
 use Rattle.hp_syntax.specs.Networks.{Network, Empty, Task, Ordered, Unordered, is_empty}
-use Rattle.hp_syntax.specs.Walk.{Node, Child, DidChild, CutChild, FaultChild, children, Sight, Did, Plan, CutHere, FaultHere, Visit, visit, numbered_children, child_visits, visits_within, visits, root, walk}
+use Rattle.hp_syntax.specs.Walk.{Node, Child, DidChild, CutChild, FaultChild, children, Sight, Did, Plan, CutHere, FaultHere, Visit, visit, numbered_children, child_visits, visits_within, visits, is_fault_here, root, walk}
 use Rattle.hp_laws.specs.Derivations.{Choosing, Performs, Decomposes, Derives, Nothing, ByOperator, ByMethod, Leads, ByStep, BySubtasks, situation_at, first_situation}
 use Rattle.hp_laws.proofs.JoinLemmas.{all_one, all_join, all_from}
 use Rattle.hp_laws.proofs.DepthLemmas.{contained_child}
-use Rattle.hp_laws.proofs.VisitLemmas.{all_visits, all_visits_of_tree, heard_all}
+use Rattle.hp_laws.proofs.VisitLemmas.{all_visits, all_visits_of_tree}
+use Rattle.hp_laws.proofs.HearingLemmas.{all_up_to}
 use Rattle.hp_laws.proofs.ChildLemmas.{did_leads}
 
 -- ---- derivations
@@ -103,7 +104,7 @@ module _ (rules : List Rule) (nest : ℕ) where
   pub walk_is_derived : (pair : Pair) (depth : ℕ) → All (IsDerivedFrom pair) (walk rules nest pair depth)
   unfolding walk
   walk_is_derived pair depth =
-      heard_all (IsDerivedFrom pair) (visits rules nest (root pair depth) [])
+      all_up_to (λ v. is_fault_here v.sight) (IsDerivedFrom pair) (visits rules nest (root pair depth) [])
       (All-weaker (IsDerived (root pair depth) []) (IsDerivedFrom pair) (derived_from_root pair depth)
       (visits rules nest (root pair depth) []) (all_derived (root pair depth) []))
 
@@ -121,7 +122,8 @@ pub walk_depth : (rules : List Rule) (nest : ℕ) (pair : Pair) (depth : ℕ)
     → All (λ v. length v.path + v.node.depth ≡ depth) (walk rules nest pair depth)
 unfolding walk root
 walk_depth rules nest pair depth =
-    heard_all (λ v. length v.path + v.node.depth ≡ depth) (visits rules nest (root pair depth) [])
+    all_up_to (λ v. is_fault_here v.sight) (λ v. length v.path + v.node.depth ≡ depth)
+    (visits rules nest (root pair depth) [])
     (All-weaker (λ v. length v.path + v.node.depth ≡ 0 + depth) (λ v. length v.path + v.node.depth ≡ depth)
     (λ v h. omega arith) (visits rules nest (root pair depth) []) (depth_is_spent rules nest (root pair depth) []))
 
@@ -167,5 +169,5 @@ module _ (rules : List Rule) (nest : ℕ) where
       → All (λ v. v.sight ≡ Plan → v.node.network ≡ Empty) (walk rules nest pair depth)
   unfolding walk visits
   walk_is_finished pair depth =
-      heard_all IsFinished (visits rules nest (root pair depth) [])
+      all_up_to (λ v. is_fault_here v.sight) IsFinished (visits rules nest (root pair depth) [])
       (all_finished (root pair depth).depth (root pair depth) [])

@@ -7,13 +7,14 @@ use Rattle.std.proofs.lemmas.List.Elements.{All-weaker}
 use Rattle.hp_syntax.specs.Syntax.{Rule, Pair}
 use Rattle.hp_syntax.specs.Networks.{Network, Empty, Task, Place, is_empty, normal, part_at, with_part, finish, expand}
 use Rattle.hp_syntax.specs.GroundPatterns.{network_said}
-use Rattle.hp_syntax.specs.Walk.{Node, DidChild, children, numbered_children, root, visits, walk}
+use Rattle.hp_syntax.specs.Walk.{Node, DidChild, children, numbered_children, is_fault_here, root, visits, walk}
 use Rattle.hp_laws.specs.Derivations.{Choosing, Leads, ByStep, BySubtasks}
 use Rattle.hp_laws.specs.TreeLaws.{IsNormal}
 use Rattle.hp_laws.proofs.NetworkLemmas.{normal_in_form, form_from_normal, normal_from_form, normal-normal, part_at-with_part, with_part_in_form}
 use Rattle.hp_laws.proofs.ChildLemmas.{did_leads}
 use Rattle.hp_laws.proofs.DepthLemmas.{contained_child}
-use Rattle.hp_laws.proofs.VisitLemmas.{all_visits, heard_all}
+use Rattle.hp_laws.proofs.VisitLemmas.{all_visits}
+use Rattle.hp_laws.proofs.HearingLemmas.{all_up_to}
 
 -- a network and a focus in it, as they are left once a task is done or decomposed
 abbrev IsNormalPair : Network × Option Place → Type 0
@@ -79,5 +80,5 @@ module _ (rules : List Rule) (nest : ℕ) where
   pub walk_normal : (pair : Pair) (d : ℕ) → All (λ v. IsNormalAt v.node) (walk rules nest pair d)
   unfolding walk root
   walk_normal pair d =
-      heard_all (λ v. IsNormalAt v.node) (visits rules nest (root pair d) [])
+      all_up_to (λ v. is_fault_here v.sight) (λ v. IsNormalAt v.node) (visits rules nest (root pair d) [])
       (visits_normal (root pair d) [] (unfocused (network_said pair.tasks)))

@@ -2,7 +2,7 @@
 use Rattle.std.proofs.Common.{◌≡◌, ℕ, zero, suc, ◌<◌, ◌≤◌, cond, List, [], ◌∷◌, ◌++◌, refl, sym, ◌∙◌, subst₂, arith, append_assoc, inl, inr}
 use Rattle.std.specs.Prelude.{flat_map}
 use Rattle.std.specs.List.{All, AllPairs}
-use Rattle.std.proofs.lemmas.Bool.{cond_both}
+use Rattle.std.proofs.lemmas.Bool.{false≢true, cond_both}
 use Rattle.std.proofs.lemmas.List.{append-nil}
 use Rattle.std.proofs.lemmas.List.Elements.{All-nil, All-cons, All-weaker}
 use Rattle.std.proofs.lemmas.List.Kept.{AllPairs-cons}
@@ -34,8 +34,8 @@ numbers_from : (i : ℕ) (cs : List Child) → All (λ x. i ≤ x.0) (numbered_c
 numbers_from i [] = All-nil (λ x. i ≤ x.0)
 numbers_from i (c ∷ cs) =
     All-cons (λ x. i ≤ x.0) (i, c) (numbered_children (number_after i c) cs) (omega arith)
-    (All-weaker (λ x. number_after i c ≤ x.0) (λ x. i ≤ x.0) (λ x l. from c x.0 l) (numbered_children (number_after i c) cs)
-    (numbers_from (number_after i c) cs))
+    (All-weaker (λ x. number_after i c ≤ x.0) (λ x. i ≤ x.0) (λ x l. from c x.0 l)
+    (numbered_children (number_after i c) cs) (numbers_from (number_after i c) cs))
   where
     from : (c : Child) (j : ℕ) → number_after i c ≤ j → i ≤ j
     from (DidChild m) j l = omega arith
@@ -91,8 +91,9 @@ module _ (rules : List Rule) (nest : ℕ) where
       (All-weaker (Below (p ++ i ∷ [])) (OfNumber p (i, DidChild m))
       (λ v b h. (tt, (b.0, b.1 ∙ append_assoc p (i ∷ []) b.0))) (visits_within rules nest d m (p ++ i ∷ []))
       (visits_below d m (p ++ i ∷ [])))
-  of_number d n p i CutChild = all_one (OfNumber p (i, CutChild)) (visit p n CutHere) (λ h. absurd h)
-  of_number d n p i (FaultChild f) = all_one (OfNumber p (i, FaultChild f)) (visit p n (FaultHere f)) (λ h. absurd h)
+  of_number d n p i CutChild = all_one (OfNumber p (i, CutChild)) (visit p n CutHere) (λ h. absurd (false≢true h))
+  of_number d n p i (FaultChild f) =
+      all_one (OfNumber p (i, FaultChild f)) (visit p n (FaultHere f)) (λ h. absurd (false≢true h))
 
   -- the plan of a node without tasks stands behind the decomposition that reached it
   plan_behind : (n m : Node) (p : List ℕ) → InOrder (visit p n Did) (visit p m Plan)
@@ -104,7 +105,7 @@ module _ (rules : List Rule) (nest : ℕ) where
   behind zero k n p =
       all_one (InOrder (visit p k Did)) (visit p n (cond (is_empty n.network) Plan CutHere))
       (cond_both (is_empty n.network) Plan CutHere (λ s. InOrder (visit p k Did) (visit p n s))
-      (λ e. plan_behind k n p) (λ e f g. absurd g))
+      (λ e. plan_behind k n p) (λ e f g. absurd (false≢true g)))
   behind (suc d) k n p =
       cond_both (is_empty n.network) (visit p n Plan ∷ [])
       (flat_map (child_visits (visits_within rules nest d) n p) (numbered_children 0 (children rules nest n)))

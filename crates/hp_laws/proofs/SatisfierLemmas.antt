@@ -10,13 +10,14 @@ use Rattle.hp_syntax.specs.declared.pattern.Span.{Span}
 use Rattle.hp_syntax.specs.declared.fault.RunFault.{RunFault}
 use Rattle.hp_syntax.specs.Syntax.{Atom, Expression, Expressions, Holds, And, NoExpression, Also, Axiom}
 use Rattle.hp_syntax.specs.Terms.{Term, Terms, More, Symbol}
-use Rattle.hp_syntax.specs.Values.{Bindings, on_ok, list_of}
+use Rattle.hp_syntax.specs.Values.{Bindings, list_of}
 use Rattle.hp_syntax.specs.Goals.{Goal, Filling, ground_parts, goal_of, fill_parts, fill_goal, match_goal}
-use Rattle.hp_syntax.specs.Events.{Event, Sat, Fault, State, in_place, through, sat_if, state_events, axiom_events, goal_events, branch_events, events, events_of_all, sat}
+use Rattle.hp_syntax.specs.Events.{Event, Sat, Fault, State, Below, in_place, through, sat_if, state_events, axiom_events, goal_events, filled_events, atom_events, events, events_of_all, sat}
 use Rattle.hp_laws.specs.SatisfierLaws.{Matches, NoAtom, AtPlace, NamesNoneOf, AreAtoms, IsSat}
 use Rattle.hp_laws.specs.TreeLaws.{IsBefore}
+use Rattle.hp_laws.proofs.ResultLemmas.{on_ok_ok}
 use Rattle.hp_laws.proofs.Listings.{map_has, pairs_mapped}
-use Rattle.hp_laws.proofs.JoinLemmas.{pairs_weaker, all_one, all_from_contains, contains_first, join_none, join_same, join_join, all_from, one_pair, pairs_append}
+use Rattle.hp_laws.proofs.JoinLemmas.{pairs_weaker, all_one, all_left, all_right, contains_first, join_none, join_same, join_join, all_from, one_pair, pairs_append}
 
 -- ---- the selections of places
 
@@ -205,35 +206,19 @@ selections_are_matches s ps e places b = (
 
 -- ---- selections give the satisfiers
 
--- what goes on to a value has a value before
-went_on : {A B : Type 0} (r : Result A RunFault) (f : A → Result B RunFault) (y : B) → on_ok r f ≡ Ok y
-    → (x : A) × (f x ≡ Ok y)
-went_on (Ok x) f y e = (x, e)
-went_on (Err x) f y e = absurd cc
-
 -- a goal that isn't nested too deep has the name of its atom
 goal_named : (a : Atom) (f : Filling) (o : Option Terms) (q : Goal) → goal_of a f o ≡ Ok q → q.name ≡ a.name
 goal_named a f None q e = cc
 goal_named a f (Some ts) q e =
-    let w = went_on (list_of a.span (More (Symbol a.name) ts))
+    let w = on_ok_ok (list_of a.span (More (Symbol a.name) ts))
     (λ t. Ok (record { name = a.name; parts = f.0; tail = f.1 })) q e in
-    let h = w.1 in cc
+    let h = w.2 in cc
 
 -- a goal has the name of its atom
 pub filled_name : (a : Atom) (e : Bindings) (q : Goal) → fill_goal a e ≡ Ok q → q.name ≡ a.name
 filled_name a e q k =
-    let w = went_on (fill_parts a.args a.tail e) (λ f. goal_of a f (ground_parts f.0 f.1)) q k in
-    goal_named a w.0 (ground_parts w.0.0 w.0.1) q w.1
-
--- what holds of all elements of two lists holds of those of the first
-all_left : {X : Type 0} (P : X → Type 0) (xs ys : List X) → All P (xs ++ ys) → All P xs
-all_left P xs ys h =
-    all_from_contains P xs (λ x c. All-contains P (xs ++ ys) x h (Contains-append_left xs ys x c))
-
--- what holds of all elements of two lists holds of those of the second
-all_right : {X : Type 0} (P : X → Type 0) (xs ys : List X) → All P (xs ++ ys) → All P ys
-all_right P xs ys h =
-    all_from_contains P ys (λ y c. All-contains P (xs ++ ys) y h (Contains-append_right xs ys y c))
+    let w = on_ok_ok (fill_parts a.args a.tail e) (λ f. goal_of a f (ground_parts f.0 f.1)) q k in
+    goal_named a w.0 (ground_parts w.0.0 w.0.1) q w.2
 
 -- the events where an atom has matched, and none where it hasn't
 abbrev when_matched : (Bindings → List Event) → Option Bindings → List Event
@@ -275,9 +260,9 @@ module _ (k : Bindings → List Event) (f : Bindings → List Selection)
       ∙ ap₂ (λ xs ys. xs ++ ys) (below_sats i (match_goal q g e) (all_left IsSat here later a))
       (from_sats q e (suc i) gs (all_right IsSat here later a))
 
-module _ (s : State) (branches : Axiom → Bindings → List Event) where
+module _ (s : State) (below : Below) where
   -- an axiom whose head has another name adds nothing
-  other_axiom : (q : Goal) (e : Bindings) (x : Axiom) → x.head.name ≢ q.name → axiom_events branches q e x ≡ []
+  other_axiom : (q : Goal) (e : Bindings) (x : Axiom) → x.head.name ≢ q.name → axiom_events below x q e ≡ []
   other_axiom q e x h =
       let d : bytes_eq x.head.name q.name ≡ false =
       false_from_ne_true (bytes_eq x.head.name q.name)
@@ -287,12 +272,12 @@ module _ (s : State) (branches : Axiom → Bindings → List Event) where
   -- where all heads have other names, a goal is gone on with at each place of the state that it matches
   goal_gone_on : (axioms : List Axiom) (q : Goal) (e : Bindings) (k : Bindings → List Event)
       → All (λ x. x.head.name ≢ q.name) axioms
-      → through (goal_events s axioms branches e (Ok q)) k
+      → through (goal_events axioms below s q e) k
       ≡ flat_map (λ g. when_matched k (match_goal q g e)) s
   goal_gone_on axioms q e k h =
       ap (λ xs. flat_map (in_place k) (state_events s q e ++ xs))
-      (join_none (axiom_events branches q e) axioms
-      (All-weaker (λ x. x.head.name ≢ q.name) (λ x. axiom_events branches q e x ≡ []) (other_axiom q e) axioms h))
+      (join_none (λ x. axiom_events below x q e) axioms
+      (All-weaker (λ x. x.head.name ≢ q.name) (λ x. axiom_events below x q e ≡ []) (other_axiom q e) axioms h))
       ∙ ap (flat_map (in_place k)) (append-nil (state_events s q e))
       ∙ join_join (λ g. sat_if (match_goal q g e)) (in_place k) s
       ∙ join_same (λ g. flat_map (in_place k) (sat_if (match_goal q g e)))
@@ -304,38 +289,33 @@ module _ (s : State) (branches : Axiom → Bindings → List Event) where
       (h : (b : Bindings) → All IsSat (k b) → map sat_of (f b) ≡ k b) where
     -- the satisfiers for a goal are those of its selections
     goal_sats : (e : Bindings) (r : Result Goal RunFault) → fill_goal a e ≡ r
-        → All IsSat (through (goal_events s axioms branches e r) k)
-        → map sat_of (for_goal f s e r) ≡ through (goal_events s axioms branches e r) k
+        → All IsSat (through (filled_events axioms below s r e) k)
+        → map sat_of (for_goal f s e r) ≡ through (filled_events axioms below s r e) k
     goal_sats e (Err x) l t = absurd (All-head IsSat (Fault x) [] t)
     goal_sats e (Ok q) l t =
         let g = goal_gone_on axioms q e k
         (subst (λ n. All (λ x. x.head.name ≢ n) axioms) (sym (filled_name a e q l)) names) in
         from_sats k f h q e 0 s (subst (All IsSat) g t) ∙ sym g
 
-  module _ (axioms : List Axiom) where
-    -- the events of an atom, as the levels give those of the branches
-    abbrev AtomEvents : Atom → Bindings → List Event
-    AtomEvents a b = goal_events s axioms branches b (fill_goal a b)
-
-    -- the satisfiers of a conjunction are those of its selections, whatever the axioms' branches are
-    selections_sats : (ps : Expressions) (e : Bindings) → AreAtoms ps → All (λ x. NamesNoneOf x ps) axioms
-        → All IsSat (events_of_all AtomEvents ps e) → map sat_of (selections s ps e) ≡ events_of_all AtomEvents ps e
-    unfolding events
-    selections_sats NoExpression e h n t = refl
-    selections_sats (Also (Holds span a) ps) e h n t =
-        goal_sats axioms a (All-weaker (λ x. NamesNoneOf x (Also (Holds span a) ps)) (λ x. x.head.name ≢ a.name)
-        (λ x m. m.0) axioms n)
-        (events_of_all AtomEvents ps) (selections s ps)
-        (λ b u. selections_sats ps b h.1
-        (All-weaker (λ x. NamesNoneOf x (Also (Holds span a) ps)) (λ x. NamesNoneOf x ps) (λ x m. m.1) axioms n) u)
-        e (fill_goal a e) refl t
-    selections_sats (Also _ ps) e h n t = absurd h.0
+  -- the satisfiers of a conjunction are those of its selections, whatever is met one axiom level down
+  selections_sats : (axioms : List Axiom) (ps : Expressions) (e : Bindings) → AreAtoms ps
+      → All (λ x. NamesNoneOf x ps) axioms → All IsSat (events_of_all (atom_events axioms below s) ps e)
+      → map sat_of (selections s ps e) ≡ events_of_all (atom_events axioms below s) ps e
+  unfolding events
+  selections_sats axioms NoExpression e h n t = refl
+  selections_sats axioms (Also (Holds span a) ps) e h n t =
+      goal_sats axioms a (All-weaker (λ x. NamesNoneOf x (Also (Holds span a) ps)) (λ x. x.head.name ≢ a.name)
+      (λ x m. m.0) axioms n)
+      (events_of_all (atom_events axioms below s) ps) (selections s ps)
+      (λ b u. selections_sats axioms ps b h.1
+      (All-weaker (λ x. NamesNoneOf x (Also (Holds span a) ps)) (λ x. NamesNoneOf x ps) (λ x m. m.1) axioms n) u)
+      e (fill_goal a e) refl t
+  selections_sats axioms (Also _ ps) e h n t = absurd h.0
 
 -- the satisfiers of a conjunction of atoms that no axiom concludes are those of its selections
-pub sats_of_selections : (axioms : List Axiom) (s : State) (nest : ℕ) (span : Span) (ps : Expressions) (e : Bindings)
-    → AreAtoms ps → All (λ x. NamesNoneOf x ps) axioms → All IsSat (sat axioms s nest (And span ps) e)
-    → map sat_of (selections s ps e) ≡ sat axioms s nest (And span ps) e
+pub sats_of_selections : (axioms : List Axiom) (nest : ℕ) (s : State) (span : Span) (ps : Expressions) (e : Bindings)
+    → AreAtoms ps → All (λ x. NamesNoneOf x ps) axioms → All IsSat (sat axioms nest s (And span ps) e)
+    → map sat_of (selections s ps e) ≡ sat axioms nest s (And span ps) e
 unfolding sat events
-sats_of_selections axioms s zero span ps e h n t = selections_sats s (branch_events None) axioms ps e h n t
-sats_of_selections axioms s (suc m) span ps e h n t =
-    selections_sats s (branch_events (Some (sat axioms s m))) axioms ps e h n t
+sats_of_selections axioms zero s span ps e h n t = selections_sats s None axioms ps e h n t
+sats_of_selections axioms (suc m) s span ps e h n t = selections_sats s (Some (sat axioms m s)) axioms ps e h n t

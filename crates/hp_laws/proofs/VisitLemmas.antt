@@ -3,26 +3,12 @@ use Rattle.std.proofs.Common.{◌≡◌, ℕ, zero, suc, false, cond, List, [], 
 use Rattle.std.specs.Prelude.{Contains, flat_map}
 use Rattle.std.specs.List.{All}
 use Rattle.std.proofs.lemmas.Bool.{cond_both}
-use Rattle.std.proofs.lemmas.List.Elements.{All-cons, All-weaker, All-head, All-tail}
+use Rattle.std.proofs.lemmas.List.Elements.{All-cons, All-weaker}
 use Rattle.hp_syntax.specs.Syntax.{Rule}
 use Rattle.hp_syntax.specs.Networks.{is_empty}
-use Rattle.hp_syntax.specs.Walk.{Node, Child, DidChild, CutChild, FaultChild, children, Sight, Did, Plan, CutHere, FaultHere, Visit, visit, numbered_children, child_visits, visits_within, visits, heard_visits}
+use Rattle.hp_syntax.specs.Walk.{Node, Child, DidChild, CutChild, FaultChild, children, Sight, Did, Plan, CutHere, FaultHere, Visit, visit, numbered_children, child_visits, visits_within, visits}
 use Rattle.hp_laws.proofs.JoinLemmas.{all_one, all_join_contains}
 use Rattle.hp_laws.proofs.DepthLemmas.{child_depth}
-
--- what holds of a visit and of all that are heard after it holds of all that are heard from it on
-heard_from : (P : Visit → Type 0) (p : List ℕ) (n : Node) (s : Sight) (vs : List Visit) → P (visit p n s)
-    → All P (heard_visits vs) → All P (heard_visits (visit p n s ∷ vs))
-heard_from P p n Did vs h a = All-cons P (visit p n Did) (heard_visits vs) h a
-heard_from P p n Plan vs h a = All-cons P (visit p n Plan) (heard_visits vs) h a
-heard_from P p n CutHere vs h a = All-cons P (visit p n CutHere) (heard_visits vs) h a
-heard_from P p n (FaultHere f) vs h a = all_one P (visit p n (FaultHere f)) h
-
--- what holds of all visits holds of all heard visits
-pub heard_all : (P : Visit → Type 0) (vs : List Visit) → All P vs → All P (heard_visits vs)
-heard_all P [] a = a
-heard_all P (v ∷ vs) a =
-    heard_from P v.path v.node v.sight vs (All-head P v vs a) (heard_all P vs (All-tail P v vs a))
 
 -- a visit of a decomposition below a node that is not empty passes on what it says to the node
 abbrev pub Passes : List Rule → ℕ → (ℕ → Node → List ℕ → Visit → Type 0) → Type 0

@@ -1,15 +1,14 @@
 -- What it is to do a problem's tasks, said of states and networks and not of the tree.
-use Rattle.std.specs.Prelude.{◌≡◌, ◌⊎◌, ◌<◌, ◌-◌, ℕ, ℤ, pos, ◌+ℤ◌, Bool, List, [], ◌∷◌, ◌++◌, length, slice_get, Option, Some, None, Ok, Contains}
-use Rattle.hp_syntax.specs.Syntax.{Operator, Method, Rule, Does, Refines, Pair}
+use Rattle.std.specs.Prelude.{◌≡◌, ◌⊎◌, ◌<◌, ◌-◌, ℕ, ℤ, pos, ◌+ℤ◌, Bool, List, [], ◌∷◌, ◌++◌, length, slice_get, Option, Some, Ok, Contains}
+use Rattle.hp_syntax.specs.Syntax.{Operator, Branch, Method, Rule, Does, Refines, Pair}
 use Rattle.hp_syntax.specs.Terms.{Term}
 use Rattle.hp_syntax.specs.Values.{Bindings, unbound}
 use Rattle.hp_syntax.specs.Matching.{match_atom}
-use Rattle.hp_syntax.specs.Events.{Sat, State, axioms_of}
+use Rattle.hp_syntax.specs.Events.{Event, Sat, State, axioms_of}
 use Rattle.hp_syntax.specs.Preconditions.{precondition_events}
 use Rattle.hp_syntax.specs.Networks.{Network, Task, Place, tasks_value, normal, part_at, candidates, finish, expand}
-use Rattle.hp_syntax.specs.Changes.{Changes, Went, added, apply, effects}
+use Rattle.hp_syntax.specs.Changes.{Changes, Went, apply, effects}
 use Rattle.hp_syntax.specs.Applying.{Now}
-use Rattle.hp_syntax.specs.GroundPatterns.{atoms_said, network_said}
 use Rattle.hp_syntax.specs.Walk.{Node, root, chosen_branch}
 
 -- what holds and is protected, what is left to do, and where the newest subtasks stand
@@ -69,15 +68,15 @@ pub record Decomposes (rules : List Rule) (nest : ℕ) (c : Choosing) (before af
   pub place : Place
   pub task : Term
   pub matched : Bindings
-  pub branch : Choice
+  pub branch : Branch × List Event
   pub satisfier : Bindings
   pub subtasks : Network
   pub next : IsNext before c.candidate place task
   pub known : slice_get rules c.rule ≡ Some (Refines method)
   pub head : match_atom method.head task (unbound (length method.vars)) ≡ Some matched
-  pub chosen : chosen rules nest before.state method.branches matched ≡ Some branch
-  pub met : slice_get branch.events c.event ≡ Some (Sat satisfier)
-  pub gives : tasks_value branch.tasks satisfier ≡ Ok subtasks
+  pub chosen : chosen_branch rules nest before.state method.branches matched ≡ Some branch
+  pub met : slice_get branch.1 c.event ≡ Some (Sat satisfier)
+  pub gives : tasks_value branch.0.tasks satisfier ≡ Ok subtasks
   pub then' : after ≡ situation before.state before.guards (expand before.network place (normal subtasks))
 
 -- choices lead from one situation to another, one after another, by these steps, whose costs add up to the cost

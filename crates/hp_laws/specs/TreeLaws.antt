@@ -1,9 +1,9 @@
 -- Words for the laws of networks and walks.
-use Rattle.std.specs.Prelude.{◌≡◌, ◌≢◌, ◌⊎◌, ℕ, ◌<◌, Bool, ◌++◌, List, [], ◌∷◌, length, Option, Some, None}
+use Rattle.std.specs.Prelude.{◌≡◌, ◌≢◌, ◌⊎◌, ℕ, ◌<◌, Bool, true, false, ◌||◌, ◌++◌, List, [], ◌∷◌, length, Option, Some, None}
 use Rattle.std.specs.List.{All}
 use Rattle.hp_syntax.specs.Terms.{Term}
 use Rattle.hp_syntax.specs.Networks.{Network, Empty, Task, Place, normal, part_at, candidates}
-use Rattle.hp_syntax.specs.Walk.{Visit, Sight, Did, Plan, CutHere, FaultHere}
+use Rattle.hp_syntax.specs.Walk.{Visit, Sight, Did, Plan, is_did, is_plan, is_fault_here}
 
 -- a task stands at a place of the network
 abbrev pub IsTaskAt : Network → Place → Type 0
@@ -24,25 +24,13 @@ pub record IsNormal (net : Network) (focus : Option Place) : Type 0 where
   pub form : normal net ≡ net
   pub place : IsFocus net focus
 
--- what is seen is no fault; it is neither a fault nor a cut
+-- what is seen is no fault
 abbrev pub IsFaultless : Sight → Type 0
-IsFaultless Did = Unit {0}
-IsFaultless Plan = Unit {0}
-IsFaultless CutHere = Unit {0}
-IsFaultless (FaultHere f) = ⊥
+IsFaultless x = is_fault_here x ≡ false
 
-abbrev pub IsWhole : Sight → Type 0
-IsWhole Did = Unit {0}
-IsWhole Plan = Unit {0}
-IsWhole CutHere = ⊥
-IsWhole (FaultHere f) = ⊥
-
--- a node is reached: by a decomposition, or as a plan
+-- a node is reached, by a decomposition or as a plan: what is seen is neither a cut nor a fault
 abbrev pub IsReached : Sight → Type 0
-IsReached Did = Unit {0}
-IsReached Plan = Unit {0}
-IsReached CutHere = ⊥
-IsReached (FaultHere f) = ⊥
+IsReached x = (is_did x || is_plan x) ≡ true
 
 -- a path comes before another: it leads to a node above it, or has the smaller number where they part
 abbrev pub IsBefore : List ℕ → List ℕ → Type 0

@@ -14,9 +14,9 @@ ghost use Rattle.hp_syntax.specs.Values.{Bindings};
 /// The satisfiers of a conjunction of atoms that no axiom concludes come in the order of the places of the state: the
 /// first atom's first, each choice of places that match once. This holds where no fault is met.
 pub fn satisfiers_come_in_order()
-    ensures { (axioms : List Axiom) (s : State) (nest : ℕ) (span : Span) (atoms : Expressions) (e : Bindings)
-        → AreAtoms atoms → All (λ x. NamesNoneOf x atoms) axioms → All IsSat (sat axioms s nest (And span atoms) e)
-        → (list : List (List ℕ × Bindings)) × (map (λ x. Sat x.1) list ≡ sat axioms s nest (And span atoms) e)
+    ensures { (axioms : List Axiom) (nest : ℕ) (s : State) (span : Span) (atoms : Expressions) (e : Bindings)
+        → AreAtoms atoms → All (λ x. NamesNoneOf x atoms) axioms → All IsSat (sat axioms nest s (And span atoms) e)
+        → (list : List (List ℕ × Bindings)) × (map (λ x. Sat x.1) list ≡ sat axioms nest s (And span atoms) e)
         × AllPairs (λ x y. IsBefore x.0 y.0) list
         × ((places : List ℕ) (b : Bindings) → Contains list (places, b) ↔ Matches s atoms e places b) }
 {}

@@ -7,7 +7,7 @@ ghost use Rattle.std.specs.Prelude.{◌≡◌, ◌≢◌, ◌≤◌, ◌+◌, �
 ghost use Rattle.hp_syntax.specs.Networks.{Network, Empty, Place, normal, part_at};
 ghost use Rattle.hp_syntax.specs.Report.{plan_texts};
 ghost use Rattle.hp_syntax.specs.Syntax.{Rule, Pair};
-ghost use Rattle.hp_laws.specs.TreeLaws.{HasNext, IsNormal, IsFaultless, IsWhole, IsReached, ComesBefore, without_depth, IsPrefix};
+ghost use Rattle.hp_laws.specs.TreeLaws.{HasNext, IsNormal, IsFaultless, IsReached, ComesBefore, without_depth, IsPrefix};
 ghost use Rattle.hp_syntax.specs.Walk.{Node, Visit, Plan, root, visits, walk, node_at};
 
 /// What may be done next is always a task, and in a network that is normal and not empty there is one. The same
@@ -41,10 +41,10 @@ pub fn visits_come_in_order()
 /// it holds no plan either, there is no plan at any greater depth.
 pub fn whole_walks_stay()
     ensures walk { (rules : List Rule) (nest : ℕ) (pair : Pair) (depth more : ℕ) → depth ≤ more
-        → All (λ v. IsWhole v.sight) (walk rules nest pair depth)
+        → All (λ v. IsReached v.sight) (walk rules nest pair depth)
         → map without_depth (walk rules nest pair depth) ≡ map without_depth (walk rules nest pair more) }
     ensures plans { (rules : List Rule) (nest : ℕ) (pair : Pair) (depth more : ℕ) → depth ≤ more
-        → All (λ v. IsWhole v.sight) (walk rules nest pair depth)
+        → All (λ v. IsReached v.sight) (walk rules nest pair depth)
         → All (λ v. v.sight ≢ Plan) (walk rules nest pair depth)
         → All (λ v. v.sight ≢ Plan) (walk rules nest pair more) }
 {}

@@ -2,9 +2,9 @@ use Rattle.hp_laws.proofs.SatisfierLemmas.{selections, sats_of_selections, selec
 use Rattle.hp_laws.proofs.satisfier_laws.satisfiers_come_in_order.Goals as goal
 
 pub returns : goal.returns
-returns c = λ axioms s nest span atoms e h k l. (
+returns c = λ axioms nest s span atoms e h k l. (
   selections s atoms e,
-  sats_of_selections axioms s nest span atoms e h k l,
+  sats_of_selections axioms nest s span atoms e h k l,
   selections_in_order s atoms e,
   selections_are_matches s atoms e,
 )
