@@ -4,6 +4,7 @@ pub mod Complete
 pub mod DepthLemmas
 pub mod Derived
 pub mod Executed
+pub mod ExtendLemmas
 pub mod FillLemmas
 pub mod HearingLemmas
 pub mod JoinLemmas

@@ -1,0 +1,272 @@
+-- Events extend the bindings that they begin with.
+use Rattle.std.proofs.Common.{◌≡◌, ℕ, zero, suc, Bool, cond, List, [], ◌∷◌, map, Option, Some, None, Result, Ok, Err, refl, ◌&&◌, length}
+use Rattle.std.specs.Prelude.{ℤ, bytes_eq, flat_map}
+use Rattle.std.specs.List.{All}
+use Rattle.std.proofs.lemmas.Bool.{cond_both}
+use Rattle.std.proofs.lemmas.Option.{none-some, same_Some, cond_some}
+use Rattle.std.proofs.lemmas.List.Elements.{All-nil, All-cons, All-head, All-tail, All-append, All-map, All-weaker}
+use Rattle.hp_syntax.specs.declared.pattern.Span.{Span}
+use Rattle.hp_syntax.specs.declared.fault.RunFault.{RunFault}
+use Rattle.hp_syntax.specs.declared.fault.FaultKind.TheVariants.{NotGround}
+use Rattle.hp_syntax.specs.Syntax.{Atom, Expression, Expressions, Holds, And, Or, Not, Forall, Assign, Test, NoExpression, Also, Axiom, Order, Key, Precondition, Plain, First, Sorted}
+use Rattle.hp_syntax.specs.Terms.{Term, Terms, Symbol, Number, Listed, NoTerm, More, same_term}
+use Rattle.hp_syntax.specs.Calls.{fault_at}
+use Rattle.hp_syntax.specs.Values.{Bindings, Extends, bound, unbound, value, atom_value}
+use Rattle.hp_syntax.specs.Matching.{meet}
+use Rattle.hp_syntax.specs.Goals.{Goal, Filled, Fillings, Known, Free, Partly, NoFilling, Then, fill_goal, match_free_tail, match_filled, match_fillings, match_goal, start_goal}
+use Rattle.hp_syntax.specs.Events.{Event, Sat, Cut, Fault, State, Below, in_place, through, sat_if, is_sat, is_fault, EventExtends, Finding, Satisfied, Faulty, Undecided, Nothing, finding, negated, assigned, tested, events, events_of_all, events_of_any, state_events, parts_bound, tail_is_bound, concluded_value, concluded, branch_events, started_events, axiom_events, goal_events, filled_events, atom_events, sat}
+use Rattle.hp_syntax.specs.Preconditions.{heard, Keyed, Keys, NoKey, keyed_with, cut_with, keyed_by, keyed, sorts_before, put_in, sorted, sorted_events, precondition_events}
+use Rattle.hp_laws.proofs.ResultLemmas.{and_then_some}
+use Rattle.hp_laws.proofs.JoinLemmas.{all_from, all_one, all_join}
+use Rattle.hp_laws.proofs.HearingLemmas.{all_up_to}
+use Rattle.hp_laws.proofs.BindingLemmas.{extends_self, extends_through, extends_equal}
+use Rattle.hp_laws.proofs.MatchLemmas.{meet_least}
+
+-- ---- matching
+
+-- meeting a variable extends the bindings
+meet_extends : (v : ℕ) (t : Term) (e b : Bindings) → meet v t e ≡ Some b → Extends e b
+meet_extends v t e b h = ((meet_least v t e).sound b h).0
+
+-- so does a free tail
+free_tail_extends : (tail : Option ℕ) (ts : Terms) (e b : Bindings) → match_free_tail tail ts e ≡ Some b → Extends e b
+free_tail_extends (Some v) ts e b h = meet_extends v (Listed ts) e b h
+free_tail_extends None NoTerm e b h = extends_equal e b (same_Some e b h)
+free_tail_extends None (More t ts) e b h = absurd (none-some b h)
+
+-- so does each part of a goal
+mutual
+  unfolding match_filled match_fillings
+
+  filled_extends : (f : Filled) (t : Term) (e b : Bindings) → match_filled f t e ≡ Some b → Extends e b
+  filled_extends (Known x) t e b h = extends_equal e b (cond_some (same_term x t) e b h).1
+  filled_extends (Free v) t e b h = meet_extends v t e b h
+  filled_extends (Partly fs tail) (Listed ts) e b h = fillings_extend fs tail ts e b h
+  filled_extends (Partly fs tail) (Symbol name) e b h = absurd (none-some b h)
+  filled_extends (Partly fs tail) (Number n) e b h = absurd (none-some b h)
+
+  fillings_extend : (fs : Fillings) (tail : Option ℕ) (ts : Terms) (e b : Bindings)
+      → match_fillings fs tail ts e ≡ Some b → Extends e b
+  fillings_extend NoFilling tail ts e b h = free_tail_extends tail ts e b h
+  fillings_extend (Then f fs) tail NoTerm e b h = absurd (none-some b h)
+  fillings_extend (Then f fs) tail (More t ts) e b h =
+      let a = and_then_some (match_fillings fs tail ts) (match_filled f t e) b h in
+      extends_through e a.0 b (filled_extends f t e a.0 a.1) (fillings_extend fs tail ts a.0 b a.2)
+
+-- matching a goal extends the bindings
+pub goal_extends : (q : Goal) (t : Term) (e b : Bindings) → match_goal q t e ≡ Some b → Extends e b
+goal_extends q (Listed (More (Symbol name) ts)) e b h =
+    cond_both (bytes_eq q.name name) (match_fillings q.parts q.tail ts e) None (λ o. o ≡ Some b → Extends e b)
+    (λ k. fillings_extend q.parts q.tail ts e b) (λ k n. absurd (none-some b n)) h
+goal_extends q t e b h = absurd (none-some b h)
+
+-- ---- expressions
+
+-- an event that extends later bindings extends those before
+through_earlier : (e b : Bindings) → Extends e b → (x : Event) → EventExtends b x → EventExtends e x
+through_earlier e b g (Sat d) h = extends_through e b d g h
+through_earlier e b g Cut h = tt
+through_earlier e b g (Fault f) h = tt
+
+module _ (e : Bindings) where
+  -- all events of a list extend the bindings
+  abbrev AllExtend : List Event → Type 0
+  AllExtend xs = All (EventExtends e) xs
+
+  cut_extends : AllExtend (Cut ∷ [])
+  cut_extends = all_one (EventExtends e) Cut tt
+
+  fault_extends : (f : RunFault) → AllExtend (Fault f ∷ [])
+  fault_extends f = all_one (EventExtends e) (Fault f) tt
+
+  self_extends : AllExtend (Sat e ∷ [])
+  self_extends = all_one (EventExtends e) (Sat e) (extends_self e)
+
+  -- a satisfier does, where what is found does
+  sat_if_extends : (o : Option Bindings) → ((b : Bindings) → o ≡ Some b → Extends e b) → AllExtend (sat_if o)
+  sat_if_extends None h = All-nil (EventExtends e)
+  sat_if_extends (Some b) h = all_one (EventExtends e) (Sat b) (h b refl)
+
+  -- events do of which each Sat was replaced by events that do
+  through_extends : (P : Event → Type 0) (f : Bindings → List Event) → ((b : Bindings) → P (Sat b) → AllExtend (f b))
+      → (xs : List Event) → All P xs → AllExtend (through xs f)
+  through_extends P f h xs a =
+      all_join (in_place f) (EventExtends e) xs (All-weaker P (λ x. AllExtend (in_place f x)) each xs a)
+    where
+      each : (x : Event) → P x → AllExtend (in_place f x)
+      each (Sat b) p = h b p
+      each Cut p = cut_extends
+      each (Fault x) p = fault_extends x
+
+  negated_extends : (d : Finding) → AllExtend (negated d e)
+  negated_extends Satisfied = All-nil (EventExtends e)
+  negated_extends (Faulty f) = fault_extends f
+  negated_extends Undecided = cut_extends
+  negated_extends Nothing = self_extends
+
+  assigned_extends : (r : Result Term RunFault) (v : ℕ) → AllExtend (assigned r v e)
+  assigned_extends (Err f) v = fault_extends f
+  assigned_extends (Ok t) v = sat_if_extends (meet v t e) (meet_extends v t e)
+
+  tested_extends : (r : Result Term RunFault) → AllExtend (tested r e)
+  tested_extends (Err f) = fault_extends f
+  tested_extends (Ok (Listed NoTerm)) = All-nil (EventExtends e)
+  tested_extends (Ok (Listed (More t ts))) = self_extends
+  tested_extends (Ok (Symbol name)) = self_extends
+  tested_extends (Ok (Number n)) = self_extends
+
+-- where the events of atoms do, those of expressions do
+module _ (atoms : Atom → Bindings → List Event) (h : (a : Atom) (e : Bindings) → AllExtend e (atoms a e)) where
+  mutual
+    unfolding events events_of_all events_of_any
+
+    expression_extends : (E : Expression) (e : Bindings) → AllExtend e (events atoms E e)
+    expression_extends (Holds s a) e = h a e
+    expression_extends (And s ps) e = all_of_extend ps e
+    expression_extends (Or s ps) e = any_of_extend ps e
+    expression_extends (Not s p) e = negated_extends e (finding (events atoms p e))
+    expression_extends (Forall s vs y z) e =
+        negated_extends e (finding (through (events atoms y e) (λ b. negated (finding (events atoms z b)) b)))
+    expression_extends (Assign s v p) e = assigned_extends e (value p e) v
+    expression_extends (Test s p) e = tested_extends e (value p e)
+
+    all_of_extend : (ps : Expressions) (e : Bindings) → AllExtend e (events_of_all atoms ps e)
+    all_of_extend NoExpression e = self_extends e
+    all_of_extend (Also p ps) e =
+        through_extends e (EventExtends e) (events_of_all atoms ps)
+        (λ b g. All-weaker (EventExtends b) (EventExtends e) (through_earlier e b g) (events_of_all atoms ps b)
+        (all_of_extend ps b)) (events atoms p e) (expression_extends p e)
+
+    any_of_extend : (ps : Expressions) (e : Bindings) → AllExtend e (events_of_any atoms ps e)
+    any_of_extend NoExpression e = All-nil (EventExtends e)
+    any_of_extend (Also p ps) e =
+        All-append (EventExtends e) (events atoms p e) (events_of_any atoms ps e) (expression_extends p e)
+        (any_of_extend ps e)
+
+-- ---- atoms
+
+module _ (q : Goal) (e : Bindings) where
+  -- the satisfier of a goal by a term does
+  matched_extends : (t : Term) → AllExtend e (sat_if (match_goal q t e))
+  matched_extends t = sat_if_extends e (match_goal q t e) (goal_extends q t e)
+
+  -- what an axiom concludes does, whatever its own bindings are
+  concluded_extends : (h : Atom) (b : Bindings) → AllExtend e (concluded h b q e)
+  concluded_extends h b =
+      cond_both (parts_bound h.args b && tail_is_bound h.tail b) (concluded_value (atom_value h b) q e)
+      (Fault (fault_at NotGround h.span) ∷ []) (AllExtend e) (λ k. of_value (atom_value h b))
+      (λ k. fault_extends e (fault_at NotGround h.span))
+    where
+      of_value : (r : Result Term RunFault) → AllExtend e (concluded_value r q e)
+      of_value (Err f) = fault_extends e f
+      of_value (Ok t) = matched_extends t
+
+  -- so the events of an axiom do
+  started_extends : (below : Below) (x : Axiom) (o : Option Bindings) → AllExtend e (started_events below x o q e)
+  started_extends below x None = All-nil (EventExtends e)
+  started_extends below x (Some b) =
+      through_extends e (λ y. Unit {0}) (λ d. concluded x.head d q e) (λ d k. concluded_extends x.head d)
+      (branch_events below x b) (all_from (λ y. Unit {0}) (λ y. tt) (branch_events below x b))
+
+  -- so the events of a goal do
+  pub goal_events_extend : (axioms : List Axiom) (below : Below) (s : State)
+      → AllExtend e (goal_events axioms below s q e)
+  goal_events_extend axioms below s =
+      All-append (EventExtends e) (state_events s q e) (flat_map (λ x. axiom_events below x q e) axioms)
+      (all_join (λ g. sat_if (match_goal q g e)) (EventExtends e) s
+      (all_from (λ g. AllExtend e (sat_if (match_goal q g e))) matched_extends s))
+      (all_join (λ x. axiom_events below x q e) (EventExtends e) axioms
+      (all_from (λ x. AllExtend e (axiom_events below x q e))
+      (λ x. started_extends below x (start_goal x.head q (unbound (length x.vars)))) axioms))
+
+module _ (axioms : List Axiom) (below : Below) (s : State) where
+  filled_events_extend : (r : Result Goal RunFault) (e : Bindings) → AllExtend e (filled_events axioms below s r e)
+  filled_events_extend (Err f) e = fault_extends e f
+  filled_events_extend (Ok q) e = goal_events_extend q e axioms below s
+
+  -- the events of an atom do
+  pub atom_events_extend : (a : Atom) (e : Bindings) → AllExtend e (atom_events axioms below s a e)
+  atom_events_extend a e = filled_events_extend (fill_goal a e) e
+
+-- the satisfiers of an expression do
+pub sat_extends : (axioms : List Axiom) (nest : ℕ) (s : State) (E : Expression) (e : Bindings)
+    → AllExtend e (sat axioms nest s E e)
+unfolding sat
+sat_extends axioms zero s E e =
+    expression_extends (atom_events axioms None s) (atom_events_extend axioms None s) E e
+sat_extends axioms (suc n) s E e =
+    expression_extends (atom_events axioms (Some (sat axioms n s)) s)
+    (atom_events_extend axioms (Some (sat axioms n s)) s) E e
+
+-- ---- preconditions
+
+module _ (P : ℤ × Bindings → Type 0) (before : ℤ → ℤ → Bool) where
+  -- what holds of satisfiers and of one more holds with this one put in
+  all_put_in : (x : ℤ × Bindings) (ys : List (ℤ × Bindings)) → P x → All P ys → All P (put_in before x ys)
+  all_put_in x [] h a = all_one P x h
+  all_put_in x (y ∷ ys) h a =
+      cond_both (before y.0 x.0) (y ∷ put_in before x ys) (x ∷ y ∷ ys) (All P)
+      (λ k. All-cons P y (put_in before x ys) (All-head P y ys a) (all_put_in x ys h (All-tail P y ys a)))
+      (λ k. All-cons P x (y ∷ ys) h a)
+
+  -- and holds once they are sorted
+  all_sorted : (xs : List (ℤ × Bindings)) → All P xs → All P (sorted before xs)
+  all_sorted [] a = a
+  all_sorted (x ∷ xs) a = all_put_in x (sorted before xs) (All-head P x xs a) (all_sorted xs (All-tail P x xs a))
+
+module _ (e : Bindings) where
+  -- a satisfier with its number extends the bindings
+  abbrev KeyExtends : ℤ × Bindings → Type 0
+  KeyExtends x = Extends e x.1
+
+  -- so does each that is to be sorted
+  abbrev KeysExtend : Keyed → Type 0
+  KeysExtend (NoKey f) = Unit {0}
+  KeysExtend (Keys xs cut) = All KeyExtends xs
+
+  keyed_with_extends : (n : ℤ) (b : Bindings) (k : Keyed) → Extends e b → KeysExtend k → KeysExtend (keyed_with n b k)
+  keyed_with_extends n b (NoKey f) g a = tt
+  keyed_with_extends n b (Keys xs cut) g a = All-cons KeyExtends (n, b) xs g a
+
+  keyed_by_extends : (s : Span) (t : Option Term) (b : Bindings) (k : Keyed) → Extends e b → KeysExtend k
+      → KeysExtend (keyed_by s t b k)
+  keyed_by_extends s None b k g a = tt
+  keyed_by_extends s (Some (Number n)) b k g a = keyed_with_extends n b k g a
+  keyed_by_extends s (Some (Symbol name)) b k g a = tt
+  keyed_by_extends s (Some (Listed ts)) b k g a = tt
+
+  cut_with_extends : (k : Keyed) → KeysExtend k → KeysExtend (cut_with k)
+  cut_with_extends (NoKey f) a = tt
+  cut_with_extends (Keys xs cut) a = a
+
+  keyed_extends : (key : Key) (xs : List Event) → AllExtend e xs → KeysExtend (keyed key xs)
+  keyed_extends key [] a = All-nil KeyExtends
+  keyed_extends key (Sat b ∷ xs) a =
+      keyed_by_extends key.span (bound b key.var) b (keyed key xs) (All-head (EventExtends e) (Sat b) xs a)
+      (keyed_extends key xs (All-tail (EventExtends e) (Sat b) xs a))
+  keyed_extends key (Cut ∷ xs) a =
+      cut_with_extends (keyed key xs) (keyed_extends key xs (All-tail (EventExtends e) Cut xs a))
+  keyed_extends key (Fault f ∷ xs) a = tt
+
+  -- so do the events of satisfiers that are sorted
+  sorted_events_extend : (order : Order) (k : Keyed) → KeysExtend k → AllExtend e (sorted_events order k)
+  sorted_events_extend order (NoKey f) a = fault_extends e f
+  sorted_events_extend order (Keys xs cut) a =
+      All-append (EventExtends e) (map (λ x. Sat x.1) (sorted (sorts_before order) xs)) (cond cut (Cut ∷ []) [])
+      (All-map (EventExtends e) (λ x. Sat x.1) (sorted (sorts_before order) xs)
+      (all_sorted KeyExtends (sorts_before order) xs a))
+      (cond_both cut (Cut ∷ []) [] (AllExtend e) (λ k. cut_extends e) (λ k. All-nil (EventExtends e)))
+
+-- the events of a precondition do
+pub precondition_extends : (axioms : List Axiom) (nest : ℕ) (s : State) (p : Precondition) (e : Bindings)
+    → AllExtend e (precondition_events axioms nest s p e)
+unfolding precondition_events
+precondition_extends axioms nest s (Plain E) e =
+    all_up_to is_fault (EventExtends e) (sat axioms nest s E e) (sat_extends axioms nest s E e)
+precondition_extends axioms nest s (First E) e =
+    all_up_to is_sat (EventExtends e) (heard (sat axioms nest s E e))
+    (all_up_to is_fault (EventExtends e) (sat axioms nest s E e) (sat_extends axioms nest s E e))
+precondition_extends axioms nest s (Sorted key E) e =
+    sorted_events_extend e key.order (keyed key (heard (sat axioms nest s E e)))
+    (keyed_extends e key (heard (sat axioms nest s E e))
+    (all_up_to is_fault (EventExtends e) (sat axioms nest s E e) (sat_extends axioms nest s E e)))
