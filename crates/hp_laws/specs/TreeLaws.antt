@@ -1,9 +1,9 @@
 -- Words for the laws of networks and walks.
-use Rattle.std.specs.Prelude.{◌≡◌, ◌≢◌, ◌⊎◌, ℕ, ◌<◌, Bool, true, false, ◌||◌, ◌++◌, List, [], ◌∷◌, length, Option, Some, None}
+use Rattle.std.specs.Prelude.{◌≡◌, ◌≢◌, ◌⊎◌, ℕ, ◌+◌, ◌<◌, Bool, true, false, ◌||◌, ◌++◌, List, [], ◌∷◌, length, take, filter, Option, Some, None}
 use Rattle.std.specs.List.{All}
 use Rattle.hp_syntax.specs.Terms.{Term}
 use Rattle.hp_syntax.specs.Networks.{Network, Empty, Task, Place, normal, part_at, candidates}
-use Rattle.hp_syntax.specs.Walk.{Visit, Sight, Did, Plan, is_did, is_plan, is_fault_here}
+use Rattle.hp_syntax.specs.Walk.{Visit, Sight, Did, Plan, is_did, is_plan, is_fault_here, heard_visits}
 
 -- a task stands at a place of the network
 abbrev pub IsTaskAt : Network → Place → Type 0
@@ -53,3 +53,12 @@ without_depth v = record v { node = record v.node { depth = 0 } }
 -- a list begins another
 abbrev pub IsPrefix : {A : Type 0} → List A → List A → Type 0
 IsPrefix {A} xs ys = (rest : List A) × (xs ++ rest ≡ ys)
+
+-- the first k plans that are heard of visits
+abbrev pub first_plans : ℕ → List Visit → List Visit
+first_plans k vs = take k (filter (λ v. is_plan v.sight) (heard_visits vs))
+
+-- what is told of visits, one after another, of which the first has this number
+abbrev pub numbered_texts : (ℕ → Visit → List ℕ) → ℕ → List Visit → List ℕ
+numbered_texts tell i [] = []
+numbered_texts tell i (v ∷ vs) = tell i v ++ numbered_texts tell (i + 1) vs

@@ -3,11 +3,11 @@
 //! Each function does nothing, and its contract is the law.
 
 ghost use Rattle.std.specs.List.{All, AllPairs};
-ghost use Rattle.std.specs.Prelude.{◌≡◌, ◌≢◌, ◌≤◌, ◌+◌, ℕ, List, [], map, Some, None};
+ghost use Rattle.std.specs.Prelude.{◌≡◌, ◌≢◌, ◌≤◌, ◌+◌, ℕ, List, [], map, length, Some, None};
 ghost use Rattle.hp_syntax.specs.Networks.{Network, Empty, Place, normal, part_at};
-ghost use Rattle.hp_syntax.specs.Report.{plan_texts};
+ghost use Rattle.hp_syntax.specs.Report.{nothing_seen, plan_texts, end_of, answer_at, report};
 ghost use Rattle.hp_syntax.specs.Syntax.{Rule, Pair};
-ghost use Rattle.hp_laws.specs.TreeLaws.{HasNext, IsNormal, IsFaultless, IsReached, ComesBefore, without_depth, IsPrefix};
+ghost use Rattle.hp_laws.specs.TreeLaws.{HasNext, IsNormal, IsFaultless, IsReached, ComesBefore, without_depth, IsPrefix, first_plans, numbered_texts};
 ghost use Rattle.hp_syntax.specs.Walk.{Node, Visit, Plan, root, visits, walk, node_at};
 
 /// What may be done next is always a task, and in a network that is normal and not empty there is one. The same
@@ -60,4 +60,14 @@ pub fn walks_without_faults_are_the_tree()
 pub fn texts_grow_by_plans()
     ensures { (walk : List Visit) (tell : ℕ → Visit → List ℕ) (k : ℕ)
         → IsPrefix (plan_texts tell k 0 walk) (plan_texts tell (k + 1) 0 walk) }
+{}
+
+/// A report for k plans, where at least one is asked, tells the first k plans that are heard, in their order and by
+/// numbers from 1 on, whatever is told of a plan; and its ending tells how many they are.
+pub fn reports_tell_the_first_plans()
+    ensures texts { (walk : List Visit) (tell : ℕ → Visit → List ℕ) (k : ℕ) → 1 ≤ k
+        → report tell k nothing_seen walk
+        ≡ answer_at (numbered_texts tell 1 (first_plans k walk)) (end_of k nothing_seen walk) }
+    ensures count { (walk : List Visit) (k : ℕ) → 1 ≤ k
+        → (end_of k nothing_seen walk).tally.plans ≡ length (first_plans k walk) }
 {}
