@@ -1,7 +1,6 @@
 -- Events that are given one at a time.
-use Rattle.std.specs.Prelude.{◌≡◌, ℕ, List, [], ◌∷◌, Some}
-use Rattle.hp_syntax.specs.Terms.{Term}
-use Rattle.hp_syntax.specs.Values.{Bindings, bound}
+use Rattle.std.specs.Prelude.{◌≡◌, List, [], ◌∷◌}
+use Rattle.hp_syntax.specs.Values.{Bindings}
 use Rattle.hp_syntax.specs.Events as plain
 use Rattle.hp_eval.specs.declared.event.Event.{Event}
 use Rattle.hp_eval.specs.declared.event.Event.TheVariants as events

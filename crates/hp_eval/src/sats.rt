@@ -7,10 +7,10 @@ use std::alloc::AllocError;
 /// Gives what is met while one looks for satisfiers, one event a call. The bindings of a Sat are in the slots, above
 /// those that stood at the start, until the next call takes them back. What is read and never changed is the base.
 pub trait Sats<B> {
-    ghost use Rattle.hp_syntax.specs.Events.{EventExtends};
     ghost use Rattle.std.specs.Prelude.{◌≡◌, ◌≤◌, ℕ, Bool, true, false, List, OnOk, OnErr, IfOk, length, take};
     ghost use Rattle.std.specs.List.{All};
     ghost use Rattle.hp_syntax.specs.Terms.{Term};
+    ghost use Rattle.hp_syntax.specs.Events.{EventExtends};
     ghost use Rattle.hp_eval.specs.Slotted.{Slotted, AreBelow, Binds, undone, bindings_of};
     ghost use Rattle.hp_eval.specs.Growth.{Grows};
     ghost use Rattle.hp_eval.specs.Events.{Happening, event_of, left_after, AreOfFirst};
@@ -80,7 +80,7 @@ pub trait Sats<B> {
     ghost same_cells: { (s : Self) (b : B) (c d : List Term) (e : Slotted) → suits s b → fits s e
         → take (kept s) c ≡ take (kept s) d → rest s b c e ≡ rest s b d e };
 
-    /// Each Sat that is left binds what was bound at the start, to the same terms.
+    /// Each Sat that is left has the variables of the start, and binds what was bound there to the same terms.
     ghost sats_extend: { (s : Self) (b : B) (c : List Term) (e : Slotted) → suits s b → fits s e
         → All (EventExtends (bindings_of c (undone (start s) e))) (rest s b c e) };
 }
