@@ -1,68 +1,48 @@
 -- What lists of calls visit.
-use Rattle.std.proofs.Common.{◌≡◌, ℕ, true, false, cond, List, [], ◌∷◌, ◌++◌, ◌⊎◌, inl, inr, Option, Some, None, refl, sym, ◌∙◌, subst}
-use Rattle.hp_syntax.specs.Walk.{Sight, Visit, Did, Plan, CutHere, FaultHere, begins, skip, heard_visits}
-use Rattle.hp_net.specs.Standings.{Standing, standing, next_below, next_of, arrived, left_after, is_did}
+use Rattle.std.proofs.Common.{◌≡◌, ℕ, Bool, true, false, cond, List, [], ◌∷◌, ◌++◌, ◌⊎◌, inl, inr, Option, Some, None, refl, sym, ◌∙◌, subst}
+use Rattle.std.proofs.lemmas.Bool.{false≢true}
+use Rattle.hp_syntax.specs.Walk.{Sight, Visit, Did, Plan, CutHere, FaultHere, is_did, is_fault_here, begins, skip, heard_visits}
+use Rattle.hp_net.specs.Standings.{Standing, standing, next_below, next_of, arrived, left_after}
 use Rattle.hp_net.specs.Runs.{Call, Step, Back, Next, Prune, after_call, MayRun, after_calls, visited, with_visit, LeavesOut, Nothing, Visits, Faults, Prunes}
 
 -- the visits come from a place, whether what lies below the node reached there is pruned or not
 abbrev Comes : Standing → List Visit → Type 0
 Comes s ws = LeavesOut s.rest ws ⊎ ((s.at_did ≡ true) × LeavesOut (skip s.path s.rest) ws)
 
--- a visit with what is heard behind it
-abbrev heard_with : Sight → Visit → List Visit → List Visit
-heard_with x v vs =
-    elim x [
-      | FaultHere f ↦ v ∷ []
-      | Did ↦ v ∷ heard_visits vs
-      | Plan ↦ v ∷ heard_visits vs
-      | CutHere ↦ v ∷ heard_visits vs
-    ]
-
-leaves_with : (v : Visit) (vs : List Visit) → LeavesOut vs (heard_visits vs) → (x : Sight) → v.sight ≡ x
-    → LeavesOut (v ∷ vs) (heard_with x v vs)
-leaves_with v vs h (FaultHere f) e = Faults v vs (rw e refl)
-leaves_with v vs h Did e = Visits v vs (heard_visits vs) (rw e refl) h
-leaves_with v vs h Plan e = Visits v vs (heard_visits vs) (rw e refl) h
-leaves_with v vs h CutHere e = Visits v vs (heard_visits vs) (rw e refl) h
+-- a visit with what is heard behind it leaves nothing out, whether it is a fault or not
+leaves_with : (v : Visit) (vs : List Visit) → LeavesOut vs (heard_visits vs) → (b : Bool)
+    → is_fault_here v.sight ≡ b → LeavesOut (v ∷ vs) (v ∷ cond b [] (heard_visits vs))
+leaves_with v vs h true e = Faults v vs e
+leaves_with v vs h false e = Visits v vs (heard_visits vs) e h
 
 -- a list up to its first fault leaves nothing out
 leaves_heard : (vs : List Visit) → LeavesOut vs (heard_visits vs)
 leaves_heard [] = Nothing
-leaves_heard (v ∷ vs) = leaves_with v vs (leaves_heard vs) v.sight refl
+leaves_heard (v ∷ vs) = leaves_with v vs (leaves_heard vs) (is_fault_here v.sight) refl
 
 -- of nothing, nothing is left
-of_nothing : (vs ws : List Visit) → LeavesOut vs ws → vs ≡ [] → ws ≡ []
-of_nothing [] [] Nothing e = refl
-of_nothing [] (w ∷ ws) h e = elim h [ ]
-of_nothing (v ∷ vs) [] h e = elim h [ ]
-of_nothing (v ∷ vs) (w ∷ ws) (Visits x xs ys f h) e = cc
-of_nothing (v ∷ vs) (w ∷ ws) (Faults x xs f) e = cc
-of_nothing (v ∷ vs) (w ∷ ws) (Prunes x xs ys f h) e = cc
+of_nothing : (ws : List Visit) → LeavesOut [] ws → ws ≡ []
+of_nothing [] h = refl
+of_nothing (w ∷ ws) h = elim h [ ]
+
+-- a decomposition is no fault
+did_or_fault : (x : Sight) → is_did x ≡ true → is_fault_here x ≡ true → ⊥
+did_or_fault Did d e = false≢true e
+did_or_fault Plan d e = false≢true d
+did_or_fault CutHere d e = false≢true d
+did_or_fault (FaultHere f) d e = false≢true d
 
 -- what comes from the place that a visit leads to comes, with the visit, from the place before
-visits : (v : Visit) (vs ws : List Visit) → Comes (standing v.path (left_after v vs) (is_did v)) ws
+visits : (v : Visit) (vs ws : List Visit) → Comes (standing v.path (left_after v vs) (is_did v.sight)) ws
     → LeavesOut (v ∷ vs) (v ∷ ws)
-visits v vs ws h =
-    let told : (x : Sight) → v.sight ≡ x → LeavesOut (v ∷ vs) (v ∷ ws) =
-    λ x. elim x as (λ y. v.sight ≡ y → LeavesOut (v ∷ vs) (v ∷ ws)) [
-      | FaultHere f ↦ λ e. elim h [
-        | inl k ↦ rw (of_nothing (left_after v vs) ws k (rw e refl)) (Faults v vs (rw e refl))
-        | inr (d, k) ↦ let never : false ≡ true = rw e at d in absurd (cc)
-      ]
-      | Did ↦ λ e. elim h [
-        | inl k ↦ Visits v vs ws (rw e refl) (rw e at k)
-        | inr (d, k) ↦ Prunes v vs ws d (rw e at k)
-      ]
-      | Plan ↦ λ e. elim h [
-        | inl k ↦ Visits v vs ws (rw e refl) (rw e at k)
-        | inr (d, k) ↦ let never : false ≡ true = rw e at d in absurd (cc)
-      ]
-      | CutHere ↦ λ e. elim h [
-        | inl k ↦ Visits v vs ws (rw e refl) (rw e at k)
-        | inr (d, k) ↦ let never : false ≡ true = rw e at d in absurd (cc)
-      ]
-    ] in
-    told v.sight refl
+visits v vs ws h = by (is_fault_here v.sight) refl h
+  where
+    by : (b : Bool) → is_fault_here v.sight ≡ b → Comes (standing v.path (cond b [] vs) (is_did v.sight)) ws
+        → LeavesOut (v ∷ vs) (v ∷ ws)
+    by true e (inl k) = subst (λ us. LeavesOut (v ∷ vs) (v ∷ us)) (sym (of_nothing ws k)) (Faults v vs e)
+    by true e (inr (d, k)) = absurd (did_or_fault v.sight d e)
+    by false e (inl k) = Visits v vs ws e k
+    by false e (inr (d, k)) = Prunes v vs ws d k
 
 -- a call that made the next visit, or none, and what comes after it
 arrives : (p : List ℕ) (o : Option Visit) (vs xs ys : List Visit) → (o ≡ None) ⊎ (o ≡ next_of vs)

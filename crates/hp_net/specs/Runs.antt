@@ -1,7 +1,7 @@
 -- Lists of calls of a walk, and what they visit.
-use Rattle.std.specs.Prelude.{◌≡◌, ◌≢◌, Bool, true, false, List, [], ◌∷◌, Option, Some, None}
-use Rattle.hp_syntax.specs.Walk.{Visit, Did, Plan, CutHere, FaultHere, skip}
-use Rattle.hp_net.specs.Standings.{Standing, next_below, next_of, stepped, gone_on, gone_back, pruned, is_did}
+use Rattle.std.specs.Prelude.{◌≡◌, ◌≢◌, true, false, List, [], ◌∷◌, Option, Some, None}
+use Rattle.hp_syntax.specs.Walk.{Visit, is_did, is_fault_here, skip}
+use Rattle.hp_net.specs.Standings.{Standing, next_below, next_of, stepped, gone_on, gone_back, pruned}
 
 -- the calls that move a walk
 pub data Call : Type 0 where
@@ -48,13 +48,11 @@ abbrev pub visited : List Call → Standing → List Visit
 visited [] s = []
 visited (c ∷ cs) s = with_visit (visit_of c s) (visited cs (after_call c s))
 
-abbrev pub is_fault : Visit → Bool
-is_fault v = elim v.sight [ FaultHere f ↦ true | Did ↦ false | Plan ↦ false | CutHere ↦ false ]
-
 -- the second list is the first up to its first fault, without what lies below some of its Dids
 pub data LeavesOut : List Visit → List Visit → Type 0 where
   Nothing : LeavesOut [] []
-  Visits : (v : Visit) (vs ws : List Visit) → is_fault v ≡ false → LeavesOut vs ws → LeavesOut (v ∷ vs) (v ∷ ws)
-  Faults : (v : Visit) (vs : List Visit) → is_fault v ≡ true → LeavesOut (v ∷ vs) (v ∷ [])
-  Prunes : (v : Visit) (vs ws : List Visit) → is_did v ≡ true → LeavesOut (skip v.path vs) ws
+  Visits : (v : Visit) (vs ws : List Visit) → is_fault_here v.sight ≡ false → LeavesOut vs ws
+      → LeavesOut (v ∷ vs) (v ∷ ws)
+  Faults : (v : Visit) (vs : List Visit) → is_fault_here v.sight ≡ true → LeavesOut (v ∷ vs) (v ∷ [])
+  Prunes : (v : Visit) (vs ws : List Visit) → is_did v.sight ≡ true → LeavesOut (skip v.path vs) ws
       → LeavesOut (v ∷ vs) (v ∷ ws)

@@ -1,7 +1,7 @@
 -- Where a walk of a tree stands, and where each call takes it.
-use Rattle.std.specs.Prelude.{ℕ, ◌-◌, ◌^◌, min, Bool, true, false, cond, List, [], ◌∷◌, map, Option, Some, None}
+use Rattle.std.specs.Prelude.{ℕ, ◌-◌, ◌^◌, min, Bool, false, cond, List, [], ◌∷◌, map, Option, Some, None}
 use Rattle.hp_syntax.specs.Syntax.{Rule}
-use Rattle.hp_syntax.specs.Walk.{Node, Visit, Did, Plan, CutHere, FaultHere, node_at, begins, skip}
+use Rattle.hp_syntax.specs.Walk.{Node, Visit, Did, Plan, CutHere, FaultHere, is_did, is_fault_here, node_at, begins, skip}
 use Rattle.hp_net.specs.declared.walk.Step.{Step}
 use Rattle.hp_net.specs.declared.walk.Step.TheVariants as steps
 
@@ -28,9 +28,6 @@ node_reached t s = node_at t.rules t.nest t.root s.path
 abbrev pub step_of : Visit → Step
 step_of v = elim v.sight [ Did ↦ steps.Did | Plan ↦ steps.Plan | CutHere ↦ steps.Cut | FaultHere f ↦ steps.Fault f ]
 
-abbrev pub is_did : Visit → Bool
-is_did v = elim v.sight [ Did ↦ true | Plan ↦ false | CutHere ↦ false | FaultHere f ↦ false ]
-
 -- the next visit, where it is at or below the node of a path
 abbrev pub next_below : List ℕ → List Visit → Option Visit
 next_below p [] = None
@@ -53,12 +50,12 @@ without_next (v ∷ vs) = vs
 
 -- after a fault nothing is left
 abbrev pub left_after : Visit → List Visit → List Visit
-left_after v vs = elim v.sight [ Did ↦ vs | Plan ↦ vs | CutHere ↦ vs | FaultHere f ↦ [] ]
+left_after v vs = cond (is_fault_here v.sight) [] vs
 
 -- a visit is the next, and it is made; where there is none, the walk stands at a path
 abbrev pub arrived : List ℕ → Option Visit → List Visit → Standing
 arrived p None vs = standing p vs false
-arrived p (Some v) vs = standing v.path (left_after v (without_next vs)) (is_did v)
+arrived p (Some v) vs = standing v.path (left_after v (without_next vs)) (is_did v.sight)
 
 -- to the next visit at or below the node reached
 abbrev pub stepped : Standing → Standing
