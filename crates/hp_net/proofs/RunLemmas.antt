@@ -26,11 +26,11 @@ of_nothing [] h = refl
 of_nothing (w ∷ ws) h = elim h [ ]
 
 -- a decomposition is no fault
-did_or_fault : (x : Sight) → is_did x ≡ true → is_fault_here x ≡ true → ⊥
-did_or_fault Did d e = false≢true e
-did_or_fault Plan d e = false≢true d
-did_or_fault CutHere d e = false≢true d
-did_or_fault (FaultHere f) d e = false≢true d
+did_is_no_fault : (x : Sight) → is_did x ≡ true → is_fault_here x ≡ true → ⊥
+did_is_no_fault Did d e = false≢true e
+did_is_no_fault Plan d e = false≢true d
+did_is_no_fault CutHere d e = false≢true d
+did_is_no_fault (FaultHere f) d e = false≢true d
 
 -- what comes from the place that a visit leads to comes, with the visit, from the place before
 visits : (v : Visit) (vs ws : List Visit) → Comes (standing v.path (left_after v vs) (is_did v.sight)) ws
@@ -40,7 +40,7 @@ visits v vs ws h = by (is_fault_here v.sight) refl h
     by : (b : Bool) → is_fault_here v.sight ≡ b → Comes (standing v.path (cond b [] vs) (is_did v.sight)) ws
         → LeavesOut (v ∷ vs) (v ∷ ws)
     by true e (inl k) = subst (λ us. LeavesOut (v ∷ vs) (v ∷ us)) (sym (of_nothing ws k)) (Faults v vs e)
-    by true e (inr (d, k)) = absurd (did_or_fault v.sight d e)
+    by true e (inr (d, k)) = absurd (did_is_no_fault v.sight d e)
     by false e (inl k) = Visits v vs ws e k
     by false e (inr (d, k)) = Prunes v vs ws d k
 
