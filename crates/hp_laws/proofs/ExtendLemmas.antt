@@ -28,13 +28,13 @@ use Rattle.hp_laws.proofs.MatchLemmas.{meet_least}
 meet_extends : (v : ℕ) (t : Term) (e b : Bindings) → meet v t e ≡ Some b → Extends e b
 meet_extends v t e b h = ((meet_least v t e).sound b h).0
 
--- so does a free tail
+-- matching a free tail extends the bindings
 free_tail_extends : (tail : Option ℕ) (ts : Terms) (e b : Bindings) → match_free_tail tail ts e ≡ Some b → Extends e b
 free_tail_extends (Some v) ts e b h = meet_extends v (Listed ts) e b h
 free_tail_extends None NoTerm e b h = extends_equal e b (same_Some e b h)
 free_tail_extends None (More t ts) e b h = absurd (none-some b h)
 
--- so does each part of a goal
+-- matching a part of a goal, or its parts, extends the bindings
 mutual
   unfolding match_filled match_fillings
 
@@ -62,32 +62,35 @@ goal_extends q t e b h = absurd (none-some b h)
 
 -- ---- expressions
 
--- an event that extends later bindings extends those before
-through_earlier : (e b : Bindings) → Extends e b → (x : Event) → EventExtends b x → EventExtends e x
-through_earlier e b g (Sat d) h = extends_through e b d g h
-through_earlier e b g Cut h = tt
-through_earlier e b g (Fault f) h = tt
+-- an event that extends bindings extends those that they extend
+event_extends_through : (e b : Bindings) → Extends e b → (x : Event) → EventExtends b x → EventExtends e x
+event_extends_through e b g (Sat d) h = extends_through e b d g h
+event_extends_through e b g Cut h = tt
+event_extends_through e b g (Fault f) h = tt
 
 module _ (e : Bindings) where
   -- all events of a list extend the bindings
   abbrev AllExtend : List Event → Type 0
   AllExtend xs = All (EventExtends e) xs
 
+  -- a cut extends any bindings
   cut_extends : AllExtend (Cut ∷ [])
   cut_extends = all_one (EventExtends e) Cut tt
 
+  -- a fault extends any bindings
   fault_extends : (f : RunFault) → AllExtend (Fault f ∷ [])
   fault_extends f = all_one (EventExtends e) (Fault f) tt
 
+  -- bindings extend themselves
   self_extends : AllExtend (Sat e ∷ [])
   self_extends = all_one (EventExtends e) (Sat e) (extends_self e)
 
-  -- a satisfier does, where what is found does
+  -- a satisfier extends the bindings where what is found does
   sat_if_extends : (o : Option Bindings) → ((b : Bindings) → o ≡ Some b → Extends e b) → AllExtend (sat_if o)
   sat_if_extends None h = All-nil (EventExtends e)
   sat_if_extends (Some b) h = all_one (EventExtends e) (Sat b) (h b refl)
 
-  -- events do of which each Sat was replaced by events that do
+  -- events of which each Sat is replaced by events that extend the bindings extend them
   through_extends : (P : Event → Type 0) (f : Bindings → List Event) → ((b : Bindings) → P (Sat b) → AllExtend (f b))
       → (xs : List Event) → All P xs → AllExtend (through xs f)
   through_extends P f h xs a =
@@ -98,16 +101,19 @@ module _ (e : Bindings) where
       each Cut p = cut_extends
       each (Fault x) p = fault_extends x
 
+  -- a negation extends the bindings
   negated_extends : (d : Finding) → AllExtend (negated d e)
   negated_extends Satisfied = All-nil (EventExtends e)
   negated_extends (Faulty f) = fault_extends f
   negated_extends Undecided = cut_extends
   negated_extends Nothing = self_extends
 
+  -- an assignment extends the bindings
   assigned_extends : (r : Result Term RunFault) (v : ℕ) → AllExtend (assigned r v e)
   assigned_extends (Err f) v = fault_extends f
   assigned_extends (Ok t) v = sat_if_extends (meet v t e) (meet_extends v t e)
 
+  -- a test extends the bindings
   tested_extends : (r : Result Term RunFault) → AllExtend (tested r e)
   tested_extends (Err f) = fault_extends f
   tested_extends (Ok (Listed NoTerm)) = All-nil (EventExtends e)
@@ -115,7 +121,7 @@ module _ (e : Bindings) where
   tested_extends (Ok (Symbol name)) = self_extends
   tested_extends (Ok (Number n)) = self_extends
 
--- where the events of atoms do, those of expressions do
+-- where the events of atoms extend their bindings, so do those of expressions
 module _ (atoms : Atom → Bindings → List Event) (h : (a : Atom) (e : Bindings) → AllExtend e (atoms a e)) where
   mutual
     unfolding events events_of_all events_of_any
@@ -134,7 +140,7 @@ module _ (atoms : Atom → Bindings → List Event) (h : (a : Atom) (e : Binding
     all_of_extend NoExpression e = self_extends e
     all_of_extend (Also p ps) e =
         through_extends e (EventExtends e) (events_of_all atoms ps)
-        (λ b g. All-weaker (EventExtends b) (EventExtends e) (through_earlier e b g) (events_of_all atoms ps b)
+        (λ b g. All-weaker (EventExtends b) (EventExtends e) (event_extends_through e b g) (events_of_all atoms ps b)
         (all_of_extend ps b)) (events atoms p e) (expression_extends p e)
 
     any_of_extend : (ps : Expressions) (e : Bindings) → AllExtend e (events_of_any atoms ps e)
@@ -146,11 +152,11 @@ module _ (atoms : Atom → Bindings → List Event) (h : (a : Atom) (e : Binding
 -- ---- atoms
 
 module _ (q : Goal) (e : Bindings) where
-  -- the satisfier of a goal by a term does
+  -- the satisfier of a goal by a term extends the bindings
   matched_extends : (t : Term) → AllExtend e (sat_if (match_goal q t e))
   matched_extends t = sat_if_extends e (match_goal q t e) (goal_extends q t e)
 
-  -- what an axiom concludes does, whatever its own bindings are
+  -- what an axiom concludes extends the goal's bindings, whatever its own are
   concluded_extends : (h : Atom) (b : Bindings) → AllExtend e (concluded h b q e)
   concluded_extends h b =
       cond_both (parts_bound h.args b && tail_is_bound h.tail b) (concluded_value (atom_value h b) q e)
@@ -161,14 +167,14 @@ module _ (q : Goal) (e : Bindings) where
       of_value (Err f) = fault_extends e f
       of_value (Ok t) = matched_extends t
 
-  -- so the events of an axiom do
+  -- the events of an axiom extend the goal's bindings
   started_extends : (below : Below) (x : Axiom) (o : Option Bindings) → AllExtend e (started_events below x o q e)
   started_extends below x None = All-nil (EventExtends e)
   started_extends below x (Some b) =
       through_extends e (λ y. Unit {0}) (λ d. concluded x.head d q e) (λ d k. concluded_extends x.head d)
       (branch_events below x b) (all_from (λ y. Unit {0}) (λ y. tt) (branch_events below x b))
 
-  -- so the events of a goal do
+  -- the events of a goal extend the bindings
   pub goal_events_extend : (axioms : List Axiom) (below : Below) (s : State)
       → AllExtend e (goal_events axioms below s q e)
   goal_events_extend axioms below s =
@@ -180,15 +186,16 @@ module _ (q : Goal) (e : Bindings) where
       (λ x. started_extends below x (start_goal x.head q (unbound (length x.vars)))) axioms))
 
 module _ (axioms : List Axiom) (below : Below) (s : State) where
+  -- the events of an atom that is filled, or is a fault, extend the bindings
   filled_events_extend : (r : Result Goal RunFault) (e : Bindings) → AllExtend e (filled_events axioms below s r e)
   filled_events_extend (Err f) e = fault_extends e f
   filled_events_extend (Ok q) e = goal_events_extend q e axioms below s
 
-  -- the events of an atom do
+  -- the events of an atom extend the bindings
   pub atom_events_extend : (a : Atom) (e : Bindings) → AllExtend e (atom_events axioms below s a e)
   atom_events_extend a e = filled_events_extend (fill_goal a e) e
 
--- the satisfiers of an expression do
+-- the events of an expression extend the bindings
 pub sat_extends : (axioms : List Axiom) (nest : ℕ) (s : State) (E : Expression) (e : Bindings)
     → AllExtend e (sat axioms nest s E e)
 unfolding sat
@@ -201,7 +208,7 @@ sat_extends axioms (suc n) s E e =
 -- ---- preconditions
 
 module _ (P : ℤ × Bindings → Type 0) (before : ℤ → ℤ → Bool) where
-  -- what holds of satisfiers and of one more holds with this one put in
+  -- what holds of all satisfiers and of one more holds of all with this one put in
   all_put_in : (x : ℤ × Bindings) (ys : List (ℤ × Bindings)) → P x → All P ys → All P (put_in before x ys)
   all_put_in x [] h a = all_one P x h
   all_put_in x (y ∷ ys) h a =
@@ -209,7 +216,7 @@ module _ (P : ℤ × Bindings → Type 0) (before : ℤ → ℤ → Bool) where
       (λ k. All-cons P y (put_in before x ys) (All-head P y ys a) (all_put_in x ys h (All-tail P y ys a)))
       (λ k. All-cons P x (y ∷ ys) h a)
 
-  -- and holds once they are sorted
+  -- what holds of all satisfiers holds of all once they are sorted
   all_sorted : (xs : List (ℤ × Bindings)) → All P xs → All P (sorted before xs)
   all_sorted [] a = a
   all_sorted (x ∷ xs) a = all_put_in x (sorted before xs) (All-head P x xs a) (all_sorted xs (All-tail P x xs a))
@@ -219,15 +226,17 @@ module _ (e : Bindings) where
   abbrev KeyExtends : ℤ × Bindings → Type 0
   KeyExtends x = Extends e x.1
 
-  -- so does each that is to be sorted
+  -- each satisfier that is to be sorted extends the bindings
   abbrev KeysExtend : Keyed → Type 0
   KeysExtend (NoKey f) = Unit {0}
   KeysExtend (Keys xs cut) = All KeyExtends xs
 
+  -- one more satisfier that extends the bindings is among those that do
   keyed_with_extends : (n : ℤ) (b : Bindings) (k : Keyed) → Extends e b → KeysExtend k → KeysExtend (keyed_with n b k)
   keyed_with_extends n b (NoKey f) g a = tt
   keyed_with_extends n b (Keys xs cut) g a = All-cons KeyExtends (n, b) xs g a
 
+  -- one more satisfier with a key that is asked for is among those that extend the bindings, or is a fault
   keyed_by_extends : (s : Span) (t : Option Term) (b : Bindings) (k : Keyed) → Extends e b → KeysExtend k
       → KeysExtend (keyed_by s t b k)
   keyed_by_extends s None b k g a = tt
@@ -235,10 +244,12 @@ module _ (e : Bindings) where
   keyed_by_extends s (Some (Symbol name)) b k g a = tt
   keyed_by_extends s (Some (Listed ts)) b k g a = tt
 
+  -- a cut changes no satisfier
   cut_with_extends : (k : Keyed) → KeysExtend k → KeysExtend (cut_with k)
   cut_with_extends (NoKey f) a = tt
   cut_with_extends (Keys xs cut) a = a
 
+  -- the satisfiers with their keys extend the bindings where the events do
   keyed_extends : (key : Key) (xs : List Event) → AllExtend e xs → KeysExtend (keyed key xs)
   keyed_extends key [] a = All-nil KeyExtends
   keyed_extends key (Sat b ∷ xs) a =
@@ -248,7 +259,7 @@ module _ (e : Bindings) where
       cut_with_extends (keyed key xs) (keyed_extends key xs (All-tail (EventExtends e) Cut xs a))
   keyed_extends key (Fault f ∷ xs) a = tt
 
-  -- so do the events of satisfiers that are sorted
+  -- the events of satisfiers that are sorted extend the bindings
   sorted_events_extend : (order : Order) (k : Keyed) → KeysExtend k → AllExtend e (sorted_events order k)
   sorted_events_extend order (NoKey f) a = fault_extends e f
   sorted_events_extend order (Keys xs cut) a =
@@ -257,7 +268,7 @@ module _ (e : Bindings) where
       (all_sorted KeyExtends (sorts_before order) xs a))
       (cond_both cut (Cut ∷ []) [] (AllExtend e) (λ k. cut_extends e) (λ k. All-nil (EventExtends e)))
 
--- the events of a precondition do
+-- the events of a precondition extend the bindings
 pub precondition_extends : (axioms : List Axiom) (nest : ℕ) (s : State) (p : Precondition) (e : Bindings)
     → AllExtend e (precondition_events axioms nest s p e)
 unfolding precondition_events

@@ -17,7 +17,7 @@ module _ {A : Type 0} (is_last : A → Bool) where
       (cond_both (is_last x) [] (up_to is_last xs) (All P) (λ e. All-nil P)
       (λ e. all_up_to P xs (All-tail P x xs a)))
 
-  -- where those have none of the kind, they are all
+  -- where none of those up to the first of a kind is of the kind, they are the whole list
   pub up_to_end : (xs : List A) → All (λ x. is_last x ≡ false) (up_to is_last xs) → up_to is_last xs ≡ xs
   up_to_end [] a = refl
   up_to_end (x ∷ xs) a =
@@ -26,7 +26,7 @@ module _ {A : Type 0} (is_last : A → Bool) where
       ap (λ ys. x ∷ ys)
       (e ∙ up_to_end xs (subst (All (λ y. is_last y ≡ false)) e (All-tail (λ y. is_last y ≡ false) x rest a)))
 
--- of a list that is mapped those up to the first are those that are mapped to them
+-- the elements of a mapped list up to the first of a kind are those of the list, mapped
 pub up_to-map : {A B : Type 0} (f : A → B) (is_last : B → Bool) (xs : List A)
     → up_to is_last (map f xs) ≡ map f (up_to (λ x. is_last (f x)) xs)
 up_to-map f is_last [] = refl
@@ -37,7 +37,7 @@ up_to-map f is_last (x ∷ xs) = ap (λ ys. f x ∷ ys) (from (is_last (f x)) (u
     from true e = refl
     from false e = e
 
--- so a walk without a fault is the whole tree
+-- a walk without a fault is the whole tree
 pub whole_tree : (rules : List Rule) (nest : ℕ) (pair : Pair) (depth : ℕ)
     → All (λ v. IsFaultless v.sight) (walk rules nest pair depth)
     → walk rules nest pair depth ≡ visits rules nest (root pair depth) []
