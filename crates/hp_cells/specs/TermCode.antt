@@ -61,7 +61,8 @@ built-steps t = ap top (fold-steps t [])
 
 abbrev pub term_code : Coded Term
 term_code =
-    code_by (List BuildStep) (coded_list (coded⊎ (coded_list coded_ℕ) (coded⊎ coded_ℤ coded_bool))) steps built built-steps
+    code_by (List BuildStep) (coded_list (coded⊎ (coded_list coded_ℕ) (coded⊎ coded_ℤ coded_bool))) steps built
+    built-steps
 
 abbrev pub terms_code : Coded (List Term)
 terms_code = coded_list term_code
