@@ -14,8 +14,7 @@ use Rattle.hp_syntax.specs.Terms.{Term, Symbol, Number, Listed}
 use Rattle.hp_syntax.specs.Calls.{fault_at}
 use Rattle.hp_syntax.specs.Values as plain
 use Rattle.hp_syntax.specs.Values.{Bindings}
-use Rattle.hp_syntax.specs.Events.{Fault}
-use Rattle.hp_syntax.specs.Changes.{Going, Went, Stops, pattern_span, cost_of, cost_value, and_go, go_on}
+use Rattle.hp_syntax.specs.Changes.{Going, Went, Failed, pattern_span, cost_of, cost_value, and_go, go_on}
 use Rattle.hp_syntax.specs.Views.{pattern_kind, pattern_layer, pattern_of}
 use Rattle.hp_cells.specs.Cells.{IsCons}
 use Rattle.hp_effect.specs.Costs.{number_in}
@@ -40,7 +39,7 @@ pattern_span-of p =
 -- a number costs that, and nothing else costs anything
 abbrev pub went_or : Span → Option ℤ → Going ℤ
 went_or s (Some n) = Went n
-went_or s None = Stops (Fault (fault_at NotNumber s))
+went_or s None = Failed (fault_at NotNumber s)
 
 by_number : (s : Span) (t : Term) → cost_of s t ≡ went_or s (number_in t)
 by_number s (Symbol name) = refl

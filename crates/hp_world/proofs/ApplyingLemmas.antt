@@ -44,17 +44,17 @@ module _ {A B : Type 0} (same : A → A → Bool) (alike : B → B → Bool) (f 
   is_among-map x (y ∷ ys) p h =
       ap₂ (λ b c. b || c) (tells x y p (All-head P y ys h)) (is_among-map x ys p (All-tail P y ys h))
 
-  -- of two lists the same is chosen before and after naming
-  chosen-map : (b c : Bool) (xs ys : List A) → b ≡ c → map f (cond b xs ys) ≡ cond c (map f xs) (map f ys)
-  chosen-map true c xs ys e = ap (λ d. cond d (map f xs) (map f ys)) e
-  chosen-map false c xs ys e = ap (λ d. cond d (map f xs) (map f ys)) e
+  -- of two lists the same is taken before and after naming
+  cond-map : (b c : Bool) (xs ys : List A) → b ≡ c → map f (cond b xs ys) ≡ cond c (map f xs) (map f ys)
+  cond-map true c xs ys e = ap (λ d. cond d (map f xs) (map f ys)) e
+  cond-map false c xs ys e = ap (λ d. cond d (map f xs) (map f ys)) e
 
   -- cancelling commutes with naming
   without_first-map : (x : A) (ys : List A) → P x → All P ys
       → map f (without_first same x ys) ≡ without_first alike (f x) (map f ys)
   without_first-map x [] p h = refl
   without_first-map x (y ∷ ys) p h =
-      chosen-map (same x y) (alike (f x) (f y)) ys (y ∷ without_first same x ys) (tells x y p (All-head P y ys h))
+      cond-map (same x y) (alike (f x) (f y)) ys (y ∷ without_first same x ys) (tells x y p (All-head P y ys h))
       ∙ ap (λ zs. cond (alike (f x) (f y)) (map f ys) (f y ∷ zs)) (without_first-map x ys p (All-tail P y ys h))
 
   -- cancelling one after the other commutes with naming
@@ -88,7 +88,7 @@ module _ {A B : Type 0} (same : A → A → Bool) (alike : B → B → Bool) (f 
       with_added-map (cond (is_among same a s) s (s ++ a ∷ [])) rest (with_added_all same P s (a ∷ []) h one)
       (All-tail P a rest k)
       ∙ ap (λ zs. with_added alike zs (map f rest))
-      (chosen-map (is_among same a s) (is_among alike (f a) (map f s)) s (s ++ a ∷ []) (is_among-map a s p h)
+      (cond-map (is_among same a s) (is_among alike (f a) (map f s)) s (s ++ a ∷ []) (is_among-map a s p h)
       ∙ ap (λ zs. cond (is_among alike (f a) (map f s)) (map f s) zs) (map-append f s (a ∷ [])))
     where
       p : P a
@@ -102,7 +102,7 @@ module _ {A B : Type 0} (same : A → A → Bool) (alike : B → B → Bool) (f 
       → map f (filter (λ a. not (is_among same a ds)) s) ≡ filter (λ b. not (is_among alike b (map f ds))) (map f s)
   deleted-map [] ds h k = refl
   deleted-map (a ∷ s) ds h k =
-      chosen-map (not (is_among same a ds)) (not (is_among alike (f a) (map f ds)))
+      cond-map (not (is_among same a ds)) (not (is_among alike (f a) (map f ds)))
       (a ∷ filter (λ x. not (is_among same x ds)) s) (filter (λ x. not (is_among same x ds)) s)
       (ap not (is_among-map a ds (All-head P a s h) k))
       ∙ ap (λ zs. cond (not (is_among alike (f a) (map f ds))) (f a ∷ zs) zs)
