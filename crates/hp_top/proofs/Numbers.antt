@@ -1,8 +1,8 @@
 -- Numbers of a command.
-use Rattle.std.proofs.Common.{◌≡◌, ℕ, ◌+◌, ◌-◌, ◌*◌, ◌<◌, ◌≤◌, ◌≢◌, nat_le, drop, add-one, drop-cons, ◌∙◌, Bool, true, false, List, [], ◌∷◌, length, map, Option, Some, None, option_map, String, Global, string_bytes, bytes_eq, codes, get_or, arith, refl, ap, ap₂, sym, MatchOption}
+use Rattle.std.proofs.Common.{◌≡◌, ℕ, ◌+◌, ◌-◌, ◌*◌, ◌<◌, ◌≤◌, ◌≢◌, nat_le, drop, add-one, drop-cons, ◌∙◌, Bool, true, false, List, [], ◌∷◌, length, map, Option, Some, None, option_map, String, Global, string_bytes, bytes_eq, codes, get_or, arith, refl, ap, sym}
 use Rattle.std.proofs.lemmas.Bool.{lt-leb}
 use Rattle.hp_syntax.specs.declared.limits.TheConstants.{MOST_PLANS, GREATEST_DEPTH}
-use Rattle.hp_top.specs.Command.{Request, only_if, number_from, number_within, options_after, planning, making, asked_by_three, on_files, accepts}
+use Rattle.hp_top.specs.Command.{Request, only_if, number_from, number_within, plan_options, planning, making, asked_by_three, on_files, accepts}
 use Rattle.hp_top.specs.Words.{job_of}
 use Rattle.hp_top.specs.declared.words.TheConstants.{LARGEST_SEED, MOST_PACKAGES}
 use Rattle.hp_top.specs.declared.words.Asked.{Asked}
@@ -30,7 +30,7 @@ accepts_many : (ws : List (String Global)) (w d q p n : String Global) → 5 ≤
     ≡ option_map (on_files (string_bytes d) (string_bytes q))
     (only_if (bytes_eq (string_bytes w) (codes "plan"))
     (planning (number_within 1 MOST_PLANS (string_bytes p)) (number_within 0 GREATEST_DEPTH (string_bytes n))
-    (options_after None false (map string_bytes (drop 5 ws)))))
+    (plan_options (map string_bytes (drop 5 ws)))))
 accepts_many [] w d q p n a h i j k l = absurd (omega arith)
 accepts_many (u ∷ []) w d q p n a h i j k l = absurd (omega arith)
 accepts_many (u ∷ v ∷ []) w d q p n a h i j k l = absurd (omega arith)
@@ -70,7 +70,7 @@ module _ (ws : List (String Global)) (w d q p n : String Global) (five : 5 ≤ l
   pub accepts_plan : b ≡ true → (x y : List ℕ) (more : List (String Global)) (o : Option Asked) → x ≡ string_bytes p
       → y ≡ string_bytes n → more ≡ drop 5 ws
       → option_map job_of (option_map jobs.Plan o) ≡ planning (number_within 1 MOST_PLANS x)
-      (number_within 0 GREATEST_DEPTH y) (options_after None false (map string_bytes more))
+      (number_within 0 GREATEST_DEPTH y) (plan_options (map string_bytes more))
       → accepts (map string_bytes ws)
       ≡ option_map (on_files (string_bytes d) (string_bytes q)) (option_map job_of (option_map jobs.Plan o))
   accepts_plan f x y more o r s m a =

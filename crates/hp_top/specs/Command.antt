@@ -1,6 +1,6 @@
 -- The words of a command.
-use Rattle.std.specs.Prelude.{ℕ, ◌+◌, ◌-◌, ◌*◌, Bool, true, false, ◌&&◌, ◌||◌, not, nat_le, nat_lt, ◌==◌, cond, length, slice_index, List, [], ◌∷◌, Option, Some, None, is_some, unwrap_or, option_map, bytes_eq, codes}
-use Rattle.std.specs.List.{list_all}
+use Rattle.std.specs.Prelude.{ℕ, ◌+◌, ◌-◌, ◌*◌, Bool, true, ◌&&◌, ◌||◌, not, nat_le, nat_lt, ◌==◌, cond, length, slice_index, List, [], ◌∷◌, Option, Some, None, option_map, bytes_eq, codes}
+use Rattle.std.specs.List.{list_all, list_any}
 use Rattle.std.specs.Option.{option_and_then}
 use Rattle.hp_io.specs.declared.folder.Input.{Input}
 use Rattle.hp_io.specs.declared.folder.Input.TheVariants as inputs
@@ -39,16 +39,60 @@ pub record Options : Type 0 where
 abbrev pub options : ℕ → Bool → Options
 options n s = record { levels = n; states = s }
 
--- the options that words ask for behind those that were read: `--states` and `--nest N`, in any order, each at most
--- once
-abbrev pub options_after : Option ℕ → Bool → List (List ℕ) → Option Options
-options_after levels states [] = Some (options (unwrap_or levels USUAL_LEVELS) states)
-options_after levels states (w ∷ []) =
-    only_if (bytes_eq w (codes "--states") && not states) (options_after levels true [])
-options_after levels states (w ∷ x ∷ ws) =
-    cond (bytes_eq w (codes "--states")) (only_if (not states) (options_after levels true (x ∷ ws)))
-    (only_if (bytes_eq w (codes "--nest") && not (is_some levels))
-    (option_and_then (λ n. options_after (Some n) states ws) (number_within 0 MOST_LEVELS x)))
+-- an option of a command
+pub data CommandOption : Type 0 where
+  Nest : (levels : ℕ) → CommandOption
+  States : CommandOption
+
+-- the word that an option begins with
+abbrev pub option_name : CommandOption → List ℕ
+option_name (Nest n) = codes "--nest"
+option_name States = codes "--states"
+
+-- the options that words spell, in order: `--states`, and `--nest N`
+abbrev pub options_spelled : List (List ℕ) → Option (List CommandOption)
+options_spelled [] = Some []
+options_spelled (w ∷ []) = only_if (bytes_eq w (codes "--states")) (Some (States ∷ []))
+options_spelled (w ∷ x ∷ ws) =
+    cond (bytes_eq w (codes "--states")) (option_map (λ os. States ∷ os) (options_spelled (x ∷ ws)))
+    (only_if (bytes_eq w (codes "--nest"))
+    (option_and_then (λ n. option_map (λ os. Nest n ∷ os) (options_spelled ws)) (number_within 0 MOST_LEVELS x)))
+
+-- whether an option of this name is among options
+abbrev pub is_named_in : List ℕ → List CommandOption → Bool
+is_named_in name os = list_any (λ o. bytes_eq (option_name o) name) os
+
+-- no name stands twice
+abbrev pub are_named_once : List CommandOption → Bool
+are_named_once [] = true
+are_named_once (o ∷ os) = not (is_named_in (option_name o) os) && are_named_once os
+
+-- whether a command that allows these names allows all of the options
+abbrev pub are_allowed : List (List ℕ) → List CommandOption → Bool
+are_allowed names os = list_all (λ o. list_any (bytes_eq (option_name o)) names) os
+
+-- the options that words spell, where a command allows them, each name at most once
+abbrev pub options_of_words : List (List ℕ) → List (List ℕ) → Option (List CommandOption)
+options_of_words names words =
+    option_and_then (λ os. only_if (are_allowed names os && are_named_once os) (Some os)) (options_spelled words)
+
+-- how deep axioms may call one another, by a list of options: as deep as is usual, where none says it
+abbrev pub levels_in : List CommandOption → ℕ
+levels_in [] = USUAL_LEVELS
+levels_in (Nest n ∷ os) = n
+levels_in (States ∷ os) = levels_in os
+
+-- whether states are told, by a list of options
+abbrev pub has_states : List CommandOption → Bool
+has_states os = is_named_in (codes "--states") os
+
+-- how deep axioms may call one another, and whether states are told, by a list of options
+abbrev pub options_in : List CommandOption → Options
+options_in os = options (levels_in os) (has_states os)
+
+-- the options of `plan`
+abbrev pub plan_options : List (List ℕ) → Option Options
+plan_options words = option_map options_in (options_of_words (codes "--states" ∷ codes "--nest" ∷ []) words)
 
 -- ---- commands
 
@@ -113,5 +157,5 @@ accepts (word ∷ x ∷ y ∷ []) = asked_by_three word x y
 accepts (word ∷ d ∷ p ∷ k ∷ n ∷ more) =
     option_map (on_files d p)
     (only_if (bytes_eq word (codes "plan"))
-    (planning (number_within 1 MOST_PLANS k) (number_within 0 GREATEST_DEPTH n) (options_after None false more)))
+    (planning (number_within 1 MOST_PLANS k) (number_within 0 GREATEST_DEPTH n) (plan_options more)))
 accepts _ = None

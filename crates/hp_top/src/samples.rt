@@ -5,7 +5,7 @@ ghost use Rattle.hp_syntax.specs.Samples.{swap_text, empty_text};
 ghost use Rattle.hp_syntax.specs.declared.status.Status.TheVariants.{Done, CutShort};
 ghost use Rattle.hp_top.specs.Outcome.{Outcome};
 ghost use Rattle.hp_top.specs.Samples.{basic_files, plan_words};
-ghost use Rattle.hp_top.specs.Command.{Planning, Making, accepts, on_files, options, options_after};
+ghost use Rattle.hp_top.specs.Command.{Planning, Making, accepts, on_files, options, plan_options};
 
 use hp_syntax::samples::samples_are_spelled;
 
@@ -28,15 +28,13 @@ pub fn basic_comes_to_its_plan()
 
 /// The options of `plan`: in any order, each at most once, levels up to 128.
 pub fn options_are_read()
-    ensures none { options_after None false [] ≡ Some (options 64 false) }
-    ensures both { options_after None false (codes "--states" ∷ codes "--nest" ∷ codes "5" ∷ [])
-        ≡ Some (options 5 true) }
-    ensures other_order { options_after None false (codes "--nest" ∷ codes "0" ∷ codes "--states" ∷ [])
-        ≡ Some (options 0 true) }
-    ensures most { options_after None false (codes "--nest" ∷ codes "128" ∷ []) ≡ Some (options 128 false) }
-    ensures too_many { options_after None false (codes "--nest" ∷ codes "129" ∷ []) ≡ None }
-    ensures no_number { options_after None false (codes "--nest" ∷ []) ≡ None }
-    ensures twice { options_after None false (codes "--states" ∷ codes "--states" ∷ []) ≡ None }
+    ensures none { plan_options [] ≡ Some (options 64 false) }
+    ensures both { plan_options (codes "--states" ∷ codes "--nest" ∷ codes "5" ∷ []) ≡ Some (options 5 true) }
+    ensures other_order { plan_options (codes "--nest" ∷ codes "0" ∷ codes "--states" ∷ []) ≡ Some (options 0 true) }
+    ensures most { plan_options (codes "--nest" ∷ codes "128" ∷ []) ≡ Some (options 128 false) }
+    ensures too_many { plan_options (codes "--nest" ∷ codes "129" ∷ []) ≡ None }
+    ensures no_number { plan_options (codes "--nest" ∷ []) ≡ None }
+    ensures twice { plan_options (codes "--states" ∷ codes "--states" ∷ []) ≡ None }
     ensures plan { accepts
         (codes "plan" ∷ codes "d" ∷ codes "--nest" ∷ codes "5" ∷ codes "10" ∷ codes "--states" ∷ [])
         ≡ Some (on_files (codes "d") (codes "--nest") (Planning 5 10 (options 64 true))) }

@@ -3,7 +3,7 @@
 ghost use Rattle.std.specs.List.{list_all};
 ghost use Rattle.std.specs.Prelude.{true, false, nat_le, IfSome, ◌≡◌, ◌≢◌, ◌^◌, ◌<◌, None, Some, length, map, string_bytes, slice_get, unwrap_or, [], option_map};
 ghost use Rattle.hp_top.specs.Words.{IsPlanned, IsAsked, IsRequested, job_of, options_of, request_of};
-ghost use Rattle.hp_top.specs.Command.{accepts, only_if, planning, making, options_after, job_by_word, asked_by_three, number_within, number_from, is_number};
+ghost use Rattle.hp_top.specs.Command.{accepts, only_if, planning, making, plan_options, job_by_word, asked_by_three, number_within, number_from, is_number};
 ghost use Rattle.hp_syntax.specs.Text.{is_digit};
 
 use hp_syntax::limits::{GREATEST_DEPTH, MOST_LEVELS, MOST_PLANS, USUAL_LEVELS};
@@ -108,41 +108,49 @@ fn number_within(word: &[u8], least: u64, most: u64) -> Option<u64>
     if number < least { None } else { Some(number) }
 }
 
-/// The options that words ask for behind those that were read, each at most once.
-fn options_after(words: &[String], levels: Option<u32>, states: bool) -> Option<Options>
-    ensures { option_map options_of result ≡ options_after levels states (map string_bytes words.now) }
+/// The options that words spell, in any order, each at most once.
+fn plan_options(words: &[String]) -> Option<Options>
+    ensures { option_map options_of result ≡ plan_options (map string_bytes words.now) }
 {
-    match words {
-        [] => Some(Options {
-            levels: levels.unwrap_or(USUAL_LEVELS),
-            states,
-        }),
-        [word, rest @ ..] if word.as_str() == "--states" => {
-            if states {
-                None
-            } else {
-                options_after(rest, levels, true)
+    let mut levels: Option<u32> = None;
+    let mut states = false;
+    let mut rest = words;
+    while let Some((word, behind)) = rest.split_first() {
+        match word.as_str() {
+            "--states" => {
+                if states {
+                    return None;
+                }
+                states = true;
+                rest = behind;
             }
-        }
-        [word, number, rest @ ..] if word.as_str() == "--nest" && levels.is_none() => {
-            match number_within(number.as_bytes(), 0, u64::from(MOST_LEVELS)) {
-                Some(most) => options_after(rest, Some(most as u32), states),
-                None => None,
+            "--nest" => {
+                if levels.is_some() {
+                    return None;
+                }
+                let (number, others) = behind.split_first()?;
+                let most = number_within(number.as_bytes(), 0, u64::from(MOST_LEVELS))?;
+                levels = Some(most as u32);
+                rest = others;
             }
+            _ => return None,
         }
-        _ => None,
     }
+    Some(Options {
+        levels: levels.unwrap_or(USUAL_LEVELS),
+        states,
+    })
 }
 
 /// How many plans, which depth and which options words ask for.
 fn planned(plans: &[u8], depth: &[u8], more: &[String]) -> Option<Asked>
     ensures spelled { option_map job_of (option_map Job.Plan result) ≡ planning (number_within 1 MOST_PLANS plans.now)
-        (number_within 0 GREATEST_DEPTH depth.now) (options_after None false (map string_bytes more.now)) }
+        (number_within 0 GREATEST_DEPTH depth.now) (plan_options (map string_bytes more.now)) }
     ensures some { IfSome result IsPlanned }
 {
     let plans = number_within(plans, 1, MOST_PLANS)?;
     let depth = number_within(depth, 0, u64::from(GREATEST_DEPTH))?;
-    let options = options_after(more, None, false)?;
+    let options = plan_options(more)?;
     Some(Asked {
         plans,
         depth: depth as u32,

@@ -1,5 +1,0 @@
-use Rattle.std.proofs.Common.{length}
-use Rattle.hp_top.proofs.words.+options_after.Given as goal
-
-abbrev pub decreases-options_after : goal.decreases-options_after
-decreases-options_after l = length l.words.now
