@@ -1,5 +1,5 @@
 -- What stops the telling of a text stops that of a longer one.
-use Rattle.std.proofs.Common.{ℕ, ◌+◌, ◌≤◌, List, ◌++◌, Option, Result, Ok, Err, OnOk, IfErr, arith}
+use Rattle.std.proofs.Common.{ℕ, ◌≤◌, List, ◌++◌, Option, Result, Ok, Err, OnOk, IfErr, arith}
 use Rattle.hp_io.specs.Rules.{Rose}
 use Rattle.hp_top.specs.declared.telling.Halt.{Halt}
 use Rattle.hp_top.specs.declared.telling.Halt.TheVariants.{NoMemory, Failed}

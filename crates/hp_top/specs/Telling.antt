@@ -1,5 +1,5 @@
 -- What telling a walk has written, and what is left to tell.
-use Rattle.std.specs.Prelude.{◌≡◌, ℕ, ◌+◌, ◌<◌, ◌==◌, cond, List, ◌++◌, Option, Some, None, Result, Ok, Err, false, true, length}
+use Rattle.std.specs.Prelude.{◌≡◌, ℕ, ◌+◌, ◌<◌, ◌==◌, cond, List, Option, Some, None, Result, Ok, Err, false, true, length}
 use Rattle.hp_io.specs.Rules.{Rose}
 use Rattle.hp_net.specs.Standings.{Tree}
 use Rattle.hp_out.specs.Endings.{ending_of}

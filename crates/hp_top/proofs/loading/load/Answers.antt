@@ -1,6 +1,6 @@
-use Rattle.std.proofs.Common.{refl, ap, sym, subst}
+use Rattle.std.proofs.Common.{refl, subst}
 use Rattle.hp_io.specs.declared.folder.Input.TheVariants as inputs
-use Rattle.hp_syntax.specs.Grammar.{domain_form, problem_form}
+use Rattle.hp_syntax.specs.Grammar.{problem_form}
 use Rattle.hp_syntax.specs.Views.{domain_of, problem_of}
 use Rattle.hp_top.specs.Loading.{Reads}
 use Rattle.hp_top.specs.Outcome.{Stopped, Went}

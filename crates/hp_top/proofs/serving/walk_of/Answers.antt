@@ -1,4 +1,4 @@
-use Rattle.std.proofs.Common.{◌≡◌, ◌∷◌, [], ap, subst, arith, length}
+use Rattle.std.proofs.Common.{◌≡◌, [], ap, subst, arith, length}
 use Rattle.std.specs.List.{All}
 use Rattle.std.proofs.lemmas.List.Elements.{All-head}
 use Rattle.hp_plain.specs.Begins.{IsGround}
