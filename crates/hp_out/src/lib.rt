@@ -14,3 +14,4 @@ mod writing;
 pub use ending::Ending;
 pub use pen::Pen;
 pub use refusal::Refusal;
+pub use words::text_of;

@@ -1,7 +1,6 @@
 //! Why a run does nothing, and the line and the status that say so.
 
 ghost use Rattle.std.specs.Prelude.{◌≡◌, ◌⊎◌, ◌≤◌};
-ghost use Rattle.hp_out.specs.Lines.{text_of};
 ghost use Rattle.hp_out.specs.Writing.{sink_run};
 ghost use Rattle.hp_top.specs.Outcome.{refused_status, refusal_answer, refusal_status};
 ghost use Rattle.hp_top.specs.Serving.{load_answer};
@@ -10,7 +9,7 @@ ghost use Rattle.hp_top.specs.Telling.{Tells};
 use crate::loading::LoadError;
 use crate::telling::write_refusal;
 use hp_io::{Input, Sink};
-use hp_out::Refusal;
+use hp_out::{Refusal, text_of};
 use hp_syntax::Status;
 
 fn refused_status(which: Input) -> Status
@@ -19,17 +18,6 @@ fn refused_status(which: Input) -> Status
     match which {
         Input::Domain => Status::DomainRefused,
         Input::Problem => Status::ProblemRefused,
-    }
-}
-
-/// The text of the problem, or of the domain.
-fn text_of(in_problem: bool) -> Input
-    ensures { result ≡ text_of in_problem }
-{
-    if in_problem {
-        Input::Problem
-    } else {
-        Input::Domain
     }
 }
 
