@@ -1,4 +1,4 @@
--- NotedSats while cells grow and further events are heard.
+-- Notes while cells grow and further events are heard.
 use Rattle.std.proofs.Common.{◌≡◌, ℕ, ◌≤◌, Bool, true, false, cond, ℤ, List, [], ◌∷◌, ◌++◌, ◌||◌, map, length, Result, Ok, Err, refl, sym, ◌∙◌, ap, ap₂, subst, arith}
 use Rattle.std.specs.List.{All}
 use Rattle.std.proofs.lemmas.List.{append-nil, length-take-le}

@@ -30,7 +30,7 @@ entry_of c n = (n.number, map (named c) n.values.items)
 abbrev pub noted_events : List Term → List Noted → Bool → List Happening
 noted_events c ns cut = map (λ x. Sat x.1) (map (entry_of c) ns) ++ cond cut (Cut ∷ []) []
 
--- values keep what variables stood for before
+-- as many values, which keep the cells that variables stood for before
 pub record KeepsCells (values : List (Option ℕ)) (start : Slotted) : Type 0 where
   pub as_many : length start.values ≡ length values
   pub keeps : (v cell : ℕ) → slice_get start.values v ≡ Some (Some cell) → slice_get values v ≡ Some (Some cell)

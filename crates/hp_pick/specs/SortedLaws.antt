@@ -2,6 +2,7 @@
 use Rattle.std.specs.Prelude.{◌≡◌, ℕ, ◌≤◌, Bool, true, false, cond, ℤ, List, [], ◌∷◌, ◌++◌, map, length, take, drop, Option, Some, None, slice_get, refl}
 use Rattle.std.specs.List.{All}
 use Rattle.std.proofs.Common.{sym, ◌∙◌, ap, ap₂, subst}
+use Rattle.std.proofs.lemmas.List.{length-map}
 use Rattle.std.proofs.lemmas.List.Elements.{All-nil, All-cons, All-head, All-tail, All-append, All-map, All-drop, All-weaker}
 use Rattle.std.proofs.lemmas.Option.{none-some}
 use Rattle.hp_syntax.specs.declared.pattern.Span.{Span}
@@ -24,15 +25,19 @@ use Rattle.hp_pick.specs.Heard.{rest_in_order, SuitsEither, FitsEither, kept_of}
 -- ---- events in order keep bindings that the list keeps
 
 module _ (e : Bindings) where
-  -- each satisfier keeps the bindings
+  -- a satisfier with its number extends the bindings
+  abbrev EntryExtends : ℤ × Bindings → Type 0
+  EntryExtends x = EventExtends e (Sat x.1)
+
+  -- each satisfier extends the bindings
   abbrev KeysKeep : Keyed → Type 0
   KeysKeep (NoKey f) = Unit {0}
-  KeysKeep (Keys xs cut) = All (λ x. EventExtends e (Sat x.1)) xs
+  KeysKeep (Keys xs cut) = All EntryExtends xs
 
   -- a satisfier with a number keeps them where it does, before others that do
   with_keeps : (n : ℤ) (b : Bindings) (k : Keyed) → EventExtends e (Sat b) → KeysKeep k → KeysKeep (keyed_with n b k)
   with_keeps n b (NoKey f) h all = tt
-  with_keeps n b (Keys xs cut) h all = All-cons (λ x. EventExtends e (Sat x.1)) (n, b) xs h all
+  with_keeps n b (Keys xs cut) h all = All-cons EntryExtends (n, b) xs h all
 
   -- a Cut changes no satisfier
   cut_keeps : (k : Keyed) → KeysKeep k → KeysKeep (cut_with k)
@@ -49,7 +54,7 @@ module _ (e : Bindings) where
 
   -- the satisfiers of a list keep what each event of it keeps
   keyed_keeps : (k : Key) (xs : List Happening) → All (EventExtends e) xs → KeysKeep (keyed k xs)
-  keyed_keeps k [] all = All-nil (λ x. EventExtends e (Sat x.1))
+  keyed_keeps k [] all = All-nil EntryExtends
   keyed_keeps k (Sat b ∷ xs) all =
       by_keeps k.span (bound b k.var) b (keyed k xs) (All-head (EventExtends e) (Sat b) xs all)
       (keyed_keeps k xs (All-tail (EventExtends e) (Sat b) xs all))
@@ -58,25 +63,25 @@ module _ (e : Bindings) where
 
   module _ (before : ℤ → ℤ → Bool) where
     -- satisfiers keep them with one put in that does
-    put_in_keeps : (x : ℤ × Bindings) (ys : List (ℤ × Bindings)) → EventExtends e (Sat x.1)
-        → All (λ y. EventExtends e (Sat y.1)) ys → All (λ y. EventExtends e (Sat y.1)) (put_in before x ys)
-    put_in_keeps x [] h all = All-cons (λ y. EventExtends e (Sat y.1)) x [] h all
+    put_in_keeps : (x : ℤ × Bindings) (ys : List (ℤ × Bindings)) → EntryExtends x
+        → All EntryExtends ys → All EntryExtends (put_in before x ys)
+    put_in_keeps x [] h all = All-cons EntryExtends x [] h all
     put_in_keeps x (y ∷ ys) h all =
-        by (before y.0 x.0) (put_in_keeps x ys h (All-tail (λ z. EventExtends e (Sat z.1)) y ys all))
+        by (before y.0 x.0) (put_in_keeps x ys h (All-tail EntryExtends y ys all))
       where
-        by : (b : Bool) → All (λ z. EventExtends e (Sat z.1)) (put_in before x ys)
-            → All (λ z. EventExtends e (Sat z.1)) (cond b (y ∷ put_in before x ys) (x ∷ y ∷ ys))
+        by : (b : Bool) → All EntryExtends (put_in before x ys)
+            → All EntryExtends (cond b (y ∷ put_in before x ys) (x ∷ y ∷ ys))
         by true rest =
-            All-cons (λ z. EventExtends e (Sat z.1)) y (put_in before x ys) (All-head (λ z. EventExtends e (Sat z.1)) y ys all) rest
-        by false rest = All-cons (λ z. EventExtends e (Sat z.1)) x (y ∷ ys) h all
+            All-cons EntryExtends y (put_in before x ys) (All-head EntryExtends y ys all) rest
+        by false rest = All-cons EntryExtends x (y ∷ ys) h all
 
     -- satisfiers that are sorted keep what they kept
-    sorted_keeps : (xs : List (ℤ × Bindings)) → All (λ x. EventExtends e (Sat x.1)) xs
-        → All (λ x. EventExtends e (Sat x.1)) (sorted before xs)
+    sorted_keeps : (xs : List (ℤ × Bindings)) → All EntryExtends xs
+        → All EntryExtends (sorted before xs)
     sorted_keeps [] all = all
     sorted_keeps (x ∷ xs) all =
-        put_in_keeps x (sorted before xs) (All-head (λ y. EventExtends e (Sat y.1)) x xs all)
-        (sorted_keeps xs (All-tail (λ y. EventExtends e (Sat y.1)) x xs all))
+        put_in_keeps x (sorted before xs) (All-head EntryExtends x xs all)
+        (sorted_keeps xs (All-tail EntryExtends x xs all))
 
   -- a Cut keeps any bindings
   cut_behind : (cut : Bool) → All (EventExtends e) (cond cut (Cut ∷ []) [])
@@ -84,7 +89,7 @@ module _ (e : Bindings) where
   cut_behind false = All-nil (EventExtends e)
 
   -- satisfiers and a Cut behind them keep what the satisfiers keep
-  sats_keep : (xs : List (ℤ × Bindings)) (cut : Bool) → All (λ x. EventExtends e (Sat x.1)) xs
+  sats_keep : (xs : List (ℤ × Bindings)) (cut : Bool) → All EntryExtends xs
       → All (EventExtends e) (map (λ x. Sat x.1) xs ++ cond cut (Cut ∷ []) [])
   sats_keep xs cut all =
       All-append (EventExtends e) (map (λ x. Sat x.1) xs) (cond cut (Cut ∷ []) [])
@@ -98,23 +103,27 @@ module _ (e : Bindings) where
 
 -- ---- what was noted
 
--- a noted satisfier keeps the bindings of the start
+-- a noted satisfier extends the bindings of the start
 noted_keeps : (c : List Term) (kept : ℕ) (start : Slotted) (n : Noted) → IsNoted kept start n
     → EventExtends (bindings_of c start) (Sat (entry_of c n).1)
-noted_keeps c kept start n h v t k = by (flat (slice_get start.values v)) refl (sym (bound_named c start v) ∙ k)
+noted_keeps c kept start n h = record {
+  as_many =
+      length-map n.values.items (named c) ∙ sym h.extends.as_many ∙ sym (length-map start.values (named c));
+  keeps = λ v t k. by v t (flat (slice_get start.values v)) refl (sym (bound_named c start v) ∙ k);
+}
   where
-    by : (o : Option ℕ) → flat (slice_get start.values v) ≡ o → named c (flat (slice_get start.values v)) ≡ Some t
-        → bound (map (named c) n.values.items) v ≡ Some t
-    by None p q = absurd (none-some t (sym (ap (named c) p) ∙ q))
-    by (Some cell) p q =
+    by : (v : ℕ) (t : Term) (o : Option ℕ) → flat (slice_get start.values v) ≡ o
+        → named c (flat (slice_get start.values v)) ≡ Some t → bound (map (named c) n.values.items) v ≡ Some t
+    by v t None p q = absurd (none-some t (sym (ap (named c) p) ∙ q))
+    by v t (Some cell) p q =
         ap flat_option (bindings_some c (slotted n.values.items []) v cell t
         (h.extends.keeps v cell (place_bound start v cell p)) (sym (ap (named c) p) ∙ q))
 
 -- what was noted keeps the bindings of the start
 entries_keep : (c : List Term) (kept : ℕ) (start : Slotted) (ns : List Noted) → All (IsNoted kept start) ns
-    → All (λ x. EventExtends (bindings_of c start) (Sat x.1)) (map (entry_of c) ns)
+    → All (EntryExtends (bindings_of c start)) (map (entry_of c) ns)
 entries_keep c kept start ns all =
-    All-map (λ x. EventExtends (bindings_of c start) (Sat x.1)) (entry_of c) ns
+    All-map (EntryExtends (bindings_of c start)) (entry_of c) ns
     (All-weaker (IsNoted kept start) (λ n. EventExtends (bindings_of c start) (Sat (entry_of c n).1))
     (noted_keeps c kept start) ns all)
 

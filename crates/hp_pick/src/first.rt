@@ -1,5 +1,4 @@
 //! The first satisfier alone.
-ghost use Rattle.hp_syntax.specs.Events.{EventExtends};
 ghost use Rattle.std.specs.Prelude.{◌≡◌};
 ghost use Rattle.hp_pick.specs.UpToSat.{is_sat};
 
@@ -59,6 +58,7 @@ fn is_sat(event: Event) -> bool
 
 impl<B, S: Sats<B>> Sats<B> for First<S> {
     ghost use Rattle.std.specs.Prelude.{cond, []};
+    ghost use Rattle.hp_syntax.specs.Events.{EventExtends};
     ghost use Rattle.hp_syntax.specs.Preconditions.{up_to_sat};
     ghost use Rattle.hp_eval.specs.Slotted.{bindings_of, undone};
     ghost use Rattle.hp_pick.specs.UpToSat.{first_same, first_extend};
@@ -103,6 +103,6 @@ impl<B, S: Sats<B>> Sats<B> for First<S> {
 
     ghost same_cells = { λ s b c d e u h k. first_same s.ended (S.same_cells s.inner b c d e u h k) };
 
-    ghost sats_extend = { λ s b c e u h. first_extend (EventExtends (bindings_of c (undone (S.start s.inner) e))) s.ended
-        (S.rest s.inner b c e) (S.sats_extend s.inner b c e u h) };
+    ghost sats_extend = { λ s b c e u h. first_extend (EventExtends (bindings_of c (undone (S.start s.inner) e)))
+        s.ended (S.rest s.inner b c e) (S.sats_extend s.inner b c e u h) };
 }

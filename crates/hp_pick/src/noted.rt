@@ -98,7 +98,7 @@ fn values_of(alloc: Global, slots: &Slots) -> Result<Vec<Option<Cell>>, AllocErr
     Ok(values)
 }
 
-// NotedSats a Sat whose bindings are in the slots.
+// Notes a Sat whose bindings are in the slots.
 fn note_sat(
     alloc: Global,
     key: &SortKey,
@@ -118,7 +118,7 @@ fn note_sat(
     Ok(())
 }
 
-/// NotedSats the first event of a list, whose bindings are in the slots if it is a Sat: true where more may come, false at
+/// Notes the first event of a list, whose bindings are in the slots if it is a Sat: true where more may come, false at
 /// the end.
 pub(crate) fn note(
     alloc: Global,

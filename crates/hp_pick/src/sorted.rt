@@ -35,7 +35,6 @@ impl<S: Drop> Drop for Sorted<S> {
 }
 
 impl<S> Sorted<S> {
-    ghost use Rattle.hp_syntax.specs.Events.{EventExtends};
     ghost use Rattle.std.specs.Prelude.{◌≡◌, ◌<◌, List, length};
     ghost use Rattle.hp_syntax.specs.Terms.{Term};
     ghost use Rattle.hp_syntax.specs.Preconditions.{keyed, sorted_events};
