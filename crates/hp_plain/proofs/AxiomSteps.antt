@@ -1,19 +1,17 @@
 -- What a goal meets by axioms.
-use Rattle.std.proofs.Common.{◌≡◌, ℕ, zero, suc, ◌+◌, ◌<◌, ◌≤◌, Bool, true, false, cond, List, [], ◌∷◌, ◌++◌, length, map, filter, drop, get_or, slice_get, Option, Some, None, option_map, Ok, Bor, refl, sym, ◌∙◌, ap, subst, arith}
+use Rattle.std.proofs.Common.{◌≡◌, ℕ, zero, suc, ◌+◌, ◌<◌, ◌≤◌, Bool, true, false, cond, List, [], ◌∷◌, ◌++◌, length, map, filter, drop, slice_get, Option, Some, None, option_map, Bor, refl, sym, ◌∙◌, ap, subst, arith}
 use Rattle.std.specs.Prelude.{flat_map, Contains, bytes_eq}
 use Rattle.std.proofs.lemmas.List.{length-map, drop_all}
 use Rattle.std.proofs.lemmas.List.Elements.{All-contains}
 use Rattle.std.proofs.lemmas.Option.{slice_get-map}
-use Rattle.hp_syntax.specs.Syntax.{Expression, Rule, Axiom, Concludes, Does, Refines}
+use Rattle.hp_syntax.specs.Syntax.{Rule, Axiom, Concludes, Does, Refines}
 use Rattle.hp_syntax.specs.Terms.{Term}
 use Rattle.hp_syntax.specs.Values.{Bindings, unbound}
 use Rattle.hp_syntax.specs.Goals.{Goal, start_goal}
-use Rattle.hp_syntax.specs.Events.{Event, State, through, or_else, state_events, first_list, concluded, started_events, axiom_events, goal_events, axioms_of}
-use Rattle.hp_syntax.specs.Views.{axiom_of, clause_of, expression_of}
-use Rattle.hp_syntax.specs.declared.domain.Clause as public_clause
+use Rattle.hp_syntax.specs.Events.{Event, State, Below, through, state_events, branch_events, concluded, started_events, axiom_events, goal_events, axioms_of}
+use Rattle.hp_syntax.specs.Views.{axiom_of}
 use Rattle.hp_syntax.specs.declared.domain.Axiom as public_axiom
 use Rattle.hp_eval.specs.Slotted.{Slotted, no_bindings, bindings_of}
-use Rattle.hp_eval.proofs.Loops.{left_more}
 use Rattle.hp_plain.specs.Rulebooks.{concluding, axiom_at, AreFew}
 use Rattle.hp_plain.specs.Scenes.{placed_events}
 use Rattle.hp_laws.proofs.JoinLemmas.{contains_first, contains_later}
@@ -25,14 +23,14 @@ use Rattle.hp_plain.proofs.HeardLemmas.{alike_empty}
 
 -- ---- axioms
 
-module _ (branches : Axiom → Bindings → List Event) (q : Goal) (e : Bindings) where
+module _ (lower : Below) (q : Goal) (e : Bindings) where
   -- an axiom of another name meets nothing
-  other_axiom : (x : Axiom) → bytes_eq x.head.name q.name ≡ false → axiom_events branches q e x ≡ []
+  other_axiom : (x : Axiom) → bytes_eq x.head.name q.name ≡ false → axiom_events lower x q e ≡ []
   other_axiom x h = rw h refl
 
   -- what axioms meet, one after another
   abbrev joined_events : List Axiom → List Event
-  joined_events axioms = flat_map (axiom_events branches q e) axioms
+  joined_events axioms = flat_map (λ x. axiom_events lower x q e) axioms
 
   -- the axioms of the goal's name
   abbrev with_name : List Axiom → List Axiom
@@ -46,7 +44,7 @@ module _ (branches : Axiom → Bindings → List Event) (q : Goal) (e : Bindings
       by : (b : Bool) → bytes_eq x.head.name q.name ≡ b → joined_events xs ≡ joined_events (with_name xs)
           → joined_events (x ∷ xs) ≡ joined_events (with_name (x ∷ xs))
       by true h rest =
-          ap (λ ys. axiom_events branches q e x ++ ys) rest
+          ap (λ ys. axiom_events lower x q e ++ ys) rest
           ∙ sym (ap (λ b. joined_events (cond b (x ∷ with_name xs) (with_name xs))) h)
       by false h rest =
           ap (λ ys. ys ++ joined_events xs) (other_axiom x h)
@@ -54,8 +52,7 @@ module _ (branches : Axiom → Bindings → List Event) (q : Goal) (e : Bindings
 
   -- a goal meets the atoms of the state, and then the axioms of its name
   pub goal_begins : (s : State) (rules : List Rule)
-      → goal_events s (axioms_of rules) branches e (Ok q)
-      ≡ state_events s q e ++ flat_map (axiom_events branches q e) (concluding q.name rules)
+      → goal_events (axioms_of rules) lower s q e ≡ state_events s q e ++ joined_events (concluding q.name rules)
   goal_begins s rules = ap (λ xs. state_events s q e ++ xs) (named_alone (axioms_of rules))
 
   module _ (rules : List Rule) (places : List ℕ) (named : List Axiom)
@@ -70,26 +67,25 @@ module _ (branches : Axiom → Bindings → List Event) (q : Goal) (e : Bindings
 
     -- the axiom at a place is met before the others that are left
     pub axioms_left : (place : ℕ) → slice_get places i ≡ Some place
-        → flat_map (axiom_events branches q e) (drop i named)
-        ≡ placed_events branches q e (axiom_at rules place) ++ flat_map (axiom_events branches q e) (drop (i + 1) named)
+        → joined_events (drop i named)
+        ≡ placed_events lower (axiom_at rules place) q e ++ joined_events (drop (i + 1) named)
     axioms_left place h = by (slice_get named i) refl (axiom_there place h)
       where
         by : (o : Option Axiom) → slice_get named i ≡ o → option_map Some o ≡ Some (axiom_at rules place)
-            → flat_map (axiom_events branches q e) (drop i named)
-            ≡ placed_events branches q e (axiom_at rules place)
-            ++ flat_map (axiom_events branches q e) (drop (i + 1) named)
+            → joined_events (drop i named)
+            ≡ placed_events lower (axiom_at rules place) q e ++ joined_events (drop (i + 1) named)
         by None k m = absurd cc
         by (Some x) k m =
             let at : Some x ≡ axiom_at rules place = cc in
-            ap (flat_map (axiom_events branches q e)) (left_at named i x k)
-            ∙ ap (λ o. placed_events branches q e o ++ flat_map (axiom_events branches q e) (drop (i + 1) named)) at
+            ap joined_events (left_at named i x k)
+            ∙ ap (λ o. placed_events lower o q e ++ joined_events (drop (i + 1) named)) at
 
     -- where no place is left, no axiom is
-    pub axioms_end : length places ≤ i → flat_map (axiom_events branches q e) (drop i named) ≡ []
+    pub axioms_end : length places ≤ i → joined_events (drop i named) ≡ []
     axioms_end l =
         let same : length places ≡ length named =
         sym (length-map places (axiom_at rules)) ∙ (ap length listed ∙ length-map named Some) in
-        ap (flat_map (axiom_events branches q e)) (drop_all i named (omega (arith, same)))
+        ap joined_events (drop_all i named (omega (arith, same)))
 
 -- an axiom at a place is one of the axioms
 pub axiom_among : (rules : List Rule) (place : ℕ) (x : Axiom) → axiom_at rules place ≡ Some x
@@ -115,38 +111,29 @@ new_bind_none terms own n many is e = ap (bindings_of terms) is ∙ (none_bound 
 
 -- ---- branches
 
--- a list of which something is heard is the first that isn't empty
-pub first_found : (terms : List Term) (found : List Found) (xs ys : List Event)
-    → AreHeardAlike (found_events terms found) xs → 0 < length found → or_else xs ys ≡ xs
-first_found terms found (x ∷ xs) ys h l = refl
-first_found terms found [] ys h l =
-    let none = ap length (alike_empty (found_events terms found) h) in
-    absurd (omega (arith, l, none, length-map found (found_event terms)))
+module _ (terms : List Term) (found : List Found) where
+  -- where something is found, something is met
+  pub some_met : (xs : List Event) → AreHeardAlike (found_events terms found) xs → 0 < length found → 0 < length xs
+  some_met (x ∷ xs) h l = omega arith
+  some_met [] h l =
+      let none = ap length (alike_empty (found_events terms found) h) in
+      absurd (omega (arith, l, none, length-map found (found_event terms)))
 
--- behind a list of which nothing is heard the first that isn't empty is the first of the others
-pub first_passes : (terms : List Term) (found : List Found) (xs ys : List Event)
-    → AreHeardAlike (found_events terms found) xs → found ≡ [] → or_else xs ys ≡ ys
-first_passes terms found xs ys h is =
-    ap (λ zs. or_else zs ys) (alike_empty xs (sym h ∙ ap (λ zs. heard (found_events terms zs)) is))
-
--- a branch is met before the others that are left
-pub branch_left : (f : Expression → List Event) (clauses : List public_clause.Clause) (i : ℕ) (c : public_clause.Clause)
-    → i < length clauses → c ≡ get_or clauses i c
-    → first_list f (map clause_of (drop i clauses))
-    ≡ or_else (f (expression_of c.body)) (first_list f (map clause_of (drop (i + 1) clauses)))
-branch_left f clauses i c l is = ap (λ cs. first_list f (map clause_of cs)) (left_more clauses i c l is)
+  -- where nothing is found, nothing is met
+  pub none_met : (xs : List Event) → AreHeardAlike (found_events terms found) xs → found ≡ [] → length xs ≡ 0
+  none_met xs h is = ap length (alike_empty xs (sym h ∙ ap (λ zs. heard (found_events terms zs)) is))
 
 -- ---- axioms that start
 
-module _ (branches : Axiom → Bindings → List Event) (q : Goal) (e : Bindings) (x : Axiom) where
+module _ (lower : Below) (q : Goal) (e : Bindings) (x : Axiom) where
   -- an axiom whose head doesn't start meets nothing
-  pub axiom_unstarted : start_goal x.head q (unbound (length x.vars)) ≡ None → axiom_events branches q e x ≡ []
-  axiom_unstarted h = ap (started_events branches x q e) h
+  pub axiom_unstarted : start_goal x.head q (unbound (length x.vars)) ≡ None → axiom_events lower x q e ≡ []
+  axiom_unstarted h = ap (λ o. started_events lower x o q e) h
 
   -- one whose head starts meets what its branches conclude
   pub axiom_started : (b : Bindings) → start_goal x.head q (unbound (length x.vars)) ≡ Some b
-      → through (branches x b) (concluded x.head q e) ≡ axiom_events branches q e x
-  axiom_started b h = sym (ap (started_events branches x q e) h)
+      → through (branch_events lower x b) (λ d. concluded x.head d q e) ≡ axiom_events lower x q e
+  axiom_started b h = sym (ap (λ o. started_events lower x o q e) h)
 
 -- what stands for an axiom at a place is that axiom
 pub placed_axiom : (o : Option Axiom) (r : Option (Bor public_axiom.Axiom)) (a : Bor public_axiom.Axiom)

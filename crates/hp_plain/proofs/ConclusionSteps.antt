@@ -94,13 +94,13 @@ module _ (ps : List Pat) (i : ℕ) (e : Bindings) (whole : Bool)
 
 module _ (h : Atom) (q : Goal) (e b : Bindings) where
   -- a head whose variables stand for terms concludes its value
-  concluded_bound : head_bound h b ≡ true → concluded_value (atom_value h b) q e ≡ concluded h q e b
+  concluded_bound : head_bound h b ≡ true → concluded_value (atom_value h b) q e ≡ concluded h b q e
   concluded_bound k =
       ap (λ does. cond does (concluded_value (atom_value h b) q e) (Fault (fault_at NotGround h.span) ∷ [])) (sym k)
 
   -- the goal meets the value of such a head
   pub concluded_term : head_bound h b ≡ true → (terms : List Term) (cell : ℕ) → Gives (Ok cell) (atom_value h b) terms
-      → sat_if (match_goal q (term_at terms cell) e) ≡ concluded h q e b
+      → sat_if (match_goal q (term_at terms cell) e) ≡ concluded h b q e
   concluded_term k terms cell g =
       ap (λ r. concluded_value r q e) (ap Ok (at_named terms cell g.0 g.2) ∙ sym g.1) ∙ concluded_bound k
 
@@ -108,12 +108,12 @@ module _ (h : Atom) (q : Goal) (e b : Bindings) where
 pub conclusion_heard : (old mid new : List Term) (g : Grows old mid) (h : Atom) (q : open_goal.Goal) (s : Slotted)
     (x : Found) (found : List Found) → GoalBelow (length old) q → AreBelow (length old) s → BindsBelow (length old) x
     → Finds new (length s.values) found
-    (in_place (concluded h (goal_of mid q) (bindings_of mid s)) (found_event mid x))
+    (in_place (λ b. concluded h b (goal_of mid q) (bindings_of mid s)) (found_event mid x))
     → Hears new (length s.values) found
-    (in_place (concluded h (goal_of old q) (bindings_of old s)) (found_event old x))
+    (in_place (λ b. concluded h b (goal_of old q) (bindings_of old s)) (found_event old x))
 conclusion_heard old mid new g h q s x found there below binds f =
     hears_found new (length s.values) found _
     (finds_same new (length s.values) found _ _
-    (ap₂ (λ p e. in_place (concluded h p e) (found_event mid x)) (goal_stays old mid g q there)
+    (ap₂ (λ p e. in_place (λ b. concluded h b p e) (found_event mid x)) (goal_stays old mid g q there)
     (bindings_stay old mid g s below)
-    ∙ ap (in_place (concluded h (goal_of old q) (bindings_of old s))) (event_stays old mid g x binds)) f)
+    ∙ ap (in_place (λ b. concluded h b (goal_of old q) (bindings_of old s))) (event_stays old mid g x binds)) f)

@@ -17,7 +17,7 @@ use Rattle.hp_syntax.specs.Views.{pattern_of, atom_of, atoms_of, expression_of, 
 use Rattle.hp_syntax.specs.Applying.{ChangesOf}
 use Rattle.hp_syntax.specs.Events as plain
 use Rattle.hp_syntax.specs.Events.{Event, State, sat}
-use Rattle.hp_syntax.specs.Changes.{changes_of as gathered_changes, cost_value, effects, Changes, Going, Went, Stops, and_go, go_on, Gathered, both_gathered, of_atoms, of_protection, atom_values, values_for_each, effects_values, effect_values}
+use Rattle.hp_syntax.specs.Changes.{changes_of as gathered_changes, cost_value, effects, Changes, Going, Went, CutShort, Failed, and_go, go_on, Gathered, both_gathered, of_atoms, of_protection, atom_values, values_for_each, effects_values, effect_values}
 use Rattle.hp_eval.specs.declared.event.EvalStop.{EvalStop}
 use Rattle.hp_eval.specs.declared.event.EvalStop.TheVariants as stops
 use Rattle.hp_eval.specs.GoalViews.{term_at}
@@ -51,7 +51,7 @@ same_changes : {A : Type 0} (c d : ChangesOf A) → c.unguard ≡ d.unguard → 
 same_changes c d u e a g =
     ap₂ (λ p q. changes_with p q c.add c.guard) u e ∙ ap₂ (λ p q. changes_with d.unguard d.delete p q) a g
 
--- with nothing both_gathered changes are as they were
+-- with nothing gathered changes are as they were
 with_nothing : (side : Side) (c : Changes) → c ≡ with_gathered side (of_atoms []) c
 with_nothing Deletes c =
     same_changes c (with_gathered Deletes (of_atoms []) c) (sym (append-nil c.unguard)) (sym (append-nil c.delete)) refl
@@ -59,7 +59,7 @@ with_nothing Deletes c =
 with_nothing Adds c =
     same_changes c (with_gathered Adds (of_atoms []) c) refl refl (sym (append-nil c.add)) (sym (append-nil c.guard))
 
--- what is both_gathered later stands behind what was both_gathered before
+-- what is gathered later stands behind what was gathered before
 with_both : (side : Side) (x y : Gathered) (c : Changes)
     → with_gathered side y (with_gathered side x c) ≡ with_gathered side (both_gathered x y) c
 with_both Deletes x y c =
@@ -166,15 +166,17 @@ pub record Along (side : Side) (whole left : Going Gathered) (terms : List Term)
 -- with nothing before it an effect gathers what it does
 nothing_before : (left : Going Gathered) → left ≡ both (Went (of_atoms [])) left
 nothing_before (Went h) = refl
-nothing_before (Stops x) = refl
+nothing_before CutShort = refl
+nothing_before (Failed f) = refl
 
--- what was both_gathered before an effect stands before what it gathers
+-- what was gathered before an effect stands before what it gathers
 both_assoc : (x y : Gathered) (left : Going Gathered)
     → both (Went x) (both (Went y) left) ≡ both (Went (both_gathered x y)) left
 both_assoc x y (Went h) =
     ap₂ (λ p q. Went (record { atoms = p; protections = q })) (sym (append_assoc x.atoms y.atoms h.atoms))
     (sym (append_assoc x.protections y.protections h.protections))
-both_assoc x y (Stops e) = refl
+both_assoc x y CutShort = refl
+both_assoc x y (Failed f) = refl
 
 module _ (side : Side) (whole : Going Gathered) (old : Changes) where
   -- at first all is left
@@ -215,15 +217,18 @@ module _ (side : Side) (whole : Going Gathered) (old : Changes) where
 atoms_step : (r : Result Term RunFault) (w : Going (List Term))
     → only_atoms (and_go (go_on r) (λ t. and_go w (λ ts. Went (t ∷ ts)))) ≡ both (of_atom r) (only_atoms w)
 atoms_step (Ok t) (Went ts) = refl
-atoms_step (Ok t) (Stops x) = refl
+atoms_step (Ok t) CutShort = refl
+atoms_step (Ok t) (Failed f) = refl
 atoms_step (Err f) w = refl
 
 -- so they are under one Sat after another
 sats_step : (v w : Going (List Term))
     → only_atoms (and_go v (λ ts. and_go w (λ us. Went (ts ++ us)))) ≡ both (only_atoms v) (only_atoms w)
 sats_step (Went ts) (Went us) = refl
-sats_step (Went ts) (Stops x) = refl
-sats_step (Stops x) w = refl
+sats_step (Went ts) CutShort = refl
+sats_step (Went ts) (Failed f) = refl
+sats_step CutShort w = refl
+sats_step (Failed f) w = refl
 
 each_step : (as' : List Atom) (x : Event) (xs : List Event)
     → only_atoms (values_for_each as' (x ∷ xs)) ≡ both (values_at as' x) (only_atoms (values_for_each as' xs))
@@ -270,7 +275,7 @@ effects_left axioms nest s e effects i x l is = ap (list_going axioms nest s e) 
 -- an effect for each satisfier gathers the values of its atoms
 pub each_effect : (axioms : List Axiom) (nest : ℕ) (s : State) (e : Bindings) (x : public_effect.Effect)
     (vars : Vec ℕ Global) (expr : Expr) (atoms : Vec AtomPat Global) → x ≡ public_effects.Forall vars expr atoms
-    → only_atoms (values_for_each (atoms_of atoms.items) (heard (sat axioms s nest (expression_of expr) e)))
+    → only_atoms (values_for_each (atoms_of atoms.items) (heard (sat axioms nest s (expression_of expr) e)))
     ≡ effect_values axioms nest s (effect_of x) e
 each_effect axioms nest s e x vars expr atoms h = ap (λ y. effect_values axioms nest s (effect_of y) e) (sym h)
 
@@ -342,7 +347,7 @@ module _ (axioms : List Axiom) (nest : ℕ) (s : State) (o : Operator) (e : Bind
       pub all_go : (n : ℤ) → cost_value (pattern_of o.cost) e ≡ Went n → whole_going ≡ Went (gathered_changes d a, n)
       all_go n h = behind_adds ∙ ap (λ x. and_go x (λ c. Went (gathered_changes d a, c))) h
 
--- what both lists both_gathered, from no changes on, are the changes
+-- what both lists gathered, from no changes on, are the changes
 pub gathered_both : (none dels adds : Changes) (d a : Gathered)
     → none ≡ record { unguard = []; delete = []; add = []; guard = [] } → dels ≡ with_gathered Deletes d none
     → adds ≡ with_gathered Adds a dels → adds ≡ gathered_changes d a

@@ -10,7 +10,7 @@ use Rattle.hp_syntax.specs.Preconditions.{heard}
 use Rattle.hp_eval.specs.Growth.{Grows}
 use Rattle.hp_plain.specs.declared.found.Found.{Found}
 use Rattle.hp_plain.specs.declared.found.Found.TheVariants.{Sat, Cut, Fault}
-use Rattle.hp_plain.specs.Founds.{found_event, found_events, Fits, Finds, AreHeardAlike, Hears, HearsUpTo, is_fault, ends_in_fault, turned}
+use Rattle.hp_plain.specs.Founds.{found_event, found_events, Fits, Finds, AreHeardAlike, Hears, HearsUpTo, is_found_fault, ends_in_fault, turned}
 use Rattle.hp_plain.proofs.FoundLemmas.{all_fit_grow, events_stay, left_replaced}
 
 -- ---- events
@@ -86,9 +86,9 @@ over_heard terms (Sat s ∷ []) more h = absurd cc
 over_heard terms (Cut ∷ []) more h = absurd cc
 over_heard terms (Sat s ∷ y ∷ ys) more h =
     ap (λ us. found_event terms (Sat s) ∷ us)
-    (over_heard terms (y ∷ ys) more (sym (ap is_fault (last_later (Sat s) y ys)) ∙ h))
+    (over_heard terms (y ∷ ys) more (sym (ap is_found_fault (last_later (Sat s) y ys)) ∙ h))
 over_heard terms (Cut ∷ y ∷ ys) more h =
-    ap (λ us. plain.Cut ∷ us) (over_heard terms (y ∷ ys) more (sym (ap is_fault (last_later Cut y ys)) ∙ h))
+    ap (λ us. plain.Cut ∷ us) (over_heard terms (y ∷ ys) more (sym (ap is_found_fault (last_later Cut y ys)) ∙ h))
 
 -- ---- what is found
 

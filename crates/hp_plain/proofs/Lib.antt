@@ -5,6 +5,7 @@ pub mod ConclusionSteps
 pub mod RulebookLemmas
 pub mod Sizes
 pub mod SearchSteps
+pub mod ChosenLemmas
 pub mod AxiomSteps
 pub mod SceneGrowth
 pub mod HeardSteps

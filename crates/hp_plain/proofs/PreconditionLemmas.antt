@@ -190,20 +190,20 @@ sorted_heard_whole order (Keys xs cut) = sats_heard (sorted (sorts_before order)
 module _ (axioms : List Axiom) (nest : ℕ) (s : State) (pre : Pre) (e : Bindings) where
   -- of a plain precondition all is heard
   pub plain_events : (x : Expr) → pre ≡ pres.Plain x
-      → heard (sat axioms s nest (expression_of x) e) ≡ precondition_events axioms nest s (precondition_of pre) e
+      → heard (sat axioms nest s (expression_of x) e) ≡ precondition_events axioms nest s (precondition_of pre) e
   unfolding precondition_events
   plain_events x h = ap (λ p. precondition_events axioms nest s (precondition_of p) e) (sym h)
 
   -- of a `:first` all is heard up to the first Sat
   pub first_events : (x : Expr) → pre ≡ pres.First x
-      → up_to_sat (heard (sat axioms s nest (expression_of x) e))
+      → up_to_sat (heard (sat axioms nest s (expression_of x) e))
       ≡ precondition_events axioms nest s (precondition_of pre) e
   unfolding precondition_events
   first_events x h = ap (λ p. precondition_events axioms nest s (precondition_of p) e) (sym h)
 
   -- of a `:sort-by` all is heard in order
   pub ordered_events : (k : SortKey) (x : Expr) → pre ≡ pres.Sorted k x
-      → sorted_events (key_of k).order (keyed (key_of k) (heard (sat axioms s nest (expression_of x) e)))
+      → sorted_events (key_of k).order (keyed (key_of k) (heard (sat axioms nest s (expression_of x) e)))
       ≡ precondition_events axioms nest s (precondition_of pre) e
   unfolding precondition_events
   ordered_events k x h = ap (λ p. precondition_events axioms nest s (precondition_of p) e) (sym h)

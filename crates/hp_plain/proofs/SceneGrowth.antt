@@ -16,38 +16,38 @@ use Rattle.hp_plain.specs.declared.found.Found.{Found}
 use Rattle.hp_plain.proofs.FoundLemmas.{finds_same, state_stays, goal_stays}
 use Rattle.hp_plain.proofs.HeardLemmas.{alike_turned, alike_decide, hears_found, hears_same}
 use Rattle.hp_plain.specs.Founds.{found_events, AreHeardAlike, Finds, Hears, turned}
-use Rattle.hp_plain.specs.Scenes.{branches_at, placed_events}
+use Rattle.hp_plain.specs.Scenes.{below_at, placed_events}
 
 -- ---- terms that are added
 
 -- what a part meets in the place of a Sat, or its negation
-abbrev pub turned_sat : List Axiom → State → ℕ → Expr → Bool → Bindings → List Event
-turned_sat axioms s n part negate b = turned negate (sat axioms s n (expression_of part) b) b
+abbrev pub turned_sat : List Axiom → ℕ → State → Expr → Bool → Bindings → List Event
+turned_sat axioms n s part negate b = turned negate (sat axioms n s (expression_of part) b) b
 
 module _ (old new : List Term) (g : Grows old new) (stage : Stage) (there : StageBelow (length old) stage) where
   -- expressions meet the same in the place of a Sat
   pub turned_stays : (axioms : List Axiom) (n : ℕ) (part : Expr) (negate : Bool)
-      → turned_sat axioms (state_of new stage) n part negate ≡ turned_sat axioms (state_of old stage) n part negate
+      → turned_sat axioms n (state_of new stage) part negate ≡ turned_sat axioms n (state_of old stage) part negate
   turned_stays axioms n part negate =
-      ap (λ st. turned_sat axioms st n part negate) (state_stays old new g stage there)
+      ap (λ st. turned_sat axioms n st part negate) (state_stays old new g stage there)
 
   module _ (s : Slotted) (below : AreBelow (length old) s) where
     -- expressions meet the same under bindings
     pub sat_stays : (axioms : List Axiom) (n : ℕ) (part : Expression)
-        → sat axioms (state_of new stage) n part (bindings_of new s)
-        ≡ sat axioms (state_of old stage) n part (bindings_of old s)
+        → sat axioms n (state_of new stage) part (bindings_of new s)
+        ≡ sat axioms n (state_of old stage) part (bindings_of old s)
     sat_stays axioms n part =
-        ap₂ (λ st e. sat axioms st n part e) (state_stays old new g stage there) (bindings_stay old new g s below)
+        ap₂ (λ st e. sat axioms n st part e) (state_stays old new g stage there) (bindings_stay old new g s below)
 
     -- axioms meet the same for a goal
     pub placed_stays : (axioms : List Axiom) (n : ℕ) (q : open_goal.Goal) → GoalBelow (length old) q
         → (o : Option Axiom)
-        → placed_events (branches_at axioms (state_of new stage) n) (goal_of new q) (bindings_of new s) o
-        ≡ placed_events (branches_at axioms (state_of old stage) n) (goal_of old q) (bindings_of old s) o
+        → placed_events (below_at axioms n (state_of new stage)) o (goal_of new q) (bindings_of new s)
+        ≡ placed_events (below_at axioms n (state_of old stage)) o (goal_of old q) (bindings_of old s)
     placed_stays axioms n q h o =
-        ap (λ st. placed_events (branches_at axioms st n) (goal_of new q) (bindings_of new s) o)
+        ap (λ st. placed_events (below_at axioms n st) o (goal_of new q) (bindings_of new s))
         (state_stays old new g stage there)
-        ∙ ap₂ (λ p e. placed_events (branches_at axioms (state_of old stage) n) p e o) (goal_stays old new g q h)
+        ∙ ap₂ (placed_events (below_at axioms n (state_of old stage)) o) (goal_stays old new g q h)
         (bindings_stay old new g s below)
 
 -- what an expression meets under slots, or its negation

@@ -22,45 +22,45 @@ use Rattle.hp_plain.specs.Scenes.{atoms_at}
 -- ---- kinds of expressions
 
 -- what is met where a body must hold for each satisfier of a range
-abbrev pub forall_sat : List Axiom → State → ℕ → Bindings → Expr → Expr → List Event
-forall_sat axioms s n e range body =
+abbrev pub forall_sat : List Axiom → ℕ → State → Bindings → Expr → Expr → List Event
+forall_sat axioms n s e range body =
     turned true
-    (through (sat axioms s n (expression_of range) e) (λ b. turned true (sat axioms s n (expression_of body) b) b)) e
+    (through (sat axioms n s (expression_of range) e) (λ b. turned true (sat axioms n s (expression_of body) b) b)) e
 
-module _ (axioms : List Axiom) (s : State) (n : ℕ) where
+module _ (axioms : List Axiom) (n : ℕ) (s : State) where
   -- the satisfiers with so many levels are the events with the atoms' at these
-  pub sat_is : sat axioms s n ≡ events (atoms_at axioms s n)
+  pub sat_is : sat axioms n s ≡ events (atoms_at axioms n s)
   unfolding sat
-  sat_is = elim n as (λ m. sat axioms s m ≡ events (atoms_at axioms s m)) [ zero ↦ refl | suc m ↦ refl ]
+  sat_is = elim n as (λ m. sat axioms m s ≡ events (atoms_at axioms m s)) [ zero ↦ refl | suc m ↦ refl ]
 
   -- an expression meets what the plain one for which it stands does
   sat_as : (expr : Expr) (part : Expression) (e : Bindings) → expression_of expr ≡ part
-      → sat axioms s n (expression_of expr) e ≡ events (atoms_at axioms s n) part e
+      → sat axioms n s (expression_of expr) e ≡ events (atoms_at axioms n s) part e
   sat_as expr part e h =
-      ap (λ f. f (expression_of expr) e) sat_is ∙ ap (λ p. events (atoms_at axioms s n) p e) h
+      ap (λ f. f (expression_of expr) e) sat_is ∙ ap (λ p. events (atoms_at axioms n s) p e) h
 
   module _ (expr : Expr) (e : Bindings) where
     -- an expression that is an atom meets what the atom does
     pub sat_of-atom : (a : AtomPat) → expr.kind ≡ exprs.Atom a
-        → atoms_at axioms s n (atom_of a) e ≡ sat axioms s n (expression_of expr) e
+        → atoms_at axioms n s (atom_of a) e ≡ sat axioms n s (expression_of expr) e
     unfolding events
     sat_of-atom a h = sym (sat_as expr _ e (expression_of-atom expr a h))
 
     -- a conjunction meets what all of its parts do
     pub sat_of-and : (parts : Vec Expr Global) → expr.kind ≡ exprs.And parts
-        → events_of_all (atoms_at axioms s n) (expressions_of parts.items) e ≡ sat axioms s n (expression_of expr) e
+        → events_of_all (atoms_at axioms n s) (expressions_of parts.items) e ≡ sat axioms n s (expression_of expr) e
     unfolding events
     sat_of-and parts h = sym (sat_as expr _ e (expression_of-and expr parts h))
 
     -- a disjunction meets what any of its parts does
     pub sat_of-or : (parts : Vec Expr Global) → expr.kind ≡ exprs.Or parts
-        → events_of_any (atoms_at axioms s n) (expressions_of parts.items) e ≡ sat axioms s n (expression_of expr) e
+        → events_of_any (atoms_at axioms n s) (expressions_of parts.items) e ≡ sat axioms n s (expression_of expr) e
     unfolding events
     sat_of-or parts h = sym (sat_as expr _ e (expression_of-or expr parts h))
 
     -- a negation meets what that of its part does
     pub sat_of-not : (part : Box Expr Global) → expr.kind ≡ exprs.Not part
-        → turned true (sat axioms s n (expression_of part.value) e) e ≡ sat axioms s n (expression_of expr) e
+        → turned true (sat axioms n s (expression_of part.value) e) e ≡ sat axioms n s (expression_of expr) e
     unfolding events
     sat_of-not part h =
         ap (λ f. turned true (f (expression_of part.value) e) e) sat_is
@@ -68,7 +68,7 @@ module _ (axioms : List Axiom) (s : State) (n : ℕ) where
 
     -- a forall meets what it does by its range and its body
     pub sat_of-forall : (vars : Vec ℕ Global) (range body : Box Expr Global) → expr.kind ≡ exprs.Forall vars range body
-        → forall_sat axioms s n e range.value body.value ≡ sat axioms s n (expression_of expr) e
+        → forall_sat axioms n s e range.value body.value ≡ sat axioms n s (expression_of expr) e
     unfolding events
     sat_of-forall vars range body h =
         ap (λ f. turned true
@@ -77,13 +77,13 @@ module _ (axioms : List Axiom) (s : State) (n : ℕ) where
 
     -- an assignment meets what its variable does with the value
     pub sat_of-assign : (v : ℕ) (p : Pat) → expr.kind ≡ exprs.Assign v p
-        → assigned (value (pattern_of p) e) v e ≡ sat axioms s n (expression_of expr) e
+        → assigned (value (pattern_of p) e) v e ≡ sat axioms n s (expression_of expr) e
     unfolding events
     sat_of-assign v p h = sym (sat_as expr _ e (expression_of-assign expr v p h))
 
     -- a call meets what its value does
     pub sat_of-call : (p : Pat) → expr.kind ≡ exprs.Call p
-        → tested (value (pattern_of p) e) e ≡ sat axioms s n (expression_of expr) e
+        → tested (value (pattern_of p) e) e ≡ sat axioms n s (expression_of expr) e
     unfolding events
     sat_of-call p h = sym (sat_as expr _ e (expression_of-call expr p h))
 
@@ -105,16 +105,16 @@ through_sat (Sat e ∷ xs) = ap (λ ys. Sat e ∷ ys) (through_sat xs)
 through_sat (Cut ∷ xs) = ap (λ ys. Cut ∷ ys) (through_sat xs)
 through_sat (Fault x ∷ xs) = ap (λ ys. Fault x ∷ ys) (through_sat xs)
 
-module _ (axioms : List Axiom) (s : State) (n : ℕ) where
+module _ (axioms : List Axiom) (n : ℕ) (s : State) where
   -- what parts meet that all must hold
   abbrev pub all_of : List Expr → Bindings → List Event
-  all_of parts b = events_of_all (atoms_at axioms s n) (expressions_of parts) b
+  all_of parts b = events_of_all (atoms_at axioms n s) (expressions_of parts) b
 
   -- the other parts take the place of each satisfier of the first
   all_step : (p : Expr) (ps : List Expr)
-      → all_of (p ∷ ps) ≡ (λ b. through (sat axioms s n (expression_of p) b) (all_of ps))
+      → all_of (p ∷ ps) ≡ (λ b. through (sat axioms n s (expression_of p) b) (all_of ps))
   unfolding events
-  all_step p ps = ap (λ f b. through (f (expression_of p) b) (all_of ps)) (sym (sat_is axioms s n))
+  all_step p ps = ap (λ f b. through (f (expression_of p) b) (all_of ps)) (sym (sat_is axioms n s))
 
   -- where no part must hold, the bindings satisfy as they are
   all_none : all_of [] ≡ (λ b. Sat b ∷ [])
@@ -129,13 +129,13 @@ module _ (axioms : List Axiom) (s : State) (n : ℕ) where
   -- the next part takes the place of each satisfier so far
   pub all_go_on : (parts : List Expr) (i : ℕ) (p : Expr) (old new whole : List Event) → i < length parts
       → p ≡ get_or parts i p
-      → AreHeardAlike new (through old (λ b. turned false (sat axioms s n (expression_of p) b) b))
+      → AreHeardAlike new (through old (λ b. turned false (sat axioms n s (expression_of p) b) b))
       → AreHeardAlike (through old (all_of (drop i parts))) whole
       → AreHeardAlike (through new (all_of (drop (i + 1) parts))) whole
   all_go_on parts i p old new whole l is e h =
       let others = all_of (drop (i + 1) parts) in
-      alike_through new (through old (sat axioms s n (expression_of p))) others e
-      ∙ (ap heard (through_through old (sat axioms s n (expression_of p)) others
+      alike_through new (through old (sat axioms n s (expression_of p))) others e
+      ∙ (ap heard (through_through old (sat axioms n s (expression_of p)) others
       ∙ ap (through old) (sym (ap all_of (left_more parts i p l is) ∙ all_step p (drop (i + 1) parts))))
       ∙ h)
 
@@ -149,13 +149,13 @@ module _ (axioms : List Axiom) (s : State) (n : ℕ) where
 
   -- what parts meet of which one must hold
   abbrev pub any_of : List Expr → Bindings → List Event
-  any_of parts b = events_of_any (atoms_at axioms s n) (expressions_of parts) b
+  any_of parts b = events_of_any (atoms_at axioms n s) (expressions_of parts) b
 
   -- any of some parts is the first or one of the others
   any_step : (p : Expr) (ps : List Expr) (e : Bindings)
-      → any_of (p ∷ ps) e ≡ sat axioms s n (expression_of p) e ++ any_of ps e
+      → any_of (p ∷ ps) e ≡ sat axioms n s (expression_of p) e ++ any_of ps e
   unfolding events
-  any_step p ps e = ap (λ f. f (expression_of p) e ++ any_of ps e) (sym (sat_is axioms s n))
+  any_step p ps e = ap (λ f. f (expression_of p) e ++ any_of ps e) (sym (sat_is axioms n s))
 
   -- of no part none holds
   any_none : (e : Bindings) → any_of [] e ≡ []
@@ -164,7 +164,7 @@ module _ (axioms : List Axiom) (s : State) (n : ℕ) where
 
   -- what is left is met by the next part and by the others
   pub any_left : (parts : List Expr) (i : ℕ) (p : Expr) (e : Bindings) → i < length parts → p ≡ get_or parts i p
-      → any_of (drop i parts) e ≡ sat axioms s n (expression_of p) e ++ any_of (drop (i + 1) parts) e
+      → any_of (drop i parts) e ≡ sat axioms n s (expression_of p) e ++ any_of (drop (i + 1) parts) e
   any_left parts i p e l is =
       ap (λ ps. any_of ps e) (left_more parts i p l is) ∙ any_step p (drop (i + 1) parts) e
 

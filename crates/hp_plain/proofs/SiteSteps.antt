@@ -1,5 +1,5 @@
 -- What comes of a task by the rules, step by step.
-use Rattle.std.proofs.Common.{◌≡◌, ℕ, ◌+◌, ◌-◌, ◌<◌, ◌≤◌, ℤ, pos, neg_ℤ, ◌+ℤ◌, ◌≤ℤ◌, SFits, w64, to_z, of_z, Vec, List, [], ◌∷◌, ◌++◌, length, map, drop, get_or, Bool, true, false, Option, option_map, Some, None, Result, Ok, refl, sym, ◌∙◌, ap, ap₂, subst, arith}
+use Rattle.std.proofs.Common.{◌≡◌, ℕ, ◌-◌, ◌<◌, ◌≤◌, ℤ, pos, neg_ℤ, ◌+ℤ◌, ◌≤ℤ◌, SFits, w64, to_z, of_z, Vec, List, [], ◌∷◌, ◌++◌, length, map, get_or, Bool, true, false, Option, option_map, Some, None, Result, Ok, refl, sym, ◌∙◌, ap, ap₂, subst, arith}
 use Rattle.std.specs.List.{All}
 use Rattle.std.specs.Prelude.{flat_map, slice_get}
 use Rattle.std.specs.Global.{Global}
@@ -7,19 +7,18 @@ use Rattle.std.specs.Int.{w128}
 use Rattle.std.proofs.lemmas.Int.{ints, to_z-of_z}
 use Rattle.std.proofs.lemmas.List.{map-append}
 use Rattle.std.proofs.lemmas.List.Elements.{All-get_or, All-append, All-cons, All-nil, All-same, All-weaker}
+use Rattle.hp_syntax.specs.declared.limits.TheConstants.{DEEPEST_WALK}
 use Rattle.hp_syntax.specs.Applying.{Now, Guarded}
 use Rattle.hp_syntax.specs.Changes as changes
-use Rattle.std.proofs.lemmas.List.{drop_all, length-replicate}
+use Rattle.std.proofs.lemmas.List.{length-replicate}
 use Rattle.std.proofs.lemmas.Option.{get_or_from_slice_get, slice_get-get_or, slice_get-map, slice_get_past, slice_get_within}
 use Rattle.hp_syntax.specs.declared.domain.Branch as public_branch
 use Rattle.hp_syntax.specs.declared.domain.Rule as public_rule
 use Rattle.hp_syntax.specs.declared.domain.Operator as public_operator
-use Rattle.hp_syntax.specs.Syntax.{Atom, Branch, Method, Operator, Rule, Does, Refines, Tasks}
+use Rattle.hp_syntax.specs.Syntax.{Atom, Branch, Method, Operator, Rule, Does, Refines}
 use Rattle.hp_syntax.specs.Matching.{match_atom}
-use Rattle.hp_syntax.specs.Walk as walk
 use Rattle.hp_eval.specs.Growth.{Grows}
 use Rattle.hp_eval.proofs.GrowthLemmas.{bindings_stay}
-use Rattle.hp_eval.proofs.Loops.{left_more}
 use Rattle.hp_plain.proofs.NodeLemmas.{node_stays, term_stays}
 use Rattle.hp_plain.specs.declared.found.Found.{Found}
 use Rattle.hp_plain.specs.declared.found.Found.TheVariants.{Sat, Cut, Fault}
@@ -30,13 +29,13 @@ use Rattle.hp_syntax.specs.declared.expression.Pre.{Pre}
 use Rattle.hp_syntax.specs.Events.{Event, State, axioms_of}
 use Rattle.hp_syntax.specs.Preconditions.{precondition_events}
 use Rattle.hp_syntax.specs.Values.{Bindings, unbound}
-use Rattle.hp_syntax.specs.Views.{branch_of, domain_of, operator_of, precondition_of, rule_of, tasks_of}
+use Rattle.hp_syntax.specs.Views.{branch_of, domain_of, operator_of, precondition_of, rule_of}
 use Rattle.hp_eval.specs.Slotted.{Slotted, AreBelow, Matched, no_bindings, bindings_of}
 use Rattle.hp_plain.specs.declared.expressions.Scene.{Scene}
 use Rattle.hp_plain.specs.Scenes.{axioms_in, state_in}
 use Rattle.hp_syntax.specs.Terms.{Term}
 use Rattle.hp_syntax.specs.Networks.{Network, Place, finish, expand}
-use Rattle.hp_syntax.specs.Walk.{Node, Child, DidChild, child_of, operated, after_effects, decomposed, chosen_or, chosen, choice_children, operator_children, method_children}
+use Rattle.hp_syntax.specs.Walk.{Node, Child, DidChild, child_of, operated, after_effects, decomposed, branch_children, operator_children, method_children}
 use Rattle.hp_syntax.specs.declared.fault.RunFault.{RunFault}
 use Rattle.hp_effect.specs.Puts.{IsApplied}
 use Rattle.hp_world.specs.declared.store.Applied.{Applied}
@@ -57,26 +56,28 @@ use Rattle.hp_plain.specs.Turns.{Turns, BindsFew, FindsFew, if_matched, ChoosesB
 -- ---- costs
 
 -- one step more costs no less than so many can
-pub low_after : (d : ℕ) (a b : ℤ) → 0 < d → d ≤ 1000 → neg_ℤ (pos (most_cost d)) ≤ℤ a → SFits w64 b
+pub low_after : (d : ℕ) (a b : ℤ) → 0 < d → d ≤ DEEPEST_WALK → neg_ℤ (pos (most_cost d)) ≤ℤ a → SFits w64 b
     → neg_ℤ (pos (most_cost (d - 1))) ≤ℤ (a +ℤ b)
 low_after d a b p l h s = omega (arith, ints)
 
 -- nor more
-pub high_after : (d : ℕ) (a b : ℤ) → 0 < d → d ≤ 1000 → a ≤ℤ pos (most_cost d) → SFits w64 b
+pub high_after : (d : ℕ) (a b : ℤ) → 0 < d → d ≤ DEEPEST_WALK → a ≤ℤ pos (most_cost d) → SFits w64 b
     → (a +ℤ b) ≤ℤ pos (most_cost (d - 1))
 high_after d a b p l h s = omega (arith, ints)
 
 -- without a further cost it stays so
-pub low_stays : (d : ℕ) (a : ℤ) → 0 < d → d ≤ 1000 → neg_ℤ (pos (most_cost d)) ≤ℤ a
+pub low_stays : (d : ℕ) (a : ℤ) → 0 < d → d ≤ DEEPEST_WALK → neg_ℤ (pos (most_cost d)) ≤ℤ a
     → neg_ℤ (pos (most_cost (d - 1))) ≤ℤ a
 low_stays d a p l h = omega (arith, ints)
 
-pub high_stays : (d : ℕ) (a : ℤ) → 0 < d → d ≤ 1000 → a ≤ℤ pos (most_cost d) → a ≤ℤ pos (most_cost (d - 1))
+pub high_stays : (d : ℕ) (a : ℤ) → 0 < d → d ≤ DEEPEST_WALK → a ≤ℤ pos (most_cost d)
+    → a ≤ℤ pos (most_cost (d - 1))
 high_stays d a p l h = omega (arith, ints)
 
 -- a cost that is added in so many bits is added
-pub cost_added : (d : ℕ) (a b r : ℤ) → d ≤ 1000 → neg_ℤ (pos (most_cost d)) ≤ℤ a → a ≤ℤ pos (most_cost d) → r ≡ b
-    → SFits w64 b → to_z w128 (of_z w128 (to_z w128 (of_z w128 a) +ℤ to_z w128 (of_z w128 r))) ≡ a +ℤ b
+pub cost_added : (d : ℕ) (a b r : ℤ) → d ≤ DEEPEST_WALK → neg_ℤ (pos (most_cost d)) ≤ℤ a → a ≤ℤ pos (most_cost d)
+    → r ≡ b → SFits w64 b
+    → to_z w128 (of_z w128 (to_z w128 (of_z w128 a) +ℤ to_z w128 (of_z w128 r))) ≡ a +ℤ b
 cost_added d a b r l low high e s =
     let fa : SFits w128 a = search (arith, ints) in
     let fb : SFits w128 r = search (arith, ints) in
@@ -84,7 +85,7 @@ cost_added d a b r l low high e s =
     ap (λ z. to_z w128 (of_z w128 z)) (ap₂ ◌+ℤ◌ (to_z-of_z w128 a fa) (to_z-of_z w128 r fb))
     ∙ (to_z-of_z w128 (a +ℤ r) fs ∙ ap (λ z. a +ℤ z) e)
 
-pub cost_kept : (d : ℕ) (a : ℤ) → d ≤ 1000 → neg_ℤ (pos (most_cost d)) ≤ℤ a → a ≤ℤ pos (most_cost d)
+pub cost_kept : (d : ℕ) (a : ℤ) → d ≤ DEEPEST_WALK → neg_ℤ (pos (most_cost d)) ≤ℤ a → a ≤ℤ pos (most_cost d)
     → to_z w128 (of_z w128 a) ≡ a
 cost_kept d a l low high = let fa : SFits w128 a = search (arith, ints) in to_z-of_z w128 a fa
 
@@ -259,34 +260,16 @@ finds_nothing terms found events is e = record {
 
 -- ---- branches
 
--- a branch whose list isn't empty is chosen
+-- what is met by the branch that is chosen comes to its children
 pub branch_chosen : (n : Node) (p : Place) (branches : List Branch) (i : ℕ) (b : Branch) (xs : List Event)
-    (rest whole : Option walk.Choice) → slice_get branches i ≡ Some b → 0 < length xs
-    → whole ≡ chosen_or b.tasks xs rest
-    → flat_map (child_of (branch_done n p (slice_get branches i))) xs ≡ choice_children n p whole
-branch_chosen n p branches i b [] rest whole e l h = absurd (omega arith)
-branch_chosen n p branches i b (x ∷ xs) rest whole e l h =
-    ap (λ o. flat_map (child_of (branch_done n p o)) (x ∷ xs)) e ∙ sym (ap (choice_children n p) h)
+    (whole : Option (Branch × List Event)) → slice_get branches i ≡ Some b → whole ≡ Some (b, xs)
+    → flat_map (child_of (branch_done n p (slice_get branches i))) xs ≡ branch_children n p whole
+branch_chosen n p branches i b xs whole e h =
+    ap (λ o. flat_map (child_of (branch_done n p o)) xs) e ∙ sym (ap (branch_children n p) h)
 
--- a branch whose list is empty is passed over
-pub branch_passed : (ts : Tasks) (xs : List Event) (rest whole : Option walk.Choice) → length xs ≡ 0
-    → whole ≡ chosen_or ts xs rest → whole ≡ rest
-branch_passed ts [] rest whole l h = h
-branch_passed ts (x ∷ xs) rest whole l h = absurd (omega arith)
-
-module _ (rules : List Rule) (nest : ℕ) (state : State) (e : Bindings) where
-  -- of the branches that are left the first is looked at first
-  pub branch_next : (branches : List public_branch.Branch) (i : ℕ) (b : public_branch.Branch) → i < length branches
-      → b ≡ get_or branches i b
-      → chosen rules nest state (map branch_of (drop i branches)) e
-      ≡ chosen_or (tasks_of b.tasks) (precondition_events (axioms_of rules) nest state (precondition_of b.pre) e)
-      (chosen rules nest state (map branch_of (drop (i + 1) branches)) e)
-  branch_next branches i b l is = ap (λ bs. chosen rules nest state (map branch_of bs) e) (left_more branches i b l is)
-
-  -- where none is left, none is chosen
-  pub branches_end : (branches : List public_branch.Branch) (i : ℕ) → length branches ≤ i
-      → chosen rules nest state (map branch_of (drop i branches)) e ≡ None
-  branches_end branches i l = ap (λ bs. chosen rules nest state (map branch_of bs) e) (drop_all i branches l)
+-- what a branch of a method meets
+abbrev pub branch_met : List Rule → ℕ → State → Bindings → Branch → List Event
+branch_met rules nest s e b = precondition_events (axioms_of rules) nest s b.pre e
 
 -- a branch stands at its number
 pub branch_there : (branches : List public_branch.Branch) (i : ℕ) (b : public_branch.Branch) → i < length branches

@@ -5,7 +5,7 @@ use Rattle.hp_syntax.specs.Syntax.{Atom}
 use Rattle.hp_syntax.specs.Terms.{Term}
 use Rattle.hp_syntax.specs.Applying.{ChangesOf}
 use Rattle.hp_syntax.specs.Events as plain
-use Rattle.hp_syntax.specs.Changes.{Changes, Going, Went, Stops, and_go, go_on, Gathered, both_gathered, of_atoms, of_protection, atom_values}
+use Rattle.hp_syntax.specs.Changes.{Changes, Going, Went, CutShort, Failed, and_go, go_on, Gathered, both_gathered, of_atoms, of_protection, atom_values}
 use Rattle.hp_eval.specs.declared.event.EvalStop.{EvalStop}
 use Rattle.hp_eval.specs.declared.event.EvalStop.TheVariants as stops
 use Rattle.hp_world.specs.Stages.{changes_of, ChangesBelow}
@@ -27,7 +27,7 @@ abbrev pub part_of_protections : Side → Part
 part_of_protections Deletes = Unguard
 part_of_protections Adds = Guard
 
--- where an evaluation stops the effects do
+-- where an evaluation stops, so do the effects
 abbrev pub halt_of : EvalStop → Obstacle
 halt_of (stops.Fault f) = Fault f
 halt_of stops.NoMemory = NoMemory
@@ -52,8 +52,8 @@ only_atoms g = and_go g (λ ts. Went (of_atoms ts))
 -- the values of the atoms under a Sat; a Cut or a Fault stops
 abbrev pub values_at : List Atom → plain.Event → Going Gathered
 values_at as' (plain.Sat e) = only_atoms (atom_values as' e)
-values_at as' plain.Cut = Stops plain.Cut
-values_at as' (plain.Fault f) = Stops (plain.Fault f)
+values_at as' plain.Cut = CutShort
+values_at as' (plain.Fault f) = Failed f
 
 -- one effect, and then others
 abbrev pub both : Going Gathered → Going Gathered → Going Gathered
@@ -71,8 +71,8 @@ pub record HasPut (side : Side) (going : Going Gathered) (terms : List Term) (ol
 
 -- effects stop here; for want of memory it is free
 abbrev pub StopsHere : {A : Type 0} → Obstacle → Going A → Type 0
-StopsHere Cut going = going ≡ Stops plain.Cut
-StopsHere (Fault f) going = going ≡ Stops (plain.Fault f)
+StopsHere Cut going = going ≡ CutShort
+StopsHere (Fault f) going = going ≡ Failed f
 StopsHere NoMemory going = Unit {0}
 
 -- effects went and are put, or stop
@@ -100,5 +100,5 @@ GoesInto (Err halt) going terms changes = StopsHere halt going
 -- an operator's effects come to changes and a cost, or stop at a Cut or at a fault
 abbrev pub ComesTo : Effected → Going (Changes × ℤ) → List Term → Type 0
 ComesTo (effected.Went changes cost) going terms = HasGone going terms changes cost
-ComesTo effected.Cut going terms = going ≡ Stops plain.Cut
-ComesTo (effected.Fault f) going terms = going ≡ Stops (plain.Fault f)
+ComesTo effected.Cut going terms = going ≡ CutShort
+ComesTo (effected.Fault f) going terms = going ≡ Failed f

@@ -56,16 +56,16 @@ pub record HearsUpTo (terms : List Term) (vars : ℕ) (found : List Found) (whol
   pub so_far : AreHeardAlike whole (found_events terms found ++ left)
   pub fit : AllFit vars (length terms) found
 
--- one is there, and it is a fault
-abbrev pub is_fault : Option Found → Bool
-is_fault None = false
-is_fault (Some (Sat slots)) = false
-is_fault (Some Cut) = false
-is_fault (Some (Fault f)) = true
+-- one is found, and it is a fault
+abbrev pub is_found_fault : Option Found → Bool
+is_found_fault None = false
+is_found_fault (Some (Sat slots)) = false
+is_found_fault (Some Cut) = false
+is_found_fault (Some (Fault f)) = true
 
 -- the last of a list is a fault
 abbrev pub ends_in_fault : List Found → Bool
-ends_in_fault found = is_fault (slice_get found (length found - 1))
+ends_in_fault found = is_found_fault (slice_get found (length found - 1))
 
 -- what is found where an evaluation stopped: its fault
 abbrev pub FindsStop : EvalStop → List Found → Type 0

@@ -1,17 +1,19 @@
 -- What is left of a list of satisfiers that is given one at a time.
 use Prim.Native.Nat.{zero-le}
-use Rattle.std.specs.Prelude.{◌≡◌, ℕ, zero, suc, ◌≤◌, Bool, true, false, List, [], ◌∷◌, length, take, drop, Some, refl}
+use Rattle.std.specs.Prelude.{◌≡◌, ℕ, zero, suc, ◌≤◌, Bool, true, false, List, [], ◌∷◌, length, take, drop, Some, None, refl}
 use Rattle.std.specs.List.{All}
-use Rattle.std.proofs.Common.{sym, ap, ap₂, subst}
-use Rattle.std.proofs.lemmas.List.Elements.{All-nil, All-cons, All-head, All-tail, All-drop}
+use Rattle.std.proofs.Common.{sym, ◌∙◌, ap, ap₂, subst}
+use Rattle.std.proofs.lemmas.List.{length-map, length-replicate}
+use Rattle.std.proofs.lemmas.List.Elements.{All-head, All-tail, All-map, All-weaker, All-drop}
 use Rattle.std.proofs.lemmas.Option.{none-some}
 use Rattle.hp_syntax.specs.Terms.{Term}
 use Rattle.hp_syntax.specs.Values.{bound}
 use Rattle.hp_syntax.specs.Events as plain
-use Rattle.hp_syntax.specs.Events.{Event, EventExtends}
+use Rattle.hp_syntax.specs.Events.{Event, EventExtends, is_fault}
 use Rattle.hp_syntax.specs.Preconditions.{heard}
-use Rattle.hp_eval.specs.Slotted.{Slotted, AreBelow, no_bindings, undone, bindings_of}
+use Rattle.hp_eval.specs.Slotted.{Slotted, AreBelow, named, no_bindings, undone, bindings_of}
 use Rattle.hp_eval.specs.SlotLaws.{bindings_agree}
+use Rattle.hp_laws.proofs.HearingLemmas.{all_up_to}
 use Rattle.hp_plain.specs.declared.found.Found.{Found}
 use Rattle.hp_plain.specs.declared.found.Found.TheVariants.{Sat, Cut, Fault}
 use Rattle.hp_plain.specs.Founds.{found_event, found_events, Fits, AllFit, Finds, FindsUpTo}
@@ -62,23 +64,29 @@ none_stands c zero v t h = none-some t h
 none_stands c (suc n) zero t h = none-some t h
 none_stands c (suc n) (suc v) t h = none_stands c n v t h
 
--- each event keeps the bindings of slots in which nothing is bound
-blank_kept : (c : List Term) (n : ℕ) (x : Event) → EventExtends (bindings_of c (no_bindings n)) x
-blank_kept c n (plain.Sat e) = λ v t h. absurd (none_stands c n v t h)
-blank_kept c n plain.Cut = tt
-blank_kept c n (plain.Fault f) = tt
+-- what fits extends the bindings of slots in which nothing is bound
+fitting_extends : (c : List Term) (n kept : ℕ) (x : Found) → Fits n kept x
+    → EventExtends (bindings_of c (no_bindings n)) (found_event c x)
+fitting_extends c n kept (Sat s) h = record {
+  as_many =
+      length-map s.values (named c)
+      ∙ (h.0 ∙ sym (length-map (no_bindings n).values (named c) ∙ length-replicate n None));
+  keeps = λ v t k. absurd (none_stands c n v t k);
+}
+fitting_extends c n kept Cut h = tt
+fitting_extends c n kept (Fault f) h = tt
 
-all_kept : (c : List Term) (n : ℕ) (xs : List Event) → All (EventExtends (bindings_of c (no_bindings n))) xs
-all_kept c n [] = All-nil (EventExtends (bindings_of c (no_bindings n)))
-all_kept c n (x ∷ xs) =
-    All-cons (EventExtends (bindings_of c (no_bindings n))) x xs (blank_kept c n x) (all_kept c n xs)
-
--- what is left keeps what was bound at the start, which is nothing
+-- what is left extends what was bound at the start, which is nothing
 pub left_extends : (kept : ℕ) (c : List Term) (found : List Found) (place : ℕ) (s : Slotted) → FitsListed kept found s
     → All (EventExtends (bindings_of c (undone 0 s))) (left_from c found place)
 left_extends kept c found place s h =
+    let n = length s.values in
+    let P = EventExtends (bindings_of c (no_bindings n)) in
     subst (λ e. All (EventExtends (bindings_of c e)) (left_from c found place)) (sym h.blank)
-    (all_kept c (length s.values) (left_from c found place))
+    (all_up_to is_fault P (found_events c (drop place found))
+    (All-map P (found_event c) (drop place found)
+    (All-weaker (Fits n kept) (λ x. P (found_event c x)) (fitting_extends c n kept) (drop place found)
+    (All-drop (Fits n kept) place found h.fit))))
 
 -- ---- events that are taken one by one
 

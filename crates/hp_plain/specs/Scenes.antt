@@ -3,8 +3,8 @@ use Rattle.std.specs.Prelude.{ℕ, zero, suc, List, [], Option, Some, None}
 use Rattle.hp_syntax.specs.Syntax.{Atom, Axiom, Rule}
 use Rattle.hp_syntax.specs.Terms.{Term}
 use Rattle.hp_syntax.specs.Values.{Bindings}
-use Rattle.hp_syntax.specs.Goals.{Goal, fill_goal}
-use Rattle.hp_syntax.specs.Events.{Event, State, axioms_of, branch_events, axiom_events, goal_events, sat}
+use Rattle.hp_syntax.specs.Goals.{Goal}
+use Rattle.hp_syntax.specs.Events.{Event, State, Below, axioms_of, axiom_events, atom_events, sat}
 use Rattle.hp_syntax.specs.Views.{domain_of}
 use Rattle.hp_world.specs.Stages.{Stage, state_of}
 use Rattle.hp_plain.specs.declared.expressions.Scene.{Scene}
@@ -27,16 +27,16 @@ state_in terms s = state_of terms (stage_in s)
 
 -- ---- levels
 
--- the events of an axiom's branches, with so many levels left
-abbrev pub branches_at : List Axiom → State → ℕ → Axiom → Bindings → List Event
-branches_at axioms s zero = branch_events None
-branches_at axioms s (suc n) = branch_events (Some (sat axioms s n))
+-- the events of an expression one level down, with so many levels left
+abbrev pub below_at : List Axiom → ℕ → State → Below
+below_at axioms zero s = None
+below_at axioms (suc n) s = Some (sat axioms n s)
 
 -- the events of an atom, with so many levels left
-abbrev pub atoms_at : List Axiom → State → ℕ → Atom → Bindings → List Event
-atoms_at axioms s n a b = goal_events s axioms (branches_at axioms s n) b (fill_goal a b)
+abbrev pub atoms_at : List Axiom → ℕ → State → Atom → Bindings → List Event
+atoms_at axioms n s = atom_events axioms (below_at axioms n s) s
 
 -- what a goal meets by an axiom, if there is one
-abbrev pub placed_events : (Axiom → Bindings → List Event) → Goal → Bindings → Option Axiom → List Event
-placed_events branches q e None = []
-placed_events branches q e (Some x) = axiom_events branches q e x
+abbrev pub placed_events : Below → Option Axiom → Goal → Bindings → List Event
+placed_events below None q e = []
+placed_events below (Some x) q e = axiom_events below x q e

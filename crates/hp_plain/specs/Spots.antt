@@ -1,6 +1,7 @@
 -- The nodes of the tree that stand in memory.
 use Rattle.std.specs.Prelude.{ℕ, ◌-◌, ◌*◌, ◌^◌, ◌≤◌, pos, neg_ℤ, ◌≤ℤ◌, List, length}
 use Rattle.std.specs.List.{All}
+use Rattle.hp_syntax.specs.declared.limits.TheConstants.{DEEPEST_WALK}
 use Rattle.hp_syntax.specs.Terms.{Term}
 use Rattle.hp_syntax.specs.Syntax.{Rule, Does, Refines, Concludes}
 use Rattle.hp_syntax.specs.Walk.{Node}
@@ -22,14 +23,14 @@ node_of terms s = record {
 
 -- what so many decompositions can cost at most
 abbrev pub most_cost : ℕ → ℕ
-most_cost depth = (1000 - depth) * 2 ^ 63
+most_cost depth = (DEEPEST_WALK - depth) * 2 ^ 63
 
 -- each cell of a spot is below a count, and what its steps cost is no more than they can
 pub record IsSpot (n : ℕ) (s : Spot) : Type 0 where
   pub world : StageBelow n s.world.now
   pub net : All (EntryBelow n) s.net.entries
   pub steps : AllBelow n s.steps.items
-  pub depth : s.depth ≤ 1000
+  pub depth : s.depth ≤ DEEPEST_WALK
   pub low : neg_ℤ (pos (most_cost s.depth)) ≤ℤ s.cost
   pub high : s.cost ≤ℤ pos (most_cost s.depth)
 

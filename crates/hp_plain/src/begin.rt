@@ -1,6 +1,7 @@
 //! The root of a pair, in memory.
 ghost use Rattle.std.specs.Prelude.{◌≡◌, ◌≤◌, [], List, Ok, IfOk, length};
 ghost use Rattle.std.specs.List.{All};
+ghost use Rattle.hp_syntax.specs.declared.limits.TheConstants.{DEEPEST_WALK};
 ghost use Rattle.hp_syntax.specs.Changes.{added};
 ghost use Rattle.hp_syntax.specs.GroundPatterns.{atoms_said, network_said};
 ghost use Rattle.hp_syntax.specs.Networks.{tasks_value};
@@ -87,7 +88,7 @@ pub(crate) fn root(
     cells: &mut Cells,
 ) -> Result<Spot, AllocError>
     requires pair { IsGround (pair_of pair.now) }
-    requires depth { depth ≤ 1000 }
+    requires depth { depth ≤ DEEPEST_WALK }
     ensures node { IfOk result (λ s. node_of cells.new s ≡ root (pair_of pair.now) depth) }
     ensures spot { IfOk result (λ s. IsSpot (length cells.new) s) }
 {

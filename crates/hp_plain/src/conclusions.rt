@@ -135,8 +135,8 @@ fn concluded(
     requires own { AreBelow (length cells.old) own.now }
     requires goal { GoalBelow (length cells.old) goal.now }
     ensures found { IfOk result (λ found. Finds cells.new (length slots.now.values) found.items
-        (plain.concluded (atom_of head.now) (goal_of cells.old goal.now) (bindings_of cells.old slots.now)
-        (bindings_of cells.old own.now))) }
+        (plain.concluded (atom_of head.now) (bindings_of cells.old own.now) (goal_of cells.old goal.now)
+        (bindings_of cells.old slots.now))) }
     ensures cells { Grows cells.old cells.new }
 {
     if !is_head_bound(head, own) {
@@ -166,7 +166,7 @@ fn conclusion(
     requires goal { GoalBelow (length cells.old) goal.now }
     requires found { BindsBelow (length cells.old) found.now }
     ensures found { IfOk result (λ v. Finds cells.new (length slots.now.values) v.items
-        (plain.in_place (plain.concluded (atom_of head.now) (goal_of cells.old goal.now)
+        (plain.in_place (λ b. plain.concluded (atom_of head.now) b (goal_of cells.old goal.now)
         (bindings_of cells.old slots.now)) (found_event cells.old found.now))) }
     ensures cells { Grows cells.old cells.new }
 {
@@ -191,7 +191,7 @@ pub(crate) fn conclusions(
     requires goal { GoalBelow (length cells.old) goal.now }
     requires found { All (BindsBelow (length cells.old)) found.now }
     ensures found { IfOk result (λ v. Hears cells.new (length slots.now.values) v.items
-        (plain.through (found_events cells.old found.now) (plain.concluded (atom_of head.now)
+        (plain.through (found_events cells.old found.now) (λ b. plain.concluded (atom_of head.now) b
         (goal_of cells.old goal.now) (bindings_of cells.old slots.now)))) }
     ensures cells { Grows cells.old cells.new }
 {

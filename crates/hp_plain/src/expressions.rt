@@ -1,5 +1,5 @@
 //! The satisfiers of expressions in a state, as lists by their definition, as far as they are heard.
-ghost use Rattle.std.specs.Prelude.{◌≡◌, ◌<◌, ◌≤◌, true, Ok, IfOk, Contains, length};
+ghost use Rattle.std.specs.Prelude.{◌≡◌, ◌<◌, ◌≤◌, true, IfOk, Contains, length};
 ghost use Rattle.hp_syntax.specs.Events as plain;
 ghost use Rattle.hp_syntax.specs.Events.{sat, axioms_of, events_of_all, events_of_any};
 ghost use Rattle.hp_syntax.specs.Views.{domain_of, atom_of, axiom_of, expression_of, expressions_of};
@@ -9,7 +9,7 @@ ghost use Rattle.hp_eval.specs.Slotted.{AreBelow, bindings_of};
 ghost use Rattle.hp_world.specs.Stages.{StageBelow, state_of};
 ghost use Rattle.hp_plain.specs.Founds.{found_event, found_events, Fits, AllFit, AreHeardAlike, Finds, Hears, turned};
 ghost use Rattle.hp_plain.specs.Rulebooks.{axiom_at};
-ghost use Rattle.hp_plain.specs.Scenes.{rules_in, axioms_in, stage_in, state_in, atoms_at, branches_at, placed_events};
+ghost use Rattle.hp_plain.specs.Scenes.{rules_in, axioms_in, stage_in, state_in, atoms_at, below_at, placed_events};
 
 use crate::conclusions::{conclusions, own_slots};
 use crate::found::{Found, add, only, satisfied, stopped, turn};
@@ -44,8 +44,8 @@ impl Scene<'_> {
         requires slots { AreBelow (length cells.old) slots.now }
         requires world { StageBelow (length cells.old) self.now.world.now.now }
         ensures found { IfOk result (λ v. AreHeardAlike (found_events cells.new v.items)
-            (sat (axioms_of (domain_of self.now.book.now.domain.now).rules)
-            (state_of cells.old self.now.world.now.now) level (expression_of expr.now)
+            (sat (axioms_of (domain_of self.now.book.now.domain.now).rules) level
+            (state_of cells.old self.now.world.now.now) (expression_of expr.now)
             (bindings_of cells.old slots.now))) }
         ensures fit { IfOk result (λ v. AllFit (length slots.now.values) (length cells.new) v.items) }
         ensures cells { Grows cells.old cells.new }
@@ -84,8 +84,8 @@ impl Scene<'_> {
             let state = state_in cells.old self.now in
             let e = bindings_of cells.old slots.now in
             Finds cells.new (length slots.now.values) v.items (turned true
-            (plain.through (sat axioms state level (expression_of range.now) e)
-            (λ b. turned true (sat axioms state level (expression_of body.now) b) b)) e)) }
+            (plain.through (sat axioms level state (expression_of range.now) e)
+            (λ b. turned true (sat axioms level state (expression_of body.now) b) b)) e)) }
         ensures cells { Grows cells.old cells.new }
     {
         let found = self.events(range, slots, level, cells)?;
@@ -107,7 +107,7 @@ impl Scene<'_> {
         requires slots { AreBelow (length cells.old) slots.now }
         requires world { StageBelow (length cells.old) (stage_in self.now) }
         ensures finds { IfOk result (λ v. Hears cells.new (length slots.now.values) v.items
-            (events_of_all (atoms_at (axioms_in self.now) (state_in cells.old self.now) level)
+            (events_of_all (atoms_at (axioms_in self.now) level (state_in cells.old self.now))
             (expressions_of parts.now) (bindings_of cells.old slots.now))) }
         ensures cells { Grows cells.old cells.new }
     {
@@ -132,7 +132,7 @@ impl Scene<'_> {
         requires slots { AreBelow (length cells.old) slots.now }
         requires world { StageBelow (length cells.old) (stage_in self.now) }
         ensures finds { IfOk result (λ v. Hears cells.new (length slots.now.values) v.items
-            (events_of_any (atoms_at (axioms_in self.now) (state_in cells.old self.now) level)
+            (events_of_any (atoms_at (axioms_in self.now) level (state_in cells.old self.now))
             (expressions_of parts.now) (bindings_of cells.old slots.now))) }
         ensures cells { Grows cells.old cells.new }
     {
@@ -162,7 +162,7 @@ impl Scene<'_> {
         requires found { AllFit vars (length cells.old) found.now }
         requires world { StageBelow (length cells.old) (stage_in self.now) }
         ensures finds { IfOk result (λ v.
-            let part_events = sat (axioms_in self.now) (state_in cells.old self.now) level (expression_of part.now) in
+            let part_events = sat (axioms_in self.now) level (state_in cells.old self.now) (expression_of part.now) in
             Hears cells.new vars v.items
             (plain.through (found_events cells.old found.now) (λ b. turned negate (part_events b) b))) }
         ensures cells { Grows cells.old cells.new }
@@ -193,7 +193,7 @@ impl Scene<'_> {
         requires found { Fits vars (length cells.old) found.now }
         requires world { StageBelow (length cells.old) (stage_in self.now) }
         ensures finds { IfOk result (λ v.
-            let part_events = sat (axioms_in self.now) (state_in cells.old self.now) level (expression_of part.now) in
+            let part_events = sat (axioms_in self.now) level (state_in cells.old self.now) (expression_of part.now) in
             Hears cells.new vars v.items
             (plain.in_place (λ b. turned negate (part_events b) b) (found_event cells.old found.now))) }
         ensures cells { Grows cells.old cells.new }
@@ -221,7 +221,7 @@ impl Scene<'_> {
         requires slots { AreBelow (length cells.old) slots.now }
         requires world { StageBelow (length cells.old) (stage_in self.now) }
         ensures finds { IfOk result (λ v. Hears cells.new (length slots.now.values) v.items
-            (atoms_at (axioms_in self.now) (state_in cells.old self.now) level (atom_of atom.now)
+            (atoms_at (axioms_in self.now) level (state_in cells.old self.now) (atom_of atom.now)
             (bindings_of cells.old slots.now))) }
         ensures cells { Grows cells.old cells.new }
     {
@@ -248,8 +248,8 @@ impl Scene<'_> {
             let axioms = axioms_in self.now in
             let state = state_in cells.old self.now in
             Hears cells.new (length slots.now.values) v.items
-            (plain.goal_events state axioms (branches_at axioms state level) (bindings_of cells.old slots.now)
-            (Ok (goal_of cells.old goal.now)))) }
+            (plain.goal_events axioms (below_at axioms level state) state (goal_of cells.old goal.now)
+            (bindings_of cells.old slots.now))) }
         ensures cells { Grows cells.old cells.new }
     {
         let mut found = state_events(self.alloc, self.world, goal, slots, cells)?;
@@ -278,9 +278,9 @@ impl Scene<'_> {
         requires goal { GoalBelow (length cells.old) goal.now }
         requires world { StageBelow (length cells.old) (stage_in self.now) }
         ensures finds { IfOk result (λ v. Hears cells.new (length slots.now.values) v.items
-            (placed_events (branches_at (axioms_in self.now) (state_in cells.old self.now) level)
-            (goal_of cells.old goal.now) (bindings_of cells.old slots.now)
-            (axiom_at (rules_in self.now) place))) }
+            (placed_events (below_at (axioms_in self.now) level (state_in cells.old self.now))
+            (axiom_at (rules_in self.now) place) (goal_of cells.old goal.now)
+            (bindings_of cells.old slots.now))) }
         ensures cells { Grows cells.old cells.new }
     {
         let Some(axiom) = self.book.axiom(place) else {
@@ -318,8 +318,8 @@ impl Scene<'_> {
         requires slots { AreBelow (length cells.old) slots.now }
         requires world { StageBelow (length cells.old) (stage_in self.now) }
         ensures finds { IfOk result (λ v. Hears cells.new (length slots.now.values) v.items
-            (branches_at (axioms_in self.now) (state_in cells.old self.now) level (axiom_of rule.now)
-            (bindings_of cells.old slots.now))) }
+            (plain.branch_events (below_at (axioms_in self.now) level (state_in cells.old self.now))
+            (axiom_of rule.now) (bindings_of cells.old slots.now))) }
         ensures cells { Grows cells.old cells.new }
     {
         if level == 0 {

@@ -8,7 +8,7 @@ ghost use Rattle.hp_syntax.specs.Networks.{tasks_value};
 ghost use Rattle.hp_syntax.specs.Preconditions.{precondition_events};
 ghost use Rattle.hp_syntax.specs.Values.{unbound};
 ghost use Rattle.hp_syntax.specs.Views.{atom_of, branch_of, method_of, operator_of, precondition_of, tasks_of};
-ghost use Rattle.hp_syntax.specs.Walk.{operated, after_effects, decomposed, child_of, chosen, choice_children, method_children};
+ghost use Rattle.hp_syntax.specs.Walk.{operated, after_effects, decomposed, child_of, chosen_branch, branch_children, method_children};
 ghost use Rattle.hp_eval.specs.GoalViews.{network_of, TreeBelow};
 ghost use Rattle.hp_eval.specs.Growth.{Grows};
 ghost use Rattle.hp_eval.specs.Slotted.{AreBelow, bindings_of};
@@ -287,8 +287,8 @@ impl Site<'_> {
         requires slots { AreBelow (length cells.old) slots.now }
         ensures chooses { IfOk result (λ c. let n = node_at_site cells.old self.now in
             ChoosesBranch cells.new n (place_at self.now) (map branch_of branches.now) c
-            (choice_children n (place_at self.now)
-            (chosen (rules_at self.now) self.now.nest n.state (map branch_of branches.now)
+            (branch_children n (place_at self.now)
+            (chosen_branch (rules_at self.now) self.now.nest n.state (map branch_of branches.now)
             (bindings_of cells.old slots.now)))) }
         ensures cells { Grows cells.old cells.new }
     {

@@ -37,6 +37,7 @@ impl<'a> Model for PlainWalk<'a> {
 impl<'a> PlainWalk<'a> {
     ghost use Rattle.std.specs.Prelude.{◌≡◌, ◌≤◌, [], true, false, IfOk};
     ghost use Rattle.std.specs.List.{All};
+    ghost use Rattle.hp_syntax.specs.declared.limits.TheConstants.{DEEPEST_WALK};
     ghost use Rattle.hp_syntax.specs.Views.{domain_of, pair_of};
     ghost use Rattle.hp_syntax.specs.Walk.{root, visits};
     ghost use Rattle.hp_net.specs.Standings.{standing};
@@ -55,7 +56,7 @@ impl<'a> PlainWalk<'a> {
     ) -> Result<PlainWalk<'a>, AllocError>
         requires few { All HasFew (domain_of domain.now).rules }
         requires pair { IsGround (pair_of pair.now) }
-        requires depth { depth ≤ 1000 }
+        requires depth { depth ≤ DEEPEST_WALK }
         ensures tree { IfOk result (λ w. tree_walked w ≡ record {
           rules = (domain_of domain.now).rules;
           nest = nest;

@@ -1,6 +1,7 @@
-use Rattle.std.proofs.Common.{length, subst}
+use Rattle.std.proofs.Common.{List, length, subst}
 use Rattle.std.proofs.lemmas.Result.{IfOk-weaker}
-use Rattle.hp_syntax.specs.Events.{concluded}
+use Rattle.hp_syntax.specs.Values.{Bindings}
+use Rattle.hp_syntax.specs.Events.{Event, concluded}
 use Rattle.hp_syntax.specs.Views.{atom_of}
 use Rattle.hp_eval.specs.GoalViews.{goal_of}
 use Rattle.hp_eval.specs.Slotted.{bindings_of}
@@ -16,7 +17,8 @@ pub returns-in-Sat-clause-found : goal.returns-in-Sat-clause-found
 returns-in-Sat-clause-found c =
     let old = c.args.cells.now in
     let s = c.args.slots.now in
-    let f = concluded (atom_of c.args.head.now) (goal_of old c.args.goal.now) (bindings_of old s) in
+    let f : Bindings → List Event
+    = λ b. concluded (atom_of c.args.head.now) b (goal_of old c.args.goal.now) (bindings_of old s) in
     IfOk-weaker c.concluded.result _ _
     (λ v h.
     finds_same c.concluded.new.cells (length s.values) v.items _ _
@@ -27,7 +29,8 @@ pub returns-in-Cut-clause-found : goal.returns-in-Cut-clause-found
 returns-in-Cut-clause-found c =
     let old = c.args.cells.now in
     let s = c.args.slots.now in
-    let f = concluded (atom_of c.args.head.now) (goal_of old c.args.goal.now) (bindings_of old s) in
+    let f : Bindings → List Event
+    = λ b. concluded (atom_of c.args.head.now) b (goal_of old c.args.goal.now) (bindings_of old s) in
     IfOk-weaker c.only.result _ _
     (λ v is. cut_replaced old f c.args.found.now (length s.values) v.items c.in-Cut.is is) c.only.ensures
 
@@ -35,7 +38,8 @@ pub returns-in-Fault-clause-found : goal.returns-in-Fault-clause-found
 returns-in-Fault-clause-found c =
     let old = c.args.cells.now in
     let s = c.args.slots.now in
-    let f = concluded (atom_of c.args.head.now) (goal_of old c.args.goal.now) (bindings_of old s) in
+    let f : Bindings → List Event
+    = λ b. concluded (atom_of c.args.head.now) b (goal_of old c.args.goal.now) (bindings_of old s) in
     IfOk-weaker c.only-in-Fault.result _ _
     (λ v is. fault_replaced old f c.args.found.now (length s.values) c.in-Fault.fault v.items c.in-Fault.is is)
     c.only-in-Fault.ensures

@@ -1,5 +1,6 @@
-use Rattle.std.proofs.Common.{◌+◌, length, drop, sym, ◌∙◌}
-use Rattle.hp_syntax.specs.Events.{concluded, through}
+use Rattle.std.proofs.Common.{◌+◌, List, length, drop, sym, ◌∙◌}
+use Rattle.hp_syntax.specs.Values.{Bindings}
+use Rattle.hp_syntax.specs.Events.{Event, concluded, through}
 use Rattle.hp_syntax.specs.Views.{atom_of}
 use Rattle.hp_eval.specs.GoalViews.{goal_of}
 use Rattle.hp_eval.specs.Slotted.{bindings_of}
@@ -35,7 +36,8 @@ loop-x-preserved c =
     let h = atom_of c.args.head.now in
     let q = c.args.goal.now in
     let s = c.args.slots.now in
-    let f = concluded h (goal_of old q) (bindings_of old s) in
+    let f : Bindings → List Event
+    = λ b. concluded h b (goal_of old q) (bindings_of old s) in
     let x = c.x-item.result in
     let found = c.args.found.now in
     let i = c.loop-x.x-index in
@@ -63,7 +65,8 @@ returns-then-over-clause-found c =
     let h = atom_of c.args.head.now in
     let q = c.args.goal.now in
     let s = c.args.slots.now in
-    let f = concluded h (goal_of old q) (bindings_of old s) in
+    let f : Bindings → List Event
+    = λ b. concluded h b (goal_of old q) (bindings_of old s) in
     let x = c.x-item.result in
     let found = c.args.found.now in
     let i = c.loop-x.x-index in
@@ -84,7 +87,8 @@ pub returns-clause-found : goal.returns-clause-found
 returns-clause-found c =
     let old = c.args.cells.now in
     let s = c.args.slots.now in
-    let f = concluded (atom_of c.args.head.now) (goal_of old c.args.goal.now) (bindings_of old s) in
+    let f : Bindings → List Event
+    = λ b. concluded (atom_of c.args.head.now) b (goal_of old c.args.goal.now) (bindings_of old s) in
     hears_replaced_all old c.loop-x.cells (length s.values) f c.loop-x.all.items c.args.found.now c.loop-x.x-index
     c.loop-x-test.false c.loop-x.invariant.found
 

@@ -1,5 +1,6 @@
-use Rattle.std.proofs.Common.{length, drop}
-use Rattle.hp_syntax.specs.Events.{concluded, through}
+use Rattle.std.proofs.Common.{List, length, drop}
+use Rattle.hp_syntax.specs.Values.{Bindings}
+use Rattle.hp_syntax.specs.Events.{Event, concluded, through}
 use Rattle.hp_syntax.specs.Views.{atom_of}
 use Rattle.hp_eval.specs.GoalViews.{goal_of}
 use Rattle.hp_eval.specs.Growth.{Grows}
@@ -9,7 +10,8 @@ use Rattle.hp_plain.proofs.conclusions.conclusions.Given as goal
 
 abbrev pub invariant-loop-x : goal.invariant-loop-x
 invariant-loop-x l =
-    let f = concluded (atom_of l.head) (goal_of l.fn.cells l.goal) (bindings_of l.fn.cells l.slots) in
+    let f : Bindings → List Event
+    = λ b. concluded (atom_of l.head) b (goal_of l.fn.cells l.goal) (bindings_of l.fn.cells l.slots) in
     record {
       grows : Grows l.fn.cells l.cells;
       found : HearsUpTo l.cells (length l.slots.values) l.all.items (through (found_events l.fn.cells l.found) f)

@@ -2,13 +2,13 @@ use Rattle.std.proofs.Common.{◌≡◌, ◌+◌, ◌-◌, ◌*◌, ◌<◌, tru
 use Rattle.std.specs.Prelude.{flat_map}
 use Rattle.std.proofs.lemmas.List.{nil_from_length}
 use Rattle.hp_laws.proofs.Listings.{map_has}
-use Rattle.hp_syntax.specs.Syntax.{Expression}
+use Rattle.hp_syntax.specs.Syntax.{Clause}
 use Rattle.std.proofs.lemmas.Option.{slice_get-get_or}
 use Rattle.std.proofs.lemmas.Result.{IfOk-weaker}
 use Rattle.hp_syntax.specs.declared.fault.RunFault.{RunFault}
 use Rattle.hp_syntax.specs.Values.{Bindings, unbound}
 use Rattle.hp_syntax.specs.Goals.{Goal, start_goal}
-use Rattle.hp_syntax.specs.Events.{Event, State, through, sat, goal_events, axiom_events, concluded, first_list}
+use Rattle.hp_syntax.specs.Events.{Event, State, through, sat, axiom_events, branch_events, filled_events, concluded, chosen, chosen_events}
 use Rattle.hp_syntax.specs.Views.{axiom_of, clause_of, expression_of, expressions_of}
 use Rattle.hp_eval.specs.GoalViews.{goal_of}
 use Rattle.hp_eval.specs.Slotted.{bindings_of}
@@ -19,11 +19,12 @@ use Rattle.std.proofs.lemmas.List.Elements.{All-weaker}
 use Rattle.hp_plain.specs.Founds.{found_events, Fits, AllFit, BindsBelow, AreHeardAlike}
 use Rattle.hp_plain.specs.Rulebooks.{concluding, axiom_at}
 use Rattle.hp_plain.specs.Turns.{MeetsHead}
-use Rattle.hp_plain.specs.Scenes.{rules_in, axioms_in, stage_in, state_in, branches_at, placed_events}
+use Rattle.hp_plain.specs.Scenes.{rules_in, axioms_in, stage_in, state_in, below_at, placed_events}
 use Rattle.hp_plain.proofs.FoundLemmas.{finds_none, sat_replaced, cut_replaced, fault_replaced, fits_below, fits_grow, goal_below_grows, stage_below_grows, state_stays, goal_stays, item_holds, sat_fits}
 use Rattle.hp_plain.proofs.Sizes.{size, sizes, left_to_do, less_to_do_below, branch_size, size_of-atom, size_of-and, size_of-or, size_of-not, size_of-forall, part_size}
 use Rattle.hp_plain.proofs.SearchSteps.{sat_of-atom, sat_of-and, sat_of-or, sat_of-not, sat_of-forall, sat_of-assign, sat_of-call, forall_sat, all_of, all_begin, all_go_on, all_end, any_of, any_end}
-use Rattle.hp_plain.proofs.AxiomSteps.{goal_begins, axioms_end, placed_axiom, few_at, axiom_among, axiom_unstarted, axiom_started, branch_left, first_found, first_passes}
+use Rattle.hp_plain.proofs.AxiomSteps.{goal_begins, axioms_end, placed_axiom, few_at, axiom_among, axiom_unstarted, axiom_started, some_met, none_met}
+use Rattle.hp_plain.proofs.ChosenLemmas.{chosen_left, chosen_here, chosen_passes}
 use Rattle.hp_plain.proofs.SceneGrowth.{turned_sat, turned_stays, sat_stays, turn_gives, negation_gives, finds_vars}
 use Rattle.hp_plain.proofs.HeardLemmas.{alike_through, hears_found, hears_begin, hears_same, hears_vars, hears_all, hears_over, hears_replaced_all}
 use Rattle.hp_plain.proofs.HeardSteps.{any_next, each_next, goal_next}
@@ -68,7 +69,7 @@ events-returns-in-Atom-clause-found t c =
     let old = c.args.cells.now in
     IfOk-weaker c.atom_events.result _ _
     (λ v h. h.stand
-    ∙ ap heard (sat_of-atom (axioms_in scene) (state_in old scene) c.args.level c.args.expr.now
+    ∙ ap heard (sat_of-atom (axioms_in scene) c.args.level (state_in old scene) c.args.expr.now
     (bindings_of old c.args.slots.now) c.in-Atom.atom c.in-Atom.is))
     c.atom_events.ensures.finds
 
@@ -79,8 +80,8 @@ events-returns-in-And-clause-found t c =
     let e = bindings_of old c.args.slots.now in
     IfOk-weaker c.all_events.result _ _
     (λ v h. h.stand
-    ∙ ap heard (ap (λ ps. all_of (axioms_in scene) (state_in old scene) c.args.level ps e) c.as_slice.ensures.value
-    ∙ sat_of-and (axioms_in scene) (state_in old scene) c.args.level c.args.expr.now e c.in-And.parts c.in-And.is))
+    ∙ ap heard (ap (λ ps. all_of (axioms_in scene) c.args.level (state_in old scene) ps e) c.as_slice.ensures.value
+    ∙ sat_of-and (axioms_in scene) c.args.level (state_in old scene) c.args.expr.now e c.in-And.parts c.in-And.is))
     c.all_events.ensures.finds
 
 pub events-returns-in-Or-clause-found : goal.events-returns-in-Or-clause-found
@@ -90,9 +91,9 @@ events-returns-in-Or-clause-found t c =
     let e = bindings_of old c.args.slots.now in
     IfOk-weaker c.any_events.result _ _
     (λ v h. h.stand
-    ∙ ap heard (ap (λ ps. any_of (axioms_in scene) (state_in old scene) c.args.level ps e)
+    ∙ ap heard (ap (λ ps. any_of (axioms_in scene) c.args.level (state_in old scene) ps e)
     c.as_slice-in-Or.ensures.value
-    ∙ sat_of-or (axioms_in scene) (state_in old scene) c.args.level c.args.expr.now e c.in-Or.parts c.in-Or.is))
+    ∙ sat_of-or (axioms_in scene) c.args.level (state_in old scene) c.args.expr.now e c.in-Or.parts c.in-Or.is))
     c.any_events.ensures.finds
 
 pub events-returns-in-Forall-clause-found : goal.events-returns-in-Forall-clause-found
@@ -102,9 +103,9 @@ events-returns-in-Forall-clause-found t c =
     let e = bindings_of old c.args.slots.now in
     IfOk-weaker c.forall_events.result _ _
     (λ v h. ap heard (h.stand
-    ∙ ap₂ (forall_sat (axioms_in scene) (state_in old scene) c.args.level e) c.deref-in-Forall.ensures
+    ∙ ap₂ (forall_sat (axioms_in scene) c.args.level (state_in old scene) e) c.deref-in-Forall.ensures
     c.deref-in-Forall-2.ensures
-    ∙ sat_of-forall (axioms_in scene) (state_in old scene) c.args.level c.args.expr.now e c.in-Forall.field-0
+    ∙ sat_of-forall (axioms_in scene) c.args.level (state_in old scene) c.args.expr.now e c.in-Forall.field-0
     c.in-Forall.range c.in-Forall.body c.in-Forall.is))
     c.forall_events.ensures.finds
 
@@ -114,7 +115,7 @@ events-returns-in-Assign-clause-found t c =
     let old = c.args.cells.now in
     IfOk-weaker c.assigned.result _ _
     (λ v h. ap heard (h.stand
-    ∙ sat_of-assign (axioms_in scene) (state_in old scene) c.args.level c.args.expr.now
+    ∙ sat_of-assign (axioms_in scene) c.args.level (state_in old scene) c.args.expr.now
     (bindings_of old c.args.slots.now) c.in-Assign.v c.in-Assign.value c.in-Assign.is))
     c.assigned.ensures.found
 
@@ -124,7 +125,7 @@ events-returns-in-Call-clause-found t c =
     let old = c.args.cells.now in
     IfOk-weaker c.tested.result _ _
     (λ v h. ap heard (h.stand
-    ∙ sat_of-call (axioms_in scene) (state_in old scene) c.args.level c.args.expr.now
+    ∙ sat_of-call (axioms_in scene) c.args.level (state_in old scene) c.args.expr.now
     (bindings_of old c.args.slots.now) c.in-Call.call c.in-Call.is))
     c.tested.ensures.found
 
@@ -136,13 +137,13 @@ events-returns-in_ok-found-in-Not-clause-found t c =
     let s = c.args.slots.now in
     let e = bindings_of old s in
     let got = c.in_ok-found-in-Not.ensures in
-    let met = got.found ∙ ap (λ p. heard (sat (axioms_in scene) (state_in old scene) c.args.level (expression_of p) e))
+    let met = got.found ∙ ap (λ p. heard (sat (axioms_in scene) c.args.level (state_in old scene) (expression_of p) e))
     c.deref.ensures in
     IfOk-weaker c.turn.result _ _
     (λ v h. ap heard ((negation_gives new (length s.values) c.in_ok-found-in-Not.found.items v.items
     (bindings_of new s) e _ met (bindings_stay old new got.cells s c.requires.slots)
     (h new (below_grows old new got.cells s c.requires.slots) got.fit)).stand
-    ∙ sat_of-not (axioms_in scene) (state_in old scene) c.args.level c.args.expr.now e c.in-Not.part c.in-Not.is))
+    ∙ sat_of-not (axioms_in scene) c.args.level (state_in old scene) c.args.expr.now e c.in-Not.part c.in-Not.is))
     c.turn.ensures
 
 pub events-returns-in_ok-found-in-Not-clause-fit : goal.events-returns-in_ok-found-in-Not-clause-fit
@@ -173,12 +174,12 @@ forall_events-returns-clause-finds t c =
     let refuted = c.in_ok-refuted.refuted.items in
     let each = hears_vars new c.vars.result (length s.values) refuted _ c.vars.ensures got.finds in
     let ranged = found_events mid c.as_slice.result.now in
-    let range = sat axioms (state_in old scene) level (expression_of c.args.range.now) e in
+    let range = sat axioms level (state_in old scene) (expression_of c.args.range.now) e in
     let events =
     each.stand
     ∙ (ap (λ f. heard (through ranged f))
     (turned_stays old mid met.cells stage c.requires.world axioms level c.args.body.now true)
-    ∙ alike_through ranged range (turned_sat axioms (state_in old scene) level c.args.body.now true)
+    ∙ alike_through ranged range (turned_sat axioms level (state_in old scene) c.args.body.now true)
     (ap (λ xs. heard (found_events mid xs)) c.as_slice.ensures.value ∙ met.found)) in
     IfOk-weaker c.turn.result _ _
     (λ v h. negation_gives new (length s.values) refuted v.items (bindings_of new s) e _ events
@@ -199,7 +200,7 @@ all_events-loop-part-init t c =
       grows = grows_self old;
       fit = (finds_vars old (length s.values) c.vars-vars.result found _ (sym c.vars-vars.ensures) one).fit;
       so_far =
-          ap heard (all_begin (axioms_in scene) (state_in old scene) c.args.level c.args.parts.now (bindings_of old s)
+          ap heard (all_begin (axioms_in scene) c.args.level (state_in old scene) c.args.parts.now (bindings_of old s)
           (found_events old found) one.stand);
     }
 
@@ -236,7 +237,7 @@ all_events-loop-part-preserved t c =
       grows = grows_on old mid new held.grows got.cells;
       fit = got.finds.fit;
       so_far =
-          all_go_on axioms (state_in old scene) level c.args.parts.now c.loop-part.part-index part
+          all_go_on axioms level (state_in old scene) c.args.parts.now c.loop-part.part-index part
           (found_events mid before) (found_events new c.in_ok-found-2.found.items) _ c.loop-part-test.true
           c.part-item.is
           (got.finds.stand
@@ -254,7 +255,7 @@ all_events-returns-clause-finds t c =
     let found = c.loop-part.found.items in
     record {
       stand =
-          all_end (axioms_in scene) (state_in old scene) c.args.level c.args.parts.now c.loop-part.part-index
+          all_end (axioms_in scene) c.args.level (state_in old scene) c.args.parts.now c.loop-part.part-index
           (found_events new found) _ c.loop-part-test.false held.so_far;
       fit = subst (λ n. AllFit n (length new) found) c.vars-vars.ensures held.fit;
     }
@@ -321,7 +322,7 @@ any_events-returns-clause-finds t c =
     let old = c.args.cells.now in
     let s = c.args.slots.now in
     hears_all c.loop-part.cells (length s.values) c.loop-part.found.items _ _
-    (any_end (axioms_in scene) (state_in old scene) c.args.level c.args.parts.now c.loop-part.part-index
+    (any_end (axioms_in scene) c.args.level (state_in old scene) c.args.parts.now c.loop-part.part-index
     (bindings_of old s) c.loop-part-test.false)
     c.loop-part.invariant.found
 
@@ -394,7 +395,7 @@ pub each_events-returns-clause-finds : goal.each_events-returns-clause-finds
 each_events-returns-clause-finds t c =
     let scene = c.args.self.now in
     let old = c.args.cells.now in
-    let f = turned_sat (axioms_in scene) (state_in old scene) c.args.level c.args.part.now c.args.negate in
+    let f = turned_sat (axioms_in scene) c.args.level (state_in old scene) c.args.part.now c.args.negate in
     hears_replaced_all old c.loop-x.cells c.args.vars f c.loop-x.all.items c.args.found.now c.loop-x.x-index
     c.loop-x-test.false c.loop-x.invariant.found
 
@@ -408,7 +409,7 @@ one_events-returns-in_ok-more-in-Sat-clause-finds t c =
     let got = c.in_ok-more-in-Sat.ensures in
     let fits = sat_fits c.args.vars (length old) x s c.in-Sat.is c.requires.found in
     let more = c.in_ok-more-in-Sat.more.items in
-    let f = turned_sat (axioms_in scene) (state_in old scene) c.args.level c.args.part.now c.args.negate in
+    let f = turned_sat (axioms_in scene) c.args.level (state_in old scene) c.args.part.now c.args.negate in
     IfOk-weaker c.turn.result _ _
     (λ v h. hears_vars new (length s.values) c.args.vars v.items _ fits.0
     (hears_same new (length s.values) v.items _ _ (ap heard (sat_replaced old f x s c.in-Sat.is))
@@ -430,7 +431,7 @@ atom_events-returns-in-Ok-clause-finds t c =
     let s = c.args.slots.now in
     let e = bindings_of old s in
     let events : State → Bindings → Result Goal RunFault → List Event
-    = λ st b r. goal_events st axioms (branches_at axioms st level) b r in
+    = λ st b r. filled_events axioms (below_at axioms level st) st r b in
     IfOk-weaker c.goal_events.result _ _
     (λ v h. hears_same c.goal_events.new.cells (length s.values) v.items _ _
     (ap heard (ap₂ (λ st b. events st b (Ok (goal_of mid c.in-Ok.goal)))
@@ -445,16 +446,16 @@ goal_events-loop-place-init t c =
     let axioms = axioms_in scene in
     let old = c.args.cells.now in
     let state = state_in old scene in
-    let branches = branches_at axioms state c.args.level in
+    let lower = below_at axioms c.args.level state in
     let q = goal_of old c.args.goal.now in
     let e = bindings_of old c.args.slots.now in
     let got = c.in_ok-found.ensures in
-    let left = flat_map (axiom_events branches q e) (concluding q.name (rules_in scene)) in
+    let left = flat_map (λ x. axiom_events lower x q e) (concluding q.name (rules_in scene)) in
     record {
       grows = grows_self old;
       found = record {
         so_far =
-            ap heard (goal_begins branches q e state (rules_in scene) ∙ ap (λ xs. xs ++ left) (sym got.stand));
+            ap heard (goal_begins lower q e state (rules_in scene) ∙ ap (λ xs. xs ++ left) (sym got.stand));
         fit = got.fit;
       };
     }
@@ -527,7 +528,7 @@ goal_events-returns-clause-finds t c =
     let q = goal_of old c.args.goal.now in
     let s = c.args.slots.now in
     hears_all c.loop-place.cells (length s.values) c.loop-place.found.items _ _
-    (axioms_end (branches_at (axioms_in scene) (state_in old scene) c.args.level) q (bindings_of old s) (rules_in scene)
+    (axioms_end (below_at (axioms_in scene) c.args.level (state_in old scene)) q (bindings_of old s) (rules_in scene)
     c.axioms-place-items.result.now (concluding q.name (rules_in scene)) c.axioms-place-items.ensures
     c.loop-place.place-index c.loop-place-test.false)
     c.loop-place.invariant.found
@@ -554,7 +555,7 @@ axiom_events-returns-in-None-clause-finds t c =
     let e = bindings_of old c.args.slots.now in
     let vars = length c.args.slots.now.values in
     let items = c.new-in-None.result.items in
-    let branches = branches_at (axioms_in scene) (state_in old scene) c.args.level in
+    let lower = below_at (axioms_in scene) c.args.level (state_in old scene) in
     let there =
     placed_axiom (axiom_at (rules_in scene) c.args.place) c.axiom.result c.in-Some.axiom c.axiom.ensures c.in-Some.is in
     let none =
@@ -562,7 +563,7 @@ axiom_events-returns-in-None-clause-finds t c =
     c.in_ok-started.ensures.starts in
     hears_found new vars items _
     (finds_none new vars items _ c.new-in-None.ensures.items
-    (ap (placed_events branches q e) there ∙ axiom_unstarted branches q e x none))
+    (ap (λ o. placed_events lower o q e) there ∙ axiom_unstarted lower q e x none))
 
 pub axiom_events-branch_events-requires : goal.axiom_events-branch_events-requires
 axiom_events-branch_events-requires t c =
@@ -624,7 +625,7 @@ axiom_events-returns-in_ok-found-in-Some-started-clause-finds t c =
     let e = bindings_of old s in
     let own = c.in-Some-started.own in
     let state = state_in old scene in
-    let branches = branches_at axioms state level in
+    let lower = below_at axioms level state in
     let there =
     placed_axiom (axiom_at (rules_in scene) c.args.place) c.axiom.result c.in-Some.axiom c.axiom.ensures c.in-Some.is in
     let m =
@@ -633,18 +634,18 @@ axiom_events-returns-in_ok-found-in-Some-started-clause-finds t c =
     let met =
     ap (λ xs. heard (found_events new xs)) c.as_slice.ensures.value
     ∙ (c.in_ok-found-in-Some-started.ensures.finds.stand
-    ∙ ap (λ st. heard (branches_at axioms st level x (bindings_of mid own)))
+    ∙ ap (λ st. heard (branch_events (below_at axioms level st) x (bindings_of mid own)))
     (state_stays old mid c.in_ok-started.ensures.cells (stage_in scene) c.requires.world)) in
     let same =
-    ap₂ (concluded x.head) (goal_stays old new grown goal' c.requires.goal)
+    ap₂ {C = Bindings → List Event} (λ p b d. concluded x.head d p b) (goal_stays old new grown goal' c.requires.goal)
     (bindings_stay old new grown s c.requires.slots) in
     IfOk-weaker c.conclusions.result _ _
     (λ v h. hears_same c.conclusions.new.cells (length s.values) v.items _ _
-    (alike_through (found_events new c.as_slice.result.now) (branches x (bindings_of mid own))
-    (concluded x.head (goal_of new goal') (bindings_of new s)) met
-    ∙ ap heard (ap (through (branches x (bindings_of mid own))) same
-    ∙ (axiom_started branches q e x (bindings_of mid own) m.0
-    ∙ sym (ap (placed_events branches q e) there))))
+    (alike_through (found_events new c.as_slice.result.now) (branch_events lower x (bindings_of mid own))
+    (λ d. concluded x.head d (goal_of new goal') (bindings_of new s)) met
+    ∙ ap heard (ap (through (branch_events lower x (bindings_of mid own))) same
+    ∙ (axiom_started lower q e x (bindings_of mid own) m.0
+    ∙ sym (ap (λ o. placed_events lower o q e) there))))
     h)
     c.conclusions.ensures.found
 
@@ -699,22 +700,23 @@ branch_events-returns-then-not-is_empty-clause-finds t c =
     let i = c.loop-clause.clause-index in
     let is = c.deref-clause-items.ensures.value in
     let found = c.in_ok-found.found.items in
-    let f : Expression → List Event
-    = λ part. sat axioms (state_in old scene) (level - 1) part (bindings_of old s) in
-    let met : AreHeardAlike (found_events new found) (f (expression_of clause.body))
+    let f : Clause → List Event
+    = λ x. sat axioms (level - 1) (state_in old scene) x.body (bindings_of old s) in
+    let met : AreHeardAlike (found_events new found) (f (clause_of clause))
     = got.found
     ∙ ap heard (sat_stays old mid held.grows (stage_in scene) c.requires.world s c.requires.slots axioms (level - 1)
     (expression_of clause.body)) in
     let many = eqb-false (vec_len c.in_ok-found.found) 0 (sym c.is_empty.ensures ∙ c.if-not-is_empty.true) in
     let some : 0 < length found = omega (arith, many, c.in_ok-found.found.ok.0) in
     let first =
-    first_found new found (f (expression_of clause.body)) (first_list f (map clause_of (drop (i + 1) clauses))) met
-    some in
+    chosen_here (clause_of clause) (f (clause_of clause)) (chosen f (map clause_of (drop (i + 1) clauses)))
+    (some_met new found (f (clause_of clause)) met some) in
     record {
       stand =
           met
           ∙ ap heard (sym (held.so_far
-          ∙ (branch_left f clauses i clause (subst (λ cs. i < length cs) is c.loop-clause-test.true)
+          ∙ ap chosen_events (chosen_left f clause_of clauses i clause
+          (subst (λ cs. i < length cs) is c.loop-clause-test.true)
           (c.clause-item.is ∙ ap (λ cs. get_or cs i clause) is)
           ∙ first)));
       fit = got.fit;
@@ -736,9 +738,9 @@ branch_events-loop-clause-preserved t c =
     let i = c.loop-clause.clause-index in
     let is = c.deref-clause-items.ensures.value in
     let found = c.in_ok-found.found.items in
-    let f : Expression → List Event
-    = λ part. sat axioms (state_in old scene) (level - 1) part (bindings_of old s) in
-    let met : AreHeardAlike (found_events new found) (f (expression_of clause.body))
+    let f : Clause → List Event
+    = λ x. sat axioms (level - 1) (state_in old scene) x.body (bindings_of old s) in
+    let met : AreHeardAlike (found_events new found) (f (clause_of clause))
     = got.found
     ∙ ap heard (sat_stays old mid held.grows (stage_in scene) c.requires.world s c.requires.slots axioms (level - 1)
     (expression_of clause.body)) in
@@ -748,10 +750,11 @@ branch_events-loop-clause-preserved t c =
       grows = grows_on old mid new held.grows got.cells;
       so_far =
           held.so_far
-          ∙ (branch_left f clauses i clause (subst (λ cs. i < length cs) is c.loop-clause-test.true)
+          ∙ ap chosen_events (chosen_left f clause_of clauses i clause
+          (subst (λ cs. i < length cs) is c.loop-clause-test.true)
           (c.clause-item.is ∙ ap (λ cs. get_or cs i clause) is)
-          ∙ first_passes new found (f (expression_of clause.body)) (first_list f (map clause_of (drop (i + 1) clauses)))
-          met (nil_from_length found none));
+          ∙ chosen_passes (clause_of clause) (f (clause_of clause)) (chosen f (map clause_of (drop (i + 1) clauses)))
+          (none_met new found (f (clause_of clause)) met (nil_from_length found none)));
     }
 
 -- ---- cells that are added
@@ -1002,7 +1005,7 @@ one_events-returns-in-Cut-clause-finds t c =
     let vars = c.args.vars in
     let x = c.args.found.now in
     let f =
-    turned_sat (axioms_in c.args.self.now) (state_in old c.args.self.now) c.args.level c.args.part.now c.args.negate in
+    turned_sat (axioms_in c.args.self.now) c.args.level (state_in old c.args.self.now) c.args.part.now c.args.negate in
     IfOk-weaker c.only.result _ _
     (λ v is. hears_found old vars v.items _ (cut_replaced old f x vars v.items c.in-Cut.is is)) c.only.ensures
 
@@ -1012,7 +1015,7 @@ one_events-returns-in-Fault-clause-finds t c =
     let vars = c.args.vars in
     let x = c.args.found.now in
     let f =
-    turned_sat (axioms_in c.args.self.now) (state_in old c.args.self.now) c.args.level c.args.part.now c.args.negate in
+    turned_sat (axioms_in c.args.self.now) c.args.level (state_in old c.args.self.now) c.args.part.now c.args.negate in
     IfOk-weaker c.only-in-Fault.result _ _
     (λ v is.
     hears_found old vars v.items _ (fault_replaced old f x vars c.in-Fault.fault v.items c.in-Fault.is is))

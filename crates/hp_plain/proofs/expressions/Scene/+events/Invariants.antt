@@ -1,14 +1,14 @@
-use Rattle.std.proofs.Common.{◌≡◌, ◌+◌, ◌*◌, ◌-◌, List, length, drop, map, Ok}
+use Rattle.std.proofs.Common.{◌≡◌, ◌+◌, ◌*◌, ◌-◌, List, length, drop, map}
 use Rattle.std.specs.Prelude.{flat_map}
 use Rattle.hp_syntax.specs.Values.{Bindings}
-use Rattle.hp_syntax.specs.Events.{Event, sat, events_of_all, events_of_any, goal_events, axiom_events, first_list, through}
+use Rattle.hp_syntax.specs.Events.{Event, sat, events_of_all, events_of_any, goal_events, axiom_events, branch_events, chosen, chosen_events, through}
 use Rattle.hp_syntax.specs.Views.{axiom_of, clause_of, expression_of, expressions_of}
 use Rattle.hp_eval.specs.GoalViews.{goal_of}
 use Rattle.hp_eval.specs.Growth.{Grows}
 use Rattle.hp_eval.specs.Slotted.{bindings_of}
 use Rattle.hp_plain.specs.Founds.{found_events, AllFit, AreHeardAlike, HearsUpTo, turned}
 use Rattle.hp_plain.specs.Rulebooks.{concluding}
-use Rattle.hp_plain.specs.Scenes.{rules_in, axioms_in, state_in, atoms_at, branches_at}
+use Rattle.hp_plain.specs.Scenes.{rules_in, axioms_in, state_in, atoms_at, below_at}
 use Rattle.hp_plain.proofs.Sizes.{size, sizes, left_to_do}
 use Rattle.hp_plain.proofs.expressions.Scene.+events.Given as goal
 
@@ -50,7 +50,7 @@ decreases-branch_events l = left_to_do (axioms_in l.self.now) l.level 4
 
 abbrev pub invariant-all_events-loop-part : goal.invariant-all_events-loop-part
 invariant-all_events-loop-part l =
-    let atoms = atoms_at (axioms_in l.self) (state_in l.fn.cells l.self) l.level in
+    let atoms = atoms_at (axioms_in l.self) l.level (state_in l.fn.cells l.self) in
     record {
       grows : Grows l.fn.cells l.cells;
       fit : AllFit l.vars (length l.cells) l.found.items;
@@ -62,7 +62,7 @@ invariant-all_events-loop-part l =
 
 abbrev pub invariant-any_events-loop-part : goal.invariant-any_events-loop-part
 invariant-any_events-loop-part l =
-    let atoms = atoms_at (axioms_in l.self) (state_in l.fn.cells l.self) l.level in
+    let atoms = atoms_at (axioms_in l.self) l.level (state_in l.fn.cells l.self) in
     let e = bindings_of l.fn.cells l.slots in
     record {
       grows : Grows l.fn.cells l.cells;
@@ -74,7 +74,7 @@ invariant-any_events-loop-part l =
 abbrev pub invariant-each_events-loop-x : goal.invariant-each_events-loop-x
 invariant-each_events-loop-x l =
     let f : Bindings → List Event
-    = λ b. turned l.negate (sat (axioms_in l.self) (state_in l.fn.cells l.self) l.level (expression_of l.part) b) b in
+    = λ b. turned l.negate (sat (axioms_in l.self) l.level (state_in l.fn.cells l.self) (expression_of l.part) b) b in
     record {
       grows : Grows l.fn.cells l.cells;
       found : HearsUpTo l.cells l.vars l.all.items (through (found_events l.fn.cells l.found) f)
@@ -85,13 +85,13 @@ abbrev pub invariant-goal_events-loop-place : goal.invariant-goal_events-loop-pl
 invariant-goal_events-loop-place l =
     let axioms = axioms_in l.self in
     let state = state_in l.fn.cells l.self in
-    let branches = branches_at axioms state l.level in
+    let lower = below_at axioms l.level state in
     let q = goal_of l.fn.cells l.goal in
     let e = bindings_of l.fn.cells l.slots in
     record {
       grows : Grows l.fn.cells l.cells;
-      found : HearsUpTo l.cells (length l.slots.values) l.found.items (goal_events state axioms branches e (Ok q))
-          (flat_map (axiom_events branches q e) (drop l.place-index (concluding q.name (rules_in l.self))));
+      found : HearsUpTo l.cells (length l.slots.values) l.found.items (goal_events axioms lower state q e)
+          (flat_map (λ x. axiom_events lower x q e) (drop l.place-index (concluding q.name (rules_in l.self))));
     }
 
 abbrev pub invariant-branch_events-loop-clause : goal.invariant-branch_events-loop-clause
@@ -101,7 +101,7 @@ invariant-branch_events-loop-clause l =
     let e = bindings_of l.fn.cells l.slots in
     record {
       grows : Grows l.fn.cells l.cells;
-      so_far : branches_at axioms state l.level (axiom_of l.rule) e
-          ≡ first_list (λ part. sat axioms state (l.level - 1) part e)
-          (map clause_of (drop l.clause-index l.rule.clauses.items));
+      so_far : branch_events (below_at axioms l.level state) (axiom_of l.rule) e
+          ≡ chosen_events (chosen (λ c. sat axioms (l.level - 1) state c.body e)
+          (map clause_of (drop l.clause-index l.rule.clauses.items)));
     }

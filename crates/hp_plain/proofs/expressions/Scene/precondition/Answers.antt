@@ -19,7 +19,7 @@ returns-in_ok-events-in-Plain-clause-finds c =
     let new = c.events.new.cells in
     let vars = length c.args.slots.now.values in
     let found = c.in_ok-events-in-Plain.field-0.items in
-    let events = sat (axioms_in scene) state c.args.nest (expression_of c.in-Plain.expr) e in
+    let events = sat (axioms_in scene) c.args.nest state (expression_of c.in-Plain.expr) e in
     let met : Hears new vars found events =
     record { stand = c.in_ok-events-in-Plain.ensures.found; fit = c.in_ok-events-in-Plain.ensures.fit } in
     finds_same new vars c.heard.result.items _ _

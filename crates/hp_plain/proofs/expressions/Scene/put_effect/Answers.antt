@@ -19,7 +19,7 @@ put_each-requires-clause-found c =
     let new = c.events.new.cells in
     let vars = length c.args.slots.now.values in
     let events =
-    sat (axioms_in c.args.self.now) (state_in c.args.cells.now c.args.self.now) c.args.nest
+    sat (axioms_in c.args.self.now) c.args.nest (state_in c.args.cells.now c.args.self.now)
     (expression_of c.in-Forall.expr) (bindings_of c.args.cells.now c.args.slots.now) in
     let met : Hears new vars c.in_ok-events-in-Forall.field-0.items events =
     record { stand = c.in_ok-events-in-Forall.ensures.found; fit = c.in_ok-events-in-Forall.ensures.fit } in
@@ -38,7 +38,7 @@ returns-in_ok-events-in-Forall-clause-puts c =
     let state = state_in old c.args.self.now in
     let e = bindings_of old c.args.slots.now in
     let vars = length c.args.slots.now.values in
-    let events = sat axioms state c.args.nest (expression_of c.in-Forall.expr) e in
+    let events = sat axioms c.args.nest state (expression_of c.in-Forall.expr) e in
     let met : Hears met_in vars c.in_ok-events-in-Forall.field-0.items events =
     record { stand = c.in_ok-events-in-Forall.ensures.found; fit = c.in_ok-events-in-Forall.ensures.fit } in
     let as' = atoms_of c.in-Forall.atoms.items in

@@ -3,7 +3,7 @@ use Rattle.std.proofs.lemmas.Result.{IfOk-weaker}
 use Rattle.hp_syntax.specs.Matching.{match_atom}
 use Rattle.hp_syntax.specs.Values.{unbound}
 use Rattle.hp_syntax.specs.Views.{atom_of, branch_of, method_of}
-use Rattle.hp_syntax.specs.Walk.{chosen, choice_children, method_children}
+use Rattle.hp_syntax.specs.Walk.{chosen_branch, branch_children, method_children}
 use Rattle.hp_eval.specs.Slotted.{bindings_of}
 use Rattle.hp_eval.proofs.GrowthLemmas.{grows_self}
 use Rattle.hp_plain.specs.Sites.{rules_at, node_at_site, place_at, term_at_site}
@@ -35,7 +35,7 @@ returns-in-Some-clause-chooses c =
     (sym (ap found (sym long) ∙ met.0))
     (subst
     (λ bs. ChoosesBranch new n p (map branch_of bs) x
-    (choice_children n p (chosen (rules_at s) s.nest n.state (map branch_of bs) e))) c.as_slice.ensures.value h))
+    (branch_children n p (chosen_branch (rules_at s) s.nest n.state (map branch_of bs) e))) c.as_slice.ensures.value h))
     c.first_branch.ensures.chooses
 
 pub first_branch-requires-clause-few : goal.first_branch-requires-clause-few

@@ -1,6 +1,7 @@
-use Rattle.std.proofs.Common.{◌≡◌, ◌<◌, length, map, ap, sym, ◌∙◌, subst, rules}
+use Rattle.std.proofs.Common.{◌≡◌, ◌+◌, ◌<◌, length, map, drop, ap, sym, ◌∙◌, subst, rules}
 use Rattle.std.specs.Prelude.{flat_map, slice_get}
 use Rattle.std.proofs.lemmas.List.{length-map}
+use Rattle.hp_syntax.specs.Events.{chosen}
 use Rattle.hp_syntax.specs.Views.{branch_of}
 use Rattle.hp_plain.specs.Founds.{found_event}
 use Rattle.hp_eval.specs.Slotted.{bindings_of}
@@ -9,7 +10,8 @@ use Rattle.hp_syntax.specs.Walk.{child_of}
 use Rattle.hp_world.specs.Stages.{StageBelow}
 use Rattle.hp_plain.proofs.FoundLemmas.{stage_below_grows}
 use Rattle.hp_plain.specs.Sites.{branch_done, rules_at, node_at_site, place_at}
-use Rattle.hp_plain.proofs.SiteSteps.{precondition_stays, branch_chosen, branch_passed, branch_next, branch_there, finds_few}
+use Rattle.hp_plain.proofs.SiteSteps.{precondition_stays, branch_chosen, branch_met, branch_there, finds_few}
+use Rattle.hp_plain.proofs.ChosenLemmas.{chosen_left, chosen_here, chosen_passes}
 use Rattle.hp_plain.proofs.site.Site.first_branch.Goals as goal
 
 pub returns-then-not-is_empty-clause-chooses : goal.returns-then-not-is_empty-clause-chooses
@@ -20,6 +22,7 @@ returns-then-not-is_empty-clause-chooses c =
     let n = node_at_site old s in
     let slots = c.args.slots.now in
     let e = bindings_of old slots in
+    let met = branch_met (rules_at s) s.nest n.state e in
     let branches = c.args.branches.now in
     let i = c.loop-i.i in
     let b = c.index-branches-i.result in
@@ -33,11 +36,12 @@ returns-then-not-is_empty-clause-chooses c =
       stand =
           ap (λ xs. flat_map (child_of (branch_done n (place_at s) (slice_get
           (map branch_of branches) i))) xs) few.stand
-          ∙ branch_chosen n (place_at s) (map branch_of branches) i (branch_of b) _ _ _
+          ∙ branch_chosen n (place_at s) (map branch_of branches) i (branch_of b) _ _
           (branch_there branches i b c.loop-i-test.true c.index-branches-i.is)
+          (held.left ∙ (chosen_left met branch_of branches i b c.loop-i-test.true c.index-branches-i.is
+          ∙ chosen_here (branch_of b) (met (branch_of b)) (chosen met (map branch_of (drop (i + 1) branches)))
           (subst (λ k. 0 < k) (sym (length-map items (found_event c.precondition.new.cells))
-          ∙ ap length few.stand) some)
-          (held.left ∙ branch_next (rules_at s) s.nest n.state e branches i b c.loop-i-test.true c.index-branches-i.is);
+          ∙ ap length few.stand) some)));
       few = few.few;
     }
 
@@ -49,6 +53,7 @@ loop-i-preserved c =
     let n = node_at_site old s in
     let slots = c.args.slots.now in
     let e = bindings_of old slots in
+    let met = branch_met (rules_at s) s.nest n.state e in
     let branches = c.args.branches.now in
     let i = c.loop-i.i in
     let b = c.index-branches-i.result in
@@ -63,8 +68,9 @@ loop-i-preserved c =
     record {
       grows = grows_on old mid c.precondition.new.cells held.grows c.in_ok-found.ensures.cells;
       left =
-          branch_passed _ _ _ _ (sym lengths ∙ (empty ∙ none))
-          (held.left ∙ branch_next (rules_at s) s.nest n.state e branches i b c.loop-i-test.true c.index-branches-i.is);
+          held.left ∙ (chosen_left met branch_of branches i b c.loop-i-test.true c.index-branches-i.is
+          ∙ chosen_passes (branch_of b) (met (branch_of b)) (chosen met (map branch_of (drop (i + 1) branches)))
+          (sym lengths ∙ (empty ∙ none)));
     }
 
 pub returns-in_err-found-clause-cells : goal.returns-in_err-found-clause-cells

@@ -1,6 +1,6 @@
 use Rattle.std.proofs.Common.{◌≡◌, map, drop}
 use Rattle.hp_syntax.specs.Views.{branch_of}
-use Rattle.hp_syntax.specs.Walk.{chosen}
+use Rattle.hp_syntax.specs.Walk.{chosen_branch}
 use Rattle.hp_eval.specs.Growth.{Grows}
 use Rattle.hp_eval.specs.Slotted.{bindings_of}
 use Rattle.hp_plain.specs.Sites.{rules_at, node_at_site}
@@ -12,6 +12,6 @@ invariant-loop-i l =
     let e = bindings_of l.fn.cells l.slots in
     record {
       grows : Grows l.fn.cells l.cells;
-      left : chosen (rules_at l.self) l.self.nest state (map branch_of l.branches) e
-          ≡ chosen (rules_at l.self) l.self.nest state (map branch_of (drop l.i l.branches)) e;
+      left : chosen_branch (rules_at l.self) l.self.nest state (map branch_of l.branches) e
+          ≡ chosen_branch (rules_at l.self) l.self.nest state (map branch_of (drop l.i l.branches)) e;
     }
