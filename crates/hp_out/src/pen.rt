@@ -6,7 +6,7 @@ ghost use Rattle.hp_check.specs.NoteViews.{note_of};
 ghost use Rattle.hp_io.specs.Rules.{Rose};
 ghost use Rattle.hp_net.specs.Standings.{node_reached};
 ghost use Rattle.hp_out.specs.Endings.{ending_of};
-ghost use Rattle.hp_out.specs.Lines.{kind_word, refused, refused_read, note_place, note_text};
+ghost use Rattle.hp_out.specs.Lines.{kind_word, refused_line, refused_read, note_place, note_text};
 ghost use Rattle.hp_out.specs.RefusalTexts.{refusal_text};
 ghost use Rattle.hp_out.specs.Writing.{Writes};
 ghost use Rattle.hp_syntax.specs.PlaceTexts.{at_offset, at_span, span_text};
@@ -64,7 +64,7 @@ impl<'a, K: Sink> Pen<'a, K> {
     /// The line of a text that is refused at an offset.
     fn offset_line(&mut self, which: Input, kind: TextKind, offset: u32) -> Result<(), Failed>
         ensures same_reference { self.new.sink.ghost_name ≡ self.old.sink.ghost_name }
-        ensures writes { Writes result (refused which (at_offset (kind_word kind) offset))
+        ensures writes { Writes result (refused_line which (at_offset (kind_word kind) offset))
             (K.bytes self.old.sink.now) (K.bytes self.new.sink.now) }
         ensures later { K.faults self.old.sink.now ≤ K.faults self.new.sink.now }
         ensures cause { OnErr result (Rose (K.faults self.old.sink.now) (K.faults self.new.sink.now)) }
@@ -103,7 +103,7 @@ impl<'a, K: Sink> Pen<'a, K> {
         span: Span,
     ) -> Result<(), Failed>
         ensures same_reference { self.new.sink.ghost_name ≡ self.old.sink.ghost_name }
-        ensures writes { Writes result (refused which (first.now ++ at_span word.now span))
+        ensures writes { Writes result (refused_line which (first.now ++ at_span word.now span))
             (K.bytes self.old.sink.now) (K.bytes self.new.sink.now) }
         ensures later { K.faults self.old.sink.now ≤ K.faults self.new.sink.now }
         ensures cause { OnErr result (Rose (K.faults self.old.sink.now) (K.faults self.new.sink.now)) }
