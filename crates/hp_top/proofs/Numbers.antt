@@ -2,7 +2,7 @@
 use Rattle.std.proofs.Common.{◌≡◌, ℕ, ◌+◌, ◌-◌, ◌*◌, ◌<◌, ◌≤◌, ◌≢◌, nat_le, drop, add-one, drop-cons, ◌∙◌, Bool, true, false, List, [], ◌∷◌, length, map, Option, Some, None, option_map, String, Global, string_bytes, bytes_eq, codes, get_or, arith, refl, ap, sym}
 use Rattle.std.proofs.lemmas.Bool.{lt-leb}
 use Rattle.hp_syntax.specs.declared.limits.TheConstants.{MOST_PLANS, GREATEST_DEPTH}
-use Rattle.hp_top.specs.Command.{Request, only_if, number_from, number_within, plan_options, planning, making, asked_by_three, on_files, accepts}
+use Rattle.hp_top.specs.Command.{Options, Planning, Request, only_if, number_from, number_within, plan_options, planning, making, asked_by_three, on_files, accepts}
 use Rattle.hp_top.specs.Words.{job_of}
 use Rattle.hp_top.specs.declared.words.TheConstants.{LARGEST_SEED, MOST_PACKAGES}
 use Rattle.hp_top.specs.declared.words.Asked.{Asked}
@@ -76,6 +76,11 @@ module _ (ws : List (String Global)) (w d q p n : String Global) (five : 5 ≤ l
   accepts_plan f x y more o r s m a =
       accepts_many ws w d q p n five h i j k l
       ∙ (rw (← first, ← e, f, ← r, ← s, ← m) (ap (option_map (on_files (string_bytes d) (string_bytes q))) (sym a)))
+
+-- two numbers and options that are spelled are planned
+pub planned : (k n : ℕ) (o : Options) (plans depth : Option ℕ) (spelled : Option Options) → Some k ≡ plans
+    → Some n ≡ depth → Some o ≡ spelled → Some (Planning k n o) ≡ planning plans depth spelled
+planned k n o plans depth spelled a b e = rw (← a, ← b, ← e) refl
 
 -- `make` asks for what its two numbers ask for
 pub make_by_three : (word x y : List ℕ) (b : Bool) (o : Option Request) → b ≡ bytes_eq word (codes "make") → b ≡ true

@@ -1,5 +1,5 @@
 -- What is told of the walk of the one pair of a problem.
-use Rattle.std.proofs.Common.{◌≡◌, ℕ, Bool, false, List, [], ◌∷◌, length, map, get_or, Some, Result, Ok, Err, OnOk, IfOk, IfErr, refl, ap, sym, ◌∙◌, subst, arith}
+use Rattle.std.proofs.Common.{◌≡◌, ℕ, Bool, false, List, [], ◌∷◌, length, map, get_or, Some, None, Result, Ok, Err, OnOk, IfOk, IfErr, refl, ap, sym, ◌∙◌, subst, arith}
 use Rattle.std.specs.List.{All}
 use Rattle.hp_net.specs.Standings.{Tree, Standing, standing}
 use Rattle.hp_out.specs.Writing.{SinkRun, Wrote}
@@ -12,7 +12,8 @@ use Rattle.hp_syntax.specs.Views.{pair_of}
 use Rattle.hp_syntax.specs.Walk.{Node, Visit, heard_visits, visits, root, walk, node_at}
 use Rattle.hp_top.specs.declared.planning.Detail.{Detail}
 use Rattle.hp_top.specs.declared.telling.Halt.{Halt}
-use Rattle.hp_top.specs.Outcome.{walk_of_pairs}
+use Rattle.hp_top.specs.Outcome.{walk_of_pairs, first_fault, job_answer, answer_of_read}
+use Rattle.hp_top.specs.Command.{Job, make_command}
 use Rattle.hp_top.specs.Telling.{IsAtItsNode, Halts, Tells, status_told, telling}
 use Rattle.hp_top.proofs.Reports.{report_heard}
 use Rattle.hp_top.proofs.Tellings.{tells_told}
@@ -67,3 +68,9 @@ pub tells_equal : (a b : Answer) (o : Result Status Halt) (s : Status) (r : Sink
     → OnOk o (Wrote a.0 r.before r.after) → IfOk o (λ s. s ≡ a.1) → IfErr o (λ h. Halts h a.0 r) → Tells b s r
 tells_equal a b o s r e same w t h =
     subst (λ s. Tells b s r) (sym same) (subst (λ a. Tells a (status_told o) r) e (tells_told a o r w t h))
+
+-- where the checks find no fault, what is told of the job is told of what the command comes to
+pub tells_read : (d : plain.Domain) (p : plain.Problem) (job j : Job) (s : Status) (r : SinkRun)
+    → first_fault d p ≡ None → job ≡ j → Tells (job_answer j d p) s r
+    → (domain problem : List ℕ) → Tells (answer_of_read (make_command domain problem job) d p) s r
+tells_read d p job j s r none same t domain problem = rw (none, same) t

@@ -27,3 +27,6 @@ returns-clause-front g c = λ files told e.
 pub returns-clause-proper_front : goal.returns-clause-proper_front
 returns-clause-proper_front g c = λ files told e.
     ends_proper _ _ _ _ files told (c.every_run_has_an_outcome.ensures _ files) c.serve.ensures.ends e
+
+pub returns-clause-refused : goal.returns-clause-refused
+returns-clause-refused g c = c.serve.ensures.untouched
