@@ -1,12 +1,8 @@
 -- Numbers of a command.
-use Rattle.std.proofs.Common.{◌≡◌, ℕ, ◌+◌, ◌-◌, ◌*◌, ◌<◌, ◌≤◌, ◌≢◌, nat_le, drop, add-one, drop-cons, ◌∙◌, Bool, true, false, List, [], ◌∷◌, length, map, Option, Some, None, option_map, String, Global, string_bytes, bytes_eq, codes, get_or, arith, refl, ap, sym}
+use Rattle.std.proofs.Common.{◌≡◌, ℕ, ◌+◌, ◌-◌, ◌*◌, ◌<◌, ◌≤◌, ◌≢◌, nat_le, drop, add-one, drop-cons, ◌∙◌, Bool, true, List, [], ◌∷◌, length, map, Option, Some, None, String, Global, string_bytes, bytes_eq, codes, get_or, arith, refl, sym}
 use Rattle.std.proofs.lemmas.Bool.{lt-leb}
-use Rattle.hp_syntax.specs.declared.limits.TheConstants.{MOST_PLANS, GREATEST_DEPTH}
-use Rattle.hp_top.specs.Command.{Options, Planning, Request, only_if, number_from, number_within, plan_options, planning, making, asked_by_three, on_files, accepts}
-use Rattle.hp_top.specs.Words.{job_of}
+use Rattle.hp_top.specs.Command.{Options, Planning, Request, only_if, number_from, number_within, planning, making, asked_by_three, accepts}
 use Rattle.hp_top.specs.declared.words.TheConstants.{LARGEST_SEED, MOST_PACKAGES}
-use Rattle.hp_top.specs.declared.words.Asked.{Asked}
-use Rattle.hp_top.specs.declared.words.Job.TheVariants as jobs
 
 -- more digits spell no smaller number
 pub number_from_grows : (n : ℕ) (bs : List ℕ) → n ≤ number_from n bs
@@ -22,21 +18,6 @@ over_most bs i n m most e h k over =
     let all : number_from m (drop (i + 1) bs) ≡ number_from 0 bs = sym s ∙ e in
     let g : m ≤ number_from 0 bs = omega (arith, number_from_grows m (drop (i + 1) bs)) in
     rw (lt-leb (number_from 0 bs) most (omega arith)) refl
-
--- five words and more are the command of their first word, of two files, of two numbers and of options
-accepts_many : (ws : List (String Global)) (w d q p n : String Global) → 5 ≤ length ws
-    → w ≡ get_or ws 0 w → d ≡ get_or ws 1 d → q ≡ get_or ws 2 q → p ≡ get_or ws 3 p → n ≡ get_or ws 4 n
-    → accepts (map string_bytes ws)
-    ≡ option_map (on_files (string_bytes d) (string_bytes q))
-    (only_if (bytes_eq (string_bytes w) (codes "plan"))
-    (planning (number_within 1 MOST_PLANS (string_bytes p)) (number_within 0 GREATEST_DEPTH (string_bytes n))
-    (plan_options (map string_bytes (drop 5 ws)))))
-accepts_many [] w d q p n a h i j k l = absurd (omega arith)
-accepts_many (u ∷ []) w d q p n a h i j k l = absurd (omega arith)
-accepts_many (u ∷ v ∷ []) w d q p n a h i j k l = absurd (omega arith)
-accepts_many (u ∷ v ∷ x ∷ []) w d q p n a h i j k l = absurd (omega arith)
-accepts_many (u ∷ v ∷ x ∷ y ∷ []) w d q p n a h i j k l = absurd (omega arith)
-accepts_many (u ∷ v ∷ x ∷ y ∷ z ∷ zs) w d q p n a h i j k l = rw (h, i, j, k, l) refl
 
 -- words of another number than three and than five and more are no command
 pub accepts_few : (ws : List (String Global)) → length ws < 5 → length ws ≢ 3 → accepts (map string_bytes ws) ≡ None
@@ -57,25 +38,6 @@ accepts_three (p ∷ []) w x y u v t a b i j k l m n = absurd (omega arith)
 accepts_three (p ∷ d ∷ []) w x y u v t a b i j k l m n = absurd (omega arith)
 accepts_three (p ∷ d ∷ q ∷ []) w x y u v t a b i j k l m n = rw (l, m, n, i, j, k) refl
 accepts_three (p ∷ d ∷ q ∷ z ∷ zs) w x y u v t a b i j k l m n = absurd (omega arith)
-
-module _ (ws : List (String Global)) (w d q p n : String Global) (five : 5 ≤ length ws)
-    (h : w ≡ get_or ws 0 w) (i : d ≡ get_or ws 1 d) (j : q ≡ get_or ws 2 q) (k : p ≡ get_or ws 3 p)
-    (l : n ≡ get_or ws 4 n) (t : List ℕ) (b : Bool) (e : b ≡ bytes_eq t (codes "plan"))
-    (first : t ≡ string_bytes w) where
-  -- words with another first word are no command
-  pub accepts_other : b ≡ false → accepts (map string_bytes ws) ≡ None
-  accepts_other f = accepts_many ws w d q p n five h i j k l ∙ (rw (← first, ← e, f) refl)
-
-  -- words with the right first word are a command where numbers and options are asked
-  pub accepts_plan : b ≡ true → (x y : List ℕ) (more : List (String Global)) (o : Option Asked) → x ≡ string_bytes p
-      → y ≡ string_bytes n → more ≡ drop 5 ws
-      → option_map job_of (option_map jobs.Plan o) ≡ planning (number_within 1 MOST_PLANS x)
-      (number_within 0 GREATEST_DEPTH y) (plan_options (map string_bytes more))
-      → accepts (map string_bytes ws)
-      ≡ option_map (on_files (string_bytes d) (string_bytes q)) (option_map job_of (option_map jobs.Plan o))
-  accepts_plan f x y more o r s m a =
-      accepts_many ws w d q p n five h i j k l
-      ∙ (rw (← first, ← e, f, ← r, ← s, ← m) (ap (option_map (on_files (string_bytes d) (string_bytes q))) (sym a)))
 
 -- two numbers and options that are spelled are planned
 pub planned : (k n : ℕ) (o : Options) (plans depth : Option ℕ) (spelled : Option Options) → Some k ≡ plans
