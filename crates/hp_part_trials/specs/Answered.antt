@@ -1,13 +1,14 @@
 -- The events of a list of answers, each Sat with one binding more than the start's, and the slots that they leave.
-use Rattle.hp_syntax.specs.Events.{EventExtends}
 use Rattle.std.specs.Prelude.{◌≡◌, ℕ, zero, suc, ◌<◌, ◌≤◌, List, [], ◌∷◌, length, map, take, Option, Some, None, slice_get, slice_set}
 use Rattle.std.specs.List.{All}
-use Rattle.std.proofs.Common.{refl, ap, ap₂, sym}
+use Rattle.std.proofs.Common.{refl, ap, ap₂, sym, ◌∙◌}
+use Rattle.std.proofs.lemmas.List.{length-map, length-set}
 use Rattle.std.proofs.lemmas.List.Elements.{All-nil, All-cons}
 use Rattle.std.proofs.lemmas.Option.{none-some}
 use Rattle.hp_syntax.specs.Terms.{Term}
 use Rattle.hp_syntax.specs.Values.{bound, flat_option}
 use Rattle.hp_syntax.specs.Events as plain
+use Rattle.hp_syntax.specs.Events.{EventExtends}
 use Rattle.hp_eval.specs.declared.event.Event.{Event}
 use Rattle.hp_eval.specs.declared.event.Event.TheVariants as events
 use Rattle.hp_eval.specs.Slotted.{Slotted, AreBelow, with_bound, undone, named, bindings_of}
@@ -66,13 +67,19 @@ value_kept c (o ∷ vs) zero cell (suc w) t h k = k
 value_kept c (o ∷ vs) (suc v) cell zero t h k = k
 value_kept c (o ∷ vs) (suc v) cell (suc w) t h k = value_kept c vs v cell w t h k
 
--- each Sat keeps what the start's bindings bind
+-- each Sat extends the start's bindings
 pub answers_keep : (c : List Term) (s : Slotted) (v : ℕ) (xs : List Reply) → slice_get s.values v ≡ Some None
     → All (EventExtends (bindings_of c s)) (answered c s v xs)
 answers_keep c s v [] h = All-nil (EventExtends (bindings_of c s))
 answers_keep c s v (Sat cell ∷ xs) h =
     All-cons (EventExtends (bindings_of c s)) (plain.Sat (bindings_of c (with_bound v cell s))) (answered c s v xs)
-    (λ w t k. value_kept c s.values v cell w t h k) (answers_keep c s v xs h)
+    (record {
+      as_many =
+          length-map (slice_set s.values v (Some cell)) (named c)
+          ∙ (length-set s.values v (Some cell) ∙ sym (length-map s.values (named c)));
+      keeps = λ w t k. value_kept c s.values v cell w t h k;
+    })
+    (answers_keep c s v xs h)
 answers_keep c s v (Cut ∷ xs) h =
     All-cons (EventExtends (bindings_of c s)) plain.Cut (answered c s v xs) tt (answers_keep c s v xs h)
 answers_keep c s v (Fault f ∷ xs) h =
