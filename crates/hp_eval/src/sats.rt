@@ -5,7 +5,8 @@ use hp_cells::Cells;
 use std::alloc::AllocError;
 
 /// Gives what is met while one looks for satisfiers, one event a call. The bindings of a Sat are in the slots, above
-/// those that stood at the start, until the next call takes them back. What is read and never changed is the base.
+/// those that stood at the start, until the next call. After a call that gives no Sat any bindings may stand above the
+/// start, and `close` takes back what stands there. What is read and never changed is the base.
 pub trait Sats<B> {
     ghost use Rattle.std.specs.Prelude.{◌≡◌, ◌≤◌, ℕ, Bool, true, false, List, OnOk, OnErr, IfOk, length, take};
     ghost use Rattle.std.specs.List.{All};
