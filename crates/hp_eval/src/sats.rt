@@ -68,7 +68,8 @@ pub trait Sats<B> {
         requires open { is_open self.old ≡ true }
         requires slots { fits self.old slots.old }
         ensures slots { slots.new ≡ undone (start self.old) slots.old }
-        ensures closed { is_open self.new ≡ false };
+        ensures closed { is_open self.new ≡ false }
+        ensures live { is_live self.new ≡ is_live self.old };
 
     /// Whether no call has failed.
     fn live(&self) -> bool
