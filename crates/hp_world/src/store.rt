@@ -52,7 +52,7 @@ impl Store {
     ghost use Rattle.hp_world.specs.Deleting.{without, deleted};
     ghost use Rattle.hp_world.specs.Histories.{mark_of, undone_to};
     ghost use Rattle.hp_world.specs.Named.{IsNextNamed};
-    ghost use Rattle.hp_world.specs.Stages.{live_atoms, same_cell, AllBelow, StageBelow};
+    ghost use Rattle.hp_world.specs.Stages.{live_atoms, same_cell, AllBelow};
     ghost use Rattle.hp_world.specs.Undoing.{IsSound, Moves, Undoes, HasRoom, history_of, stage_of};
 
     /// No places and no protections.
@@ -104,7 +104,7 @@ impl Store {
 
     /// The least place from one on whose atom has this name.
     pub fn next_of(&self, cells: &Cells, name: Cell, from: usize) -> Option<usize>
-        requires atoms { StageBelow (length cells.now) (stage_of self.now) }
+        requires atoms { AllBelow (length cells.now) (live_atoms (stage_of self.now).places) }
         requires name { name < length cells.now }
         ensures { IsNextNamed cells.now name (stage_of self.now).places from result }
     {

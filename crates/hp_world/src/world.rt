@@ -3,7 +3,7 @@ ghost use Rattle.std.specs.Prelude.{◌≡◌, ℕ, ◌≤◌, ◌<◌, [], IfOk
 ghost use Rattle.hp_world.specs.Answers.{Applies};
 ghost use Rattle.hp_world.specs.Histories.{mark_of, undone_to};
 ghost use Rattle.hp_world.specs.Named.{IsNextNamed};
-ghost use Rattle.hp_world.specs.Stages.{live_atoms, StageBelow, ChangesBelow};
+ghost use Rattle.hp_world.specs.Stages.{live_atoms, AllBelow, StageBelow, ChangesBelow};
 
 use crate::store::{Applied, Store};
 use hp_cells::{Cell, Cells};
@@ -99,7 +99,7 @@ impl World {
 
     /// The least place not below one whose atom has a name, given by the cell of its symbol.
     pub fn next_of(&self, cells: &Cells, name: Cell, from: usize) -> Option<usize>
-        requires atoms { StageBelow (length cells.now) self.now.now }
+        requires atoms { AllBelow (length cells.now) (live_atoms self.now.now.places) }
         requires name { name < length cells.now }
         ensures { IsNextNamed cells.now name self.now.now.places from result }
     {

@@ -10,7 +10,7 @@ is_named-requires c = λ a e.
     let places = c.args.self.now.places.places in
     let i = c.loop-place.place in
     let read : get_or places i None ≡ Some a = get_or_from_slice_get places i c.at.result None c.at.ensures ∙ e in
-    atom_below (length c.args.cells.now) places i a c.requires.atoms.atoms read
+    atom_below (length c.args.cells.now) places i a c.requires.atoms read
 
 pub returns : goal.returns
 returns c = λ i l k.
