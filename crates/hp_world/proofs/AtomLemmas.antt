@@ -1,5 +1,6 @@
 -- What a change of one place does to the atoms.
-use Rattle.std.proofs.Common.{◌≡◌, ◌≢◌, ℕ, zero, suc, ◌+◌, ◌<◌, true, false, cond, not, eqb, ◌||◌, List, [], ◌∷◌, ◌++◌, Option, Some, None, length, get_or, set, take, refl, sym, ap, ◌∙◌, arith, eq-eqb}
+use Rattle.std.proofs.Common.{◌≡◌, ◌≢◌, ℕ, zero, suc, ◌+◌, ◌<◌, true, false, cond, not, eqb, ◌||◌, inl, inr, ⊎_elim, List, [], ◌∷◌, ◌++◌, Option, Some, None, length, get_or, set, take, refl, sym, ap, ◌∙◌, arith, eq-eqb}
+use Rattle.std.specs.Prelude.{slice_get}
 use Rattle.std.specs.Option.{MatchOption, is_some}
 use Rattle.std.proofs.lemmas.Bool.{ne_eqb, or_right}
 use Rattle.std.proofs.lemmas.List.{take_more, length-append}
@@ -8,7 +9,7 @@ use Rattle.std.proofs.lemmas.Option.{none-some, same_Some}
 use Rattle.hp_syntax.specs.Applying.{is_among}
 use Rattle.hp_world.specs.Deleting.{without}
 use Rattle.hp_world.specs.Indexed.{IsAbsent, IsOnlyAt}
-use Rattle.hp_world.specs.Stages.{live_atoms, same_cell, AllBelow}
+use Rattle.hp_world.specs.Stages.{live_atoms, same_cell, AllBelow, PlacesKept}
 
 -- an atom that stands nowhere is not among the atoms
 pub among_absent : (a : ℕ) (ps : List (Option ℕ)) → IsAbsent a ps → is_among same_cell a (live_atoms ps) ≡ false
@@ -109,3 +110,30 @@ atom_below n (Some b ∷ ps) zero a h e =
     let s : b ≡ a = same_Some b a e in
     omega arith
 atom_below n (Some b ∷ ps) (suc i) a h e = atom_below n ps i a (All-tail (λ c. c < n) b (live_atoms ps) h) e
+
+-- ---- places that are kept
+
+-- equal places are kept
+pub kept_same : (ps qs : List (Option ℕ)) → qs ≡ ps → PlacesKept ps qs
+kept_same ps qs e i held h = inl (ap (λ (xs : List (Option ℕ)). slice_get xs i) e ∙ h)
+
+-- places that are kept twice are kept
+pub kept_more : (ps qs rs : List (Option ℕ)) → PlacesKept ps qs → PlacesKept qs rs → PlacesKept ps rs
+kept_more ps qs rs f g i held h = elim (f i held h) [
+  | inl e ↦ g i held e
+  | inr e ↦ inr (⊎_elim (λ k. k) (λ k. k) (g i None e))
+]
+
+-- where one place is made empty, the places are kept
+pub kept_cleared : (ps : List (Option ℕ)) (n : ℕ) → PlacesKept ps (set ps n None)
+kept_cleared [] n i held h = absurd (cc)
+kept_cleared (p ∷ ps) zero zero held h = inr refl
+kept_cleared (p ∷ ps) zero (suc i) held h = inl h
+kept_cleared (p ∷ ps) (suc n) zero held h = inl h
+kept_cleared (p ∷ ps) (suc n) (suc i) held h = kept_cleared ps n i held h
+
+-- where places come behind others, those are kept
+pub kept_joined : (ps qs : List (Option ℕ)) → PlacesKept ps (ps ++ qs)
+kept_joined [] qs i held h = absurd (cc)
+kept_joined (p ∷ ps) qs zero held h = inl h
+kept_joined (p ∷ ps) qs (suc i) held h = kept_joined ps qs i held h

@@ -8,9 +8,10 @@ use Rattle.hp_world.specs.declared.store.Change.TheVariants.{Deleted, Added, Can
 use Rattle.hp_world.specs.declared.store.Store.{Store}
 use Rattle.hp_world.specs.Histories.{History, mark_of, past_at, undone_to, KeepsPasts}
 use Rattle.hp_world.specs.Indexed.{IsOnlyAt}
-use Rattle.hp_world.specs.Stages.{Stage}
+use Rattle.hp_world.specs.Stages.{Stage, PlacesKept}
 use Rattle.hp_world.specs.Trails.{pasts, IsUndoable}
 use Rattle.hp_world.specs.Undoing.{front, undone, Fits, IsVacant, IsAny, history, stage_of, history_of, IsSound, Moves, Undoes}
+use Rattle.hp_world.proofs.AtomLemmas.{kept_more}
 use Rattle.hp_world.proofs.TrailLemmas.{length_pasts, past_before, pasts_before, keeps_pushed, undoable_pushed, undoable_popped, undoable_weaker}
 
 -- all but what comes last are those before it
@@ -70,13 +71,14 @@ vacated width ps i a h l = record {
   within = l;
 }
 
--- one change that is noted, and that undoing takes back, keeps what stood before
+-- one change that is noted, that undoing takes back, and that keeps the places keeps what stood before
 pub moved : (old new : Store) (t : Change) → IsSound old → new.trail.items ≡ old.trail.items ++ t ∷ []
-    → undone t (stage_of new) ≡ stage_of old → Fits new.places.width (vec_capacity new.guards) t (stage_of new)
+    → undone t (stage_of new) ≡ stage_of old → PlacesKept old.places.places new.places.places
+    → Fits new.places.width (vec_capacity new.guards) t (stage_of new)
     → vec_len new.trail ≡ vec_len old.trail + 1 → vec_capacity new.trail ≡ vec_capacity old.trail
     → vec_capacity new.guards ≡ vec_capacity old.guards → new.places.room ≡ old.places.room
     → new.places.width ≡ old.places.width → Moves 1 old new
-moved old new t sound trail back fits count trail_room guards_room places_room width =
+moved old new t sound trail back kept fits count trail_room guards_room places_room width =
     let fit = Fits new.places.width (vec_capacity new.guards) in
     let before : IsUndoable undone fit IsAny old.trail.items (undone t (stage_of new)) =
     rw (back, guards_room, width) sound in
@@ -88,6 +90,7 @@ moved old new t sound trail back fits count trail_room guards_room places_room w
           (subst
           (λ (s : Stage). KeepsPasts (history old.trail.items s) (history (old.trail.items ++ t ∷ []) (stage_of new)))
           back keeps);
+      kept = kept;
       sound =
           subst (λ (ts : List Change). IsUndoable undone fit IsAny ts (stage_of new)) (sym trail)
           (undoable_pushed undone fit IsAny old.trail.items t (stage_of new) tt fits before);
@@ -135,6 +138,7 @@ moves_more n k a b c f g = record {
     mark = omega (arith, f.keeps.mark, g.keeps.mark);
     past = λ m l. g.keeps.past m (omega (arith, f.keeps.mark)) ∙ f.keeps.past m l;
   };
+  kept = kept_more a.places.places b.places.places c.places.places f.kept g.kept;
   sound = g.sound;
   count = omega (arith, f.count, g.count);
   trail_room = g.trail_room ∙ f.trail_room;

@@ -1,5 +1,5 @@
 -- What holds and what is protected, by cells: places in a row, each with an atom or empty, and protections.
-use Rattle.std.specs.Prelude.{ℕ, ◌<◌, ◌==◌, Bool, List, [], ◌∷◌, map, Option, Some, None}
+use Rattle.std.specs.Prelude.{◌≡◌, ◌⊎◌, ℕ, ◌<◌, ◌==◌, Bool, List, [], ◌∷◌, map, Option, Some, None, slice_get}
 use Rattle.std.specs.List.{All}
 use Rattle.hp_syntax.specs.Terms.{Term}
 use Rattle.hp_syntax.specs.Events.{State}
@@ -19,6 +19,12 @@ live_atoms (Some a ∷ places) = a ∷ live_atoms places
 
 abbrev pub same_cell : ℕ → ℕ → Bool
 same_cell a b = a == b
+
+-- each place is still there, and holds what it held or is empty
+abbrev pub PlacesKept : List (Option ℕ) → List (Option ℕ) → Type 0
+PlacesKept old new =
+    (i : ℕ) (held : Option ℕ) → slice_get old i ≡ Some held
+    → (slice_get new i ≡ Some held) ⊎ (slice_get new i ≡ Some None)
 
 -- ---- the terms that cells name
 

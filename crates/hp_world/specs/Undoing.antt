@@ -6,7 +6,7 @@ use Rattle.hp_world.specs.declared.store.Change.TheVariants.{Deleted, Added, Can
 use Rattle.hp_world.specs.declared.store.Store.{Store}
 use Rattle.hp_world.specs.Histories.{History, KeepsPasts, undone_to}
 use Rattle.hp_world.specs.Indexed.{IsAbsent}
-use Rattle.hp_world.specs.Stages.{Stage, AllBelow}
+use Rattle.hp_world.specs.Stages.{Stage, AllBelow, PlacesKept}
 use Rattle.hp_world.specs.Trails.{pasts, IsUndoable}
 
 -- all but the last
@@ -54,9 +54,11 @@ history_of s = history s.trail.items (stage_of s)
 abbrev pub IsSound : Store → Type 0
 IsSound s = IsUndoable undone (Fits s.places.width (vec_capacity s.guards)) IsAny s.trail.items (stage_of s)
 
--- at most n changes were made, each on the trail, in the table and the room that there were
+-- at most n changes were made, each on the trail, in the table and the room that there were; places were only emptied
+-- or put behind the others
 pub record Moves (n : ℕ) (old new : Store) : Type 0 where
   pub keeps : KeepsPasts (history_of old) (history_of new)
+  pub kept : PlacesKept old.places.places new.places.places
   pub sound : IsSound new
   pub count : vec_len new.trail ≤ vec_len old.trail + n
   pub trail_room : vec_capacity new.trail ≡ vec_capacity old.trail

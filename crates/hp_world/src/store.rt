@@ -52,7 +52,7 @@ impl Store {
     ghost use Rattle.hp_world.specs.Deleting.{without, deleted};
     ghost use Rattle.hp_world.specs.Histories.{mark_of, undone_to};
     ghost use Rattle.hp_world.specs.Named.{IsNextNamed};
-    ghost use Rattle.hp_world.specs.Stages.{live_atoms, same_cell, AllBelow};
+    ghost use Rattle.hp_world.specs.Stages.{live_atoms, same_cell, AllBelow, PlacesKept};
     ghost use Rattle.hp_world.specs.Undoing.{IsSound, Moves, Undoes, HasRoom, history_of, stage_of};
 
     /// No places and no protections.
@@ -144,6 +144,7 @@ impl Store {
         ensures ok { IfOk result (λ a. Applies a
             (record { unguard = unguard.now; delete = del.now; add = add.now; guard = guard.now })
             (history_of self.old) (history_of self.new)) }
+        ensures kept { PlacesKept (stage_of self.old).places (stage_of self.new).places }
         ensures err { OnErr result (history_of self.new ≡ history_of self.old) }
     {
         let changes = most_changes(unguard, del, add, guard)?;

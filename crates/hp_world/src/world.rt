@@ -3,7 +3,7 @@ ghost use Rattle.std.specs.Prelude.{◌≡◌, ℕ, ◌≤◌, ◌<◌, [], IfOk
 ghost use Rattle.hp_world.specs.Answers.{Applies};
 ghost use Rattle.hp_world.specs.Histories.{mark_of, undone_to};
 ghost use Rattle.hp_world.specs.Named.{IsNextNamed};
-ghost use Rattle.hp_world.specs.Stages.{live_atoms, AllBelow, StageBelow, ChangesBelow};
+ghost use Rattle.hp_world.specs.Stages.{live_atoms, PlacesKept, AllBelow, StageBelow, ChangesBelow};
 
 use crate::store::{Applied, Store};
 use hp_cells::{Cell, Cells};
@@ -44,10 +44,10 @@ impl World {
         }
     }
 
-    /// Cancels for each of `unguard` its first equal protection, deletes atoms, adds atoms that are absent behind the
-    /// others, and adds protections. Where an atom to delete is still protected after the cancelling, nothing is
-    /// changed, and the first such atom is answered. All memory that is needed is taken before the first change, so
-    /// an error leaves the world as it was.
+    /// Cancels for each of `unguard` its first equal protection, deletes atoms, whose places stay and are empty then,
+    /// adds atoms that are absent behind the others, and adds protections. Where an atom to delete is still protected
+    /// after the cancelling, nothing is changed, and the first such atom is answered. All memory that is needed is taken
+    /// before the first change, so an error leaves the world as it was.
     pub fn apply(
         &mut self,
         unguard: &[Cell],
@@ -61,6 +61,7 @@ impl World {
         ensures below { (n : ℕ) → StageBelow n self.old.now → ChangesBelow n
             (record { unguard = unguard.now; delete = del.now; add = add.now; guard = guard.now })
             → StageBelow n self.new.now }
+        ensures kept { PlacesKept self.old.now.places self.new.now.places }
         ensures err { OnErr result (self.new ≡ self.old) }
     {
         self.store.apply(unguard, del, add, guard)

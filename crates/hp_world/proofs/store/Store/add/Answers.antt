@@ -1,10 +1,10 @@
-use Rattle.std.proofs.Common.{◌∷◌, ◌++◌, [], cond, List, Option, ℕ, Some, length, ap, ◌∙◌, refl, sym, arith}
+use Rattle.std.proofs.Common.{◌∷◌, ◌++◌, [], cond, List, Option, ℕ, Some, length, ap, ◌∙◌, refl, sym, subst, arith}
 use Rattle.std.proofs.lemmas.List.{length_push}
 use Rattle.hp_world.specs.Indexed.{Row, IsAbsent}
-use Rattle.hp_world.specs.Stages.{live_atoms}
+use Rattle.hp_world.specs.Stages.{live_atoms, PlacesKept}
 use Rattle.hp_world.specs.Undoing.{front}
 use Rattle.hp_world.specs.declared.store.Change.TheVariants.{Added}
-use Rattle.hp_world.proofs.AtomLemmas.{absent_from, present_from, among_absent, live_pushed}
+use Rattle.hp_world.proofs.AtomLemmas.{absent_from, present_from, among_absent, live_pushed, kept_joined}
 use Rattle.hp_world.proofs.MoveLemmas.{moved, front_pushed, same_stage}
 use Rattle.hp_world.proofs.store.Store.add.Goals as goal
 
@@ -29,7 +29,8 @@ pub returns-then-is_none-clause-moves : goal.returns-then-is_none-clause-moves
 returns-then-is_none-clause-moves c =
     let ps : List (Option ℕ) = c.args.self.now.places.places in
     let back = ap (λ (r : Row). front r.places) c.push.ensures ∙ front_pushed ps (Some c.args.atom) in
-    moved _ _ Added c.requires.sound c.push_reserved.ensures.items (same_stage _ _ _ _ back refl) tt
+    let kept = subst (PlacesKept ps) (sym (ap (λ (r : Row). r.places) c.push.ensures)) (kept_joined ps _) in
+    moved _ _ Added c.requires.sound c.push_reserved.ensures.items (same_stage _ _ _ _ back refl) kept tt
     c.push_reserved.ensures.len c.push_reserved.ensures.capacity refl (ap (λ (r : Row). r.room) c.push.ensures)
     (ap (λ (r : Row). r.width) c.push.ensures)
 

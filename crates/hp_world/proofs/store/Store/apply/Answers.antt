@@ -1,12 +1,13 @@
-use Rattle.std.proofs.Common.{◌≡◌, ◌++◌, List, ℕ, ap, ◌∙◌, sym, subst}
+use Rattle.std.proofs.Common.{◌≡◌, ◌++◌, List, ℕ, refl, ap, ◌∙◌, sym, subst}
 use Rattle.std.specs.Global.{Vec}
 use Rattle.hp_syntax.specs.Applying.{ChangesOf, cancelled, with_added, first_guarded}
 use Rattle.hp_world.specs.Deleting.{deleted}
 use Rattle.hp_world.specs.Histories.{History, undone_to, KeepsPasts}
 use Rattle.hp_world.specs.Indexed.{Row}
-use Rattle.hp_world.specs.Stages.{live_atoms, same_cell}
+use Rattle.hp_world.specs.Stages.{live_atoms, same_cell, PlacesKept}
 use Rattle.hp_world.specs.Undoing.{history_of}
 use Rattle.hp_world.proofs.AnswerLemmas.{deleted_is, gives_guarded, gives_done}
+use Rattle.hp_world.proofs.AtomLemmas.{kept_same}
 use Rattle.hp_world.proofs.MoveLemmas.{moves_more, rewound}
 use Rattle.hp_world.proofs.store.Store.apply.Goals as goal
 
@@ -63,3 +64,25 @@ returns-clause-ok c =
     (ap (λ gs. first_guarded same_cell gs c.args.del.now) (sym guards) ∙ sym c.first_guarded.ensures ∙ c.in_default.is)
     (atoms ∙ ap then_added (deleted_is (live_atoms old.now.places) c.args.del.now)) now
     (subst (λ (h : History). KeepsPasts h (history_of c.protect_all.new.self)) same moves.keeps)
+
+pub returns-in_err-changes-clause-kept : goal.returns-in_err-changes-clause-kept
+returns-in_err-changes-clause-kept c = kept_same _ _ refl
+
+pub returns-in_err-reserve-clause-kept : goal.returns-in_err-reserve-clause-kept
+returns-in_err-reserve-clause-kept c = kept_same _ _ (ap (λ (h : History). h.now.places) c.reserve.ensures.same)
+
+pub returns-in-Some-clause-kept : goal.returns-in-Some-clause-kept
+returns-in-Some-clause-kept c =
+    let between : History = history_of c.cancel_all.new.self in
+    kept_same _ _ (ap (λ (h : History). h.now.places) (c.undo_to.ensures.back
+    ∙ ap (λ m. undone_to m between) c.mark-before.ensures
+    ∙ rewound (history_of c.reserve.new.self) between c.cancel_all.ensures.moves.keeps ∙ c.in_ok-reserve.ensures.same))
+
+pub returns-clause-kept : goal.returns-clause-kept
+returns-clause-kept c =
+    let moves =
+    moves_more _ _ _ _ _
+    (moves_more _ _ _ _ _ (moves_more _ _ _ _ _ c.cancel_all.ensures.moves c.delete_all.ensures.moves)
+    c.add_all.ensures.moves) c.protect_all.ensures.moves in
+    subst (λ (h : History). PlacesKept h.now.places c.protect_all.new.self.places.places) c.in_ok-reserve.ensures.same
+    moves.kept

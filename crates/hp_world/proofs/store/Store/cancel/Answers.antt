@@ -4,6 +4,7 @@ use Rattle.std.proofs.lemmas.List.Edits.{length-remove}
 use Rattle.std.specs.List.{insert}
 use Rattle.hp_world.specs.Deleting.{IsFirstAt}
 use Rattle.hp_world.specs.declared.store.Change.TheVariants.{Cancelled}
+use Rattle.hp_world.proofs.AtomLemmas.{kept_same}
 use Rattle.hp_world.proofs.GuardLemmas.{without_first_absent, without_first_at, put_back}
 use Rattle.hp_world.proofs.MoveLemmas.{moved, same_stage}
 use Rattle.hp_world.proofs.store.Store.cancel.Goals as goal
@@ -26,6 +27,7 @@ returns-in-Some-clause-moves c =
     ap (λ (xs : List ℕ). insert xs i a) c.remove.ensures.items
     ∙ put_back guards i a first.within (get_or_default guards i a 0 first.within ∙ first.stands) in
     moved _ _ (Cancelled i a) c.requires.sound c.push_reserved.ensures.items (same_stage _ _ _ _ refl back)
+    (kept_same _ _ refl)
     (omega arith, omega (arith, c.remove.ensures.capacity, c.args.self.now.guards.ok.1)) c.push_reserved.ensures.len
     c.push_reserved.ensures.capacity c.remove.ensures.capacity refl refl
 

@@ -1,10 +1,10 @@
 use Rattle.std.proofs.Common.{List, Option, ℕ, Some, None, length, set, ap, ◌∙◌, refl, sym, subst}
 use Rattle.std.proofs.lemmas.List.{set-set, set-get_or, length-set}
 use Rattle.hp_world.specs.Indexed.{Row}
-use Rattle.hp_world.specs.Stages.{live_atoms}
+use Rattle.hp_world.specs.Stages.{live_atoms, PlacesKept}
 use Rattle.hp_world.specs.Undoing.{IsVacant}
 use Rattle.hp_world.specs.declared.store.Change.TheVariants.{Deleted}
-use Rattle.hp_world.proofs.AtomLemmas.{without_absent, live_cleared}
+use Rattle.hp_world.proofs.AtomLemmas.{without_absent, live_cleared, kept_cleared}
 use Rattle.hp_world.proofs.MoveLemmas.{moved, vacated, same_stage}
 use Rattle.hp_world.proofs.store.Store.delete.Goals as goal
 
@@ -36,7 +36,8 @@ returns-in-Some-clause-moves c =
     let fits =
     subst (λ w. IsVacant w c.clear.new.self.places i a) (sym width)
     (subst (λ (xs : List (Option ℕ)). IsVacant c.args.self.now.places.width xs i a) (sym places) vacant) in
-    moved _ _ (Deleted i a) c.requires.sound c.push_reserved.ensures.items (same_stage _ _ _ _ back refl)
+    let kept = subst (PlacesKept ps) (sym places) (kept_cleared ps i) in
+    moved _ _ (Deleted i a) c.requires.sound c.push_reserved.ensures.items (same_stage _ _ _ _ back refl) kept
     fits c.push_reserved.ensures.len c.push_reserved.ensures.capacity refl
     (ap (λ (r : Row). r.room) c.clear.ensures.cleared) width
 
