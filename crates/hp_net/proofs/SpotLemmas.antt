@@ -5,7 +5,7 @@ use Rattle.std.specs.Option.{option_and_then}
 use Rattle.std.proofs.lemmas.Bool.{cases_Bool, cases_lt}
 use Rattle.std.proofs.lemmas.Bool.Decides.{nat_tests}
 use Rattle.std.proofs.lemmas.List.{length-drop}
-use Rattle.std.proofs.lemmas.Option.{same_Some}
+use Rattle.std.proofs.lemmas.Option.{same_Some, slice_get_within}
 use Rattle.hp_syntax.specs.Networks as plain
 use Rattle.hp_syntax.specs.Networks.{Network, Networks, Place, NoNetwork, And, part_at, nth_part_at, with_part, with_nth_part}
 use Rattle.hp_syntax.specs.Terms.{Term}
@@ -14,7 +14,7 @@ use Rattle.hp_net.specs.declared.entry.Order.{Order}
 use Rattle.hp_net.specs.declared.entry.Order.TheVariants.{Ordered, Unordered}
 use Rattle.hp_net.specs.declared.entry.Entry.{Entry}
 use Rattle.hp_net.specs.declared.entry.Entry.TheVariants.{Task, List as Parts}
-use Rattle.hp_net.specs.Outlines.{forest, listed, first_network, AreFull, behind_task, behind_list, spot, below_root, place_of}
+use Rattle.hp_net.specs.Outlines.{Outline, IsOutline, NamesTask, forest, listed, first_network, AreFull, behind_task, behind_list, spot, below_root, place_of}
 
 -- ---- spots
 
@@ -380,3 +380,81 @@ spot_from_place es i p h = place_parts (spot i es) p h
 pub place_from_spot : (es : List Entry) (i : ℕ) (p : Place) → spot i es ≡ Some (zero ∷ p) → place_of es i ≡ Some p
 unfolding place_of
 place_from_spot es i p h = ap (option_and_then below_root) h
+
+-- an entry has a spot
+has_spot : (i : ℕ) (es : List Entry) → i < length es → (s : List ℕ) × (spot i es ≡ Some s)
+has_spot i [] l = absurd (omega arith)
+has_spot zero (e ∷ es) l = (zero ∷ [], refl)
+has_spot (suc i) (Task cell immediate ∷ es) l =
+    let h = has_spot i es (omega arith) in (behind_task h.0, ap (option_map behind_task) h.1)
+has_spot (suc i) (Parts order n ∷ es) l =
+    let h = has_spot i es (omega arith) in (behind_list n h.0, ap (option_map (behind_list n)) h.1)
+
+-- where the entries are one network or none, an entry that has a spot has a place
+spot_has_place : (es : List Entry) (i : ℕ) (s : List ℕ) → length (forest [] es) ≤ 1 → spot i es ≡ Some s
+    → (p : Place) × (place_of es i ≡ Some p)
+spot_has_place es i [] one h = absurd (subst IsSpot h (is_spot i es))
+spot_has_place es i (zero ∷ p) one h = (p, place_from_spot es i p h)
+spot_has_place es i (suc k ∷ p) one h = let l = spot_within [] i es (suc k) p h in absurd (omega arith)
+
+-- a task of an outline has a place
+pub task_has_place : (o : Outline) (i : ℕ) → IsOutline o → NamesTask o i → (p : Place) × (place_of o.entries i ≡ Some p)
+task_has_place o i h t =
+    let s = has_spot i o.entries (slice_get_within o.entries i _ t.2) in
+    spot_has_place o.entries i s.0 h.one s.1
+
+-- ---- no two entries at one place
+
+-- the path that is this one behind a task
+abbrev before_task : List ℕ → List ℕ
+before_task (suc k ∷ p) = k ∷ p
+before_task (zero ∷ p) = []
+before_task [] = []
+
+-- the path that is this one behind a list
+abbrev before_list : ℕ → List ℕ → List ℕ
+before_list n (suc k ∷ p) = (k + n) ∷ p
+before_list n (zero ∷ p) = p
+before_list n [] = []
+
+-- what a path becomes behind a task tells the path
+from_behind_task : (s : Option (List ℕ)) → option_map before_task (option_map behind_task s) ≡ s
+from_behind_task None = refl
+from_behind_task (Some []) = refl
+from_behind_task (Some (k ∷ p)) = refl
+
+-- what a path becomes behind a list tells the path
+from_behind_list : (n : ℕ) (s : Option (List ℕ)) → option_map (before_list n) (option_map (behind_list n) s) ≡ s
+from_behind_list n None = refl
+from_behind_list n (Some []) = refl
+from_behind_list n (Some (k ∷ p)) =
+    ⊎_elim (λ e. rw e refl)
+    (λ e. let l : n ≤ k = grind (arith, nat_tests) in rw e (ap (λ j. Some (j ∷ p)) (omega (arith, l))))
+    (cases_Bool (nat_lt k n))
+
+-- only the first entry is the whole of the first network
+only_first : (i : ℕ) (es : List Entry) → spot i es ≡ Some (zero ∷ []) → i ≡ 0
+only_first i [] h = absurd cc
+only_first zero (e ∷ es) h = refl
+only_first (suc i) (Task cell immediate ∷ es) h =
+    absurd (subst IsSpot (sym (from_behind_task (spot i es)) ∙ ap (option_map before_task) h) (is_spot i es))
+only_first (suc i) (Parts order n ∷ es) h =
+    absurd (subst IsSpot (sym (from_behind_list n (spot i es)) ∙ ap (option_map (before_list n)) h) (is_spot i es))
+
+-- no two entries have the same spot
+spots_apart : (i j : ℕ) (es : List Entry) (s : List ℕ) → spot i es ≡ Some s → spot j es ≡ Some s → i ≡ j
+spots_apart i j [] s h k = absurd cc
+spots_apart zero j (e ∷ es) s h k = sym (only_first j (e ∷ es) (k ∙ sym h))
+spots_apart (suc i) zero (e ∷ es) s h k = only_first (suc i) (e ∷ es) (h ∙ sym k)
+spots_apart (suc i) (suc j) (Task cell immediate ∷ es) s h k =
+    ap suc
+    (spots_apart i j es (before_task s) (sym (from_behind_task (spot i es)) ∙ ap (option_map before_task) h)
+    (sym (from_behind_task (spot j es)) ∙ ap (option_map before_task) k))
+spots_apart (suc i) (suc j) (Parts order n ∷ es) s h k =
+    ap suc
+    (spots_apart i j es (before_list n s) (sym (from_behind_list n (spot i es)) ∙ ap (option_map (before_list n)) h)
+    (sym (from_behind_list n (spot j es)) ∙ ap (option_map (before_list n)) k))
+
+-- no two entries have the same place
+pub places_apart : (es : List Entry) (i j : ℕ) (p : Place) → place_of es i ≡ Some p → place_of es j ≡ Some p → i ≡ j
+places_apart es i j p h k = spots_apart i j es (zero ∷ p) (spot_from_place es i p h) (spot_from_place es j p k)

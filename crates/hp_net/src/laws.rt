@@ -1,10 +1,20 @@
-//! Laws of walks.
+//! Laws of networks and walks.
 //!
 //! Each function does nothing, and its contract is the law.
-ghost use Rattle.std.specs.Prelude.{◌≡◌, false, List, ◌++◌};
+ghost use Rattle.std.specs.Prelude.{◌≡◌, ℕ, false, List, ◌++◌, Some};
+ghost use Rattle.hp_syntax.specs.Networks.{Place};
 ghost use Rattle.hp_syntax.specs.Walk.{heard_visits};
+ghost use Rattle.hp_net.specs.Outlines.{Outline, IsOutline, NamesTask, place_of};
 ghost use Rattle.hp_net.specs.Standings.{Standing};
 ghost use Rattle.hp_net.specs.Runs.{Call, MayRun, after_calls, visited, LeavesOut};
+
+/// Each id that names a task has a place in its network, and no two entries have the same place.
+pub fn tasks_have_places()
+    ensures places { (n : Outline) (id : ℕ) → IsOutline n → NamesTask n id
+        → (p : Place) × (place_of n.entries id ≡ Some p) }
+    ensures apart { (n : Outline) (i j : ℕ) (p : Place) → place_of n.entries i ≡ Some p
+        → place_of n.entries j ≡ Some p → i ≡ j }
+{}
 
 /// Whatever calls are made, what they visit and what is left then are together the walk up to its first fault, without
 /// what was pruned.
