@@ -119,7 +119,8 @@ goes_did a v vs ws e d =
     (inl refl)
 
 -- a cut is passed
-pub goes_cut : (a : Option CheapestPlan) (v : Visit) (vs ws : List Visit) → vs ≡ v ∷ ws → v.sight ≡ CutHere → Goes a a vs ws
+pub goes_cut : (a : Option CheapestPlan) (v : Visit) (vs ws : List Visit) → vs ≡ v ∷ ws → v.sight ≡ CutHere
+    → Goes a a vs ws
 goes_cut a v vs ws e d =
     goes_past a a vs (v ∷ []) ws e (omega (arith, ap length e))
     (λ h. let same : least_cost (cost_of a) (v ∷ ws) ≡ least_cost (cost_of a) ws = rw d refl in
@@ -140,8 +141,8 @@ goes_pruned a v vs ws e d r =
     (inl refl)
 
 -- a decomposition is passed, and what lies below it is left out where it costs no less than the best so far
-pub goes_down : (a : Option CheapestPlan) (v : Visit) (vs : List Visit) (t r : Standing) → vs ≡ v ∷ t.rest → v.sight ≡ Did
-    → t.path ≡ v.path → (b : Bool) → reaches (cost_of a) v.node.cost ≡ b → r ≡ cond b (pruned t) t
+pub goes_down : (a : Option CheapestPlan) (v : Visit) (vs : List Visit) (t r : Standing) → vs ≡ v ∷ t.rest
+    → v.sight ≡ Did → t.path ≡ v.path → (b : Bool) → reaches (cost_of a) v.node.cost ≡ b → r ≡ cond b (pruned t) t
     → Goes a a vs r.rest
 goes_down a v vs t r e d p true h k =
     let left : r.rest ≡ skip v.path t.rest = ap (λ s. s.rest) k ∙ ap (λ q. skip q t.rest) p in

@@ -46,8 +46,8 @@ impl World {
 
     /// Cancels for each of `unguard` its first equal protection, deletes atoms, whose places stay and are empty then,
     /// adds atoms that are absent behind the others, and adds protections. Where an atom to delete is still protected
-    /// after the cancelling, nothing is changed, and the first such atom is answered. All memory that is needed is taken
-    /// before the first change, so an error leaves the world as it was.
+    /// after the cancelling, nothing is changed, and the first such atom is answered. All memory that is needed is
+    /// taken before the first change, so an error leaves the world as it was.
     pub fn apply(
         &mut self,
         unguard: &[Cell],

@@ -9,4 +9,5 @@ pub returns-clause-moves : goal.returns-clause-moves
 returns-clause-moves c =
     let back = ap front c.push_reserved.ensures.items ∙ front_pushed c.args.self.now.guards.items c.args.atom in
     moved _ _ Protected c.requires.sound c.push_reserved-2.ensures.items (same_stage _ _ _ _ refl back)
-    (kept_same _ _ refl) tt c.push_reserved-2.ensures.len c.push_reserved-2.ensures.capacity c.push_reserved.ensures.capacity refl refl
+    (kept_same _ _ refl) tt c.push_reserved-2.ensures.len c.push_reserved-2.ensures.capacity
+    c.push_reserved.ensures.capacity refl refl
