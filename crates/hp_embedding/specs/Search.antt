@@ -4,7 +4,7 @@ use Rattle.std.specs.Int.Signed.{le_z}
 use Rattle.std.specs.List.{All, AllPairs, Any}
 use Rattle.hp_net.specs.Standings.{told}
 use Rattle.hp_syntax.specs.Report.{told_plan}
-use Rattle.hp_syntax.specs.Walk.{Node, Visit, Did, Plan, CutHere, FaultHere, begins}
+use Rattle.hp_syntax.specs.Walk.{Node, Visit, Plan, FaultHere, is_plan, begins}
 use Rattle.hp_embedding.specs.declared.cheapest.CheapestPlan.{CheapestPlan}
 use Rattle.hp_embedding.specs.declared.cheapest.SearchError.{SearchError}
 use Rattle.hp_embedding.specs.declared.cheapest.SearchError.TheVariants as errors
@@ -26,12 +26,7 @@ lower best c = cond (reaches best c) best (Some c)
 abbrev pub least_cost : Option ℤ → List Visit → Option ℤ
 least_cost best [] = best
 least_cost best (v ∷ vs) =
-    elim v.sight [
-      | Did ↦ least_cost best vs
-      | Plan ↦ least_cost (lower best v.node.cost) vs
-      | CutHere ↦ least_cost best vs
-      | FaultHere f ↦ least_cost best vs
-    ]
+    cond (is_plan v.sight) (least_cost (lower best v.node.cost) vs) (least_cost best vs)
 
 abbrev pub cost_of : Option CheapestPlan → Option ℤ
 cost_of o = option_map (λ f. f.cost) o

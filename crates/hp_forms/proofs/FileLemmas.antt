@@ -4,7 +4,7 @@ use Rattle.hp_syntax.specs.declared.form.What.{What}
 use Rattle.hp_syntax.specs.declared.form.What.TheVariants as wants
 use Rattle.hp_syntax.specs.declared.pattern.Span.{Span}
 use Rattle.hp_syntax.specs.Forest.{Node, Forest, Word, Numeral, Group, Bare, Grow, span_of}
-use Rattle.hp_syntax.specs.Steps.{Misform, Expected, Names, Step, and_then, pure, ended, next, expected, is_word, ◌>>=◌, value_in, from_no_names}
+use Rattle.hp_syntax.specs.Steps.{Misform, Expected, Names, Parse, and_then, pure, ended, next, expected, is_word, ◌>>=◌, value_in, from_no_names}
 use Rattle.hp_syntax.specs.Grammar.{file, file_list, list, is_nil}
 use Rattle.hp_text.specs.Nodes.{parts_of}
 use Rattle.hp_forms.specs.FormReads.{Refuses, Reads, Gives}
@@ -26,7 +26,7 @@ value_alone (Err e) Bare = refl
 value_alone (Err e) (Grow n rest) = refl
 
 -- a file is its first node, where nothing follows
-pub file-alone : {A : Type 0} (what : What) (node : Node → Step A) (len : ℕ) (f : Forest) (n : Node) (rest : Forest)
+pub file-alone : {A : Type 0} (what : What) (node : Node → Parse A) (len : ℕ) (f : Forest) (n : Node) (rest : Forest)
     → f ≡ Grow n rest → from_no_names (file what node len f) ≡ alone (from_no_names (node n)) rest
 unfolding file
 file-alone what node len f n rest at =
@@ -72,7 +72,7 @@ next_is what end f first rest names h = sym (same f) ∙ ap joined h
     same Bare = refl
     same (Grow n g) = refl
 
-module _ {A : Type 0} (what : What) (key : List ℕ) (parts : Span → Forest → Step A) (s : Span) (names : Names) where
+module _ {A : Type 0} (what : What) (key : List ℕ) (parts : Span → Forest → Parse A) (s : Span) (names : Names) where
   -- what refuses that a list has a first item refuses the list
   pub list_refused : (e : FormRefusal) (f : Forest) → Refuses e (next what s f names)
       → Refuses e (file_list what key parts (Group s f) names)
@@ -100,7 +100,7 @@ module _ {A : Type 0} (what : What) (key : List ℕ) (parts : Span → Forest �
   list_unnamed (Group t f) rest h = refl
 
 -- what has no parts begins with no word
-pub partless_refused : {A : Type 0} (what : What) (key : List ℕ) (parts : Span → Forest → Step A) (n : Node)
+pub partless_refused : {A : Type 0} (what : What) (key : List ℕ) (parts : Span → Forest → Parse A) (n : Node)
     (names : Names) → parts_of n ≡ None → file_list what key parts n names ≡ Err (Expected what (span_of n))
 unfolding file_list
 partless_refused what key parts (Word s text) names h = refl
@@ -129,7 +129,7 @@ list-none what (Numeral s n) f names h r = cc
 list-none what (Group s g) f names h r = cc
 
 -- a list that begins with a word is read by what follows the word
-pub list_behind : {A : Type 0} (what : What) (key : List ℕ) (parts : Span → Forest → Step A) (n : Node) (names : Names)
+pub list_behind : {A : Type 0} (what : What) (key : List ℕ) (parts : Span → Forest → Parse A) (n : Node) (names : Names)
     → file_list what key parts n names
     ≡ and_then (file_list what key (λ s rest. pure rest) n names) (parts (span_of n))
 unfolding file_list
@@ -143,7 +143,7 @@ list_behind what key parts (Group s (Grow (Word t text) rest)) names = elim (byt
     ≡ and_then (cond b (pure rest) (expected what s) names) (parts s)) [ true ↦ refl | false ↦ refl ]
 
 -- what reading gives of a step it gives of one that gives the same
-pub reads_same : {X Y : Type 0} (view : X → Y) (r : Result X FormRefusal) (one other : Step Y) (before after : Names)
+pub reads_same : {X Y : Type 0} (view : X → Y) (r : Result X FormRefusal) (one other : Parse Y) (before after : Names)
     → one before ≡ other before → Reads view r other before after → Reads view r one before after
 reads_same view (Ok x) one other before after same h = same ∙ h
 reads_same view (Err why) one other before after same h = refused_same why _ _ same h

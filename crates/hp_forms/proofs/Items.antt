@@ -7,7 +7,7 @@ use Rattle.hp_syntax.specs.declared.pattern.Pat.{Pat}
 use Rattle.hp_syntax.specs.declared.pattern.Tail.{Tail}
 use Rattle.hp_syntax.specs.Forest.{Node, Forest, Bare, Grow}
 use Rattle.hp_syntax.specs.Syntax.{Pattern, Patterns, NoPattern, Before}
-use Rattle.hp_syntax.specs.Steps.{Misform, Names, Step, each, and_then, pure, is_word}
+use Rattle.hp_syntax.specs.Steps.{Misform, Names, Parse, each, and_then, pure, is_word}
 use Rattle.hp_syntax.specs.Views.{as_patterns, pattern_of, patterns_of}
 use Rattle.hp_syntax.specs.Grammar.{Setting, InRule, term, terms, items, dotted}
 use Rattle.hp_forms.specs.FormReads.{Refuses, Adds}
@@ -45,7 +45,7 @@ all_before-parts : (ps qs : List Pattern) → all_before ps (as_patterns qs) ≡
 all_before-parts [] qs = refl
 all_before-parts (p ∷ ps) qs = ap (Before p) (all_before-parts ps qs)
 
-abbrev behind_first : Pattern → Patterns × Option Tail → Step (Patterns × Option Tail)
+abbrev behind_first : Pattern → Patterns × Option Tail → Parse (Patterns × Option Tail)
 behind_first x xs = pure (Before x xs.0, xs.1)
 
 put_before_more : (front : List Pattern) (x : Pattern) (r : Read)
@@ -59,18 +59,18 @@ refused_below (refusals.SeveralPairs span) front r h = ap (put_before front) h
 refused_below refusals.NoMemory front r h = h
 
 -- Parts were added to a list, and are what a step gives, but for what another step gives from here on.
-pub record SoFar (all next : Step (Patterns × Option Tail)) (old new : List Pat) (start names : Names) : Type 0 where
+pub record SoFar (all next : Parse (Patterns × Option Tail)) (old new : List Pat) (start names : Names) : Type 0 where
   pub more : List Pat
   pub parts : new ≡ old ++ more
   pub read : all start ≡ put_before (map pattern_of more) (next names)
 
 -- before anything is read
-pub at_start : (all : Step (Patterns × Option Tail)) (old : List Pat) (names : Names)
+pub at_start : (all : Parse (Patterns × Option Tail)) (old : List Pat) (names : Names)
     → SoFar all all old old names names
 at_start all old names = record { more = []; parts = sym (append-nil old); read = put_before-nil (all names) }
 
 -- one part more, where the step is one term and then another step
-pub one_more : (all next rest : Step (Patterns × Option Tail)) (one : Step Pattern) (old new : List Pat)
+pub one_more : (all next rest : Parse (Patterns × Option Tail)) (one : Parse Pattern) (old new : List Pat)
     (start before after : Names) (x : Pat)
     → next before ≡ and_then (one before) (λ p later. and_then (rest later) (behind_first p))
     → SoFar all next old new start before → one before ≡ Ok (pattern_of x, after)
@@ -87,13 +87,13 @@ one_more all next rest one old new start before after x is_next so_far r = recor
 }
 
 -- a step that is refused refuses all
-pub refused : (all next : Step (Patterns × Option Tail)) (old new : List Pat) (start before : Names) (e : FormRefusal)
+pub refused : (all next : Parse (Patterns × Option Tail)) (old new : List Pat) (start before : Names) (e : FormRefusal)
     → SoFar all next old new start before → Refuses e (next before) → Refuses e (all start)
 refused all next old new start before e so_far h =
     refused_same e (all start) _ so_far.read (refused_below e (map pattern_of so_far.more) (next before) h)
 
 -- what the step adds from here on is added to what was added before
-pub added : (r : Result (Option Tail) FormRefusal) (all next : Step (Patterns × Option Tail)) (old mid new : List Pat)
+pub added : (r : Result (Option Tail) FormRefusal) (all next : Parse (Patterns × Option Tail)) (old mid new : List Pat)
     (start before after : Names) → SoFar all next old mid start before → Adds r next mid new before after
     → Adds r all old new start after
 added (Ok tail) all next old mid new start before after so_far h = (
@@ -121,7 +121,7 @@ unfolding items
 items-dot setting end n rest names h = rw h
 
 -- a term was read, and is added to the parts
-pub item_read : (setting : Setting) (end : Span) (all : Step (Patterns × Option Tail)) (old new newer : List Pat)
+pub item_read : (setting : Setting) (end : Span) (all : Parse (Patterns × Option Tail)) (old new newer : List Pat)
     (start before after : Names) (rest others : List public.Node) (first : public.Node) (x : Pat)
     → rest ≡ first ∷ others → is_word (codes ".") (node_of first) ≡ false
     → SoFar all (items setting end (nodes_of rest)) old new start before
@@ -137,7 +137,7 @@ item_read setting end all old new newer start before after rest others first x s
     (one_more all next more one old new start before after x is_next so_far r)
 
 -- a term was refused, and so all is
-pub item_refused : (setting : Setting) (end : Span) (all : Step (Patterns × Option Tail)) (old new : List Pat)
+pub item_refused : (setting : Setting) (end : Span) (all : Parse (Patterns × Option Tail)) (old new : List Pat)
     (start before : Names) (rest others : List public.Node) (first : public.Node) (e : FormRefusal)
     → rest ≡ first ∷ others → is_word (codes ".") (node_of first) ≡ false
     → SoFar all (items setting end (nodes_of rest)) old new start before
@@ -149,7 +149,7 @@ item_refused setting end all old new start before rest others first e split dotl
     (refused_same e _ _ is_next (refused_next e (term setting (node_of first) before) _ r))
 
 -- what a dot and a tail add is added to what was added before
-pub tail_added : (setting : Setting) (end : Span) (all : Step (Patterns × Option Tail))
+pub tail_added : (setting : Setting) (end : Span) (all : Parse (Patterns × Option Tail))
     (r : Result (Option Tail) FormRefusal)
     (old mid new : List Pat) (start before after : Names) (rest others : List public.Node) (first : public.Node)
     → rest ≡ first ∷ others → is_word (codes ".") (node_of first) ≡ true
@@ -166,7 +166,7 @@ tail_added setting end all r old mid new start before after rest others first sp
     added r all (dotted setting end (nodes_of others)) old mid new start before after at_dot h
 
 -- where no node is left, nothing more is added
-pub none_added : (setting : Setting) (end : Span) (all : Step (Patterns × Option Tail)) (old new : List Pat)
+pub none_added : (setting : Setting) (end : Span) (all : Parse (Patterns × Option Tail)) (old new : List Pat)
     (start names : Names) (rest : List public.Node)
     → length rest ≡ 0 → SoFar all (items setting end (nodes_of rest)) old new start names
     → Adds (Ok None) all old new start names

@@ -3,7 +3,7 @@ use Rattle.std.proofs.Common.{◌≡◌, ◌∙◌, sym, ap, refl, subst, ℕ, �
 use Rattle.hp_syntax.specs.declared.pattern.Span.{Span}
 use Rattle.hp_syntax.specs.Forest.{Forest, Bare, Grow, Word, Group}
 use Rattle.hp_syntax.specs.Syntax.{And, NoExpression, Also, NoTasks, Then, Ordered}
-use Rattle.hp_syntax.specs.Steps.{Names, Step, each, and_then, pure, ◌<$>◌}
+use Rattle.hp_syntax.specs.Steps.{Names, Parse, each, and_then, pure, ◌<$>◌}
 use Rattle.hp_syntax.specs.Views.{as_expressions, expression_of, expressions_of, as_task_list, tasks_of, task_list_of}
 use Rattle.hp_syntax.specs.declared.expression.Expr.{Expr}
 use Rattle.hp_syntax.specs.declared.tasks.NetPat.{NetPat}
@@ -163,7 +163,7 @@ word_first nodes rest first name split at =
     ap nodes_of split ∙ ap (λ n. Grow n (nodes_of rest)) (node_of-name first name at)
 
 -- what reads a step reads one that gives the same
-pub reads_same : {X Y : Type 0} (view : X → Y) (r : Result X FormRefusal) (p q : Step Y) (before after : Names)
+pub reads_same : {X Y : Type 0} (view : X → Y) (r : Result X FormRefusal) (p q : Parse Y) (before after : Names)
     → q before ≡ p before → Reads view r p before after → Reads view r q before after
 reads_same view (Ok x) p q before after same h = same ∙ h
 reads_same view (Err e) p q before after same h = refused_same e (q before) (p before) same h

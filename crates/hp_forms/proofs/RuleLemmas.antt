@@ -4,7 +4,7 @@ use Rattle.std.proofs.lemmas.List.{map-append}
 use Rattle.hp_syntax.specs.declared.pattern.Span.{Span}
 use Rattle.hp_syntax.specs.declared.form.What.TheVariants as wants
 use Rattle.hp_syntax.specs.Forest.{Node, Forest, Bare, Grow}
-use Rattle.hp_syntax.specs.Steps.{Misform, Expected, SeveralPairs, Names, Step, and_then, pure, next, ◌>>=◌, value_in, by_itself}
+use Rattle.hp_syntax.specs.Steps.{Misform, Expected, SeveralPairs, Names, Parse, and_then, pure, next, ◌>>=◌, value_in, by_itself}
 use Rattle.hp_syntax.specs.Syntax.{Precondition, Branch, Clause}
 use Rattle.hp_syntax.specs.Grammar.{InRule, precondition, tasks, expression, branches, named_branch, branch_tasks, branch_name, begins_named, make_branch, clauses, named_clause, make_clause}
 use Rattle.hp_forms.specs.Branches.{start, branch, clause, behind_name}
@@ -18,13 +18,13 @@ use Rattle.hp_text.specs.Nodes.{nodes_of}
 use Rattle.hp_forms.proofs.Turns.{prepend, prepend_more}
 
 -- steps one after the other may be grouped either way
-pub bind-assoc : {A B C : Type 0} (r : Result (A × Names) Misform) (f : A → Step B) (g : B → Step C)
+pub bind-assoc : {A B C : Type 0} (r : Result (A × Names) Misform) (f : A → Parse B) (g : B → Parse C)
     → and_then (and_then r f) g ≡ and_then r (λ x later. and_then (f x later) g)
 bind-assoc (Ok p) f g = refl
 bind-assoc (Err e) f g = refl
 
 -- steps that go on alike give the same
-pub bind_same : {A B : Type 0} (r : Result (A × Names) Misform) (f g : A → Step B)
+pub bind_same : {A B : Type 0} (r : Result (A × Names) Misform) (f g : A → Parse B)
     → ((x : A) (later : Names) → f x later ≡ g x later) → and_then r f ≡ and_then r g
 bind_same (Ok p) f g h = h p.0 p.1
 bind_same (Err e) f g h = refl
@@ -42,10 +42,10 @@ keyed-operator s key rest names h = rw h (operator_parts s rest names)
 
 -- ---- branches of a method
 
-abbrev pub then_branches : Span → Branch × Forest → Step (List Branch)
+abbrev pub then_branches : Span → Branch × Forest → Parse (List Branch)
 then_branches end x = branches end false x.1 >>= (λ others. pure (x.0 ∷ others))
 
-abbrev tasks_of_branch : Span → Option (List ℕ) → Precondition → Forest → Step (Branch × Forest)
+abbrev tasks_of_branch : Span → Option (List ℕ) → Precondition → Forest → Parse (Branch × Forest)
 tasks_of_branch end text p f = next wants.Tasks end f >>= (λ y. tasks InRule y.0 >>=
     (λ t. pure (make_branch text p t, y.1)))
 
@@ -63,7 +63,7 @@ from_precondition end text n rest names =
     bind_same (precondition n names) _ _ (λ p later. branch_tasks-turn end text p rest later)
     ∙ sym (bind-assoc (precondition n names) (λ p. tasks_of_branch end text p rest) (then_branches end))
 
-abbrev rest_of_branch : Span → Option (List ℕ) × (Node × Forest) → Step (Branch × Forest)
+abbrev rest_of_branch : Span → Option (List ℕ) × (Node × Forest) → Parse (Branch × Forest)
 rest_of_branch end x = precondition x.1.0 >>= (λ p. tasks_of_branch end x.0 p x.1.1)
 
 named_branch-turn : (end : Span) (text : List ℕ) (f : Forest) (names : Names)
@@ -98,10 +98,10 @@ branches-turn end (Grow n rest) names = first_branch end n rest names (begins_na
 
 -- ---- branches of an axiom
 
-abbrev pub then_clauses : Span → Clause × Forest → Step (List Clause)
+abbrev pub then_clauses : Span → Clause × Forest → Parse (List Clause)
 then_clauses end x = clauses end false x.1 >>= (λ others. pure (x.0 ∷ others))
 
-abbrev rest_of_clause : Option (List ℕ) × (Node × Forest) → Step (Clause × Forest)
+abbrev rest_of_clause : Option (List ℕ) × (Node × Forest) → Parse (Clause × Forest)
 rest_of_clause x = expression x.1.0 >>= (λ e. pure (make_clause x.0 e, x.1.1))
 
 from_expression : (end : Span) (text : Option (List ℕ)) (n : Node) (rest : Forest) (names : Names)
@@ -143,7 +143,7 @@ clauses-turn end (Grow n rest) names = first_clause end n rest names (begins_nam
 -- ---- turns of a loop over branches
 
 -- one more branch is read
-pub turn_read : {X A : Type 0} (view : X → A) (one : Step (A × Forest)) (later : Forest → Step (List A)) (g : Forest)
+pub turn_read : {X A : Type 0} (view : X → A) (one : Parse (A × Forest)) (later : Forest → Parse (List A)) (g : Forest)
     (front : List X) (x : X) (before after : Names) (all whole : Result (List A × Names) Misform)
     → all ≡ prepend (map view front) whole
     → whole ≡ and_then (one before) (λ y. later y.1 >>= (λ others. pure (y.0 ∷ others)))
@@ -155,7 +155,7 @@ turn_read view one later g front x before after all whole e turn r =
     ∙ ap (λ xs. prepend xs (later g after)) (sym (map-append view front (x ∷ [])))
 
 -- a branch that is refused refuses all
-pub turn_refused : {A : Type 0} (why : FormRefusal) (one : Step (A × Forest)) (later : Forest → Step (List A))
+pub turn_refused : {A : Type 0} (why : FormRefusal) (one : Parse (A × Forest)) (later : Forest → Parse (List A))
     (front : List A) (before : Names) (all whole : Result (List A × Names) Misform) → all ≡ prepend front whole
     → whole ≡ and_then (one before) (λ y. later y.1 >>= (λ others. pure (y.0 ∷ others)))
     → Refuses why (one before) → Refuses why all
@@ -206,7 +206,7 @@ own_refusal (Ok p) m names h = cc
 own_refusal (Err e) m names h = cc
 
 -- what gives the value of a step reads the step with variables of its own
-pub reads_by_itself : {X A : Type 0} (view : X → A) (r : Result X FormRefusal) (p : Step A) (names : Names)
+pub reads_by_itself : {X A : Type 0} (view : X → A) (r : Result X FormRefusal) (p : Parse A) (names : Names)
     → Gives view r (value_in (p [])) → Reads view r (by_itself p) names names
 reads_by_itself view (Ok x) p names h = own_value (p []) (view x) names h
 reads_by_itself view (Err (refusals.Expected what span)) p names h = own_refusal (p []) (Expected what span) names h

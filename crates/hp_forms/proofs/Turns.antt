@@ -7,7 +7,7 @@ use Rattle.std.specs.declared.option.Option.{Option}
 use Rattle.std.specs.declared.option.Option.TheVariants.{Some, None}
 use Rattle.std.specs.declared.vec.IntoIter.{IntoIter}
 use Rattle.hp_syntax.specs.Forest as plain
-use Rattle.hp_syntax.specs.Steps.{Misform, Names, Step, each, and_then, pure}
+use Rattle.hp_syntax.specs.Steps.{Misform, Names, Parse, each, and_then, pure}
 use Rattle.hp_text.specs.declared.forest.Node.{Node}
 use Rattle.hp_text.specs.Nodes.{node_of, nodes_of}
 use Rattle.hp_forms.specs.FormReads.{Refuses}
@@ -31,7 +31,7 @@ prepend_more front x (Ok p) = ap (λ xs. Ok (xs, p.1)) (sym (append_assoc front 
 prepend_more front x (Err e) = refl
 
 -- what refuses the step that comes next refuses all
-pub refused_next : {A B : Type 0} (e : FormRefusal) (r : Result (A × Names) Misform) (f : A → Step B)
+pub refused_next : {A B : Type 0} (e : FormRefusal) (r : Result (A × Names) Misform) (f : A → Parse B)
     → Refuses e r → Refuses e (and_then r f)
 refused_next (refusals.Expected what span) r f h = ap (λ x. and_then x f) h
 refused_next (refusals.SeveralPairs span) r f h = ap (λ x. and_then x f) h
@@ -50,10 +50,10 @@ refused_same (refusals.SeveralPairs span) r s same h = same ∙ h
 refused_same refusals.NoMemory r s same h = h
 
 -- each item, from one on
-abbrev pub from_here : {A : Type 0} → (plain.Node → Step A) → List Node → ℕ → Names → Result (List A × Names) Misform
+abbrev pub from_here : {A : Type 0} → (plain.Node → Parse A) → List Node → ℕ → Names → Result (List A × Names) Misform
 from_here item nodes i names = each item (nodes_of (drop i nodes)) names
 
-module _ {A : Type 0} (item : plain.Node → Step A) (nodes : List Node) where
+module _ {A : Type 0} (item : plain.Node → Parse A) (nodes : List Node) where
   -- each item from one on: that one, and then the others
   here_first : (i : ℕ) (d : Node) (names : Names) → i < length nodes
       → from_here item nodes i names
@@ -93,7 +93,7 @@ module _ {A : Type 0} (item : plain.Node → Step A) (nodes : List Node) where
       (refused_behind why front _ (refused_next why _ _ r))
 
 -- the same where what is read is seen through a view
-pub one_viewed : {X A : Type 0} (view : X → A) (item : plain.Node → Step A) (nodes : List Node) (i : ℕ) (d : Node)
+pub one_viewed : {X A : Type 0} (view : X → A) (item : plain.Node → Parse A) (nodes : List Node) (i : ℕ) (d : Node)
     (front : List X) (x : X) (before after : Names) (all : Result (List A × Names) Misform) → i < length nodes
     → all ≡ prepend (map view front) (from_here item nodes i before)
     → item (node_of (get_or nodes i d)) before ≡ Ok (view x, after)
@@ -113,7 +113,7 @@ pub none_taken : {Z : Type 0} (old new : IntoIter Node Z) (r : Option Node)
 none_taken old new r is h =
     nil_from_length (into_iter_items old) (sym old.rest.ok.0 ∙ (MatchOption-at_none _ _ is h).0)
 
-module _ {X A : Type 0} (view : X → A) (item : plain.Node → Step A) (front : List X) (left : List Node)
+module _ {X A : Type 0} (view : X → A) (item : plain.Node → Parse A) (front : List X) (left : List Node)
     (names : Names) (all : Result (List A × Names) Misform)
     (so_far : all ≡ prepend (map view front) (each item (nodes_of left) names)) where
   -- the first of the items that are left is read

@@ -4,14 +4,14 @@ use Rattle.hp_syntax.specs.declared.pattern.Span.{Span}
 use Rattle.hp_syntax.specs.declared.pattern.Tail.{Tail}
 use Rattle.hp_syntax.specs.declared.form.What.TheVariants as wants
 use Rattle.hp_syntax.specs.Forest.{Forest, Bare, Grow, Word, Numeral, Group}
-use Rattle.hp_syntax.specs.Steps.{Names, Step, ◌>>=◌, ◌<$>◌, pure, expected, closing, is_word}
+use Rattle.hp_syntax.specs.Steps.{Names, Parse, ◌>>=◌, ◌<$>◌, pure, expected, closing, is_word}
 use Rattle.hp_syntax.specs.Syntax.{Pattern, Patterns, Plain, First, Listing, Before}
 use Rattle.hp_syntax.specs.Grammar.{Setting, term, items, called, expressions, gathered, list_expression, list_precondition, list_tail, list_term, sorted}
 use Rattle.hp_forms.specs.Words.{behind}
 use Rattle.hp_forms.proofs.RuleLemmas.{bind-assoc}
 
 -- by what follows a word, where a list begins with it
-abbrev pub by_word : {A : Type 0} → Option Forest → (Forest → Step A) → Step A → Step A
+abbrev pub by_word : {A : Type 0} → Option Forest → (Forest → Parse A) → Parse A → Parse A
 by_word None by other = other
 by_word (Some rest) by other = by rest
 

@@ -2,7 +2,7 @@
 use Rattle.std.specs.Prelude.{◌≡◌, List, ◌++◌, Option, Result, Ok, Err}
 use Rattle.hp_syntax.specs.declared.pattern.Pat.{Pat}
 use Rattle.hp_syntax.specs.declared.pattern.Tail.{Tail}
-use Rattle.hp_syntax.specs.Steps.{Misform, Expected, SeveralPairs, Names, Step}
+use Rattle.hp_syntax.specs.Steps.{Misform, Expected, SeveralPairs, Names, Parse}
 use Rattle.hp_syntax.specs.Syntax.{Patterns}
 use Rattle.hp_syntax.specs.Views.{patterns_of}
 use Rattle.hp_syntax.specs.Grammar as grammar
@@ -23,12 +23,12 @@ Gives view (Ok x) r = r ≡ Ok (view x)
 Gives view (Err e) r = Refuses e r
 
 -- the same of a step that goes from some names to others
-abbrev pub Reads : {X Y : Type 0} → (X → Y) → Result X FormRefusal → Step Y → Names → Names → Type 0
+abbrev pub Reads : {X Y : Type 0} → (X → Y) → Result X FormRefusal → Parse Y → Names → Names → Type 0
 Reads view (Ok x) step before after = step before ≡ Ok (view x, after)
 Reads view (Err e) step before after = Refuses e (step before)
 
 -- parts that were added to a list, and their tail, are what a step gives
-abbrev pub Adds : Result (Option Tail) FormRefusal → Step (Patterns × Option Tail) → List Pat → List Pat
+abbrev pub Adds : Result (Option Tail) FormRefusal → Parse (Patterns × Option Tail) → List Pat → List Pat
     → Names → Names → Type 0
 Adds (Ok tail) step old new before after =
     (more : List Pat) × (new ≡ old ++ more) × (step before ≡ Ok ((patterns_of more, tail), after))

@@ -4,12 +4,12 @@ use Rattle.hp_syntax.specs.declared.pattern.Span.{Span}
 use Rattle.hp_syntax.specs.declared.form.What.TheVariants as wants
 use Rattle.hp_syntax.specs.Forest.{Forest}
 use Rattle.hp_syntax.specs.Names.{is_primitive}
-use Rattle.hp_syntax.specs.Steps.{Step, ◌>>=◌, pure, closing, next, names_so_far}
+use Rattle.hp_syntax.specs.Steps.{Parse, ◌>>=◌, pure, closing, next, names_so_far}
 use Rattle.hp_syntax.specs.Syntax.{Atom, Precondition, Effect, Rule, Does}
 use Rattle.hp_syntax.specs.Grammar.{InRule, headed, precondition, effects, cost}
 
 -- the head and the precondition, and what follows them
-unfoldable pub opening : Span → Forest → Step (Atom × (Precondition × Forest))
+unfoldable pub opening : Span → Forest → Parse (Atom × (Precondition × Forest))
 opening s rest = do
   h ← next wants.Head (closing s) rest
   head ← headed wants.Head is_primitive InRule h.0
@@ -18,7 +18,7 @@ opening s rest = do
   pure (head, (pre, p.1))
 
 -- the delete and the add list, and what follows them
-unfoldable pub changes : Span → Forest → Step (List Effect × (List Effect × Forest))
+unfoldable pub changes : Span → Forest → Parse (List Effect × (List Effect × Forest))
 changes s rest = do
   d ← next wants.Effects (closing s) rest
   dels ← effects d.0
@@ -27,7 +27,7 @@ changes s rest = do
   pure (dels, (adds, a.1))
 
 -- an operator, by these parts
-unfoldable pub operator : Span → Forest → Step Rule
+unfoldable pub operator : Span → Forest → Parse Rule
 operator s rest = do
   x ← opening s rest
   y ← changes s x.1.1

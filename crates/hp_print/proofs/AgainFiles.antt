@@ -5,7 +5,7 @@ use Rattle.hp_syntax.specs.declared.pattern.Span.{Span}
 use Rattle.hp_syntax.specs.declared.form.What.{What}
 use Rattle.hp_syntax.specs.declared.form.What.TheVariants as wants
 use Rattle.hp_syntax.specs.Forest.{Node, Forest, Bare, Grow, span_of}
-use Rattle.hp_syntax.specs.Steps.{Step, Names, ◌>>=◌, closing, each, value_in}
+use Rattle.hp_syntax.specs.Steps.{Parse, Names, ◌>>=◌, closing, each, value_in}
 use Rattle.hp_syntax.specs.Grammar.{InProblem, list, atoms, rule, domain_list, no_more_pairs, pair, problem_list, file_list, file, end_of_file, domain_form, problem_form}
 use Rattle.hp_syntax.specs.Syntax.{Domain, Problem}
 use Rattle.hp_syntax.specs.Written as written
@@ -27,13 +27,13 @@ abbrev problem_parts : Names → Problem → Forest
 problem_parts all p = Grow (word p.name) (Grow (word p.domain) (written.pairs all p.pairs))
 
 -- a problem is read again, by the names at its end
-record ProblemAgain (read : Forest → Step Problem) (H : Type 0) (names all : Names) (p : Problem) (end : Names) : Type 0
-  where
+record ProblemAgain (read : Forest → Parse Problem) (H : Type 0) (names all : Names) (p : Problem)
+    (end : Names) : Type 0 where
     own : p.vars ≡ end
     again : Again read CanSpellAll unplaced.problem H names (problem_parts all p) p end
 
 -- the only node of a file is read again, and this holds of its value and the names at its end
-abbrev FileAgain : {A : Type 0} → What → (Node → Step A) → (A → A) → Forest → Names → (A → Names → Type 0)
+abbrev FileAgain : {A : Type 0} → What → (Node → Parse A) → (A → A) → Forest → Names → (A → Names → Type 0)
     → (A → Node) → A → Names → Type 0
 FileAgain what read u f names P w x end =
     P x end × Again (file what read 0) CanSpellAll u (CanSpellAll f) names (one (w x)) x end
@@ -112,7 +112,7 @@ module _ {all : Names} where
 
   -- a list that begins with a certain word is read again where its parts are
   again_file_list : {A : Type 0} {u : A → A} {P : A → Names → Type 0} {names : Names} (what : What) (key : List ℕ)
-      (parts : Span → Forest → Step A) (g : A → Forest) (n : Node) (spelled : IsName key)
+      (parts : Span → Forest → Parse A) (g : A → Forest) (n : Node) (spelled : IsName key)
       → ((s : Span) (f : Forest)
       → After all names (λ v end. P v end × Again (parts nowhere) CanSpellAll u (CanSpellAll f) names (g v) v end)
       (parts s f))
@@ -132,7 +132,7 @@ module _ {all : Names} where
       (λ e. after_refusal _))
 
   -- a file is read again where its node is
-  again_file : {A : Type 0} {u : A → A} {P : A → Names → Type 0} {names : Names} (what : What) (read : Node → Step A)
+  again_file : {A : Type 0} {u : A → A} {P : A → Names → Type 0} {names : Names} (what : What) (read : Node → Parse A)
       (w : A → Node) (len : ℕ) (f : Forest)
       → ((n : Node)
       → After all names (λ v end. P v end × Again read CanSpell u (CanSpell n) names (w v) v end) (read n))
@@ -151,10 +151,10 @@ module _ {all : Names} where
       )))))
 
 -- the only node of a domain's file, and of a problem's
-abbrev domain_node : Node → Step Domain
+abbrev domain_node : Node → Parse Domain
 domain_node = file_list wants.Domain (codes "defdomain") domain_list
 
-abbrev problem_node : Node → Step Problem
+abbrev problem_node : Node → Parse Problem
 problem_node = file_list wants.Problem (codes "defproblem") problem_list
 
 -- what is written of a domain

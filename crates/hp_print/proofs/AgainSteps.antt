@@ -6,7 +6,7 @@ use Rattle.std.proofs.lemmas.Slice.Eq.{bytes_eq-Decides}
 use Rattle.hp_syntax.specs.declared.pattern.Span.{Span}
 use Rattle.hp_syntax.specs.declared.form.What.{What}
 use Rattle.hp_syntax.specs.Forest.{Node, Word, Numeral, Group, Forest, Bare, Grow}
-use Rattle.hp_syntax.specs.Steps.{Misform, Step, Names, and_then, ◌>>=◌, ◌<$>◌, pure, refuse, ended, next, each, numbered, names_so_far, by_itself, value_in, from_no_names, begun, if_begun}
+use Rattle.hp_syntax.specs.Steps.{Misform, Parse, Names, and_then, ◌>>=◌, ◌<$>◌, pure, refuse, ended, next, each, numbered, names_so_far, by_itself, value_in, from_no_names, begun, if_begun}
 use Rattle.hp_syntax.specs.Written.{name_of}
 use Rattle.hp_print.proofs.CanSpell.{IsName, CanSpell, CanSpellAll}
 
@@ -60,31 +60,31 @@ begins_numbered text names = at (list_any (bytes_eq text) names)
 -- ---- what is read of what is written
 
 -- a choice reads as its first step where its test holds
-pub reads_true : {A : Type 0} {b : Bool} (p q : Step A) {names : Names} {r : Result (A × Names) Misform}
+pub reads_true : {A : Type 0} {b : Bool} (p q : Parse A) {names : Names} {r : Result (A × Names) Misform}
     → b ≡ true → p names ≡ r → cond b p q names ≡ r
 reads_true p q e h = rw e h
 
 -- a choice reads as its second step where its test fails
-pub reads_false : {A : Type 0} {b : Bool} (p q : Step A) {names : Names} {r : Result (A × Names) Misform}
+pub reads_false : {A : Type 0} {b : Bool} (p q : Parse A) {names : Names} {r : Result (A × Names) Misform}
     → b ≡ false → q names ≡ r → cond b p q names ≡ r
 reads_false p q e h = rw e h
 
 -- a chain reads as what follows the value of its first step
 pub reads_chain : {A B : Type 0} {r : Result (A × Names) Misform} {x : A} {names : Names}
-    {z : Result (B × Names) Misform} (f : A → Step B)
+    {z : Result (B × Names) Misform} (f : A → Parse B)
     → r ≡ Ok (x, names) → f x names ≡ z → and_then r f ≡ z
 reads_chain f e h = rw e h
 
 -- what is written of a value is read as the value without places, from the same names to the same names, and can be
 -- spelled if what was read can
-pub record Again {A B : Type 0} (read : B → Step A) (Spells : B → Type 0) (u : A → A) (H : Type 0) (names : Names)
+pub record Again {A B : Type 0} (read : B → Parse A) (Spells : B → Type 0) (u : A → A) (H : Type 0) (names : Names)
     (written : B) (x : A) (after : Names) : Type 0 where
   pub reads : read written names ≡ Ok (u x, after)
   pub spells : H → Spells written
 
 -- what is read again can be spelled under any premise that gives the one before
-pub again_from : {A B : Type 0} {read : B → Step A} {Spells : B → Type 0} {u : A → A} {H G : Type 0} {names end : Names}
-    {written : B} {x : A}
+pub again_from : {A B : Type 0} {read : B → Parse A} {Spells : B → Type 0} {u : A → A} {H G : Type 0}
+    {names end : Names} {written : B} {x : A}
     → (G → H) → Again read Spells u H names written x end → Again read Spells u G names written x end
 again_from f h = record { reads = h.reads; spells = λ g. h.spells (f g) }
 
@@ -95,7 +95,7 @@ StillResult P names (Ok x) = (x.1 ≡ names) × P x.0
 StillResult P names (Err m) = Unit {0}
 
 -- from these names a step gives these names, and a value of which this holds
-pub record Still {A : Type 0} (names : Names) (P : A → Type 0) (step : Step A) : Type 0 where
+pub record Still {A : Type 0} (names : Names) (P : A → Type 0) (step : Parse A) : Type 0 where
   pub still : StillResult P names (step names)
 
 module _ {names : Names} where
@@ -108,7 +108,7 @@ module _ {names : Names} where
   still_refusal m = record { still = tt }
 
   -- a choice leaves the names where both its steps do
-  pub still_choice : {A : Type 0} {P : A → Type 0} (b : Bool) {p q : Step A}
+  pub still_choice : {A : Type 0} {P : A → Type 0} (b : Bool) {p q : Parse A}
       → (b ≡ true → Still names P p) → (b ≡ false → Still names P q) → Still names P (cond b p q)
   still_choice true h k = h refl
   still_choice false h k = k refl
@@ -125,7 +125,7 @@ module _ {names : Names} where
   still_next what end (Grow n f) = still_pure (λ h. h)
 
   -- what is left by any first name is left by that of a list
-  pub still_begun : {A : Type 0} {P : A → Type 0} (n : Node) {by_name : List ℕ → Forest → Step A} (m : Misform)
+  pub still_begun : {A : Type 0} {P : A → Type 0} (n : Node) {by_name : List ℕ → Forest → Parse A} (m : Misform)
       → ((text : List ℕ) (rest : Forest) → (CanSpell n → IsName text × CanSpellAll rest)
       → Still names P (by_name text rest))
       → Still names P (if_begun (begun n) by_name (refuse m))
@@ -144,7 +144,7 @@ module _ (all : Names) where
   AfterResult P names (Err m) = Unit {0}
 
   -- from these names a step gives names that begin with them, and if all begin with those, this holds of its value
-  pub record After {A : Type 0} (names : Names) (P : A → Names → Type 0) (step : Step A) : Type 0 where
+  pub record After {A : Type 0} (names : Names) (P : A → Names → Type 0) (step : Parse A) : Type 0 where
     pub after : AfterResult P names (step names)
 
 module _ {all : Names} where
@@ -158,8 +158,8 @@ module _ {all : Names} where
   then_after P Q names x (Err m) h k = tt
 
   -- what holds behind a chain is what holds behind its last step, given what holds behind the one before
-  pub after_chain : {A B : Type 0} {P : A → Names → Type 0} {Q : B → Names → Type 0} {names : Names} {p : Step A}
-      {f : A → Step B}
+  pub after_chain : {A B : Type 0} {P : A → Names → Type 0} {Q : B → Names → Type 0} {names : Names} {p : Parse A}
+      {f : A → Parse B}
       → After all names P p → ((x : A) (mid : Names) → After all mid (λ y end. P x mid → Q y end) (f x))
       → After all names Q (p >>= f)
   after_chain {A} {B} {P} {Q} {names} {p} {f} h k = record { after = chained (p names) h.after }
@@ -169,8 +169,8 @@ module _ {all : Names} where
       chained (Err m) u = tt
 
   -- a chain whose first step leaves the names goes on from these names
-  pub after_still : {A B : Type 0} {P : A → Type 0} {Q : B → Names → Type 0} {names : Names} {p : Step A}
-      {f : A → Step B}
+  pub after_still : {A B : Type 0} {P : A → Type 0} {Q : B → Names → Type 0} {names : Names} {p : Parse A}
+      {f : A → Parse B}
       → Still names P p → ((x : A) → After all names (λ y end. P x → Q y end) (f x)) → After all names Q (p >>= f)
   after_still {A} {B} {P} {Q} {names} {p} {f} h k = record { after = chained (p names) h.still }
     where
@@ -196,7 +196,7 @@ module _ {all : Names} where
   after_refusal m = record { after = tt }
 
   -- a step that leaves the names adds none
-  pub after_left : {A : Type 0} {P : A → Type 0} {Q : A → Names → Type 0} {names : Names} {p : Step A}
+  pub after_left : {A : Type 0} {P : A → Type 0} {Q : A → Names → Type 0} {names : Names} {p : Parse A}
       → Still names P p → ((x : A) → P x → Q x names) → After all names Q p
   after_left {A} {P} {Q} {names} {p} h k = record { after = left (p names) h.still }
     where
@@ -207,7 +207,7 @@ module _ {all : Names} where
       left (Err m) u = tt
 
   -- what follows from what holds behind a step holds behind it
-  pub after_so : {A : Type 0} {P Q : A → Names → Type 0} {names : Names} {p : Step A} → After all names P p
+  pub after_so : {A : Type 0} {P Q : A → Names → Type 0} {names : Names} {p : Parse A} → After all names P p
       → ((x : A) (end : Names) → P x end → Q x end) → After all names Q p
   after_so {A} {P} {Q} {names} {p} h k = record { after = so (p names) h.after }
     where
@@ -217,19 +217,19 @@ module _ {all : Names} where
 
   -- what holds of a value made of another follows from what holds of the other
   pub after_made : {A B : Type 0} {P : A → Names → Type 0} {Q : B → Names → Type 0} {names : Names} (g : A → B)
-      {p : Step A}
+      {p : Parse A}
       → After all names P p → ((x : A) (end : Names) → P x end → Q (g x) end) → After all names Q (g <$> p)
   after_made g h k = after_chain h (λ x mid. after_pure (k x mid))
 
   -- what holds behind both steps holds behind a choice of them
-  pub after_choice : {A : Type 0} {P : A → Names → Type 0} {names : Names} (b : Bool) {p q : Step A}
+  pub after_choice : {A : Type 0} {P : A → Names → Type 0} {names : Names} (b : Bool) {p q : Parse A}
       → (b ≡ true → After all names P p) → (b ≡ false → After all names P q) → After all names P (cond b p q)
   after_choice true h k = h refl
   after_choice false h k = k refl
 
   -- what holds by any first name holds by that of a list
   pub after_begun : {A : Type 0} {P : A → Names → Type 0} {names : Names} (n : Node)
-      {by_name : List ℕ → Forest → Step A} (m : Misform)
+      {by_name : List ℕ → Forest → Parse A} (m : Misform)
       → ((text : List ℕ) (rest : Forest) → (CanSpell n → IsName text × CanSpellAll rest)
       → After all names P (by_name text rest))
       → After all names P (if_begun (begun n) by_name (refuse m))
@@ -253,7 +253,7 @@ module _ {all : Names} where
   }
 
 -- each item in turn is read again where each is
-module _ {A : Type 0} (w : A → Node) (ws : List A → Forest) (u : A → A) (item : Node → Step A)
+module _ {A : Type 0} (w : A → Node) (ws : List A → Forest) (u : A → A) (item : Node → Parse A)
     (none : ws [] ≡ Bare) (more : (x : A) (xs : List A) → ws (x ∷ xs) ≡ Grow (w x) (ws xs)) where
   pub after_each : {all names : Names} (f : Forest)
       → ((names : Names) (n : Node)
@@ -270,7 +270,7 @@ module _ {A : Type 0} (w : A → Node) (ws : List A → Forest) (u : A → A) (i
       })))
 
 -- what holds for all names behind a step from no names holds for the names at its end
-pub after_none : {A : Type 0} (P : Names → A → Names → Type 0) (Q : A → Type 0) {p : Step A}
+pub after_none : {A : Type 0} (P : Names → A → Names → Type 0) (Q : A → Type 0) {p : Parse A}
     → ((all : Names) → After all [] (P all) p) → ((x : A) (names : Names) → P names x names → Q x)
     → {names : Names} → Still names Q (by_itself p)
 after_none {A} P Q {p} h k {names} = record { still = at (p []) (λ all. (h all).after) }
@@ -281,7 +281,7 @@ after_none {A} P Q {p} h k {names} = record { still = at (p []) (λ all. (h all)
     at (Err m) h = tt
 
 -- what holds for all names of what a step gives from no names holds for the names at its end
-pub value_after : {A : Type 0} (P : Names → A → Names → Type 0) {p : Step A} (x : A)
+pub value_after : {A : Type 0} (P : Names → A → Names → Type 0) {p : Parse A} (x : A)
     → ((all : Names) → After all [] (P all) p) → from_no_names p ≡ Ok x → (end : Names) × P end x end
 value_after {A} P {p} x h e = at (p []) (λ all. (h all).after) e
   where

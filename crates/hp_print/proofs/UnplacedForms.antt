@@ -6,7 +6,7 @@ use Rattle.hp_syntax.specs.declared.form.What.{What}
 use Rattle.hp_syntax.specs.declared.form.What.TheVariants as wants
 use Rattle.hp_syntax.specs.Forest.{Node, Word, Numeral, Group, Forest, Bare, Grow, span_of}
 use Rattle.hp_syntax.specs.Names.{is_variable, is_plain, is_primitive, is_compound, is_branch_name}
-use Rattle.hp_syntax.specs.Steps.{Step, ◌<$>◌, closing}
+use Rattle.hp_syntax.specs.Steps.{Parse, ◌<$>◌, closing}
 use Rattle.hp_syntax.specs.Grammar.{Setting, InRule, InProblem, name, list, variable, variables, is_nil, tail_at, word_term, word_tail, term, list_term, items, dotted, tail, list_tail, called, terms, make_atom, named_atom, headed, atoms, assigned, implied, expression, list_expression, expressions, one_expression, two_expressions, quantified, gathered, order_named, order, make_key, sorted, list_precondition, precondition, task, immediate, tasks, list_tasks, task_list, protection, for_each, keyed_effect, effect, effects, cost, operator, begins_named, branch_name, make_branch, branches, named_branch, branch_tasks, method, make_clause, clauses, named_clause, axiom_rule, keyed_rule, rule, domain_list, no_more_pairs, make_pair, pair, problem_list, file_list, file, end_of_file, domain_form, problem_form}
 use Rattle.hp_syntax.specs.Syntax.{Patterns, Variable, Symbol, Number, Listing, Call, NoPattern, Before, Expression, Expressions, Holds, And, Or, Not, Forall, Assign, Test, NoExpression, Also, Order, Up, Down, Unknown, Precondition, Plain, First, Sorted, Task, Ordered, Unordered, NoTasks, Then, Change, Protection, Each, Does, Refines, Concludes, Domain, Problem}
 use Rattle.hp_syntax.specs.Written.{nowhere}
@@ -625,7 +625,7 @@ moved_problem_list s rest =
     moves_names (λ vars. rw (span_nowhere y.0) refl))))))
 
 -- a list that begins with a certain word is the same without places where its parts are
-moved_file_list : {A : Type 0} {u : A → A} (what : What) (key : List ℕ) (parts : Span → Forest → Step A) (n : Node)
+moved_file_list : {A : Type 0} {u : A → A} (what : What) (key : List ℕ) (parts : Span → Forest → Parse A) (n : Node)
     → ((s : Span) (f : Forest) → Moves u (parts s f) (parts nowhere (unplaced.forest f)))
     → Moves u (file_list what key parts n) (file_list what key parts (unplaced.node n))
 unfolding file_list
@@ -635,7 +635,7 @@ moved_file_list what key parts n h =
     (moves_refusal _))
 
 -- a file is the same without places where its node is
-moved_file : {A : Type 0} {u : A → A} (what : What) (read : Node → Step A) (len : ℕ) (f : Forest)
+moved_file : {A : Type 0} {u : A → A} (what : What) (read : Node → Parse A) (len : ℕ) (f : Forest)
     → ((n : Node) → Moves u (read n) (read (unplaced.node n)))
     → Moves u (file what read len f) (file what read 0 (unplaced.forest f))
 unfolding file

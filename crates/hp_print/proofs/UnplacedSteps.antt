@@ -4,7 +4,7 @@ use Rattle.std.proofs.Common.{◌≡◌, ℕ, Bool, true, false, cond, List, [],
 use Rattle.hp_syntax.specs.declared.pattern.Span.{Span}
 use Rattle.hp_syntax.specs.declared.form.What.{What}
 use Rattle.hp_syntax.specs.Forest.{Node, Word, Numeral, Group, Forest, Bare, Grow, span_of}
-use Rattle.hp_syntax.specs.Steps.{Misform, Expected, SeveralPairs, Step, Names, and_then, ◌>>=◌, ◌<$>◌, pure, refuse, ended, next, each, numbered, names_so_far, by_itself, value_in, from_no_names, is_word, begun, if_begun}
+use Rattle.hp_syntax.specs.Steps.{Misform, Expected, SeveralPairs, Parse, Names, and_then, ◌>>=◌, ◌<$>◌, pure, refuse, ended, next, each, numbered, names_so_far, by_itself, value_in, from_no_names, is_word, begun, if_begun}
 use Rattle.hp_syntax.specs.Written.{nowhere}
 use Rattle.hp_syntax.specs.Unplaced as unplaced
 
@@ -19,11 +19,11 @@ moved u (Ok x) = Ok (u x.0, x.1)
 moved u (Err m) = Err (misform m)
 
 -- the second step gives what the first gives without places
-pub record Moves {A : Type 0} (u : A → A) (p q : Step A) : Type 0 where
+pub record Moves {A : Type 0} (u : A → A) (p q : Parse A) : Type 0 where
   pub same : (names : Names) → q names ≡ moved u (p names)
 
 -- a chain moves as its steps do
-pub moves_chain : {A B : Type 0} {u : A → A} {w : B → B} {p q : Step A} {f : A → Step B} (g : A → Step B)
+pub moves_chain : {A B : Type 0} {u : A → A} {w : B → B} {p q : Parse A} {f : A → Parse B} (g : A → Parse B)
     → Moves u p q → ((x : A) → Moves w (f x) (g (u x))) → Moves w (p >>= f) (q >>= g)
 moves_chain {A} {B} {u} {w} {p} {q} {f} g h k = record { same = λ names. rw h.same (chained (p names)) }
   where
@@ -40,12 +40,12 @@ pub moves_refusal : {A : Type 0} {u : A → A} (m : Misform) → Moves u (refuse
 moves_refusal m = record { same = λ names. refl }
 
 -- a value made of another moves as the other does
-pub moves_made : {A B : Type 0} {u : A → A} {w : B → B} (g h : A → B) {p q : Step A}
+pub moves_made : {A B : Type 0} {u : A → A} {w : B → B} (g h : A → B) {p q : Parse A}
     → Moves u p q → ((x : A) → h (u x) ≡ w (g x)) → Moves w (g <$> p) (h <$> q)
 moves_made {A} {B} {u} {w} g h k e = moves_chain _ k (λ x. record { same = λ names. rw e refl })
 
 -- a choice moves as both steps do
-pub moves_choice : {A : Type 0} {u : A → A} (b : Bool) {p q p' q' : Step A}
+pub moves_choice : {A : Type 0} {u : A → A} (b : Bool) {p q p' q' : Parse A}
     → Moves u p p' → Moves u q q' → Moves u (cond b p q) (cond b p' q')
 moves_choice true h k = h
 moves_choice false h k = k
@@ -70,7 +70,7 @@ moves_next what end Bare = moves_refusal _
 moves_next what end (Grow n f) = moves_pure (n, f)
 
 -- each item in turn moves as each does
-pub moves_each : {A : Type 0} {u : A → A} {item : Node → Step A} (f : Forest)
+pub moves_each : {A : Type 0} {u : A → A} {item : Node → Parse A} (f : Forest)
     → ((n : Node) → Moves u (item n) (item (unplaced.node n)))
     → Moves (map u) (each item f) (each item (unplaced.forest f))
 unfolding unplaced.forest
@@ -86,7 +86,7 @@ pub moves_names : Moves (λ names. names) names_so_far names_so_far
 moves_names = record { same = λ names. refl }
 
 -- a step with variables of its own moves as the step alone
-pub moves_by_itself : {A : Type 0} {u : A → A} {p q : Step A} → Moves u p q → Moves u (by_itself p) (by_itself q)
+pub moves_by_itself : {A : Type 0} {u : A → A} {p q : Parse A} → Moves u p q → Moves u (by_itself p) (by_itself q)
 moves_by_itself {A} {u} {p} {q} h = record { same = λ names. rw h.same (own names (p [])) }
   where
     own : (names : Names) (r : Result (A × Names) Misform)
@@ -109,14 +109,14 @@ same_word key (Numeral s n) = refl
 same_word key (Group s parts) = refl
 
 -- a choice by whether a node is a name moves as both steps do
-pub moves_word : {A : Type 0} {u : A → A} (key : List ℕ) (n : Node) {p q p' q' : Step A}
+pub moves_word : {A : Type 0} {u : A → A} (key : List ℕ) (n : Node) {p q p' q' : Parse A}
     → Moves u p p' → Moves u q q'
     → Moves u (cond (is_word key n) p q) (cond (is_word key (unplaced.node n)) p' q')
 moves_word key n h k = rw same_word (moves_choice (is_word key n) h k)
 
 -- a list by its first name moves as it does by any name
-pub moves_begun : {A : Type 0} {u : A → A} (n : Node) {by_name : List ℕ → Forest → Step A}
-    (by_name' : List ℕ → Forest → Step A) {other other' : Step A}
+pub moves_begun : {A : Type 0} {u : A → A} (n : Node) {by_name : List ℕ → Forest → Parse A}
+    (by_name' : List ℕ → Forest → Parse A) {other other' : Parse A}
     → ((text : List ℕ) (rest : Forest) → Moves u (by_name text rest) (by_name' text (unplaced.forest rest)))
     → Moves u other other'
     → Moves u (if_begun (begun n) by_name other) (if_begun (begun (unplaced.node n)) by_name' other')
@@ -134,7 +134,7 @@ unplaced_result u (Ok x) = Ok (u x)
 unplaced_result u (Err m) = Err (misform m)
 
 -- from no names the second step gives what the first gives, without places
-pub moved_result : {A : Type 0} {u : A → A} {p q : Step A} → Moves u p q
+pub moved_result : {A : Type 0} {u : A → A} {p q : Parse A} → Moves u p q
     → from_no_names q ≡ unplaced_result u (from_no_names p)
 moved_result {A} {u} {p} {q} h = rw h.same (at (p []))
   where

@@ -6,7 +6,7 @@ use Rattle.std.proofs.lemmas.List.Elements.{All-nil, All-cons}
 use Rattle.hp_syntax.specs.declared.pattern.Span.{Span}
 use Rattle.hp_syntax.specs.declared.form.What.{What}
 use Rattle.hp_syntax.specs.Forest.{Node, Word, Numeral, Group, Forest, Bare, Grow, nesting, nesting_of_node}
-use Rattle.hp_syntax.specs.Steps.{Misform, Step, Names, and_then, ◌>>=◌, ◌<$>◌, pure, refuse, next, each, value_in, from_no_names, begun, if_begun}
+use Rattle.hp_syntax.specs.Steps.{Misform, Parse, Names, and_then, ◌>>=◌, ◌<$>◌, pure, refuse, next, each, value_in, from_no_names, begun, if_begun}
 
 -- this holds of the value, where there is one
 abbrev GivesResult : {A : Type 0} → (A → Type 0) → Result (A × Names) Misform → Type 0
@@ -14,7 +14,7 @@ GivesResult P (Ok p) = P p.0
 GivesResult P (Err e) = Unit {0}
 
 -- a step gives only values of which this holds
-pub record Gives {A : Type 0} (P : A → Type 0) (step : Step A) : Type 0 where
+pub record Gives {A : Type 0} (P : A → Type 0) (step : Parse A) : Type 0 where
   pub given : (names : Names) → GivesResult P (step names)
 
 -- nothing is asked of a value
@@ -22,18 +22,18 @@ abbrev pub Any : {A : Type 0} → A → Type 0
 Any x = Unit {0}
 
 -- what is done with a value gives what it gives for each value that the result before may have
-and_then_gives : {A B : Type 0} (P : A → Type 0) (Q : B → Type 0) (r : Result (A × Names) Misform) (f : A → Step B)
+and_then_gives : {A B : Type 0} (P : A → Type 0) (Q : B → Type 0) (r : Result (A × Names) Misform) (f : A → Parse B)
     → GivesResult P r → ((x : A) → P x → Gives Q (f x)) → GivesResult Q (and_then r f)
 and_then_gives P Q (Ok p) f h k = (k p.0 h).given p.1
 and_then_gives P Q (Err e) f h k = tt
 
 -- a chain gives what its last step gives for each value that the first gives
-pub gives_chain : {A B : Type 0} {P : A → Type 0} {Q : B → Type 0} {p : Step A} {f : A → Step B}
+pub gives_chain : {A B : Type 0} {P : A → Type 0} {Q : B → Type 0} {p : Parse A} {f : A → Parse B}
     → Gives P p → ((x : A) → P x → Gives Q (f x)) → Gives Q (p >>= f)
 gives_chain {A} {B} {P} {Q} {p} {f} h k = record { given = λ names. and_then_gives P Q (p names) f (h.given names) k }
 
 -- any step gives values of which nothing is asked
-pub gives_any : {A : Type 0} (p : Step A) → Gives Any p
+pub gives_any : {A : Type 0} (p : Parse A) → Gives Any p
 gives_any {A} p = record { given = λ names. any (p names) }
   where
     any : (r : Result (A × Names) Misform) → GivesResult Any r
@@ -41,7 +41,7 @@ gives_any {A} p = record { given = λ names. any (p names) }
     any (Err e) = tt
 
 -- a chain gives what its last step gives for each value whatever the first gives
-pub gives_then : {A B : Type 0} {Q : B → Type 0} (p : Step A) {f : A → Step B}
+pub gives_then : {A B : Type 0} {Q : B → Type 0} (p : Parse A) {f : A → Parse B}
     → ((x : A) → Gives Q (f x)) → Gives Q (p >>= f)
 gives_then p k = gives_chain (gives_any p) (λ x h. k x)
 
@@ -54,12 +54,12 @@ pub gives_refusal : {A : Type 0} {P : A → Type 0} (m : Misform) → Gives P (r
 gives_refusal m = record { given = λ names. tt }
 
 -- a step that makes its value of another gives what follows from what holds of that other
-pub gives_made : {A B : Type 0} {P : A → Type 0} {Q : B → Type 0} (g : A → B) {p : Step A}
+pub gives_made : {A B : Type 0} {P : A → Type 0} {Q : B → Type 0} (g : A → B) {p : Parse A}
     → Gives P p → ((x : A) → P x → Q (g x)) → Gives Q (g <$> p)
 gives_made g h k = gives_chain h (λ x l. gives_pure (k x l))
 
 -- a choice of two steps gives what both of them give
-pub gives_choice : {A : Type 0} {P : A → Type 0} (b : Bool) {p q : Step A} → Gives P p → Gives P q
+pub gives_choice : {A : Type 0} {P : A → Type 0} (b : Bool) {p q : Parse A} → Gives P p → Gives P q
     → Gives P (cond b p q)
 gives_choice true h k = h
 gives_choice false h k = k
@@ -76,7 +76,7 @@ gives_next what end Bare l = gives_refusal _
 gives_next what end (Grow n f) l = gives_pure (record { first = omega arith; rest = omega arith })
 
 -- each item in turn has a property if what is read of each node that nests no deeper than the forest has it
-pub gives_each : {A : Type 0} (P : A → Type 0) {item : Node → Step A} (most : ℕ) (f : Forest) → nesting f ≤ most
+pub gives_each : {A : Type 0} (P : A → Type 0) {item : Node → Parse A} (most : ℕ) (f : Forest) → nesting f ≤ most
     → ((n : Node) → nesting_of_node n ≤ most → Gives P (item n)) → Gives (All P) (each item f)
 gives_each P most Bare l h = gives_pure (All-nil P)
 gives_each P most (Grow n f) l h =
@@ -84,7 +84,7 @@ gives_each P most (Grow n f) l h =
     (λ xs b. gives_pure (All-cons P x xs a b)))
 
 -- a list is read by its first name, and what follows the name nests less deep than the list
-pub gives_begun : {A : Type 0} {P : A → Type 0} (n : Node) {by_name : List ℕ → Forest → Step A} {other : Step A}
+pub gives_begun : {A : Type 0} {P : A → Type 0} (n : Node) {by_name : List ℕ → Forest → Parse A} {other : Parse A}
     → ((text : List ℕ) (rest : Forest) → nesting rest < nesting_of_node n → Gives P (by_name text rest))
     → Gives P other → Gives P (if_begun (begun n) by_name other)
 gives_begun (Word s text) h k = k
@@ -95,7 +95,7 @@ gives_begun (Group s (Grow (Numeral t n) rest)) h k = k
 gives_begun (Group s (Grow (Group t parts) rest)) h k = k
 
 -- the value that a step gives from no names on has what the step gives
-pub given_value : {A : Type 0} (P : A → Type 0) (p : Step A) (x : A) → Gives P p → from_no_names p ≡ Ok x → P x
+pub given_value : {A : Type 0} (P : A → Type 0) (p : Parse A) (x : A) → Gives P p → from_no_names p ≡ Ok x → P x
 given_value {A} P p x h e = value (p []) (h.given []) e
   where
     value : (r : Result (A × Names) Misform) → GivesResult P r → value_in r ≡ Ok x → P x

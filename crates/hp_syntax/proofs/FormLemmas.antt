@@ -6,7 +6,7 @@ use Rattle.hp_syntax.specs.declared.pattern.Span.{Span}
 use Rattle.hp_syntax.specs.declared.form.What.{What}
 use Rattle.hp_syntax.specs.declared.form.What.TheVariants as wants
 use Rattle.hp_syntax.specs.Forest.{Word, Numeral, Group, Forest, Bare, Grow}
-use Rattle.hp_syntax.specs.Steps.{Misform, Step, and_then, refuse, value_in, from_no_names}
+use Rattle.hp_syntax.specs.Steps.{Misform, Parse, and_then, refuse, value_in, from_no_names}
 use Rattle.hp_syntax.specs.Syntax.{Domain, Problem}
 use Rattle.hp_syntax.specs.Grammar.{file, file_list, domain_list, problem_list, domain_form, problem_form}
 
@@ -15,7 +15,7 @@ no_value : {A : Type 0} (m : Misform) (x : A) {P : Type 0} → Err m ≡ Ok x �
 no_value m x h = absurd cc
 
 -- where the other case fails, the test of a step that gives a value has passed
-passed : {A B : Type 0} (b : Bool) (p : Step A) (m : Misform) (k : A → Step B) (x : B)
+passed : {A B : Type 0} (b : Bool) (p : Parse A) (m : Misform) (k : A → Parse B) (x : B)
     → value_in (and_then (cond b p (refuse m) []) k) ≡ Ok x → b ≡ true
 passed true p m k x h = refl
 passed false p m k x h = no_value m x h
@@ -26,7 +26,7 @@ Begins key (Grow (Group s (Grow (Word t text) rest)) more) = bytes_eq text key �
 Begins key _ = ⊥
 
 -- a file that has a form begins with its word
-file_begins : {A : Type 0} (what : What) (key : List ℕ) (parts : Span → Forest → Step A) (len : ℕ) (f : Forest) (x : A)
+file_begins : {A : Type 0} (what : What) (key : List ℕ) (parts : Span → Forest → Parse A) (len : ℕ) (f : Forest) (x : A)
     → from_no_names (file what (file_list what key parts) len f) ≡ Ok x → Begins key f
 unfolding file file_list
 file_begins what key parts len (Grow (Group s (Grow (Word t text) rest)) more) x h =

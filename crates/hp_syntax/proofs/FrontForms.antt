@@ -6,7 +6,7 @@ use Rattle.hp_syntax.specs.declared.form.What.{What}
 use Rattle.hp_syntax.specs.declared.form.What.TheVariants as wants
 use Rattle.hp_syntax.specs.Forest.{Node, Word, Numeral, Group, Forest, Bare, Grow, span_of, IsForest}
 use Rattle.hp_syntax.specs.Names.{is_variable, is_plain, is_primitive, is_compound, is_branch_name}
-use Rattle.hp_syntax.specs.Steps.{Misform, Step, Names, ◌>>=◌, ◌<$>◌, pure, Expected, SeveralPairs, expected, by_itself, closing, is_word, value_in, from_no_names}
+use Rattle.hp_syntax.specs.Steps.{Misform, Parse, Names, ◌>>=◌, ◌<$>◌, pure, Expected, SeveralPairs, expected, by_itself, closing, is_word, value_in, from_no_names}
 use Rattle.hp_syntax.specs.Grammar.{Setting, InRule, InProblem, name, list, variable, variables, is_nil, tail_at, word_term, word_tail, term, list_term, items, dotted, tail, list_tail, called, terms, make_atom, named_atom, headed, atoms, assigned, expression, list_expression, expressions, one_expression, two_expressions, quantified, order_named, order, sorted, list_precondition, precondition, task, immediate, tasks, list_tasks, task_list, protection, for_each, keyed_effect, effect, effects, cost, operator, begins_named, branch_name, branches, named_branch, branch_tasks, method, clauses, named_clause, axiom_rule, keyed_rule, rule, domain_list, no_more_pairs, pair, problem_list, file_list, file, domain_form, problem_form}
 use Rattle.hp_syntax.specs.Syntax.{Variable, Expression, And, Also, Order, Up, Precondition, Plain, Tasks, Ordered, Then}
 use Rattle.hp_syntax.specs.Misforms.{misform_span}
@@ -16,13 +16,13 @@ use Rattle.hp_syntax.proofs.FrontForests.{cut_texts, whole_texts}
 use Rattle.hp_syntax.proofs.FrontSteps.{NodeBeyond, Beyond, AlikeUpTo, SameNode, IsLate, AlikeResult, RefusesAlike, alike_same, alike_choice, ReadsAlike, ReadsNodeAlike, late_pure, late_numbered, late_names, late_refusal, late_made, late_choice, reads_late, reads_choice, reads_last, reads_made, reads_by_itself, reads_grow, reads_word, reads_word_by, reads_numeral_by, both_refused, both_rest, both_by, both_then, both_choice, reads_next, reads_ended, node_word, node_numeral, node_group, reads_each, reads_group, both_whole, reads_begun}
 
 -- a list at the head of a list, as an expression
-abbrev first_expression : Node → Step Expression
+abbrev first_expression : Node → Parse Expression
 first_expression (Word s text) = expected wants.Expr s
 first_expression (Numeral s n) = expected wants.Expr s
 first_expression (Group s parts) = list_expression s parts
 
 -- a list at the head of a list, as tasks
-abbrev first_tasks : Setting → Node → Step Tasks
+abbrev first_tasks : Setting → Node → Parse Tasks
 first_tasks setting (Word s text) = expected wants.Tasks s
 first_tasks setting (Numeral s n) = expected wants.Tasks s
 first_tasks setting (Group s parts) = list_tasks setting s parts
@@ -38,13 +38,13 @@ module _ {at : ℕ} where
   reads_name (Group s f) = node_group (λ t l. reads_late (late_refusal l))
 
   -- that `nil` has no items is late
-  late_nil : {A : Type 0} (K : Forest → Step A) (b : Bool) (what : What) (s : Span) → at < s.to → IsLate at (K Bare)
+  late_nil : {A : Type 0} (K : Forest → Parse A) (b : Bool) (what : What) (s : Span) → at < s.to → IsLate at (K Bare)
       → IsLate at (cond b (pure Bare) (expected what s) >>= K)
   late_nil K true what s l h = h
   late_nil K false what s l h = late_refusal l
 
   -- the items of a list are read alike
-  reads_list : {A : Type 0} (what : What) {K : Forest → Step A} → ((f : Forest) → ReadsAlike at f K K) → (n : Node)
+  reads_list : {A : Type 0} (what : What) {K : Forest → Parse A} → ((f : Forest) → ReadsAlike at f K K) → (n : Node)
       → ReadsNodeAlike at n (λ m. list what m >>= K)
   unfolding list
   reads_list what {K} h (Word s text) = node_word (λ l. late_nil K (is_nil text) what s l ((h Bare).beyond tt))
@@ -560,7 +560,7 @@ module _ {at : ℕ} where
       reads_last _ _ (reads_pair (closing s) (closing t) l f) (λ only. late_names))) f))
 
   -- a list that begins with a certain word is read alike
-  reads_file_list : {A : Type 0} (what : What) (key : List ℕ) (parts : Span → Forest → Step A)
+  reads_file_list : {A : Type 0} (what : What) (key : List ℕ) (parts : Span → Forest → Parse A)
       → ((s t : Span) → at < s.to → (f : Forest) → ReadsAlike at f (parts s) (parts t)) → (n : Node)
       → ReadsNodeAlike at n (file_list what key parts)
   unfolding file_list
@@ -569,7 +569,7 @@ module _ {at : ℕ} where
       (λ s text f t l. reads_choice (bytes_eq text key) (h s t l f) (reads_late (late_refusal l)))
 
   -- a file that goes on behind the offset is read alike
-  reads_file : {A : Type 0} (what : What) (node : Node → Step A) → ((n : Node) → ReadsNodeAlike at n node)
+  reads_file : {A : Type 0} (what : What) (node : Node → Parse A) → ((n : Node) → ReadsNodeAlike at n node)
       → (len more : ℕ) → at < len → (f : Forest)
       → ReadsAlike at f (file what node len) (file what node more)
   unfolding file
@@ -585,7 +585,7 @@ refused_value at (Err m) q e h l u =
     let v : m ≡ e = cc in ap value_in (h (subst (λ (z : Misform). (misform_span z).to ≤ at) (sym v) l)) ∙ u
 
 -- a file is refused alike up to the end of the refused node
-file_refused : {A : Type 0} (what : What) (node : Node → Step A) → ((at : ℕ) (n : Node) → ReadsNodeAlike at n node)
+file_refused : {A : Type 0} (what : What) (node : Node → Parse A) → ((at : ℕ) (n : Node) → ReadsNodeAlike at n node)
     → (text other : List ℕ) (f g : Forest) (e : Misform) → IsForest text f → IsForest other g
     → from_no_names (file what node (length text) f) ≡ Err e
     → take ((misform_span e).to + 1) text ≡ take ((misform_span e).to + 1) other

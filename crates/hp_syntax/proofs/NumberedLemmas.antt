@@ -9,7 +9,7 @@ use Rattle.hp_syntax.specs.declared.form.What.{What}
 use Rattle.hp_syntax.specs.declared.form.What.TheVariants as wants
 use Rattle.hp_syntax.specs.Forest.{Node, Word, Numeral, Group, Forest, Bare, Grow, span_of}
 use Rattle.hp_syntax.specs.Names.{is_variable, is_plain, is_primitive, is_compound, is_branch_name}
-use Rattle.hp_syntax.specs.Steps.{Step, Names, ◌<$>◌, closing, begun, is_word}
+use Rattle.hp_syntax.specs.Steps.{Parse, Names, ◌<$>◌, closing, begun, is_word}
 use Rattle.hp_syntax.specs.Grammar.{Setting, InRule, InProblem, name, list, variable, variables, is_nil, tail_at, word_term, word_tail, term, list_term, items, dotted, tail, list_tail, called, terms, make_atom, named_atom, headed, atom, atoms, assigned, implied, expression, list_expression, expressions, one_expression, two_expressions, quantified, gathered, order, sorted, list_precondition, precondition, task, immediate, tasks, list_tasks, task_list, protection, for_each, keyed_effect, effect, effects, cost, operator, begins_named, branch_name, make_branch, branches, named_branch, branch_tasks, method, make_clause, clauses, named_clause, axiom_rule, keyed_rule, rule, domain_list, no_more_pairs, pair, problem_list, file_list, file, end_of_file, domain_form, problem_form}
 use Rattle.hp_syntax.specs.Syntax.{Patterns, Variable, Expressions, Holds, And, Or, Not, Test, NoExpression, Also, Precondition, Plain, First, Task, Ordered, Unordered, NoTasks, Then, Change, Rule, Does, Refines, Concludes, Domain, Problem}
 use Rattle.hp_syntax.specs.Numbered.{PatternBelow, PatternsBelow, TailBelow, AtomBelow, AllBelow, ExpressionBelow, ExpressionsBelow, PreconditionBelow, TasksBelow, TaskListBelow, EffectBelow, BranchBelow, ClauseBelow, IsNumberedRule, IsNumberedDomain, PairBelow, IsNumberedProblem}
@@ -525,7 +525,7 @@ module _ (most : ℕ) where
   -- ---- files
 
   -- a list that begins with a certain word keeps what its parts keep
-  kept_file_list : {A : Type 0} (P : A → Type 0) (what : What) (key : List ℕ) (parts : Span → Forest → Step A)
+  kept_file_list : {A : Type 0} (P : A → Type 0) (what : What) (key : List ℕ) (parts : Span → Forest → Parse A)
       (n : Node)
       → ((s : Span) (f : Forest) → Keeps most P (parts s f)) → Keeps most P (file_list what key parts n)
   unfolding file_list
@@ -534,7 +534,7 @@ module _ (most : ℕ) where
       (keeps_refusal _)
 
   -- a file keeps what its node keeps
-  kept_file : {A : Type 0} (P : A → Type 0) (what : What) (node : Node → Step A) (len : ℕ) (f : Forest)
+  kept_file : {A : Type 0} (P : A → Type 0) (what : What) (node : Node → Parse A) (len : ℕ) (f : Forest)
       → ((n : Node) → Keeps most P (node n)) → Keeps most P (file what node len f)
   unfolding file
   kept_file P what node len f h =

@@ -7,18 +7,18 @@ use Rattle.std.proofs.lemmas.List.Sums.{prefix_len-le-length}
 use Rattle.hp_syntax.specs.declared.pattern.Span.{Span}
 use Rattle.hp_syntax.specs.declared.form.What.{What}
 use Rattle.hp_syntax.specs.Forest.{Node, Forest, Bare, Grow}
-use Rattle.hp_syntax.specs.Steps.{Misform, Step, Names, and_then, ◌>>=◌, ◌<$>◌, pure, refuse, ended, next, each, numbered, names_so_far, by_itself, value_in, from_no_names, if_begun}
+use Rattle.hp_syntax.specs.Steps.{Misform, Parse, Names, and_then, ◌>>=◌, ◌<$>◌, pure, refuse, ended, next, each, numbered, names_so_far, by_itself, value_in, from_no_names, if_begun}
 
 -- if there are at most so many names at the end, so there were before, and this holds of the value and those names
 abbrev pub LeavesResult : {A : Type 0} → ℕ → (A → Names → Type 0) → Names → Result (A × Names) Misform → Type 0
 LeavesResult most P names (Ok p) = length p.1 ≤ most → (length names ≤ most) × P p.0 p.1
 LeavesResult most P names (Err e) = Unit {0}
 
-pub record Leaves {A : Type 0} (most : ℕ) (P : A → Names → Type 0) (step : Step A) : Type 0 where
+pub record Leaves {A : Type 0} (most : ℕ) (P : A → Names → Type 0) (step : Parse A) : Type 0 where
   pub left : (names : Names) → LeavesResult most P names (step names)
 
 -- the same where it holds of the value alone
-abbrev pub Keeps : {A : Type 0} → ℕ → (A → Type 0) → Step A → Type 0
+abbrev pub Keeps : {A : Type 0} → ℕ → (A → Type 0) → Parse A → Type 0
 Keeps most P step = Leaves most (λ x names. P x) step
 
 -- what a step leaves behind another one is left by both
@@ -31,14 +31,14 @@ then_left most P Q names p (Err e) h k = tt
 
 -- a result and what is done with it leave what the latter leaves
 and_then_left : {A B : Type 0} (most : ℕ) (P : A → Type 0) (Q : B → Names → Type 0) (names : Names)
-    (r : Result (A × Names) Misform) (f : A → Step B)
+    (r : Result (A × Names) Misform) (f : A → Parse B)
     → LeavesResult most (λ x _. P x) names r → ((x : A) → Leaves most (λ y after. P x → Q y after) (f x))
     → LeavesResult most Q names (and_then r f)
 and_then_left most P Q names (Ok p) f h k = then_left most P Q names p (f p.0 p.1) h ((k p.0).left p.1)
 and_then_left most P Q names (Err e) f h k = tt
 
 -- a chain of steps leaves what its last step leaves of the values before
-pub keeps_chain : {A B : Type 0} {most : ℕ} {P : A → Type 0} {Q : B → Names → Type 0} {p : Step A} {f : A → Step B}
+pub keeps_chain : {A B : Type 0} {most : ℕ} {P : A → Type 0} {Q : B → Names → Type 0} {p : Parse A} {f : A → Parse B}
     → Keeps most P p → ((x : A) → Leaves most (λ y names. P x → Q y names) (f x)) → Leaves most Q (p >>= f)
 keeps_chain {A} {B} {most} {P} {Q} {p} {f} h k =
     record { left = λ names. and_then_left most P Q names (p names) f (h.left names) k }
@@ -52,18 +52,18 @@ pub keeps_refusal : {A : Type 0} {most : ℕ} {P : A → Names → Type 0} (m : 
 keeps_refusal m = record { left = λ names. tt }
 
 -- a value made of another keeps what follows from what the other keeps
-pub keeps_made : {A B : Type 0} {most : ℕ} {P : A → Type 0} {Q : B → Type 0} (g : A → B) {p : Step A}
+pub keeps_made : {A B : Type 0} {most : ℕ} {P : A → Type 0} {Q : B → Type 0} (g : A → B) {p : Parse A}
     → Keeps most P p → ((x : A) → P x → Q (g x)) → Keeps most Q (g <$> p)
 keeps_made g h k = keeps_chain h (λ x. keeps_pure (k x))
 
 -- a choice of two steps leaves what both leave
-pub keeps_choice : {A : Type 0} {most : ℕ} {P : A → Names → Type 0} (b : Bool) {p q : Step A}
+pub keeps_choice : {A : Type 0} {most : ℕ} {P : A → Names → Type 0} (b : Bool) {p q : Parse A}
     → Leaves most P p → Leaves most P q → Leaves most P (cond b p q)
 keeps_choice true h k = h
 keeps_choice false h k = k
 
 -- a chain leaves what its last step leaves whatever the values before
-pub keeps_then : {A B : Type 0} {most : ℕ} {P : A → Type 0} {Q : B → Names → Type 0} {p : Step A} {f : A → Step B}
+pub keeps_then : {A B : Type 0} {most : ℕ} {P : A → Type 0} {Q : B → Names → Type 0} {p : Parse A} {f : A → Parse B}
     → Keeps most P p → ((x : A) → Leaves most Q (f x)) → Leaves most Q (p >>= f)
 keeps_then {A} {B} {most} {P} {Q} {p} {f} h k =
     keeps_chain h (λ x. record { left = λ names. more names (f x names) (P x) ((k x).left names) })
@@ -84,7 +84,7 @@ keeps_next what end Bare = keeps_refusal _
 keeps_next what end (Grow n f) = keeps_pure tt
 
 -- each item in turn keeps of all what it keeps of each
-pub keeps_each : {A : Type 0} {most : ℕ} (P : A → Type 0) {item : Node → Step A} (f : Forest)
+pub keeps_each : {A : Type 0} {most : ℕ} (P : A → Type 0) {item : Node → Parse A} (f : Forest)
     → ((n : Node) → Keeps most P (item n)) → Keeps most (All P) (each item f)
 keeps_each P Bare h = keeps_pure (All-nil P)
 keeps_each P (Grow n f) h =
@@ -105,7 +105,7 @@ pub keeps_none : {A : Type 0} {most : ℕ} (P : A → Type 0) → Keeps most (Al
 keeps_none P = keeps_pure (All-nil P)
 
 -- one value has a property if each of its list does
-pub keeps_one : {A : Type 0} {most : ℕ} (P : A → Type 0) {p : Step A} → Keeps most P p
+pub keeps_one : {A : Type 0} {most : ℕ} (P : A → Type 0) {p : Parse A} → Keeps most P p
     → Keeps most (All P) ((λ x. x ∷ []) <$> p)
 keeps_one P h = keeps_made (λ x. x ∷ []) h (λ x k. All-cons P x [] k (All-nil P))
 
@@ -124,7 +124,7 @@ keeps_numbered {most} name = record { left = λ names. at names (list_any (bytes
 
 -- a list by its first name keeps what it keeps by any name
 pub keeps_begun : {A : Type 0} {most : ℕ} {P : A → Type 0}
-    (x : Option (List ℕ × Forest)) {by_name : List ℕ → Forest → Step A} {other : Step A}
+    (x : Option (List ℕ × Forest)) {by_name : List ℕ → Forest → Parse A} {other : Parse A}
     → ((text : List ℕ) (rest : Forest) → Keeps most P (by_name text rest)) → Keeps most P other
     → Keeps most P (if_begun x by_name other)
 keeps_begun None h k = k
@@ -137,7 +137,7 @@ pub leaves_names : {A : Type 0} {most : ℕ} {P : A → Names → Type 0} {f : N
 leaves_names h = record { left = λ names l. (l, h names) }
 
 -- what is left for each count of names holds for the count at the end
-pub leaves_all : {A : Type 0} (P : ℕ → A → Names → Type 0) (Q : A → Type 0) {p : Step A}
+pub leaves_all : {A : Type 0} (P : ℕ → A → Names → Type 0) (Q : A → Type 0) {p : Parse A}
     → ((most : ℕ) → Leaves most (P most) p)
     → ((x : A) (names : Names) → P (length names) x names → Q x) → (most : ℕ) → Keeps most Q p
 leaves_all {A} P Q {p} h k most = record { left = λ names. all names (p names) (λ n. (h n).left names) }
@@ -148,7 +148,7 @@ leaves_all {A} P Q {p} h k most = record { left = λ names. all names (p names) 
     all names (Err e) u = tt
 
 -- a step with variables of its own keeps what it keeps alone
-pub keeps_by_itself : {A : Type 0} {most : ℕ} {P : A → Type 0} {p : Step A} → ((n : ℕ) → Keeps n P p)
+pub keeps_by_itself : {A : Type 0} {most : ℕ} {P : A → Type 0} {p : Parse A} → ((n : ℕ) → Keeps n P p)
     → Keeps most P (by_itself p)
 keeps_by_itself {A} {most} {P} {p} h = record { left = λ names. own names (p []) (λ n. (h n).left []) }
   where
@@ -158,7 +158,7 @@ keeps_by_itself {A} {most} {P} {p} h = record { left = λ names. own names (p []
     own names (Err e) k = tt
 
 -- what a step gives from no names on has what the step keeps
-pub kept_value : {A : Type 0} (P : A → Type 0) (p : Step A) (x : A) → ((n : ℕ) → Keeps n P p) → from_no_names p ≡ Ok x
+pub kept_value : {A : Type 0} (P : A → Type 0) (p : Parse A) (x : A) → ((n : ℕ) → Keeps n P p) → from_no_names p ≡ Ok x
     → P x
 kept_value {A} P p x h e = value (p []) (λ n. (h n).left []) e
   where

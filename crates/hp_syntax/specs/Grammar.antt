@@ -7,7 +7,7 @@ use Rattle.hp_syntax.specs.declared.form.What.{What}
 use Rattle.hp_syntax.specs.declared.form.What.TheVariants as wants
 use Rattle.hp_syntax.specs.Forest.{Node, Word, Numeral, Group, Forest, Bare, Grow, span_of}
 use Rattle.hp_syntax.specs.Names.{is_variable, is_plain, is_primitive, is_compound, is_branch_name}
-use Rattle.hp_syntax.specs.Steps.{Misform, SeveralPairs, Step, ◌>>=◌, ◌>>◌, ◌<$>◌, pure, refuse, expected, closing, ended, next, each, numbered, names_so_far, by_itself, from_no_names, is_word, begun, if_begun}
+use Rattle.hp_syntax.specs.Steps.{Misform, SeveralPairs, Parse, ◌>>=◌, ◌>>◌, ◌<$>◌, pure, refuse, expected, closing, ended, next, each, numbered, names_so_far, by_itself, from_no_names, is_word, begun, if_begun}
 use Rattle.hp_syntax.specs.Syntax.{Pattern, Patterns, Variable, Symbol, Number, Listing, Call, NoPattern, Before, Atom, Expression, Expressions, Holds, And, Or, Not, Forall, Assign, Test, NoExpression, Also, Order, Up, Down, Unknown, Key, Precondition, Plain, First, Sorted, Tasks, TaskList, Task, Ordered, Unordered, NoTasks, Then, Effect, Change, Protection, Each, Branch, Clause, Rule, Does, Refines, Concludes, Domain, Pair, Problem}
 
 -- where a term stands: calls may stand in a rule, and not in a problem
@@ -21,27 +21,27 @@ is_nil name = bytes_eq name (codes "nil")
 -- ---- names and lists
 
 -- a name is any token that is no numeral and no dot
-unfoldable pub name : Node → Step (List ℕ)
+unfoldable pub name : Node → Parse (List ℕ)
 name (Word s text) = cond (bytes_eq text (codes ".")) (expected wants.Name s) (pure text)
 name (Numeral s n) = expected wants.Name s
 name (Group s parts) = expected wants.Name s
 
 -- the items of a list; `nil` has none
-unfoldable pub list : What → Node → Step Forest
+unfoldable pub list : What → Node → Parse Forest
 list what (Word s text) = cond (is_nil text) (pure Bare) (expected what s)
 list what (Numeral s n) = expected what s
 list what (Group s parts) = pure parts
 
-unfoldable pub variable : Node → Step ℕ
+unfoldable pub variable : Node → Parse ℕ
 variable (Word s text) = cond (is_variable text) (numbered text) (expected wants.Variable s)
 variable (Numeral s n) = expected wants.Variable s
 variable (Group s parts) = expected wants.Variable s
 
-abbrev pub one_variable : List ℕ → Step (List ℕ)
+abbrev pub one_variable : List ℕ → Parse (List ℕ)
 one_variable text = (λ v. v ∷ []) <$> numbered text
 
 -- one variable, or a list of them
-unfoldable pub variables : Node → Step (List ℕ)
+unfoldable pub variables : Node → Parse (List ℕ)
 variables (Word s text) =
     cond (is_nil text) (pure []) (cond (is_variable text) (one_variable text) (expected wants.Variable s))
 variables (Numeral s n) = expected wants.Variable s
@@ -50,7 +50,7 @@ variables (Group s parts) = each variable parts
 -- ---- terms
 
 -- a variable, `nil`, or another name
-unfoldable pub word_term : Span → List ℕ → Step Pattern
+unfoldable pub word_term : Span → List ℕ → Parse Pattern
 word_term s text =
     cond (bytes_eq text (codes ".")) (expected wants.Term s)
     (cond (is_nil text) (pure (Listing s NoPattern None))
@@ -60,19 +60,19 @@ abbrev pub tail_at : Span → ℕ → Patterns × Option Tail
 tail_at s v = (NoPattern, Some (record { span = s; var = v }))
 
 -- behind a dot `nil` adds nothing
-unfoldable pub word_tail : Span → List ℕ → Step (Patterns × Option Tail)
+unfoldable pub word_tail : Span → List ℕ → Parse (Patterns × Option Tail)
 word_tail s text =
     cond (is_nil text) (pure (NoPattern, None))
     (cond (is_variable text) (tail_at s <$> numbered text) (expected wants.Tail s))
 
 unfoldable mutual
-  pub term : Setting → Node → Step Pattern
+  pub term : Setting → Node → Parse Pattern
   term setting (Word s text) = word_term s text
   term setting (Numeral s n) = pure (Number s n)
   term setting (Group s parts) = list_term setting s parts
 
   -- a list that begins with `call` is a call
-  pub list_term : Setting → Span → Forest → Step Pattern
+  pub list_term : Setting → Span → Forest → Parse Pattern
   list_term setting s Bare = pure (Listing s NoPattern None)
   list_term setting s (Grow n rest) =
       cond (is_word (codes "call") n) (called setting s rest)
@@ -82,7 +82,7 @@ unfoldable mutual
         pure (Listing s (Before first others.0) others.1))
 
   -- terms, and then a dot and a tail, where they are
-  pub items : Setting → Span → Forest → Step (Patterns × Option Tail)
+  pub items : Setting → Span → Forest → Parse (Patterns × Option Tail)
   items setting end Bare = pure (NoPattern, None)
   items setting end (Grow n rest) =
       cond (is_word (codes ".") n) (dotted setting end rest)
@@ -92,7 +92,7 @@ unfoldable mutual
         pure (Before first others.0, others.1))
 
   -- what stands behind a dot
-  pub dotted : Setting → Span → Forest → Step (Patterns × Option Tail)
+  pub dotted : Setting → Span → Forest → Parse (Patterns × Option Tail)
   dotted setting end Bare = expected wants.Tail end
   dotted setting end (Grow n rest) = do
     behind ← tail setting n
@@ -100,12 +100,12 @@ unfoldable mutual
     pure behind
 
   -- a tail is a variable, or a list whose parts and tail take its place
-  pub tail : Setting → Node → Step (Patterns × Option Tail)
+  pub tail : Setting → Node → Parse (Patterns × Option Tail)
   tail setting (Word s text) = word_tail s text
   tail setting (Numeral s n) = expected wants.Tail s
   tail setting (Group s parts) = list_tail setting s parts
 
-  pub list_tail : Setting → Span → Forest → Step (Patterns × Option Tail)
+  pub list_tail : Setting → Span → Forest → Parse (Patterns × Option Tail)
   list_tail setting s Bare = pure (NoPattern, None)
   list_tail setting s (Grow n rest) =
       cond (is_word (codes "call") n) (expected wants.Tail s)
@@ -115,7 +115,7 @@ unfoldable mutual
         pure (Before first others.0, others.1))
 
   -- `(call NAME term ..)`
-  pub called : Setting → Span → Forest → Step Pattern
+  pub called : Setting → Span → Forest → Parse Pattern
   called InProblem s rest = expected wants.Ground s
   called InRule s Bare = expected wants.Name (closing s)
   called InRule s (Grow n rest) = do
@@ -123,7 +123,7 @@ unfoldable mutual
     args ← terms rest
     pure (Call s text args)
 
-  pub terms : Forest → Step Patterns
+  pub terms : Forest → Parse Patterns
   terms Bare = pure NoPattern
   terms (Grow n rest) = do
     first ← term InRule n
@@ -136,26 +136,26 @@ abbrev pub make_atom : Span → List ℕ → Patterns × Option Tail → Atom
 make_atom s text x = record { span = s; name = text; args = x.0; tail = x.1 }
 
 -- an atom by its name and what follows
-unfoldable pub named_atom : Setting → Span → List ℕ → Forest → Step Atom
+unfoldable pub named_atom : Setting → Span → List ℕ → Forest → Parse Atom
 named_atom setting s text rest = make_atom s text <$> items setting (closing s) rest
 
 -- a list that begins with a fitting name
-unfoldable pub headed : What → (List ℕ → Bool) → Setting → Node → Step Atom
+unfoldable pub headed : What → (List ℕ → Bool) → Setting → Node → Parse Atom
 headed what fits setting n =
     if_begun (begun n)
     (λ text rest. cond (fits text) (named_atom setting (span_of n) text rest) (expected what (span_of n)))
     (expected what (span_of n))
 
-abbrev pub atom : Setting → Node → Step Atom
+abbrev pub atom : Setting → Node → Parse Atom
 atom setting = headed wants.Atom is_plain setting
 
-unfoldable pub atoms : Setting → Node → Step (List Atom)
+unfoldable pub atoms : Setting → Node → Parse (List Atom)
 atoms setting n = list wants.Atoms n >>= each (atom setting)
 
 -- ---- expressions
 
 -- `(assign VARIABLE term)`
-unfoldable pub assigned : Span → Forest → Step Expression
+unfoldable pub assigned : Span → Forest → Parse Expression
 assigned s rest = do
   left ← next wants.Variable (closing s) rest
   v ← variable left.0
@@ -169,13 +169,13 @@ abbrev pub implied : Span → Expression × Expression → Expression
 implied s both = Or s (Also (Not s both.0) (Also both.1 NoExpression))
 
 unfoldable mutual
-  pub expression : Node → Step Expression
+  pub expression : Node → Parse Expression
   expression (Word s text) = cond (is_nil text) (pure (And s NoExpression)) (expected wants.Expr s)
   expression (Numeral s n) = expected wants.Expr s
   expression (Group s parts) = list_expression s parts
 
   -- by what a list begins with: a list or `nil` begins a conjunction
-  pub list_expression : Span → Forest → Step Expression
+  pub list_expression : Span → Forest → Parse Expression
   list_expression s Bare = pure (And s NoExpression)
   list_expression s (Grow (Word t key) rest) =
       cond (is_nil key) ((λ es. And s (Also (And t NoExpression) es)) <$> expressions rest)
@@ -193,21 +193,21 @@ unfoldable mutual
     others ← expressions rest
     pure (And s (Also first others))
 
-  pub expressions : Forest → Step Expressions
+  pub expressions : Forest → Parse Expressions
   expressions Bare = pure NoExpression
   expressions (Grow n rest) = do
     first ← expression n
     others ← expressions rest
     pure (Also first others)
 
-  pub one_expression : Span → Forest → Step Expression
+  pub one_expression : Span → Forest → Parse Expression
   one_expression end Bare = expected wants.Expr end
   one_expression end (Grow n rest) = do
     e ← expression n
     ended rest
     pure e
 
-  pub two_expressions : Span → Forest → Step (Expression × Expression)
+  pub two_expressions : Span → Forest → Parse (Expression × Expression)
   two_expressions end Bare = expected wants.Expr end
   two_expressions end (Grow n rest) = do
     first ← expression n
@@ -215,7 +215,7 @@ unfoldable mutual
     pure (first, second)
 
   -- `(forall VARIABLES expression expression)`
-  pub quantified : Span → Forest → Step Expression
+  pub quantified : Span → Forest → Parse Expression
   quantified s Bare = expected wants.Variable (closing s)
   quantified s (Grow n rest) = do
     vs ← variables n
@@ -246,7 +246,7 @@ abbrev pub make_key : Span → ℕ → Order → Key
 make_key s v o = record { span = s; var = v; order = o }
 
 -- `(:sort-by VARIABLE order expression ..)`
-unfoldable pub sorted : Span → Forest → Step Precondition
+unfoldable pub sorted : Span → Forest → Parse Precondition
 sorted s rest = do
   by ← next wants.Variable (closing s) rest
   v ← variable by.0
@@ -254,7 +254,7 @@ sorted s rest = do
   pure (Sorted (make_key (span_of by.0) v (order by.1).0) (gathered s es))
 
 -- a list as a precondition
-unfoldable pub list_precondition : Span → Forest → Step Precondition
+unfoldable pub list_precondition : Span → Forest → Parse Precondition
 list_precondition s Bare = Plain <$> list_expression s Bare
 list_precondition s (Grow (Word t key) rest) =
     cond (bytes_eq key (codes ":first")) ((λ es. First (gathered s es)) <$> expressions rest)
@@ -263,7 +263,7 @@ list_precondition s (Grow (Word t key) rest) =
 list_precondition s (Grow (Numeral t n) rest) = Plain <$> list_expression s (Grow (Numeral t n) rest)
 list_precondition s (Grow (Group t parts) rest) = Plain <$> list_expression s (Grow (Group t parts) rest)
 
-unfoldable pub precondition : Node → Step Precondition
+unfoldable pub precondition : Node → Parse Precondition
 precondition (Word s text) = cond (is_nil text) (pure (Plain (And s NoExpression))) (expected wants.Pre s)
 precondition (Numeral s n) = expected wants.Pre s
 precondition (Group s parts) = list_precondition s parts
@@ -271,11 +271,11 @@ precondition (Group s parts) = list_precondition s parts
 -- ---- tasks
 
 -- a task, by its name and what follows
-abbrev pub task : Setting → Span → Bool → List ℕ → Forest → Step Tasks
+abbrev pub task : Setting → Span → Bool → List ℕ → Forest → Parse Tasks
 task setting s is_immediate text rest = (λ a. Task a is_immediate) <$> named_atom setting s text rest
 
 -- `(:immediate NAME term ..)`
-unfoldable pub immediate : Setting → Span → Forest → Step Tasks
+unfoldable pub immediate : Setting → Span → Forest → Parse Tasks
 immediate setting s Bare = expected wants.Name (closing s)
 immediate setting s (Grow (Word t text) rest) =
     cond (is_plain text) (task setting s true text rest) (expected wants.Name t)
@@ -283,13 +283,13 @@ immediate setting s (Grow (Numeral t n) rest) = expected wants.Name t
 immediate setting s (Grow (Group t parts) rest) = expected wants.Name t
 
 unfoldable mutual
-  pub tasks : Setting → Node → Step Tasks
+  pub tasks : Setting → Node → Parse Tasks
   tasks setting (Word s text) = cond (is_nil text) (pure (Ordered NoTasks)) (expected wants.Tasks s)
   tasks setting (Numeral s n) = expected wants.Tasks s
   tasks setting (Group s parts) = list_tasks setting s parts
 
   -- by what a list begins with: a list or `nil` begins an ordered list
-  pub list_tasks : Setting → Span → Forest → Step Tasks
+  pub list_tasks : Setting → Span → Forest → Parse Tasks
   list_tasks setting s Bare = pure (Ordered NoTasks)
   list_tasks setting s (Grow (Word t key) rest) =
       cond (is_nil key) ((λ ts. Ordered (Then (Ordered NoTasks) ts)) <$> task_list setting rest)
@@ -303,7 +303,7 @@ unfoldable mutual
     others ← task_list setting rest
     pure (Ordered (Then first others))
 
-  pub task_list : Setting → Forest → Step TaskList
+  pub task_list : Setting → Forest → Parse TaskList
   task_list setting Bare = pure NoTasks
   task_list setting (Grow n rest) = do
     first ← tasks setting n
@@ -313,7 +313,7 @@ unfoldable mutual
 -- ---- effects
 
 -- `(:protection atom)`
-unfoldable pub protection : Span → Forest → Step Effect
+unfoldable pub protection : Span → Forest → Parse Effect
 protection s rest = do
   x ← next wants.Atom (closing s) rest
   a ← atom InRule x.0
@@ -321,7 +321,7 @@ protection s rest = do
   pure (Protection a)
 
 -- `(forall VARIABLES expression atoms)`
-unfoldable pub for_each : Span → Forest → Step Effect
+unfoldable pub for_each : Span → Forest → Parse Effect
 for_each s rest = do
   x ← next wants.Variable (closing s) rest
   vs ← variables x.0
@@ -332,22 +332,22 @@ for_each s rest = do
   ended z.1
   pure (Each vs e changed)
 
-unfoldable pub keyed_effect : Span → List ℕ → Forest → Step Effect
+unfoldable pub keyed_effect : Span → List ℕ → Forest → Parse Effect
 keyed_effect s key rest =
     cond (bytes_eq key (codes ":protection")) (protection s rest)
     (cond (bytes_eq key (codes "forall")) (for_each s rest)
     (cond (is_plain key) (Change <$> named_atom InRule s key rest) (expected wants.Atom s)))
 
-unfoldable pub effect : Node → Step Effect
+unfoldable pub effect : Node → Parse Effect
 effect n = if_begun (begun n) (keyed_effect (span_of n)) (expected wants.Atom (span_of n))
 
-unfoldable pub effects : Node → Step (List Effect)
+unfoldable pub effects : Node → Parse (List Effect)
 effects n = list wants.Effects n >>= each effect
 
 -- ---- rules
 
 -- a cost that isn't written is 1, with the operator's span
-unfoldable pub cost : Span → Forest → Step Pattern
+unfoldable pub cost : Span → Forest → Parse Pattern
 cost s Bare = pure (Number s (pos 1))
 cost s (Grow n rest) = do
   t ← term InRule n
@@ -355,7 +355,7 @@ cost s (Grow n rest) = do
   pure t
 
 -- `(:operator head precondition deletes adds cost)`
-unfoldable pub operator : Span → Forest → Step Rule
+unfoldable pub operator : Span → Forest → Parse Rule
 operator s rest = do
   h ← next wants.Head (closing s) rest
   head ← headed wants.Head is_primitive InRule h.0
@@ -375,7 +375,7 @@ begins_named (Word s text) = not (is_nil text)
 begins_named (Numeral s n) = false
 begins_named (Group s parts) = false
 
-unfoldable pub branch_name : Node → Step (List ℕ)
+unfoldable pub branch_name : Node → Parse (List ℕ)
 branch_name (Word s text) = cond (is_branch_name text) (pure text) (expected wants.Name s)
 branch_name (Numeral s n) = expected wants.Name s
 branch_name (Group s parts) = expected wants.Name s
@@ -385,17 +385,17 @@ make_branch text p t = record { name = text; pre = p; tasks = t }
 
 unfoldable mutual
   -- branches of a method, one or more: a name where there is one, a precondition and tasks
-  pub branches : Span → Bool → Forest → Step (List Branch)
+  pub branches : Span → Bool → Forest → Parse (List Branch)
   branches end is_first Bare = cond is_first (expected wants.Pre end) (pure [])
   branches end is_first (Grow n rest) =
       cond (begins_named n) (branch_name n >>= (λ text. named_branch end text rest))
       (precondition n >>= (λ p. branch_tasks end None p rest))
 
-  pub named_branch : Span → List ℕ → Forest → Step (List Branch)
+  pub named_branch : Span → List ℕ → Forest → Parse (List Branch)
   named_branch end text Bare = expected wants.Pre end
   named_branch end text (Grow n rest) = precondition n >>= (λ p. branch_tasks end (Some text) p rest)
 
-  pub branch_tasks : Span → Option (List ℕ) → Precondition → Forest → Step (List Branch)
+  pub branch_tasks : Span → Option (List ℕ) → Precondition → Forest → Parse (List Branch)
   branch_tasks end text p Bare = expected wants.Tasks end
   branch_tasks end text p (Grow n rest) = do
     t ← tasks InRule n
@@ -403,7 +403,7 @@ unfoldable mutual
     pure (make_branch text p t ∷ others)
 
 -- `(:method head branch ..)`
-unfoldable pub method : Span → Forest → Step Rule
+unfoldable pub method : Span → Forest → Parse Rule
 method s rest = do
   h ← next wants.Head (closing s) rest
   head ← headed wants.Head is_compound InRule h.0
@@ -416,7 +416,7 @@ make_clause text e = record { name = text; body = e }
 
 unfoldable mutual
   -- branches of an axiom, one or more: a name where there is one, and an expression
-  pub clauses : Span → Bool → Forest → Step (List Clause)
+  pub clauses : Span → Bool → Forest → Parse (List Clause)
   clauses end is_first Bare = cond is_first (expected wants.Expr end) (pure [])
   clauses end is_first (Grow n rest) =
       cond (begins_named n) (branch_name n >>= (λ text. named_clause end text rest))
@@ -425,7 +425,7 @@ unfoldable mutual
         others ← clauses end false rest
         pure (make_clause None e ∷ others))
 
-  pub named_clause : Span → List ℕ → Forest → Step (List Clause)
+  pub named_clause : Span → List ℕ → Forest → Parse (List Clause)
   named_clause end text Bare = expected wants.Expr end
   named_clause end text (Grow n rest) = do
     e ← expression n
@@ -433,7 +433,7 @@ unfoldable mutual
     pure (make_clause (Some text) e ∷ others)
 
 -- `(:- head branch ..)`
-unfoldable pub axiom_rule : Span → Forest → Step Rule
+unfoldable pub axiom_rule : Span → Forest → Parse Rule
 axiom_rule s rest = do
   h ← next wants.Head (closing s) rest
   head ← headed wants.Head is_plain InRule h.0
@@ -441,20 +441,20 @@ axiom_rule s rest = do
   vars ← names_so_far
   pure (Concludes (record { span = s; vars = vars; head = head; clauses = cs }))
 
-unfoldable pub keyed_rule : Span → List ℕ → Forest → Step Rule
+unfoldable pub keyed_rule : Span → List ℕ → Forest → Parse Rule
 keyed_rule s key rest =
     cond (bytes_eq key (codes ":operator")) (operator s rest)
     (cond (bytes_eq key (codes ":method")) (method s rest)
     (cond (bytes_eq key (codes ":-")) (axiom_rule s rest) (expected wants.Rule s)))
 
 -- each rule has variables of its own
-unfoldable pub rule : Node → Step Rule
+unfoldable pub rule : Node → Parse Rule
 rule n = if_begun (begun n) (λ key rest. by_itself (keyed_rule (span_of n) key rest)) (expected wants.Rule (span_of n))
 
 -- ---- files
 
 -- `(defdomain NAME (rule ..))`
-unfoldable pub domain_list : Span → Forest → Step Domain
+unfoldable pub domain_list : Span → Forest → Parse Domain
 domain_list s rest = do
   x ← next wants.Name (closing s) rest
   text ← name x.0
@@ -464,14 +464,14 @@ domain_list s rest = do
   pure (record { name = text; rules = rules })
 
 -- nothing stands behind the one pair of a problem
-abbrev pub no_more_pairs : Forest → Step (Unit {0})
+abbrev pub no_more_pairs : Forest → Parse (Unit {0})
 no_more_pairs Bare = pure tt
 no_more_pairs (Grow n rest) = refuse (SeveralPairs (span_of n))
 
 abbrev pub make_pair : List Atom → Tasks → Pair
 make_pair state ts = record { state = state; tasks = ts }
 
-unfoldable pub pair : Span → Forest → Step Pair
+unfoldable pub pair : Span → Forest → Parse Pair
 pair end f = do
   x ← next wants.Atoms end f
   state ← atoms InProblem x.0
@@ -481,7 +481,7 @@ pair end f = do
   pure (make_pair state ts)
 
 -- `(defproblem NAME NAME atoms tasks)`
-unfoldable pub problem_list : Span → Forest → Step Problem
+unfoldable pub problem_list : Span → Forest → Parse Problem
 problem_list s rest = do
   x ← next wants.Name (closing s) rest
   text ← name x.0
@@ -498,7 +498,7 @@ problem_list s rest = do
   })
 
 -- a list that begins with this word
-unfoldable pub file_list : {A : Type 0} → What → List ℕ → (Span → Forest → Step A) → Node → Step A
+unfoldable pub file_list : {A : Type 0} → What → List ℕ → (Span → Forest → Parse A) → Node → Parse A
 file_list what key parts n =
     if_begun (begun n)
     (λ text rest. cond (bytes_eq text key) (parts (span_of n) rest) (expected what (span_of n)))
@@ -508,7 +508,7 @@ abbrev pub end_of_file : ℕ → Span
 end_of_file len = record { from = len; to = len }
 
 -- the only node of a file
-unfoldable pub file : {A : Type 0} → What → (Node → Step A) → ℕ → Forest → Step A
+unfoldable pub file : {A : Type 0} → What → (Node → Parse A) → ℕ → Forest → Parse A
 file what node len f = do
   x ← next what (end_of_file len) f
   value ← node x.0
