@@ -1,6 +1,9 @@
-use Rattle.std.proofs.Common.{rules}
+use Rattle.std.proofs.Common.{ap, refl, rules}
 use Rattle.std.proofs.lemmas.Result.{err_from_is_err_and}
+use Rattle.hp_syntax.specs.declared.expression.ExprKind.TheVariants as exprs
 use Rattle.hp_syntax.specs.Grammar as grammar
+use Rattle.hp_syntax.specs.Steps.{and_then, pure}
+use Rattle.hp_syntax.specs.ViewLaws.{expression_of-not, expression_of-or}
 use Rattle.hp_syntax.specs.Views.{expression_of}
 use Rattle.hp_forms.proofs.Turns.{one_viewed}
 use Rattle.hp_forms.proofs.PartLemmas.{expressions_read, expressions_refused, reads_same, conjunction-list}
@@ -38,3 +41,19 @@ list_kind-returns-in-List t c =
     (conjunction-list c.args.span c.args.nodes.now c.in-Some.rest.now c.in-Some.first.now _ _
     c.in-Some.ensures.cases.0 c.in-List.is)
     c.conjunction.ensures
+
+pub implied-returns : goal.implied-returns
+implied-returns t c =
+    let span = c.args.span in
+    let not = c.in_ok-new.field-0 in
+    let parts = c.push-2.new.self in
+    let both = rw c.closing.ensures at c.in_ok-first.ensures in
+    rw (
+      expression_of-or (record { span = span; kind = exprs.Or parts }) parts refl,
+      c.in_ok-push-2.ensures.items,
+      c.in_ok-push.ensures.items,
+      c.in_ok-parts.ensures.items,
+      expression_of-not (record { span = span; kind = exprs.Not not }) not refl,
+      c.in_ok-new.ensures.ok,
+    )
+    (ap (λ r. and_then r (λ both. pure (grammar.implied span both))) both)

@@ -101,3 +101,7 @@ pub terms-returns : goal.terms-returns
 terms-returns t c =
     terms_read c.args.nodes.now c.loop-node.node-index c.loop-node.terms.items _ _ c.loop-node-test.false
     c.loop-node.invariant
+
+pub called-returns-in-Problem : goal.called-returns-in-Problem
+unfolding grammar.called
+called-returns-in-Problem t c = search rules
