@@ -29,8 +29,8 @@ problem_parts all p = Grow (word p.name) (Grow (word p.domain) (written.pairs al
 -- a problem is read again, by the names at its end
 record ProblemAgain (read : Forest → Parse Problem) (H : Type 0) (names all : Names) (p : Problem)
     (end : Names) : Type 0 where
-    own : p.vars ≡ end
-    again : Again read CanSpellAll unplaced.problem H names (problem_parts all p) p end
+  own : p.vars ≡ end
+  again : Again read CanSpellAll unplaced.problem H names (problem_parts all p) p end
 
 -- the only node of a file is read again, and this holds of its value and the names at its end
 abbrev FileAgain : {A : Type 0} → What → (Node → Parse A) → (A → A) → Forest → Names → (A → Names → Type 0)

@@ -2,7 +2,7 @@
 use Rattle.std.specs.Prelude.{ℕ, zero, suc, ◌-◌, Bool, true, false, ◌&&◌, ◌==◌, cond, ℤ, pos, ◌+ℤ◌, List, [], ◌∷◌, ◌++◌, length, Option, Some, None, Result, Ok, Err, flat_map}
 use Rattle.std.specs.Option.{option_and_then}
 use Rattle.hp_syntax.specs.declared.fault.RunFault.{RunFault}
-use Rattle.hp_syntax.specs.Syntax.{Tasks, Operator, Branch, Method, Rule, Does, Refines, Concludes, Pair}
+use Rattle.hp_syntax.specs.Syntax.{Operator, Branch, Method, Rule, Does, Refines, Concludes, Pair}
 use Rattle.hp_syntax.specs.Terms.{Term}
 use Rattle.hp_syntax.specs.Values.{Bindings, unbound}
 use Rattle.hp_syntax.specs.Matching.{match_atom}
