@@ -7,10 +7,10 @@ use Rattle.hp_syntax.specs.Forest.{Node, Forest, Word, Numeral, Group, Bare, Gro
 use Rattle.hp_syntax.specs.Steps.{Misform, Expected, Names, Parse, and_then, pure, ended, next, expected, is_word, ◌>>=◌, value_in, from_no_names}
 use Rattle.hp_syntax.specs.Grammar.{file, file_list, list, is_nil}
 use Rattle.hp_text.specs.Nodes.{parts_of}
-use Rattle.hp_forms.specs.FormReads.{Refuses, Reads, Gives}
-use Rattle.hp_forms.specs.declared.refusal.FormRefusal.{FormRefusal}
-use Rattle.hp_forms.specs.declared.refusal.FormRefusal.TheVariants as refusals
-use Rattle.hp_forms.proofs.Turns.{refused_same}
+use Rattle.hp_terms.specs.FormReads.{Refuses, Reads, Gives}
+use Rattle.hp_terms.specs.declared.refusal.FormRefusal.{FormRefusal}
+use Rattle.hp_terms.specs.declared.refusal.FormRefusal.TheVariants as refusals
+use Rattle.hp_terms.proofs.Turns.{refused_same}
 
 -- a value, where nothing follows
 abbrev pub alone : {A : Type 0} → Result A Misform → Forest → Result A Misform

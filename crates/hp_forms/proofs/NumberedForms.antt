@@ -1,8 +1,8 @@
 -- What is read of a form that is numbered is numbered.
 use Rattle.std.proofs.Common.{◌≡◌, Result, Ok, Err, IfOk}
 use Rattle.hp_syntax.specs.Steps.{Misform}
-use Rattle.hp_forms.specs.declared.refusal.FormRefusal.{FormRefusal}
-use Rattle.hp_forms.specs.FormReads.{Gives}
+use Rattle.hp_terms.specs.declared.refusal.FormRefusal.{FormRefusal}
+use Rattle.hp_terms.specs.FormReads.{Gives}
 
 -- what holds of each value that is given holds of the value that is read
 pub given : {X Y : Type 0} (view : X → Y) (P : Y → Type 0) (r : Result X FormRefusal) (g : Result Y Misform)

@@ -10,24 +10,12 @@ use Rattle.hp_syntax.specs.Grammar.{InRule, precondition, tasks, expression, bra
 use Rattle.hp_forms.specs.Branches.{start, branch, clause, behind_name}
 use Rattle.hp_syntax.specs.Grammar as grammar
 use Rattle.hp_forms.specs.Operators.{operator, opening, changes}
-use Rattle.hp_forms.specs.FormReads.{Refuses, Gives, Reads}
-use Rattle.hp_forms.specs.declared.refusal.FormRefusal.{FormRefusal}
-use Rattle.hp_forms.specs.declared.refusal.FormRefusal.TheVariants as refusals
+use Rattle.hp_terms.specs.FormReads.{Refuses, Gives, Reads}
+use Rattle.hp_terms.specs.declared.refusal.FormRefusal.{FormRefusal}
+use Rattle.hp_terms.specs.declared.refusal.FormRefusal.TheVariants as refusals
 use Rattle.hp_text.specs.declared.forest.Node as public
 use Rattle.hp_text.specs.Nodes.{nodes_of}
-use Rattle.hp_forms.proofs.Turns.{prepend, prepend_more}
-
--- steps one after the other may be grouped either way
-pub bind-assoc : {A B C : Type 0} (r : Result (A × Names) Misform) (f : A → Parse B) (g : B → Parse C)
-    → and_then (and_then r f) g ≡ and_then r (λ x later. and_then (f x later) g)
-bind-assoc (Ok p) f g = refl
-bind-assoc (Err e) f g = refl
-
--- steps that go on alike give the same
-pub bind_same : {A B : Type 0} (r : Result (A × Names) Misform) (f g : A → Parse B)
-    → ((x : A) (later : Names) → f x later ≡ g x later) → and_then r f ≡ and_then r g
-bind_same (Ok p) f g h = h p.0 p.1
-bind_same (Err e) f g h = refl
+use Rattle.hp_terms.proofs.Turns.{prepend, prepend_more, bind-assoc, bind_same}
 
 -- an operator is its head and precondition, its effects and its cost, in turn
 pub operator_parts : (s : Span) (rest : Forest) (names : Names) → grammar.operator s rest names ≡ operator s rest names

@@ -5,15 +5,15 @@ ghost use Rattle.hp_syntax.specs.Steps as steps;
 ghost use Rattle.hp_syntax.specs.Grammar as grammar;
 ghost use Rattle.hp_syntax.specs.Views.{effect_of};
 ghost use Rattle.hp_text.specs.Nodes.{node_of, nodes_of};
-ghost use Rattle.hp_forms.specs.FormReads.{Reads};
+ghost use Rattle.hp_terms.specs.FormReads.{Reads};
 
-use crate::expressions::expression;
-use crate::names::{is, is_plain};
-use crate::nodes::{closing, ended, expected, list, next};
-use crate::refusal::FormRefusal;
-use crate::scope::Scope;
-use crate::terms::{Setting, atom, atoms, begun, named_atom};
+use hp_conditions::expressions::expression;
 use hp_syntax::{Effect, Name, Span, What};
+use hp_terms::FormRefusal;
+use hp_terms::names::{is, is_plain};
+use hp_terms::nodes::{closing, ended, expected, list, next};
+use hp_terms::scope::Scope;
+use hp_terms::terms::{Setting, atom, atoms, begun, named_atom};
 use hp_text::Node;
 
 /// `(:protection atom)`

@@ -9,15 +9,15 @@ ghost use Rattle.hp_syntax.specs.Steps.{Names, pure};
 ghost use Rattle.hp_syntax.specs.Grammar as grammar;
 ghost use Rattle.hp_syntax.specs.Views.{atom_of, domain_of, pair_of, problem_of, rule_of};
 ghost use Rattle.hp_text.specs.Nodes.{node_of, nodes_of, forest_of};
-ghost use Rattle.hp_forms.specs.FormReads.{Reads, Gives};
+ghost use Rattle.hp_terms.specs.FormReads.{Reads, Gives};
 
-use crate::nodes::{closing, ended, expected, is_word, list, name, next};
-use crate::refusal::FormRefusal;
 use crate::rules::rule;
-use crate::scope::{Scope, only};
 use crate::tasks::tasks;
-use crate::terms::{Setting, atom};
 use hp_syntax::{AtomPat, Domain, Name, Pair, Problem, Rule, Span, What};
+use hp_terms::FormRefusal;
+use hp_terms::nodes::{closing, ended, expected, is_word, list, name, next};
+use hp_terms::scope::{Scope, only};
+use hp_terms::terms::{Setting, atom};
 use hp_text::{Forest, Node};
 use std::alloc::{AllocError, Global};
 

@@ -10,25 +10,18 @@ ghost use Rattle.hp_syntax.specs.Grammar as grammar;
 ghost use Rattle.hp_syntax.specs.Numbered.{IsNumberedDomain, IsNumberedProblem};
 ghost use Rattle.hp_syntax.specs.Views.{domain_of, problem_of};
 ghost use Rattle.hp_text.specs.Nodes.{forest_of};
-ghost use Rattle.hp_forms.specs.FormReads.{Gives};
+ghost use Rattle.hp_terms.specs.FormReads.{Gives};
 
 mod effects;
-mod expressions;
 mod files;
-mod names;
-mod nodes;
-mod preconditions;
-mod refusal;
 mod rules;
-mod scope;
 mod tasks;
-mod terms;
 
 pub use hp_syntax::What;
 use hp_syntax::laws::forms_are_numbered;
 use hp_syntax::{Domain, Problem};
+pub use hp_terms::FormRefusal;
 use hp_text::Forest;
-pub use refusal::FormRefusal;
 use std::alloc::Global;
 
 /// The domain that a forest is the form of. The forest is copied, which `into_domain` spares.

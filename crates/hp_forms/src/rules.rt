@@ -6,23 +6,23 @@ ghost use Rattle.hp_syntax.specs.Grammar as grammar;
 ghost use Rattle.hp_syntax.specs.Views.{pattern_of, atom_of, precondition_of, effect_of, rule_of, branch_of, clause_of};
 ghost use Rattle.hp_text.specs.Nodes.{node_of, nodes_of};
 ghost use Rattle.hp_syntax.specs.Steps.{Names};
-ghost use Rattle.hp_forms.specs.FormReads.{Reads, Gives};
+ghost use Rattle.hp_terms.specs.FormReads.{Reads, Gives};
 ghost use Rattle.hp_forms.specs.Branches as branches;
 ghost use Rattle.hp_forms.specs.Operators as operators;
 
 use crate::effects::effects;
-use crate::expressions::expression;
-use crate::names::{HeadKind, is, is_branch_name};
-use crate::nodes::{closing, expected, next};
-use crate::preconditions::precondition;
-use crate::refusal::FormRefusal;
-use crate::scope::Scope;
 use crate::tasks::tasks;
-use crate::terms::{Setting, begun, headed, term};
+use hp_conditions::expressions::expression;
+use hp_conditions::preconditions::precondition;
 use hp_syntax::{
     AtomPat, Axiom, Branch, Clause, Effect, Method, Name, Operator, Pat, PatKind, Pre, Rule, Span,
     What,
 };
+use hp_terms::FormRefusal;
+use hp_terms::names::{HeadKind, is, is_branch_name};
+use hp_terms::nodes::{closing, expected, next};
+use hp_terms::scope::Scope;
+use hp_terms::terms::{Setting, begun, headed, term};
 use hp_text::{Node, NodeKind};
 use std::alloc::Global;
 

@@ -8,14 +8,14 @@ ghost use Rattle.hp_syntax.specs.Syntax.{Ordered};
 ghost use Rattle.hp_syntax.specs.Grammar as grammar;
 ghost use Rattle.hp_syntax.specs.Views.{tasks_of, task_list_of};
 ghost use Rattle.hp_text.specs.Nodes.{node_of, nodes_of};
-ghost use Rattle.hp_forms.specs.FormReads.{Reads, setting_of};
+ghost use Rattle.hp_terms.specs.FormReads.{Reads, setting_of};
 
-use crate::names::{is, is_plain};
-use crate::nodes::{closing, expected, next};
-use crate::refusal::FormRefusal;
-use crate::scope::Scope;
-use crate::terms::{Setting, named_atom};
 use hp_syntax::{Name, NetPat, Span, TaskPat, What};
+use hp_terms::FormRefusal;
+use hp_terms::names::{is, is_plain};
+use hp_terms::nodes::{closing, expected, next};
+use hp_terms::scope::Scope;
+use hp_terms::terms::{Setting, named_atom};
 use hp_text::{Node, NodeKind};
 
 /// A task, by its name and what follows.

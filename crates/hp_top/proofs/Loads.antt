@@ -3,9 +3,9 @@ use Rattle.std.proofs.Common.{◌≡◌, inl, inr, ℕ, ◌+◌, ◌≤◌, List
 use Rattle.std.proofs.lemmas.List.{take_all}
 use Rattle.hp_io.specs.declared.folder.Input.{Input}
 use Rattle.hp_io.specs.Rules.{Rose}
-use Rattle.hp_forms.specs.declared.refusal.FormRefusal.{FormRefusal}
-use Rattle.hp_forms.specs.declared.refusal.FormRefusal.TheVariants as forms
-use Rattle.hp_forms.specs.FormReads.{Refuses}
+use Rattle.hp_terms.specs.declared.refusal.FormRefusal.{FormRefusal}
+use Rattle.hp_terms.specs.declared.refusal.FormRefusal.TheVariants as forms
+use Rattle.hp_terms.specs.FormReads.{Refuses}
 use Rattle.hp_text.specs.declared.forest.TextRefusal.{TextRefusal}
 use Rattle.hp_text.specs.declared.forest.TextRefusal.TheVariants as texts
 use Rattle.hp_text.specs.Refusals.{RefusesText}

@@ -3,8 +3,8 @@ use Rattle.std.specs.Prelude.{◌≡◌, ◌⊎◌, ℕ, ◌+◌, List, Option, 
 use Rattle.hp_io.specs.declared.folder.Input.{Input}
 use Rattle.hp_io.specs.declared.folder.Input.TheVariants as inputs
 use Rattle.hp_io.specs.Rules.{Rose}
-use Rattle.hp_forms.specs.declared.refusal.FormRefusal.{FormRefusal}
-use Rattle.hp_forms.specs.declared.refusal.FormRefusal.TheVariants as forms
+use Rattle.hp_terms.specs.declared.refusal.FormRefusal.{FormRefusal}
+use Rattle.hp_terms.specs.declared.refusal.FormRefusal.TheVariants as forms
 use Rattle.hp_text.specs.declared.forest.TextRefusal.{TextRefusal}
 use Rattle.hp_text.specs.declared.forest.TextRefusal.TheVariants as texts
 use Rattle.hp_syntax.specs.declared.limits.TheConstants.{LARGEST_TEXT}

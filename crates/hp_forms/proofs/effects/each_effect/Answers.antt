@@ -2,7 +2,7 @@ use Rattle.std.proofs.Common.{map}
 use Rattle.std.proofs.lemmas.Result.{err_from_is_err_and}
 use Rattle.hp_syntax.specs.Grammar as grammar
 use Rattle.hp_syntax.specs.Views.{effect_of}
-use Rattle.hp_forms.proofs.Turns.{one_refused, one_viewed, all_read}
+use Rattle.hp_terms.proofs.Turns.{one_refused, one_viewed, all_read}
 use Rattle.hp_forms.proofs.effects.each_effect.Goals as goal
 
 pub returns-in_err-effect : goal.returns-in_err-effect

@@ -1,7 +1,7 @@
 use Rattle.std.proofs.lemmas.Result.{err_from_is_err_and}
 use Rattle.hp_syntax.specs.Grammar as grammar
 use Rattle.hp_syntax.specs.Views.{atom_of}
-use Rattle.hp_forms.proofs.Turns.{first_taken, none_taken, first_read, first_refused, none_is_left}
+use Rattle.hp_terms.proofs.Turns.{first_taken, none_taken, first_read, first_refused, none_is_left}
 use Rattle.hp_forms.proofs.files.atoms.Goals as goal
 
 pub returns-in_err-atom : goal.returns-in_err-atom

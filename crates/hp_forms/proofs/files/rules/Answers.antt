@@ -3,7 +3,7 @@ use Rattle.hp_syntax.specs.Steps as steps
 use Rattle.hp_syntax.specs.Grammar as grammar
 use Rattle.hp_syntax.specs.Views.{rule_of}
 use Rattle.hp_text.specs.Nodes.{nodes_of}
-use Rattle.hp_forms.proofs.Turns.{prepend, prepend-nil, first_taken, none_taken, first_read, none_is_left}
+use Rattle.hp_terms.proofs.Turns.{prepend, prepend-nil, first_taken, none_taken, first_read, none_is_left}
 use Rattle.hp_forms.proofs.files.rules.Goals as goal
 
 pub loop-node-init : goal.loop-node-init

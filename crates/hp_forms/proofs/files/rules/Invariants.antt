@@ -5,7 +5,7 @@ use Rattle.hp_syntax.specs.Steps.{Names}
 use Rattle.hp_syntax.specs.Grammar as grammar
 use Rattle.hp_syntax.specs.Views.{rule_of}
 use Rattle.hp_text.specs.Nodes.{nodes_of}
-use Rattle.hp_forms.proofs.Turns.{prepend}
+use Rattle.hp_terms.proofs.Turns.{prepend}
 use Rattle.hp_forms.proofs.files.rules.Given as goal
 
 abbrev pub invariant-loop-node : goal.invariant-loop-node

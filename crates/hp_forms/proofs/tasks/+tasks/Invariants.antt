@@ -3,9 +3,9 @@ use Rattle.hp_syntax.specs.Steps as steps
 use Rattle.hp_syntax.specs.Grammar as grammar
 use Rattle.hp_syntax.specs.Views.{tasks_of}
 use Rattle.hp_text.specs.Nodes.{node_of, nodes_of}
-use Rattle.hp_forms.specs.FormReads.{setting_of}
-use Rattle.hp_forms.proofs.Turns.{prepend, from_here}
-use Rattle.hp_forms.proofs.Sizes.{node_size, forest_size}
+use Rattle.hp_terms.specs.FormReads.{setting_of}
+use Rattle.hp_terms.proofs.Turns.{prepend, from_here}
+use Rattle.hp_terms.proofs.Sizes.{node_size, forest_size}
 use Rattle.hp_forms.proofs.tasks.+tasks.Given as goal
 
 abbrev pub decreases-tasks : goal.decreases-tasks

@@ -1,0 +1,3 @@
+pub mod FormReads
+pub mod Heads
+pub mod Words
