@@ -25,7 +25,7 @@ use Rattle.hp_plain.specs.Rests.{place_in, relevant_by, by_candidates, queue_chi
 use Rattle.hp_plain.specs.Sites.{place_or_whole}
 use Rattle.hp_plain.specs.Spots.{node_of}
 use Rattle.hp_plain.specs.Turns.{turned_to}
-use Rattle.hp_plain.proofs.RulebookLemmas.{relevant_give}
+use Rattle.hp_satisfiers.proofs.RulebookLemmas.{relevant_give}
 
 -- ---- candidates
 

@@ -1,17 +1,3 @@
-pub mod FoundLemmas
-pub mod HeardLemmas
-pub mod MatchSteps
-pub mod ConclusionSteps
-pub mod RulebookLemmas
-pub mod Sizes
-pub mod SearchSteps
-pub mod ChosenLemmas
-pub mod AxiomSteps
-pub mod SceneGrowth
-pub mod HeardSteps
-pub mod EffectLemmas
-pub mod ListedLemmas
-pub mod PreconditionLemmas
 pub mod NodeLemmas
 pub mod SiteSteps
 pub mod RestSteps

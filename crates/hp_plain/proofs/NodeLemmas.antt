@@ -17,12 +17,12 @@ use Rattle.hp_net.specs.Outlines.{forest, listed, first_network, network_in, pla
 use Rattle.hp_world.specs.Stages.{state_of, guards_of, terms_at}
 use Rattle.hp_plain.specs.declared.site.Site.{Site}
 use Rattle.hp_plain.specs.declared.spot.Spot.{Spot}
-use Rattle.hp_plain.specs.declared.found.Found.{Found}
-use Rattle.hp_plain.specs.declared.found.Found.TheVariants.{Sat, Cut, Fault}
+use Rattle.hp_satisfiers.specs.declared.found.Found.{Found}
+use Rattle.hp_satisfiers.specs.declared.found.Found.TheVariants.{Sat, Cut, Fault}
 use Rattle.hp_plain.specs.Spots.{node_of, IsSpot}
 use Rattle.hp_plain.specs.Sites.{IsSite}
 use Rattle.hp_plain.specs.Turns.{BindsFew}
-use Rattle.hp_plain.proofs.FoundLemmas.{state_stays, stage_below_grows}
+use Rattle.hp_satisfiers.proofs.FoundLemmas.{state_stays, stage_below_grows}
 use Rattle.hp_eval.proofs.GrowthLemmas.{below_grows}
 
 -- the node of a spot, by what its cells stand for

@@ -14,22 +14,22 @@ use Rattle.hp_eval.proofs.Loops.{left_more}
 use Rattle.hp_net.specs.declared.entry.Entry.{Entry}
 use Rattle.hp_eval.specs.Growth.{Grows}
 use Rattle.hp_eval.proofs.GrowthLemmas.{grows_length}
-use Rattle.hp_plain.specs.declared.found.Found.{Found}
-use Rattle.hp_plain.specs.declared.found.Found.TheVariants.{Sat, Cut as FoundCut, Fault as FoundFault}
+use Rattle.hp_satisfiers.specs.declared.found.Found.{Found}
+use Rattle.hp_satisfiers.specs.declared.found.Found.TheVariants.{Sat, Cut as FoundCut, Fault as FoundFault}
 use Rattle.hp_plain.specs.declared.rest.Queue.{Queue}
 use Rattle.hp_plain.specs.declared.rest.Run.{Run}
 use Rattle.hp_plain.specs.declared.rest.Rest.{Rest}
 use Rattle.hp_plain.specs.declared.site.Turn.{Turn}
 use Rattle.hp_plain.specs.declared.site.Turn.TheVariants.{Nothing, Cut, Fault, Did}
 use Rattle.hp_plain.specs.declared.spot.Spot.{Spot}
-use Rattle.hp_plain.specs.Founds.{found_event, found_events}
+use Rattle.hp_satisfiers.specs.Founds.{found_event, found_events}
 use Rattle.hp_plain.specs.Rests.{place_in, done_in, run_children, if_run, task_by, one_by, relevant_by, by_candidates, queue_children, rest_children, is_none, IsRun, MaybeRun, IsQueue, IsRest, Takes}
-use Rattle.hp_plain.specs.Rulebooks.{relevant_to}
+use Rattle.hp_satisfiers.specs.Rulebooks.{relevant_to}
 use Rattle.hp_plain.specs.Sites.{done_by}
 use Rattle.hp_plain.specs.Spots.{node_of, IsSpot}
 use Rattle.hp_plain.specs.Turns.{BindsFew, Turns, turned_to}
 use Rattle.hp_plain.proofs.NodeLemmas.{node_stays, term_stays, all_few_grow}
-use Rattle.hp_plain.proofs.FoundLemmas.{event_stays}
+use Rattle.hp_satisfiers.proofs.FoundLemmas.{event_stays}
 
 -- ---- turns
 

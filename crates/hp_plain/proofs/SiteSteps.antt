@@ -11,28 +11,27 @@ use Rattle.hp_syntax.specs.declared.limits.TheConstants.{DEEPEST_WALK}
 use Rattle.hp_syntax.specs.Applying.{Now, Guarded}
 use Rattle.hp_syntax.specs.Changes as changes
 use Rattle.std.proofs.lemmas.List.{length-replicate}
-use Rattle.std.proofs.lemmas.Option.{get_or_from_slice_get, slice_get-get_or, slice_get-map, slice_get_past, slice_get_within}
+use Rattle.std.proofs.lemmas.Option.{get_or_from_slice_get, slice_get-get_or, slice_get-map, slice_get_within}
 use Rattle.hp_syntax.specs.declared.domain.Branch as public_branch
-use Rattle.hp_syntax.specs.declared.domain.Rule as public_rule
 use Rattle.hp_syntax.specs.declared.domain.Operator as public_operator
 use Rattle.hp_syntax.specs.Syntax.{Atom, Branch, Method, Operator, Rule, Does, Refines}
 use Rattle.hp_syntax.specs.Matching.{match_atom}
 use Rattle.hp_eval.specs.Growth.{Grows}
 use Rattle.hp_eval.proofs.GrowthLemmas.{bindings_stay}
 use Rattle.hp_plain.proofs.NodeLemmas.{node_stays, term_stays}
-use Rattle.hp_plain.specs.declared.found.Found.{Found}
-use Rattle.hp_plain.specs.declared.found.Found.TheVariants.{Sat, Cut, Fault}
-use Rattle.hp_plain.specs.Founds.{Fits, Finds, found_events}
-use Rattle.hp_plain.proofs.MatchSteps.{binds_vars, match_failed, match_made}
-use Rattle.hp_plain.proofs.AxiomSteps.{none_bound}
+use Rattle.hp_satisfiers.specs.declared.found.Found.{Found}
+use Rattle.hp_satisfiers.specs.declared.found.Found.TheVariants.{Sat, Cut, Fault}
+use Rattle.hp_satisfiers.specs.Founds.{Fits, Finds, found_events}
+use Rattle.hp_satisfiers.proofs.MatchSteps.{binds_vars, match_failed, match_made}
+use Rattle.hp_satisfiers.proofs.AxiomSteps.{none_bound}
 use Rattle.hp_syntax.specs.declared.expression.Pre.{Pre}
 use Rattle.hp_syntax.specs.Events.{Event, State, axioms_of}
 use Rattle.hp_syntax.specs.Preconditions.{precondition_events}
 use Rattle.hp_syntax.specs.Values.{Bindings, unbound}
-use Rattle.hp_syntax.specs.Views.{branch_of, domain_of, operator_of, precondition_of, rule_of}
+use Rattle.hp_syntax.specs.Views.{branch_of, domain_of, operator_of, precondition_of}
 use Rattle.hp_eval.specs.Slotted.{Slotted, AreBelow, Matched, no_bindings, bindings_of}
-use Rattle.hp_plain.specs.declared.expressions.Scene.{Scene}
-use Rattle.hp_plain.specs.Scenes.{axioms_in, state_in}
+use Rattle.hp_satisfiers.specs.declared.expressions.Scene.{Scene}
+use Rattle.hp_satisfiers.specs.Scenes.{axioms_in, state_in}
 use Rattle.hp_syntax.specs.Terms.{Term}
 use Rattle.hp_syntax.specs.Networks.{Network, Place, finish, expand}
 use Rattle.hp_syntax.specs.Walk.{Node, Child, DidChild, child_of, operated, after_effects, decomposed, branch_children, operator_children, method_children}
@@ -292,14 +291,6 @@ precondition_stays s scene old mid g site pre slots below book world =
 
 -- ---- rules
 
--- a rule of the domain stands at its number
-pub rule_there : {list items : List public_rule.Rule} {x r : public_rule.Rule} (i : ℕ) → list ≡ items
-    → i < length list → x ≡ get_or list i x → x ≡ r → slice_get (map rule_of items) i ≡ Some (rule_of r)
-rule_there {list = list} {x = x} i same l is e =
-    ap (λ xs. slice_get (map rule_of xs) i) (sym same)
-    ∙ (slice_get-map rule_of list i
-    ∙ ap (option_map rule_of) (slice_get-get_or list i x l ∙ ap Some (sym is ∙ e)))
-
 -- a satisfier comes to what it does for the rule that stands at the number
 pub done_there : (terms : List Term) (s : Site) (rule branch : ℕ) (e : Bindings) (o : Option Rule)
     → slice_get (rules_at s) rule ≡ o
@@ -307,13 +298,6 @@ pub done_there : (terms : List Term) (s : Site) (rule branch : ℕ) (e : Binding
     ≡ done_at terms s rule branch e
 done_there terms s rule branch e o h =
     ap (λ r. done_by (rules_at s) s.nest (node_at_site terms s) (place_at s) (term_at_site terms s) r branch e) (sym h)
-
--- beyond the rules there is none
-pub rule_missing : {list items : List public_rule.Rule} (i : ℕ) → list ≡ items → length list ≤ i
-    → slice_get (map rule_of items) i ≡ None
-rule_missing {list = list} i same l =
-    ap (λ xs. slice_get (map rule_of xs) i) (sym same)
-    ∙ (slice_get-map rule_of list i ∙ ap (option_map rule_of) (slice_get_past list i l))
 
 -- what holds of all holds of the one that stands at a number
 pub holds_there : {X : Type 0} (P : X → Type 0) (xs : List X) (i : ℕ) (x : X) → All P xs → slice_get xs i ≡ Some x → P x

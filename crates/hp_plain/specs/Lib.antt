@@ -1,10 +1,3 @@
-pub mod Founds
-pub mod Places
-pub mod Rulebooks
-pub mod Scenes
-pub mod Tables
-pub mod Effected
-pub mod Listed
 pub mod Comings
 pub mod Frames
 pub mod Spots

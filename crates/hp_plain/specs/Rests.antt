@@ -17,8 +17,8 @@ use Rattle.hp_plain.specs.declared.rest.Run.{Run}
 use Rattle.hp_plain.specs.declared.rest.Queue.{Queue}
 use Rattle.hp_plain.specs.declared.rest.Rest.{Rest}
 use Rattle.hp_plain.specs.declared.spot.Spot.{Spot}
-use Rattle.hp_plain.specs.Founds.{found_events}
-use Rattle.hp_plain.specs.Rulebooks.{relevant_to}
+use Rattle.hp_satisfiers.specs.Founds.{found_events}
+use Rattle.hp_satisfiers.specs.Rulebooks.{relevant_to}
 use Rattle.hp_plain.specs.Sites.{children_by, done_by, place_or_whole}
 use Rattle.hp_plain.specs.Spots.{node_of}
 use Rattle.hp_plain.specs.Turns.{BindsFew, TurnFits, turned_to}

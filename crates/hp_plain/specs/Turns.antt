@@ -7,14 +7,14 @@ use Rattle.hp_syntax.specs.Values.{Bindings}
 use Rattle.hp_syntax.specs.Events.{Event}
 use Rattle.hp_syntax.specs.Networks.{Place}
 use Rattle.hp_syntax.specs.Walk.{Node, Child, DidChild, CutChild, FaultChild, child_of}
-use Rattle.hp_eval.specs.Slotted.{Slotted, AreBelow, bindings_of}
-use Rattle.hp_plain.specs.declared.found.Found.{Found}
-use Rattle.hp_plain.specs.declared.found.Found.TheVariants as founds
+use Rattle.hp_eval.specs.Slotted.{AreBelow}
+use Rattle.hp_satisfiers.specs.declared.found.Found.{Found}
+use Rattle.hp_satisfiers.specs.declared.found.Found.TheVariants as founds
 use Rattle.hp_plain.specs.declared.site.Choice.{Choice}
 use Rattle.hp_plain.specs.declared.site.Site.{Site}
 use Rattle.hp_plain.specs.declared.site.Turn.{Turn}
 use Rattle.hp_plain.specs.declared.site.Turn.TheVariants.{Nothing, Cut, Fault, Did}
-use Rattle.hp_plain.specs.Founds.{found_events}
+use Rattle.hp_satisfiers.specs.Founds.{found_events}
 use Rattle.hp_plain.specs.Sites.{branch_done, done_at}
 use Rattle.hp_plain.specs.Spots.{node_of, IsSpot}
 
@@ -49,12 +49,6 @@ BindsFew n (founds.Fault f) = Unit {0}
 pub record FindsFew (terms : List Term) (found : List Found) (events : List Event) : Type 0 where
   pub stand : found_events terms found ≡ events
   pub few : All (BindsFew (length terms)) found
-
--- the slots are of so many variables, and bind what was found to match, if anything was
-abbrev pub MeetsHead : List Term → ℕ → Option Slotted → Option Bindings → Type 0
-MeetsHead terms vars None found = found ≡ None
-MeetsHead terms vars (Some slots) found =
-    (found ≡ Some (bindings_of terms slots)) × (length slots.values ≡ vars) × AreBelow (length terms) slots
 
 -- the events under bindings, if there are some
 abbrev pub if_matched : (Bindings → List Event) → Option Bindings → List Event

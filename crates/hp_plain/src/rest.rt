@@ -4,18 +4,18 @@ ghost use Rattle.std.specs.List.{All};
 ghost use Rattle.hp_syntax.specs.Networks.{part_at};
 ghost use Rattle.hp_syntax.specs.Walk.{child_of};
 ghost use Rattle.hp_eval.specs.Growth.{Grows};
-ghost use Rattle.hp_plain.specs.Founds.{found_event};
-ghost use Rattle.hp_plain.specs.Rulebooks.{relevant_to};
+ghost use Rattle.hp_satisfiers.specs.Founds.{found_event};
+ghost use Rattle.hp_satisfiers.specs.Rulebooks.{relevant_to};
 ghost use Rattle.hp_plain.specs.Spots.{node_of, IsSpot, HasFew};
 ghost use Rattle.hp_plain.specs.Turns.{Turns};
 ghost use Rattle.hp_plain.specs.Rests.{rules_of, place_in, one_by, done_in, run_children, if_run, queue_children, rest_children, work_left, is_none, IsCandidate, IsRun, MaybeRun, IsQueue, IsRest, Takes};
-ghost use Rattle.hp_plain.specs.declared.found.Found.{Found};
+ghost use Rattle.hp_satisfiers.specs.declared.found.Found.{Found};
 
-use crate::rulebook::Rulebook;
 use crate::site::{Choice, Site, Turn};
 use crate::spot::Spot;
 use hp_cells::{Cell, Cells};
 use hp_net::TaskId;
+use hp_satisfiers::rulebook::Rulebook;
 use std::alloc::{AllocError, Global};
 
 /// What a walk is made by.

@@ -8,11 +8,11 @@ ghost use Rattle.hp_net.specs.Standings.{next_below, gone_back, pruned};
 
 use crate::frame::{Come, Frame};
 use crate::rest::Base;
-use crate::rulebook::Rulebook;
 use crate::site::Turn;
 use crate::spot::Spot;
 use hp_cells::Cells;
 use hp_net::Step;
+use hp_satisfiers::rulebook::Rulebook;
 use hp_syntax::Domain;
 use std::alloc::{AllocError, Global};
 use std::mem;

@@ -8,7 +8,7 @@ use Rattle.hp_syntax.specs.Walk.{root}
 use Rattle.std.proofs.Common.{None}
 use Rattle.hp_world.specs.Stages.{terms_at}
 use Rattle.hp_eval.proofs.GrowthLemmas.{terms_stay}
-use Rattle.hp_plain.proofs.FoundLemmas.{state_stays, stage_below_grows}
+use Rattle.hp_satisfiers.proofs.FoundLemmas.{state_stays, stage_below_grows}
 use Rattle.hp_plain.specs.Begins.{adding}
 use Rattle.hp_plain.proofs.SiteSteps.{spot_is}
 use Rattle.hp_plain.proofs.begin.root.Goals as goal

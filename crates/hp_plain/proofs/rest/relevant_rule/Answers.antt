@@ -1,6 +1,6 @@
 use Rattle.std.proofs.Common.{length, Some, option_map, slice_get, ap, sym, ◌∙◌}
 use Rattle.hp_plain.specs.Rests.{rules_of, place_in}
-use Rattle.hp_plain.specs.Rulebooks.{relevant_to}
+use Rattle.hp_satisfiers.specs.Rulebooks.{relevant_to}
 use Rattle.hp_plain.proofs.rest.relevant_rule.Goals as goal
 
 pub relevant_at-requires : goal.relevant_at-requires

@@ -3,10 +3,10 @@ use Rattle.std.proofs.lemmas.List.Elements.{All-get_or}
 use Rattle.std.proofs.lemmas.Option.{slice_get_within}
 use Rattle.hp_syntax.specs.Networks.{part_at}
 use Rattle.hp_plain.specs.Rests.{rules_of, place_in, IsCandidate}
-use Rattle.hp_plain.specs.Rulebooks.{relevant_to}
+use Rattle.hp_satisfiers.specs.Rulebooks.{relevant_to}
 use Rattle.hp_plain.specs.Spots.{node_of}
 use Rattle.hp_plain.proofs.RestSteps.{candidate_next, candidate_done, queue_stays}
-use Rattle.hp_plain.proofs.RulebookLemmas.{rule_at_place, no_place, relevant_few}
+use Rattle.hp_satisfiers.proofs.RulebookLemmas.{rule_at_place, no_place, relevant_few}
 use Rattle.hp_eval.proofs.GrowthLemmas.{grows_self}
 use Rattle.hp_plain.proofs.rest.Queue.start.Goals as goal
 

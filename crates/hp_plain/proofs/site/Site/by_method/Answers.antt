@@ -7,7 +7,8 @@ use Rattle.hp_syntax.specs.Walk.{chosen_branch, branch_children, method_children
 use Rattle.hp_eval.specs.Slotted.{bindings_of}
 use Rattle.hp_eval.proofs.GrowthLemmas.{grows_self}
 use Rattle.hp_plain.specs.Sites.{rules_at, node_at_site, place_at, term_at_site}
-use Rattle.hp_plain.specs.Turns.{MeetsHead, ChoosesBranch}
+use Rattle.hp_plain.specs.Turns.{ChoosesBranch}
+use Rattle.hp_satisfiers.specs.Founds.{MeetsHead}
 use Rattle.hp_plain.proofs.site.Site.by_method.Goals as goal
 
 pub returns-in-None-clause-cells : goal.returns-in-None-clause-cells

@@ -8,7 +8,8 @@ use Rattle.hp_syntax.specs.Views.{atom_of, precondition_of}
 use Rattle.hp_eval.proofs.GrowthLemmas.{grows_self}
 use Rattle.hp_world.specs.Stages.{StageBelow}
 use Rattle.hp_plain.specs.Sites.{rules_at, node_at_site, term_at_site}
-use Rattle.hp_plain.specs.Turns.{MeetsHead, if_matched}
+use Rattle.hp_plain.specs.Turns.{if_matched}
+use Rattle.hp_satisfiers.specs.Founds.{MeetsHead}
 use Rattle.hp_plain.proofs.SiteSteps.{precondition_stays, finds_few}
 use Rattle.hp_plain.proofs.site.Site.by_operator.Goals as goal
 

@@ -4,7 +4,8 @@ use Rattle.hp_syntax.specs.Syntax.{Does, Refines}
 use Rattle.hp_syntax.specs.Views.{method_of, operator_of}
 use Rattle.hp_plain.specs.Sites.{children_by, node_at_site, place_at, rules_at, term_at_site}
 use Rattle.hp_plain.specs.Spots.{HasFew}
-use Rattle.hp_plain.proofs.SiteSteps.{rule_there, rule_missing, holds_there, chooses_operator, chooses_method, chooses_nothing}
+use Rattle.hp_plain.proofs.SiteSteps.{holds_there, chooses_operator, chooses_method, chooses_nothing}
+use Rattle.hp_satisfiers.proofs.RulebookLemmas.{rule_there, rule_missing}
 use Rattle.hp_eval.proofs.GrowthLemmas.{grows_self}
 use Rattle.hp_plain.proofs.site.Site.choice.Goals as goal
 

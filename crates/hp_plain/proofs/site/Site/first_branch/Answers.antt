@@ -3,15 +3,15 @@ use Rattle.std.specs.Prelude.{flat_map, slice_get}
 use Rattle.std.proofs.lemmas.List.{length-map}
 use Rattle.hp_syntax.specs.Events.{chosen}
 use Rattle.hp_syntax.specs.Views.{branch_of}
-use Rattle.hp_plain.specs.Founds.{found_event}
+use Rattle.hp_satisfiers.specs.Founds.{found_event}
 use Rattle.hp_eval.specs.Slotted.{bindings_of}
 use Rattle.hp_eval.proofs.GrowthLemmas.{below_grows, grows_on}
 use Rattle.hp_syntax.specs.Walk.{child_of}
 use Rattle.hp_world.specs.Stages.{StageBelow}
-use Rattle.hp_plain.proofs.FoundLemmas.{stage_below_grows}
+use Rattle.hp_satisfiers.proofs.FoundLemmas.{stage_below_grows}
 use Rattle.hp_plain.specs.Sites.{branch_done, rules_at, node_at_site, place_at}
 use Rattle.hp_plain.proofs.SiteSteps.{precondition_stays, branch_chosen, branch_met, branch_there, finds_few}
-use Rattle.hp_plain.proofs.ChosenLemmas.{chosen_left, chosen_here, chosen_passes}
+use Rattle.hp_satisfiers.proofs.ChosenLemmas.{chosen_left, chosen_here, chosen_passes}
 use Rattle.hp_plain.proofs.site.Site.first_branch.Goals as goal
 
 pub returns-then-not-is_empty-clause-chooses : goal.returns-then-not-is_empty-clause-chooses

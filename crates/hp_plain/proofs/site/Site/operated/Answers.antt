@@ -5,8 +5,8 @@ use Rattle.hp_syntax.specs.Changes.{apply, effects}
 use Rattle.hp_syntax.specs.Views.{operator_of}
 use Rattle.hp_eval.specs.Slotted.{bindings_of}
 use Rattle.hp_world.specs.Stages.{changes_of, StageBelow}
-use Rattle.hp_plain.specs.Effected.{ComesTo}
-use Rattle.hp_plain.specs.Scenes.{axioms_in, state_in}
+use Rattle.hp_satisfiers.specs.Effected.{ComesTo}
+use Rattle.hp_satisfiers.specs.Scenes.{axioms_in, state_in}
 use Rattle.hp_syntax.specs.Walk.{operated}
 use Rattle.hp_plain.specs.Sites.{node_at_site, term_at_site, place_at}
 use Rattle.hp_plain.proofs.NodeLemmas.{node_stays, term_stays, site_grows}

@@ -1,6 +1,7 @@
 use Rattle.std.proofs.lemmas.Result.{IfOk-weaker}
 use Rattle.hp_eval.specs.Slotted.{bindings_of}
-use Rattle.hp_plain.proofs.SiteSteps.{rule_there, rule_missing, done_there, turns_same}
+use Rattle.hp_plain.proofs.SiteSteps.{done_there, turns_same}
+use Rattle.hp_satisfiers.proofs.RulebookLemmas.{rule_there, rule_missing}
 use Rattle.hp_eval.proofs.GrowthLemmas.{grows_self}
 use Rattle.hp_plain.proofs.site.Site.satisfied.Goals as goal
 

@@ -2,7 +2,7 @@ use Rattle.std.proofs.Common.{length, ap, sym, subst}
 use Rattle.std.proofs.lemmas.Result.{IfOk-weaker}
 use Rattle.hp_syntax.specs.Walk.{child_of}
 use Rattle.hp_eval.proofs.GrowthLemmas.{grows_self}
-use Rattle.hp_plain.specs.Founds.{found_event}
+use Rattle.hp_satisfiers.specs.Founds.{found_event}
 use Rattle.hp_plain.specs.Sites.{done_at}
 use Rattle.hp_plain.specs.Turns.{BindsFew}
 use Rattle.hp_plain.proofs.SiteSteps.{turns_same}

@@ -1,0 +1,321 @@
+-- What is found, and that it stands for the same where terms are added.
+use Rattle.std.specs.Prelude.{slice_get, slice_set, unwrap_or}
+use Rattle.std.proofs.Common.{append_assoc, ◌≡◌, ℕ, ◌+◌, ◌<◌, ◌≤◌, below_more, Bool, true, false, List, [], ◌∷◌, ◌++◌, length, map, drop, get_or, Option, Some, None, refl, sym, ◌∙◌, ap, ap₂, subst, arith}
+use Rattle.std.specs.List.{All}
+use Rattle.std.proofs.lemmas.List.{ext_get_or, map-append, append-nil, length-set, drop_all}
+use Rattle.std.proofs.lemmas.Option.{unwrap_or-slice_get}
+use Rattle.hp_laws.proofs.BindingLemmas.{slice_get-set_same, slice_get-set_other}
+use Rattle.hp_eval.proofs.AttemptLemmas.{place_free, place_bound}
+use Rattle.hp_eval.proofs.Loops.{left_more}
+use Rattle.std.proofs.lemmas.List.Elements.{All-get_or, All-nil, All-cons, All-append, All-head, All-tail, All-weaker, All-same}
+use Rattle.hp_syntax.specs.Terms.{Term}
+use Rattle.hp_syntax.specs.Values.{Bindings}
+use Rattle.hp_syntax.specs.Events as plain
+use Rattle.hp_syntax.specs.Events.{Event, State}
+use Rattle.hp_syntax.specs.declared.fault.RunFault.{RunFault}
+use Rattle.hp_eval.specs.Slotted.{Slotted, AreBelow, named, bindings_of, with_bound, flat}
+use Rattle.hp_eval.specs.Growth.{Grows}
+use Rattle.hp_eval.specs.GoalViews.{goal_of, GoalBelow}
+use Rattle.hp_eval.specs.declared.goals.Goal.{Goal}
+use Rattle.hp_syntax.specs.Goals as plain_goals
+use Rattle.hp_eval.proofs.GoalViewLemmas.{all_below_grow, fillings_grow}
+use Rattle.hp_eval.proofs.GrowthLemmas.{bindings_stay, below_grows, terms_stay, all_below, grows_length}
+use Rattle.hp_world.specs.Stages.{Stage, StageBelow, live_atoms, state_of}
+use Rattle.hp_satisfiers.specs.declared.found.Found.{Found}
+use Rattle.hp_satisfiers.specs.declared.found.Found.TheVariants.{Sat, Cut, Fault}
+use Rattle.hp_satisfiers.specs.Founds.{found_event, found_events, Fits, BindsBelow, AllFit, Finds, FindsUpTo}
+
+-- ---- lists of what is found
+
+-- nothing is found where nothing is met
+pub finds_none : (terms : List Term) (vars : ℕ) (found : List Found) (events : List Event) → found ≡ [] → events ≡ []
+    → Finds terms vars found events
+finds_none terms vars found events is e = record {
+  stand = ap (found_events terms) is ∙ sym e;
+  fit = All-same (Fits vars (length terms)) found [] is (All-nil (Fits vars (length terms)));
+}
+
+-- one that fits stands for its event
+pub finds_one : (terms : List Term) (vars : ℕ) (x : Found) (found : List Found) → found ≡ x ∷ []
+    → Fits vars (length terms) x → Finds terms vars found (found_event terms x ∷ [])
+finds_one terms vars x found is h = record {
+  stand = ap (found_events terms) is;
+  fit =
+      All-same (Fits vars (length terms)) found (x ∷ []) is
+      (All-cons (Fits vars (length terms)) x [] h (All-nil (Fits vars (length terms))));
+}
+
+-- slots with equal values bind the same, to cells below the same count
+pub same_below : (n : ℕ) (a b : Slotted) → a.values ≡ b.values → AreBelow n b → AreBelow n a
+same_below n a b e h v cell k = h v cell (sym (ap (λ vs. slice_get vs v) e) ∙ k)
+
+-- a Sat with equal values stands for the same bindings
+pub finds_copy : (terms : List Term) (copy slots : Slotted) (found : List Found) → copy.values ≡ slots.values
+    → found ≡ Sat copy ∷ [] → AreBelow (length terms) slots
+    → Finds terms (length slots.values) found (plain.Sat (bindings_of terms slots) ∷ [])
+finds_copy terms copy slots found e is below =
+    let one = finds_one terms (length slots.values) (Sat copy) found is
+    (ap length e, same_below (length terms) copy slots e below) in
+    record {
+      stand = one.stand ∙ ap (λ vs. plain.Sat (map (named terms) vs) ∷ []) e;
+      fit = one.fit;
+    }
+
+-- ---- slots that are copied
+
+-- slots are copied up to a variable: those before stand for the same, and the others for nothing
+pub record IsCopiedTo (v : ℕ) (copy slots : Slotted) : Type 0 where
+  pub vars : length copy.values ≡ length slots.values
+  pub before : (w : ℕ) → w < v → slice_get copy.values w ≡ slice_get slots.values w
+  pub beyond : (w : ℕ) → v ≤ w → w < length slots.values → slice_get copy.values w ≡ Some None
+
+-- a variable that stands for nothing is copied as it is
+pub copied_free : (v : ℕ) (copy slots : Slotted) → IsCopiedTo v copy slots → v < length slots.values
+    → flat (slice_get slots.values v) ≡ None → IsCopiedTo (v + 1) copy slots
+copied_free v copy slots h l free = record {
+  vars = h.vars;
+  before =
+      below_more (λ w. slice_get copy.values w ≡ slice_get slots.values w) v h.before
+      (h.beyond v (omega arith) l ∙ sym (place_free slots v l free));
+  beyond = λ w k m. h.beyond w (omega arith) m;
+}
+
+-- a variable is copied where it is bound to the same cell
+pub copied_bound : (v cell : ℕ) (copy slots : Slotted) → IsCopiedTo v copy slots → v < length slots.values
+    → flat (slice_get slots.values v) ≡ Some cell → IsCopiedTo (v + 1) (with_bound v cell copy) slots
+copied_bound v cell copy slots h l bound = record {
+  vars = length-set copy.values v (Some cell) ∙ h.vars;
+  before =
+      below_more (λ w. slice_get (slice_set copy.values v (Some cell)) w ≡ slice_get slots.values w) v
+      (λ w k. slice_get-set_other copy.values v w (Some cell) (omega arith) ∙ h.before w k)
+      (slice_get-set_same copy.values v (Some cell) (omega (arith, h.vars))
+      ∙ sym (place_bound slots v cell bound));
+  beyond =
+      λ w k m. slice_get-set_other copy.values v w (Some cell) (omega arith) ∙ h.beyond w (omega arith) m;
+}
+
+-- slots that are copied to the end have equal values
+pub copied_all : (v : ℕ) (copy slots : Slotted) → IsCopiedTo v copy slots → length slots.values ≤ v
+    → copy.values ≡ slots.values
+copied_all v copy slots h l =
+    ext_get_or None copy.values slots.values h.vars
+    (λ i k. sym (unwrap_or-slice_get copy.values i None)
+    ∙ (ap (λ o. unwrap_or o None) (h.before i (omega (arith, h.vars))) ∙ unwrap_or-slice_get slots.values i None))
+
+-- ---- negation
+
+-- a finding, where there was a cut before or not
+abbrev pub after_cut : Bool → plain.Finding → plain.Finding
+after_cut false f = f
+after_cut true f = plain.finding_with plain.Cut f
+
+-- a first event and those left, behind a cut or not
+after_first : (cut : Bool) (terms : List Term) (found : List Found) (i : ℕ) (x : Found) (whole : plain.Finding)
+    → i < length found → x ≡ get_or found i x
+    → whole ≡ after_cut cut (plain.finding (found_events terms (drop i found)))
+    → whole ≡ after_cut cut
+    (plain.finding_with (found_event terms x) (plain.finding (found_events terms (drop (i + 1) found))))
+after_first cut terms found i x whole l is h =
+    h ∙ ap (λ xs. after_cut cut (plain.finding (found_events terms xs))) (left_more found i x l is)
+
+-- a satisfier decides
+pub sat_decides : (cut : Bool) (terms : List Term) (found : List Found) (i : ℕ) (x : Found) (s : Slotted)
+    (whole : plain.Finding) → i < length found → x ≡ get_or found i x → x ≡ Sat s
+    → whole ≡ after_cut cut (plain.finding (found_events terms (drop i found))) → plain.Satisfied ≡ whole
+sat_decides cut terms found i x s whole l is sat h =
+    sym (after_first cut terms found i x whole l is h
+    ∙ ap (λ y. after_cut cut
+    (plain.finding_with (found_event terms y) (plain.finding (found_events terms (drop (i + 1) found))))) sat
+    ∙ elim cut as (λ c. after_cut c plain.Satisfied ≡ plain.Satisfied) [ false ↦ refl | true ↦ refl ])
+
+-- a fault decides
+pub fault_decides : (cut : Bool) (terms : List Term) (found : List Found) (i : ℕ) (x : Found) (f : RunFault)
+    (whole : plain.Finding) → i < length found → x ≡ get_or found i x → x ≡ Fault f
+    → whole ≡ after_cut cut (plain.finding (found_events terms (drop i found))) → plain.Faulty f ≡ whole
+fault_decides cut terms found i x f whole l is fault h =
+    sym (after_first cut terms found i x whole l is h
+    ∙ ap (λ y. after_cut cut
+    (plain.finding_with (found_event terms y) (plain.finding (found_events terms (drop (i + 1) found))))) fault
+    ∙ elim cut as (λ c. after_cut c (plain.Faulty f) ≡ plain.Faulty f) [ false ↦ refl | true ↦ refl ])
+
+-- a second cut changes nothing
+cut_again : (f : plain.Finding)
+    → plain.finding_with plain.Cut (plain.finding_with plain.Cut f) ≡ plain.finding_with plain.Cut f
+cut_again plain.Satisfied = refl
+cut_again (plain.Faulty f) = refl
+cut_again plain.Undecided = refl
+cut_again plain.Nothing = refl
+
+-- a cut leaves what comes after it to decide
+pub cut_passes : (cut : Bool) (terms : List Term) (found : List Found) (i : ℕ) (x : Found) (whole : plain.Finding)
+    → i < length found → x ≡ get_or found i x → x ≡ Cut
+    → whole ≡ after_cut cut (plain.finding (found_events terms (drop i found)))
+    → whole ≡ after_cut true (plain.finding (found_events terms (drop (i + 1) found)))
+cut_passes cut terms found i x whole l is e h =
+    let left = plain.finding (found_events terms (drop (i + 1) found)) in
+    after_first cut terms found i x whole l is h
+    ∙ ap (λ y. after_cut cut (plain.finding_with (found_event terms y) left)) e
+    ∙ elim cut as (λ c. after_cut c (plain.finding_with plain.Cut left) ≡ after_cut true left) [
+      | false ↦ refl
+      | true ↦ cut_again left
+    ]
+
+-- where nothing is left, a cut decides
+pub all_decided : (cut : Bool) (terms : List Term) (found : List Found) (i : ℕ) (whole : plain.Finding)
+    → length found ≤ i → whole ≡ after_cut cut (plain.finding (found_events terms (drop i found)))
+    → whole ≡ after_cut cut plain.Nothing
+all_decided cut terms found i whole l h =
+    h ∙ ap (λ xs. after_cut cut (plain.finding (found_events terms xs))) (drop_all i found l)
+
+-- ---- events that are found
+
+-- what stands for events stands for equal ones
+pub finds_same : (terms : List Term) (vars : ℕ) (found : List Found) (events others : List Event) → events ≡ others
+    → Finds terms vars found events → Finds terms vars found others
+finds_same terms vars found events others e h = subst (Finds terms vars found) e h
+
+module _ (terms : List Term) (vars : ℕ) (found : List Found) (whole : List Event) where
+  -- what is found next goes behind
+  pub upto_more : (piece left : List Event) (more items : List Found) → FindsUpTo terms vars found whole (piece ++ left)
+      → Finds terms vars more piece → items ≡ found ++ more → FindsUpTo terms vars items whole left
+  upto_more piece left more items h m is = record {
+    so_far =
+        h.so_far
+        ∙ (sym (append_assoc (found_events terms found) piece left)
+        ∙ ap (λ xs. xs ++ left)
+        (ap (λ xs. found_events terms found ++ xs) (sym m.stand)
+        ∙ (sym (map-append (found_event terms) found more) ∙ ap (found_events terms) (sym is))));
+    fit =
+        All-same (Fits vars (length terms)) items (found ++ more) is
+        (All-append (Fits vars (length terms)) found more h.fit m.fit);
+  }
+
+  -- the same where what is left is told by equal events
+  pub upto_same : (left others : List Event) → left ≡ others → FindsUpTo terms vars found whole left
+      → FindsUpTo terms vars found whole others
+  upto_same left others e h = subst (FindsUpTo terms vars found whole) e h
+
+  -- before anything is found, all is left
+  pub upto_none : found ≡ [] → FindsUpTo terms vars found whole whole
+  upto_none is = record {
+    so_far = ap (λ xs. found_events terms xs ++ whole) (sym is);
+    fit = All-same (Fits vars (length terms)) found [] is (All-nil (Fits vars (length terms)));
+  }
+
+  -- where nothing is left, all is found
+  pub upto_all : (left : List Event) → left ≡ [] → FindsUpTo terms vars found whole left → Finds terms vars found whole
+  upto_all left e h = record {
+    stand = sym (h.so_far ∙ (ap (λ xs. found_events terms found ++ xs) e ∙ append-nil (found_events terms found)));
+    fit = h.fit;
+  }
+
+-- ---- what takes the place of what is found
+
+module _ (terms : List Term) (f : Bindings → List Event) (x : Found) where
+  -- what takes the place of a Sat is met under its bindings
+  pub sat_replaced : (s : Slotted) → x ≡ Sat s → f (bindings_of terms s) ≡ plain.in_place f (found_event terms x)
+  sat_replaced s h = ap (λ y. plain.in_place f (found_event terms y)) (sym h)
+
+  -- a cut stands in its own place
+  pub cut_replaced : (vars : ℕ) (found : List Found) → x ≡ Cut → found ≡ Cut ∷ []
+      → Finds terms vars found (plain.in_place f (found_event terms x))
+  cut_replaced vars found h is =
+      finds_same terms vars found _ _ (ap (λ y. plain.in_place f (found_event terms y)) (sym h))
+      (finds_one terms vars Cut found is tt)
+
+  -- a fault stands in its own place
+  pub fault_replaced : (vars : ℕ) (k : RunFault) (found : List Found) → x ≡ Fault k → found ≡ Fault k ∷ []
+      → Finds terms vars found (plain.in_place f (found_event terms x))
+  fault_replaced vars k found h is =
+      finds_same terms vars found _ _ (ap (λ y. plain.in_place f (found_event terms y)) (sym h))
+      (finds_one terms vars (Fault k) found is tt)
+
+-- the slots of a Sat that fits fit
+pub sat_fits : (vars n : ℕ) (x : Found) (s : Slotted) → x ≡ Sat s → Fits vars n x
+    → (length s.values ≡ vars) × AreBelow n s
+sat_fits vars n x s h f = subst (Fits vars n) h f
+
+-- what takes the place of the first that is left goes before what takes that of the others
+pub left_replaced : (terms : List Term) (f : Bindings → List Event) (found : List Found) (i : ℕ) (x : Found)
+    → i < length found → x ≡ get_or found i x
+    → plain.through (found_events terms (drop i found)) f
+    ≡ plain.in_place f (found_event terms x) ++ plain.through (found_events terms (drop (i + 1) found)) f
+left_replaced terms f found i x l is = ap (λ xs. plain.through (found_events terms xs) f) (left_more found i x l is)
+
+-- ---- terms that are added
+
+abbrev goal_with : List ℕ → plain_goals.Fillings → Option ℕ → plain_goals.Goal
+goal_with name parts tail = record { name = name; parts = parts; tail = tail }
+
+-- what fits binds to cells below the count
+pub fits_below : (vars n : ℕ) (x : Found) → Fits vars n x → BindsBelow n x
+fits_below vars n (Sat slots) h = h.1
+fits_below vars n Cut h = h
+fits_below vars n (Fault f) h = h
+
+module _ (old new : List Term) (g : Grows old new) where
+  -- what is bound to cells below the number of terms goes on to be
+  pub binds_grow : (x : Found) → BindsBelow (length old) x → BindsBelow (length new) x
+  binds_grow (Sat slots) h = below_grows old new g slots h
+  binds_grow Cut h = h
+  binds_grow (Fault f) h = h
+
+  -- what is bound to cells below the number of terms stands for the same event
+  pub event_stays : (x : Found) → BindsBelow (length old) x → found_event new x ≡ found_event old x
+  event_stays (Sat slots) h = ap plain.Sat (bindings_stay old new g slots h)
+  event_stays Cut h = refl
+  event_stays (Fault f) h = refl
+
+  -- what fits goes on to fit
+  pub fits_grow : (vars : ℕ) (x : Found) → Fits vars (length old) x → Fits vars (length new) x
+  fits_grow vars (Sat slots) h = (h.0, below_grows old new g slots h.1)
+  fits_grow vars Cut h = h
+  fits_grow vars (Fault f) h = h
+
+  -- all that fits goes on to fit
+  pub all_fit_grow : (vars : ℕ) (found : List Found) → AllFit vars (length old) found → AllFit vars (length new) found
+  all_fit_grow vars found h =
+      All-weaker (Fits vars (length old)) (Fits vars (length new)) (fits_grow vars) found h
+
+  -- all that fits stands for the same events
+  pub events_stay : (vars : ℕ) (found : List Found) → AllFit vars (length old) found
+      → found_events new found ≡ found_events old found
+  events_stay vars [] h = refl
+  events_stay vars (x ∷ xs) h =
+      ap₂ ◌∷◌ (event_stays x (fits_below vars (length old) x (All-head (Fits vars (length old)) x xs h)))
+      (events_stay vars xs (All-tail (Fits vars (length old)) x xs h))
+
+  -- the same of what is found so far
+  pub upto_grow : (vars : ℕ) (found : List Found) (whole left : List Event) → FindsUpTo old vars found whole left
+      → FindsUpTo new vars found whole left
+  upto_grow vars found whole left h = record {
+    so_far = h.so_far ∙ ap (λ xs. xs ++ left) (sym (events_stay vars found h.fit));
+    fit = all_fit_grow vars found h.fit;
+  }
+
+  -- a goal stays below the number of terms
+  pub goal_below_grows : (q : Goal) → GoalBelow (length old) q → GoalBelow (length new) q
+  goal_below_grows q h = all_below_grow (length old) (length new) q.args.items (grows_length old new g) h
+
+  -- a goal below the number of terms stands for the same
+  pub goal_stays : (q : Goal) → GoalBelow (length old) q → goal_of new q ≡ goal_of old q
+  goal_stays q h =
+      ap (λ fs. goal_with q.name fs q.tail) (fillings_grow old new q.args.items g h)
+
+  -- a stage stays below the number of terms
+  pub stage_below_grows : (s : Stage) → StageBelow (length old) s → StageBelow (length new) s
+  stage_below_grows s h = record {
+    atoms = all_below old new g (live_atoms s.places) h.atoms;
+    guards = all_below old new g s.guards h.guards;
+  }
+
+  -- a stage below the number of terms stands for the same state
+  pub state_stays : (s : Stage) → StageBelow (length old) s → state_of new s ≡ state_of old s
+  state_stays s h = terms_stay old new g (live_atoms s.places) h.atoms
+
+-- ---- one of what is found
+
+-- what holds of all holds of the one at a place
+pub item_holds : {X : Type 0} (P : X → Type 0) (xs : List X) (i : ℕ) (x : X) → i < length xs → x ≡ get_or xs i x
+    → All P xs → P x
+item_holds P xs i x l is h = subst P (sym is) (All-get_or P xs i x l h)

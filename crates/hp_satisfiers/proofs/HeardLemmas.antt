@@ -1,0 +1,193 @@
+-- Lists of which the same is heard.
+use Rattle.std.proofs.Common.{append_assoc, ◌≡◌, ℕ, suc, ◌+◌, ◌-◌, ◌<◌, ◌≤◌, Bool, true, false, List, [], ◌∷◌, ◌++◌, length, drop, get_or, slice_get, refl, sym, ◌∙◌, ap, subst, arith}
+use Rattle.std.proofs.lemmas.List.{map-append, append-nil, drop_all}
+use Rattle.std.proofs.lemmas.List.Elements.{All-nil, All-append, All-same}
+use Rattle.hp_syntax.specs.Terms.{Term}
+use Rattle.hp_syntax.specs.Values.{Bindings}
+use Rattle.hp_syntax.specs.Events as plain
+use Rattle.hp_syntax.specs.Events.{Event, through, in_place, finding}
+use Rattle.hp_syntax.specs.Preconditions.{heard}
+use Rattle.hp_eval.specs.Growth.{Grows}
+use Rattle.hp_satisfiers.specs.declared.found.Found.{Found}
+use Rattle.hp_satisfiers.specs.declared.found.Found.TheVariants.{Sat, Cut, Fault}
+use Rattle.hp_satisfiers.specs.Founds.{found_event, found_events, Fits, Finds, AreHeardAlike, Hears, HearsUpTo, is_found_fault, ends_in_fault, turned}
+use Rattle.hp_satisfiers.proofs.FoundLemmas.{all_fit_grow, events_stay, left_replaced}
+
+-- ---- events
+
+-- lists that are heard alike are so behind the same events
+pub alike_behind : (xs ys zs : List Event) → AreHeardAlike ys zs → AreHeardAlike (xs ++ ys) (xs ++ zs)
+alike_behind [] ys zs h = h
+alike_behind (plain.Sat e ∷ xs) ys zs h = ap (λ us. plain.Sat e ∷ us) (alike_behind xs ys zs h)
+alike_behind (plain.Cut ∷ xs) ys zs h = ap (λ us. plain.Cut ∷ us) (alike_behind xs ys zs h)
+alike_behind (plain.Fault f ∷ xs) ys zs h = refl
+
+-- before other events only what is heard of a list matters
+heard_before : (xs zs : List Event) → AreHeardAlike (heard xs ++ zs) (xs ++ zs)
+heard_before [] zs = refl
+heard_before (plain.Sat e ∷ xs) zs = ap (λ us. plain.Sat e ∷ us) (heard_before xs zs)
+heard_before (plain.Cut ∷ xs) zs = ap (λ us. plain.Cut ∷ us) (heard_before xs zs)
+heard_before (plain.Fault f ∷ xs) zs = refl
+
+-- lists that are heard alike are so before the same events
+pub alike_before : (xs ys zs : List Event) → AreHeardAlike xs ys → AreHeardAlike (xs ++ zs) (ys ++ zs)
+alike_before xs ys zs h = sym (heard_before xs zs) ∙ (ap (λ us. heard (us ++ zs)) h ∙ heard_before ys zs)
+
+-- where events take the place of each Sat only what is heard of a list matters
+heard_through : (xs : List Event) (f : Bindings → List Event) → AreHeardAlike (through (heard xs) f) (through xs f)
+heard_through [] f = refl
+heard_through (plain.Sat e ∷ xs) f = alike_behind (f e) (through (heard xs) f) (through xs f) (heard_through xs f)
+heard_through (plain.Cut ∷ xs) f = ap (λ us. plain.Cut ∷ us) (heard_through xs f)
+heard_through (plain.Fault x ∷ xs) f = refl
+
+-- lists that are heard alike are so where the same events take the place of each Sat
+pub alike_through : (xs ys : List Event) (f : Bindings → List Event) → AreHeardAlike xs ys
+    → AreHeardAlike (through xs f) (through ys f)
+alike_through xs ys f h = sym (heard_through xs f) ∙ (ap (λ us. heard (through us f)) h ∙ heard_through ys f)
+
+-- what is heard of a list decides its negation
+heard_decides : (xs : List Event) → finding (heard xs) ≡ finding xs
+heard_decides [] = refl
+heard_decides (plain.Sat e ∷ xs) = refl
+heard_decides (plain.Cut ∷ xs) = ap (plain.finding_with plain.Cut) (heard_decides xs)
+heard_decides (plain.Fault f ∷ xs) = refl
+
+-- lists that are heard alike decide alike
+pub alike_decide : (xs ys : List Event) → AreHeardAlike xs ys → finding xs ≡ finding ys
+alike_decide xs ys h = sym (heard_decides xs) ∙ (ap finding h ∙ heard_decides ys)
+
+-- lists that are heard alike are so where they are negated
+pub alike_turned : (negate : Bool) (xs ys : List Event) (b : Bindings) → AreHeardAlike xs ys
+    → AreHeardAlike (turned negate xs b) (turned negate ys b)
+alike_turned false xs ys b h = h
+alike_turned true xs ys b h = ap (λ f. heard (plain.negated f b)) (alike_decide xs ys h)
+
+-- of a list that isn't empty something is heard
+pub alike_empty : (xs : List Event) → AreHeardAlike xs [] → xs ≡ []
+alike_empty [] h = refl
+alike_empty (plain.Sat e ∷ xs) h = absurd cc
+alike_empty (plain.Cut ∷ xs) h = absurd cc
+alike_empty (plain.Fault f ∷ xs) h = absurd cc
+
+-- ---- lists that end in a fault
+
+-- a list with one more in front has the same last
+last_later : (x y : Found) (ys : List Found)
+    → slice_get (x ∷ y ∷ ys) (length (x ∷ y ∷ ys) - 1) ≡ slice_get (y ∷ ys) (length (y ∷ ys) - 1)
+last_later x y ys =
+    let e : length (x ∷ y ∷ ys) - 1 ≡ suc (length (y ∷ ys) - 1) = omega arith in ap (slice_get (x ∷ y ∷ ys)) e
+
+-- behind a list that ends in a fault nothing is heard
+pub over_heard : (terms : List Term) (found : List Found) (more : List Event) → ends_in_fault found ≡ true
+    → AreHeardAlike (found_events terms found ++ more) (found_events terms found)
+over_heard terms [] more h = absurd cc
+over_heard terms (Fault f ∷ xs) more h = refl
+over_heard terms (Sat s ∷ []) more h = absurd cc
+over_heard terms (Cut ∷ []) more h = absurd cc
+over_heard terms (Sat s ∷ y ∷ ys) more h =
+    ap (λ us. found_event terms (Sat s) ∷ us)
+    (over_heard terms (y ∷ ys) more (sym (ap is_found_fault (last_later (Sat s) y ys)) ∙ h))
+over_heard terms (Cut ∷ y ∷ ys) more h =
+    ap (λ us. plain.Cut ∷ us) (over_heard terms (y ∷ ys) more (sym (ap is_found_fault (last_later Cut y ys)) ∙ h))
+
+-- ---- what is found
+
+-- what stands for events is heard as they are
+pub hears_found : (terms : List Term) (vars : ℕ) (found : List Found) (events : List Event)
+    → Finds terms vars found events → Hears terms vars found events
+hears_found terms vars found events h = record { stand = ap heard h.stand; fit = h.fit }
+
+-- what is heard as some events is heard as those that are heard alike
+pub hears_same : (terms : List Term) (vars : ℕ) (found : List Found) (events others : List Event)
+    → AreHeardAlike events others → Hears terms vars found events → Hears terms vars found others
+hears_same terms vars found events others e h = record { stand = h.stand ∙ e; fit = h.fit }
+
+-- what fits slots of so many variables fits as many
+pub hears_vars : (terms : List Term) (m n : ℕ) (found : List Found) (events : List Event) → m ≡ n
+    → Hears terms m found events → Hears terms n found events
+hears_vars terms m n found events e h = subst (λ k. Hears terms k found events) e h
+
+-- before anything is found, all is left
+pub hears_begin : (terms : List Term) (vars : ℕ) (found : List Found) (whole : List Event) → found ≡ []
+    → HearsUpTo terms vars found whole whole
+hears_begin terms vars found whole is = record {
+  so_far = ap (λ xs. heard (found_events terms xs ++ whole)) (sym is);
+  fit = All-same (Fits vars (length terms)) found [] is (All-nil (Fits vars (length terms)));
+}
+
+module _ (terms : List Term) (vars : ℕ) (found : List Found) (whole : List Event) where
+  -- what is left is as well told by equal events
+  pub hears_left : (left others : List Event) → left ≡ others → HearsUpTo terms vars found whole left
+      → HearsUpTo terms vars found whole others
+  hears_left left others e h = subst (HearsUpTo terms vars found whole) e h
+
+  -- what is found next goes behind
+  hears_more : (piece left : List Event) (more items : List Found)
+      → HearsUpTo terms vars found whole (piece ++ left) → Hears terms vars more piece → items ≡ found ++ more
+      → HearsUpTo terms vars items whole left
+  hears_more piece left more items h m is =
+      let next = found_events terms more in
+      let before = found_events terms found in
+      record {
+        so_far =
+            h.so_far
+            ∙ (alike_behind before (piece ++ left) (next ++ left) (alike_before piece next left (sym m.stand))
+            ∙ ap heard (sym (append_assoc before next left)
+            ∙ ap (λ xs. xs ++ left)
+            (sym (map-append (found_event terms) found more) ∙ ap (found_events terms) (sym is))));
+        fit =
+            All-same (Fits vars (length terms)) items (found ++ more) is
+            (All-append (Fits vars (length terms)) found more h.fit m.fit);
+      }
+
+  -- where nothing is left, all is heard
+  pub hears_all : (left : List Event) → left ≡ [] → HearsUpTo terms vars found whole left
+      → Hears terms vars found whole
+  hears_all left e h = record {
+    stand =
+        sym (h.so_far ∙ ap heard (ap (λ xs. found_events terms found ++ xs) e ∙ append-nil (found_events terms found)));
+    fit = h.fit;
+  }
+
+  -- where a fault came last, all is heard, whatever is left
+  pub hears_over : (left : List Event) → ends_in_fault found ≡ true → HearsUpTo terms vars found whole left
+      → Hears terms vars found whole
+  hears_over left over h = record { stand = sym (h.so_far ∙ over_heard terms found left over); fit = h.fit }
+
+-- what is found so far is heard as before where terms are added
+hears_grow : (old new : List Term) (g : Grows old new) (vars : ℕ) (found : List Found) (whole left : List Event)
+    → HearsUpTo old vars found whole left → HearsUpTo new vars found whole left
+hears_grow old new g vars found whole left h = record {
+  so_far = h.so_far ∙ ap (λ xs. heard (xs ++ left)) (sym (events_stay old new g vars found h.fit));
+  fit = all_fit_grow old new g vars found h.fit;
+}
+
+-- what is found next goes behind, where terms were added while it was looked for
+pub hears_next : (old new : List Term) (g : Grows old new) (vars : ℕ) (found more items : List Found)
+    (whole piece left : List Event) → HearsUpTo old vars found whole (piece ++ left) → Hears new vars more piece
+    → items ≡ found ++ more → HearsUpTo new vars items whole left
+hears_next old new g vars found more items whole piece left h m is =
+    hears_more new vars found whole piece left more items
+    (hears_grow old new g vars found whole (piece ++ left) h) m is
+
+-- what takes the place of the next goes behind what takes that of those before
+pub hears_replaced : (old mid new : List Term) (g : Grows mid new) (vars : ℕ) (f : Bindings → List Event)
+    (before more items found : List Found) (i : ℕ) (x : Found) → i < length found → x ≡ get_or found i x
+    → HearsUpTo mid vars before (through (found_events old found) f) (through (found_events old (drop i found)) f)
+    → Hears new vars more (in_place f (found_event old x)) → items ≡ before ++ more
+    → HearsUpTo new vars items (through (found_events old found) f)
+    (through (found_events old (drop (i + 1) found)) f)
+hears_replaced old mid new g vars f before more items found i x l is h m e =
+    let whole = through (found_events old found) f in
+    let left = through (found_events old (drop (i + 1) found)) f in
+    hears_next mid new g vars before more items whole (in_place f (found_event old x)) left
+    (hears_left mid vars before whole _ _ (left_replaced old f found i x l is) h) m e
+
+-- where nothing is left of a list, all is heard that takes the place of each Sat of it
+pub hears_replaced_all : (old new : List Term) (vars : ℕ) (f : Bindings → List Event) (items found : List Found) (i : ℕ)
+    → length found ≤ i
+    → HearsUpTo new vars items (through (found_events old found) f) (through (found_events old (drop i found)) f)
+    → Hears new vars items (through (found_events old found) f)
+hears_replaced_all old new vars f items found i l h =
+    hears_all new vars items (through (found_events old found) f) _
+    (ap (λ xs. through (found_events old xs) f) (drop_all i found l)) h

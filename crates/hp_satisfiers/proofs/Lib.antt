@@ -1,0 +1,14 @@
+pub mod FoundLemmas
+pub mod HeardLemmas
+pub mod MatchSteps
+pub mod ConclusionSteps
+pub mod RulebookLemmas
+pub mod Sizes
+pub mod SearchSteps
+pub mod ChosenLemmas
+pub mod AxiomSteps
+pub mod SceneGrowth
+pub mod HeardSteps
+pub mod EffectLemmas
+pub mod ListedLemmas
+pub mod PreconditionLemmas

@@ -1,0 +1,75 @@
+-- What is met in a scene stays where terms are added.
+use Rattle.std.proofs.Common.{◌≡◌, ℕ, Bool, true, List, length, Option, ◌∙◌, ap, ap₂, subst}
+use Rattle.hp_syntax.specs.declared.expression.Expr.{Expr}
+use Rattle.hp_syntax.specs.Syntax.{Expression, Axiom}
+use Rattle.hp_syntax.specs.Terms.{Term}
+use Rattle.hp_syntax.specs.Values.{Bindings}
+use Rattle.hp_syntax.specs.Events.{Event, State, events, negated, sat}
+use Rattle.hp_syntax.specs.Views.{expression_of}
+use Rattle.hp_eval.specs.Growth.{Grows}
+use Rattle.hp_eval.specs.GoalViews.{goal_of, GoalBelow}
+use Rattle.hp_eval.specs.declared.goals.Goal as open_goal
+use Rattle.hp_eval.specs.Slotted.{Slotted, AreBelow, bindings_of}
+use Rattle.hp_eval.proofs.GrowthLemmas.{bindings_stay}
+use Rattle.hp_world.specs.Stages.{Stage, StageBelow, state_of}
+use Rattle.hp_satisfiers.specs.declared.found.Found.{Found}
+use Rattle.hp_satisfiers.proofs.FoundLemmas.{finds_same, state_stays, goal_stays}
+use Rattle.hp_satisfiers.proofs.HeardLemmas.{alike_turned, alike_decide, hears_found, hears_same}
+use Rattle.hp_satisfiers.specs.Founds.{found_events, AreHeardAlike, Finds, Hears, turned}
+use Rattle.hp_satisfiers.specs.Scenes.{below_at, placed_events}
+
+-- ---- terms that are added
+
+-- what a part meets in the place of a Sat, or its negation
+abbrev pub turned_sat : List Axiom → ℕ → State → Expr → Bool → Bindings → List Event
+turned_sat axioms n s part negate b = turned negate (sat axioms n s (expression_of part) b) b
+
+module _ (old new : List Term) (g : Grows old new) (stage : Stage) (there : StageBelow (length old) stage) where
+  -- expressions meet the same in the place of a Sat
+  pub turned_stays : (axioms : List Axiom) (n : ℕ) (part : Expr) (negate : Bool)
+      → turned_sat axioms n (state_of new stage) part negate ≡ turned_sat axioms n (state_of old stage) part negate
+  turned_stays axioms n part negate =
+      ap (λ st. turned_sat axioms n st part negate) (state_stays old new g stage there)
+
+  module _ (s : Slotted) (below : AreBelow (length old) s) where
+    -- expressions meet the same under bindings
+    pub sat_stays : (axioms : List Axiom) (n : ℕ) (part : Expression)
+        → sat axioms n (state_of new stage) part (bindings_of new s)
+        ≡ sat axioms n (state_of old stage) part (bindings_of old s)
+    sat_stays axioms n part =
+        ap₂ (λ st e. sat axioms n st part e) (state_stays old new g stage there) (bindings_stay old new g s below)
+
+    -- axioms meet the same for a goal
+    pub placed_stays : (axioms : List Axiom) (n : ℕ) (q : open_goal.Goal) → GoalBelow (length old) q
+        → (o : Option Axiom)
+        → placed_events (below_at axioms n (state_of new stage)) o (goal_of new q) (bindings_of new s)
+        ≡ placed_events (below_at axioms n (state_of old stage)) o (goal_of old q) (bindings_of old s)
+    placed_stays axioms n q h o =
+        ap (λ st. placed_events (below_at axioms n st) o (goal_of new q) (bindings_of new s))
+        (state_stays old new g stage there)
+        ∙ ap₂ (placed_events (below_at axioms n (state_of old stage)) o) (goal_stays old new g q h)
+        (bindings_stay old new g s below)
+
+-- what an expression meets under slots, or its negation
+pub turn_gives : (terms : List Term) (vars : ℕ) (found items : List Found) (negate : Bool) (b e : Bindings)
+    (events : List Event) → AreHeardAlike (found_events terms found) events → b ≡ e
+    → Finds terms vars items (turned negate (found_events terms found) b)
+    → Hears terms vars items (turned negate events e)
+turn_gives terms vars found items negate b e events h k f =
+    hears_same terms vars items (turned negate (found_events terms found) e) (turned negate events e)
+    (alike_turned negate (found_events terms found) events e h)
+    (hears_found terms vars items (turned negate (found_events terms found) e)
+    (finds_same terms vars items _ _ (ap (turned negate (found_events terms found)) k) f))
+
+-- the negation of an expression meets what that of its events does
+pub negation_gives : (terms : List Term) (vars : ℕ) (found items : List Found) (b e : Bindings) (events : List Event)
+    → AreHeardAlike (found_events terms found) events → b ≡ e
+    → Finds terms vars items (turned true (found_events terms found) b)
+    → Finds terms vars items (turned true events e)
+negation_gives terms vars found items b e events h k f =
+    finds_same terms vars items _ _ (ap₂ negated (alike_decide (found_events terms found) events h) k) f
+
+-- what fits slots of so many variables, fits as many
+pub finds_vars : (terms : List Term) (m n : ℕ) (found : List Found) (events : List Event) → m ≡ n
+    → Finds terms m found events → Finds terms n found events
+finds_vars terms m n found events e h = subst (λ k. Finds terms k found events) e h

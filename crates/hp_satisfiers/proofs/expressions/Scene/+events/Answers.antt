@@ -1,0 +1,1039 @@
+use Rattle.std.proofs.Common.{◌≡◌, ◌+◌, ◌-◌, ◌*◌, ◌<◌, true, false, List, map, vec_len, ◌++◌, length, drop, get_or, Result, Ok, ap, ap₂, sym, ◌∙◌, subst, arith}
+use Rattle.std.specs.Prelude.{flat_map}
+use Rattle.std.proofs.lemmas.List.{nil_from_length}
+use Rattle.hp_laws.proofs.Listings.{map_has}
+use Rattle.hp_syntax.specs.Syntax.{Clause}
+use Rattle.std.proofs.lemmas.Option.{slice_get-get_or}
+use Rattle.std.proofs.lemmas.Result.{IfOk-weaker}
+use Rattle.hp_syntax.specs.declared.fault.RunFault.{RunFault}
+use Rattle.hp_syntax.specs.Values.{Bindings, unbound}
+use Rattle.hp_syntax.specs.Goals.{Goal, start_goal}
+use Rattle.hp_syntax.specs.Events.{Event, State, through, sat, axiom_events, branch_events, filled_events, concluded, chosen, chosen_events}
+use Rattle.hp_syntax.specs.Views.{axiom_of, clause_of, expression_of, expressions_of}
+use Rattle.hp_eval.specs.GoalViews.{goal_of}
+use Rattle.hp_eval.specs.Slotted.{bindings_of}
+use Rattle.hp_eval.proofs.GrowthLemmas.{grows_self, grows_on, bindings_stay, below_grows}
+use Rattle.hp_syntax.specs.Preconditions.{heard}
+use Rattle.std.specs.List.{All}
+use Rattle.std.proofs.lemmas.List.Elements.{All-weaker}
+use Rattle.hp_satisfiers.specs.Founds.{found_events, Fits, AllFit, BindsBelow, AreHeardAlike, MeetsHead}
+use Rattle.hp_satisfiers.specs.Rulebooks.{concluding, axiom_at}
+use Rattle.hp_satisfiers.specs.Scenes.{rules_in, axioms_in, stage_in, state_in, below_at, placed_events}
+use Rattle.hp_satisfiers.proofs.FoundLemmas.{finds_none, sat_replaced, cut_replaced, fault_replaced, fits_below, fits_grow, goal_below_grows, stage_below_grows, state_stays, goal_stays, item_holds, sat_fits}
+use Rattle.hp_satisfiers.proofs.Sizes.{size, sizes, left_to_do, less_to_do_below, branch_size, size_of-atom, size_of-and, size_of-or, size_of-not, size_of-forall, part_size}
+use Rattle.hp_satisfiers.proofs.SearchSteps.{sat_of-atom, sat_of-and, sat_of-or, sat_of-not, sat_of-forall, sat_of-assign, sat_of-call, forall_sat, all_of, all_begin, all_go_on, all_end, any_of, any_end}
+use Rattle.hp_satisfiers.proofs.AxiomSteps.{goal_begins, axioms_end, placed_axiom, few_at, axiom_among, axiom_unstarted, axiom_started, some_met, none_met}
+use Rattle.hp_satisfiers.proofs.ChosenLemmas.{chosen_left, chosen_here, chosen_passes}
+use Rattle.hp_satisfiers.proofs.SceneGrowth.{turned_sat, turned_stays, sat_stays, turn_gives, negation_gives, finds_vars}
+use Rattle.hp_satisfiers.proofs.HeardLemmas.{alike_through, hears_found, hears_begin, hears_same, hears_vars, hears_all, hears_over, hears_replaced_all}
+use Rattle.hp_satisfiers.proofs.HeardSteps.{any_next, each_next, goal_next}
+use Rattle.std.proofs.lemmas.Bool.{eqb-true, eqb-false}
+use Rattle.hp_satisfiers.proofs.expressions.Scene.+events.Goals as goal
+
+-- ---- an expression by its kind
+
+pub events-atom_events-requires : goal.events-atom_events-requires
+events-atom_events-requires t c =
+    let one = size_of-atom c.args.expr.now c.in-Atom.atom c.in-Atom.is in
+    (omega (arith, c.decreases, one), (c.requires.few, (c.requires.slots, c.requires.world)))
+
+pub events-all_events-requires : goal.events-all_events-requires
+events-all_events-requires t c =
+    let one = size_of-and c.args.expr.now c.in-And.parts c.in-And.is in
+    let same = ap (λ ps. sizes (expressions_of ps)) c.as_slice.ensures.value in
+    (omega (arith, c.decreases, one, same), (c.requires.few, (c.requires.slots, c.requires.world)))
+
+pub events-any_events-requires : goal.events-any_events-requires
+events-any_events-requires t c =
+    let one = size_of-or c.args.expr.now c.in-Or.parts c.in-Or.is in
+    let same = ap (λ ps. sizes (expressions_of ps)) c.as_slice-in-Or.ensures.value in
+    (omega (arith, c.decreases, one, same), (c.requires.few, (c.requires.slots, c.requires.world)))
+
+pub events-events-requires : goal.events-events-requires
+events-events-requires t c =
+    let one = size_of-not c.args.expr.now c.in-Not.part c.in-Not.is in
+    let same = ap (λ p. size (expression_of p)) c.deref.ensures in
+    (omega (arith, c.decreases, one, same), (c.requires.few, (c.requires.slots, c.requires.world)))
+
+pub events-forall_events-requires : goal.events-forall_events-requires
+events-forall_events-requires t c =
+    let one = size_of-forall c.args.expr.now c.in-Forall.field-0 c.in-Forall.range c.in-Forall.body c.in-Forall.is in
+    let range = ap (λ p. size (expression_of p)) c.deref-in-Forall.ensures in
+    let body = ap (λ p. size (expression_of p)) c.deref-in-Forall-2.ensures in
+    (omega (arith, c.decreases, one, range, body), (c.requires.few, (c.requires.slots, c.requires.world)))
+
+pub events-returns-in-Atom-clause-found : goal.events-returns-in-Atom-clause-found
+events-returns-in-Atom-clause-found t c =
+    let scene = c.args.self.now in
+    let old = c.args.cells.now in
+    IfOk-weaker c.atom_events.result _ _
+    (λ v h. h.stand
+    ∙ ap heard (sat_of-atom (axioms_in scene) c.args.level (state_in old scene) c.args.expr.now
+    (bindings_of old c.args.slots.now) c.in-Atom.atom c.in-Atom.is))
+    c.atom_events.ensures.finds
+
+pub events-returns-in-And-clause-found : goal.events-returns-in-And-clause-found
+events-returns-in-And-clause-found t c =
+    let scene = c.args.self.now in
+    let old = c.args.cells.now in
+    let e = bindings_of old c.args.slots.now in
+    IfOk-weaker c.all_events.result _ _
+    (λ v h. h.stand
+    ∙ ap heard (ap (λ ps. all_of (axioms_in scene) c.args.level (state_in old scene) ps e) c.as_slice.ensures.value
+    ∙ sat_of-and (axioms_in scene) c.args.level (state_in old scene) c.args.expr.now e c.in-And.parts c.in-And.is))
+    c.all_events.ensures.finds
+
+pub events-returns-in-Or-clause-found : goal.events-returns-in-Or-clause-found
+events-returns-in-Or-clause-found t c =
+    let scene = c.args.self.now in
+    let old = c.args.cells.now in
+    let e = bindings_of old c.args.slots.now in
+    IfOk-weaker c.any_events.result _ _
+    (λ v h. h.stand
+    ∙ ap heard (ap (λ ps. any_of (axioms_in scene) c.args.level (state_in old scene) ps e)
+    c.as_slice-in-Or.ensures.value
+    ∙ sat_of-or (axioms_in scene) c.args.level (state_in old scene) c.args.expr.now e c.in-Or.parts c.in-Or.is))
+    c.any_events.ensures.finds
+
+pub events-returns-in-Forall-clause-found : goal.events-returns-in-Forall-clause-found
+events-returns-in-Forall-clause-found t c =
+    let scene = c.args.self.now in
+    let old = c.args.cells.now in
+    let e = bindings_of old c.args.slots.now in
+    IfOk-weaker c.forall_events.result _ _
+    (λ v h. ap heard (h.stand
+    ∙ ap₂ (forall_sat (axioms_in scene) c.args.level (state_in old scene) e) c.deref-in-Forall.ensures
+    c.deref-in-Forall-2.ensures
+    ∙ sat_of-forall (axioms_in scene) c.args.level (state_in old scene) c.args.expr.now e c.in-Forall.field-0
+    c.in-Forall.range c.in-Forall.body c.in-Forall.is))
+    c.forall_events.ensures.finds
+
+pub events-returns-in-Assign-clause-found : goal.events-returns-in-Assign-clause-found
+events-returns-in-Assign-clause-found t c =
+    let scene = c.args.self.now in
+    let old = c.args.cells.now in
+    IfOk-weaker c.assigned.result _ _
+    (λ v h. ap heard (h.stand
+    ∙ sat_of-assign (axioms_in scene) c.args.level (state_in old scene) c.args.expr.now
+    (bindings_of old c.args.slots.now) c.in-Assign.v c.in-Assign.value c.in-Assign.is))
+    c.assigned.ensures.found
+
+pub events-returns-in-Call-clause-found : goal.events-returns-in-Call-clause-found
+events-returns-in-Call-clause-found t c =
+    let scene = c.args.self.now in
+    let old = c.args.cells.now in
+    IfOk-weaker c.tested.result _ _
+    (λ v h. ap heard (h.stand
+    ∙ sat_of-call (axioms_in scene) c.args.level (state_in old scene) c.args.expr.now
+    (bindings_of old c.args.slots.now) c.in-Call.call c.in-Call.is))
+    c.tested.ensures.found
+
+pub events-returns-in_ok-found-in-Not-clause-found : goal.events-returns-in_ok-found-in-Not-clause-found
+events-returns-in_ok-found-in-Not-clause-found t c =
+    let scene = c.args.self.now in
+    let old = c.args.cells.now in
+    let new = c.events.new.cells in
+    let s = c.args.slots.now in
+    let e = bindings_of old s in
+    let got = c.in_ok-found-in-Not.ensures in
+    let met = got.found ∙ ap (λ p. heard (sat (axioms_in scene) c.args.level (state_in old scene) (expression_of p) e))
+    c.deref.ensures in
+    IfOk-weaker c.turn.result _ _
+    (λ v h. ap heard ((negation_gives new (length s.values) c.in_ok-found-in-Not.found.items v.items
+    (bindings_of new s) e _ met (bindings_stay old new got.cells s c.requires.slots)
+    (h new (below_grows old new got.cells s c.requires.slots) got.fit)).stand
+    ∙ sat_of-not (axioms_in scene) c.args.level (state_in old scene) c.args.expr.now e c.in-Not.part c.in-Not.is))
+    c.turn.ensures
+
+pub events-returns-in_ok-found-in-Not-clause-fit : goal.events-returns-in_ok-found-in-Not-clause-fit
+events-returns-in_ok-found-in-Not-clause-fit t c =
+    let old = c.args.cells.now in
+    let new = c.events.new.cells in
+    let got = c.in_ok-found-in-Not.ensures in
+    IfOk-weaker c.turn.result _ _
+    (λ v h. (h new (below_grows old new got.cells c.args.slots.now c.requires.slots) got.fit).fit)
+    c.turn.ensures
+
+-- ---- for all satisfiers
+
+pub forall_events-returns-clause-finds : goal.forall_events-returns-clause-finds
+forall_events-returns-clause-finds t c =
+    let scene = c.args.self.now in
+    let axioms = axioms_in scene in
+    let stage = stage_in scene in
+    let level = c.args.level in
+    let old = c.args.cells.now in
+    let mid = c.events.new.cells in
+    let new = c.each_events.new.cells in
+    let s = c.args.slots.now in
+    let e = bindings_of old s in
+    let met = c.in_ok-found.ensures in
+    let got = c.in_ok-refuted.ensures in
+    let grown = grows_on old mid new met.cells got.cells in
+    let refuted = c.in_ok-refuted.refuted.items in
+    let each = hears_vars new c.vars.result (length s.values) refuted _ c.vars.ensures got.finds in
+    let ranged = found_events mid c.as_slice.result.now in
+    let range = sat axioms level (state_in old scene) (expression_of c.args.range.now) e in
+    let events =
+    each.stand
+    ∙ (ap (λ f. heard (through ranged f))
+    (turned_stays old mid met.cells stage c.requires.world axioms level c.args.body.now true)
+    ∙ alike_through ranged range (turned_sat axioms level (state_in old scene) c.args.body.now true)
+    (ap (λ xs. heard (found_events mid xs)) c.as_slice.ensures.value ∙ met.found)) in
+    IfOk-weaker c.turn.result _ _
+    (λ v h. negation_gives new (length s.values) refuted v.items (bindings_of new s) e _ events
+    (bindings_stay old new grown s c.requires.slots)
+    (h new (below_grows old new grown s c.requires.slots) each.fit))
+    c.turn.ensures
+
+-- ---- all of some parts
+
+pub all_events-loop-part-init : goal.all_events-loop-part-init
+all_events-loop-part-init t c =
+    let scene = c.args.self.now in
+    let old = c.args.cells.now in
+    let s = c.args.slots.now in
+    let found = c.in_ok-found.found.items in
+    let one = c.in_ok-found.ensures old c.requires.slots in
+    record {
+      grows = grows_self old;
+      fit = (finds_vars old (length s.values) c.vars-vars.result found _ (sym c.vars-vars.ensures) one).fit;
+      so_far =
+          ap heard (all_begin (axioms_in scene) c.args.level (state_in old scene) c.args.parts.now (bindings_of old s)
+          (found_events old found) one.stand);
+    }
+
+pub all_events-each_events-requires : goal.all_events-each_events-requires
+all_events-each_events-requires t c =
+    let old = c.args.cells.now in
+    let mid = c.loop-part.cells in
+    let held = c.loop-part.invariant in
+    let part =
+    part_size c.args.parts.now c.loop-part.part-index c.part-item.result c.loop-part-test.true c.part-item.is in (
+      omega (arith, c.decreases, part),
+      (
+        omega (arith, c.vars-vars.ensures, c.requires.few),
+        (
+          subst (AllFit c.vars-vars.result (length mid)) (sym c.as_slice.ensures.value) held.fit,
+          stage_below_grows old mid held.grows (stage_in c.args.self.now) c.requires.world,
+        ),
+      ),
+    )
+
+pub all_events-loop-part-preserved : goal.all_events-loop-part-preserved
+all_events-loop-part-preserved t c =
+    let scene = c.args.self.now in
+    let axioms = axioms_in scene in
+    let level = c.args.level in
+    let old = c.args.cells.now in
+    let mid = c.loop-part.cells in
+    let new = c.each_events.new.cells in
+    let held = c.loop-part.invariant in
+    let got = c.in_ok-found-2.ensures in
+    let part = c.part-item.result in
+    let before = c.loop-part.found.items in
+    record {
+      grows = grows_on old mid new held.grows got.cells;
+      fit = got.finds.fit;
+      so_far =
+          all_go_on axioms level (state_in old scene) c.args.parts.now c.loop-part.part-index part
+          (found_events mid before) (found_events new c.in_ok-found-2.found.items) _ c.loop-part-test.true
+          c.part-item.is
+          (got.finds.stand
+          ∙ ap₂ (λ xs f. heard (through (found_events mid xs) f)) c.as_slice.ensures.value
+          (turned_stays old mid held.grows (stage_in scene) c.requires.world axioms level part false))
+          held.so_far;
+    }
+
+pub all_events-returns-clause-finds : goal.all_events-returns-clause-finds
+all_events-returns-clause-finds t c =
+    let scene = c.args.self.now in
+    let old = c.args.cells.now in
+    let new = c.loop-part.cells in
+    let held = c.loop-part.invariant in
+    let found = c.loop-part.found.items in
+    record {
+      stand =
+          all_end (axioms_in scene) c.args.level (state_in old scene) c.args.parts.now c.loop-part.part-index
+          (found_events new found) _ c.loop-part-test.false held.so_far;
+      fit = subst (λ n. AllFit n (length new) found) c.vars-vars.ensures held.fit;
+    }
+
+-- ---- any of some parts
+
+pub any_events-events-requires : goal.any_events-events-requires
+any_events-events-requires t c =
+    let old = c.args.cells.now in
+    let mid = c.loop-part.cells in
+    let grown = c.loop-part.invariant.grows in
+    let part =
+    part_size c.args.parts.now c.loop-part.part-index c.part-item.result c.loop-part-test.true c.part-item.is in (
+      omega (arith, c.decreases, part),
+      (
+        c.requires.few,
+        (
+          below_grows old mid grown c.args.slots.now c.requires.slots,
+          stage_below_grows old mid grown (stage_in c.args.self.now) c.requires.world,
+        ),
+      ),
+    )
+
+pub any_events-loop-part-preserved : goal.any_events-loop-part-preserved
+any_events-loop-part-preserved t c =
+    let scene = c.args.self.now in
+    let axioms = axioms_in scene in
+    let level = c.args.level in
+    let old = c.args.cells.now in
+    let mid = c.loop-part.cells in
+    let new = c.events.new.cells in
+    let held = c.loop-part.invariant in
+    let got = c.in_ok-more.ensures in
+    let s = c.args.slots.now in
+    let items = c.add.new.found.items in
+    let found =
+    any_next old mid new held.grows got.cells (stage_in scene) c.requires.world axioms level c.loop-part.found.items
+    c.in_ok-more.more.items items c.in_ok-over.ensures.added s c.requires.slots c.args.parts.now
+    c.loop-part.part-index c.part-item.result c.loop-part-test.true c.part-item.is held.found got.found got.fit in
+    record { grows = grows_on old mid new held.grows got.cells; found = found }
+
+pub any_events-returns-then-over-clause-finds : goal.any_events-returns-then-over-clause-finds
+any_events-returns-then-over-clause-finds t c =
+    let scene = c.args.self.now in
+    let axioms = axioms_in scene in
+    let level = c.args.level in
+    let old = c.args.cells.now in
+    let mid = c.loop-part.cells in
+    let new = c.events.new.cells in
+    let held = c.loop-part.invariant in
+    let got = c.in_ok-more.ensures in
+    let s = c.args.slots.now in
+    let items = c.add.new.found.items in
+    let found =
+    any_next old mid new held.grows got.cells (stage_in scene) c.requires.world axioms level c.loop-part.found.items
+    c.in_ok-more.more.items items c.in_ok-over.ensures.added s c.requires.slots c.args.parts.now
+    c.loop-part.part-index c.part-item.result c.loop-part-test.true c.part-item.is held.found got.found got.fit in
+    hears_over new (length s.values) items _ _
+    (sym c.in_ok-over.ensures.over ∙ c.if-over.true) found
+
+pub any_events-returns-clause-finds : goal.any_events-returns-clause-finds
+any_events-returns-clause-finds t c =
+    let scene = c.args.self.now in
+    let old = c.args.cells.now in
+    let s = c.args.slots.now in
+    hears_all c.loop-part.cells (length s.values) c.loop-part.found.items _ _
+    (any_end (axioms_in scene) c.args.level (state_in old scene) c.args.parts.now c.loop-part.part-index
+    (bindings_of old s) c.loop-part-test.false)
+    c.loop-part.invariant.found
+
+-- ---- in the place of each Sat
+
+pub each_events-one_events-requires : goal.each_events-one_events-requires
+each_events-one_events-requires t c =
+    let old = c.args.cells.now in
+    let mid = c.loop-x.cells in
+    let grown = c.loop-x.invariant.grows in
+    let x = c.x-item.result in (
+      omega (arith, c.decreases),
+      (
+        c.requires.few,
+        (
+          fits_grow old mid grown c.args.vars x
+              (item_holds (Fits c.args.vars (length old)) c.args.found.now c.loop-x.x-index x c.loop-x-test.true
+              c.x-item.is c.requires.found),
+          stage_below_grows old mid grown (stage_in c.args.self.now) c.requires.world,
+        ),
+      ),
+    )
+
+pub each_events-loop-x-preserved : goal.each_events-loop-x-preserved
+each_events-loop-x-preserved t c =
+    let scene = c.args.self.now in
+    let axioms = axioms_in scene in
+    let level = c.args.level in
+    let old = c.args.cells.now in
+    let mid = c.loop-x.cells in
+    let new = c.one_events.new.cells in
+    let held = c.loop-x.invariant in
+    let got = c.in_ok-more.ensures in
+    let x = c.x-item.result in
+    let found = c.args.found.now in
+    let i = c.loop-x.x-index in
+    let vars = c.args.vars in
+    let items = c.add.new.found.items in
+    let fits = item_holds (Fits vars (length old)) found i x c.loop-x-test.true c.x-item.is c.requires.found in
+    let next =
+    each_next old mid new held.grows got.cells (stage_in scene) c.requires.world axioms level c.loop-x.all.items
+    c.in_ok-more.more.items items c.in_ok-over.ensures.added vars c.args.part.now c.args.negate found i x
+    c.loop-x-test.true c.x-item.is fits held.found got.finds in
+    record { grows = grows_on old mid new held.grows got.cells; found = next }
+
+pub each_events-returns-then-over-clause-finds : goal.each_events-returns-then-over-clause-finds
+each_events-returns-then-over-clause-finds t c =
+    let scene = c.args.self.now in
+    let axioms = axioms_in scene in
+    let level = c.args.level in
+    let old = c.args.cells.now in
+    let mid = c.loop-x.cells in
+    let new = c.one_events.new.cells in
+    let held = c.loop-x.invariant in
+    let got = c.in_ok-more.ensures in
+    let x = c.x-item.result in
+    let found = c.args.found.now in
+    let i = c.loop-x.x-index in
+    let vars = c.args.vars in
+    let items = c.add.new.found.items in
+    let fits = item_holds (Fits vars (length old)) found i x c.loop-x-test.true c.x-item.is c.requires.found in
+    let next =
+    each_next old mid new held.grows got.cells (stage_in scene) c.requires.world axioms level c.loop-x.all.items
+    c.in_ok-more.more.items items c.in_ok-over.ensures.added vars c.args.part.now c.args.negate found i x
+    c.loop-x-test.true c.x-item.is fits held.found got.finds in
+    hears_over new vars items _ _
+    (sym c.in_ok-over.ensures.over ∙ c.if-over.true) next
+
+pub each_events-returns-clause-finds : goal.each_events-returns-clause-finds
+each_events-returns-clause-finds t c =
+    let scene = c.args.self.now in
+    let old = c.args.cells.now in
+    let f = turned_sat (axioms_in scene) c.args.level (state_in old scene) c.args.part.now c.args.negate in
+    hears_replaced_all old c.loop-x.cells c.args.vars f c.loop-x.all.items c.args.found.now c.loop-x.x-index
+    c.loop-x-test.false c.loop-x.invariant.found
+
+pub one_events-returns-in_ok-more-in-Sat-clause-finds : goal.one_events-returns-in_ok-more-in-Sat-clause-finds
+one_events-returns-in_ok-more-in-Sat-clause-finds t c =
+    let scene = c.args.self.now in
+    let old = c.args.cells.now in
+    let new = c.events.new.cells in
+    let s = c.in-Sat.slots in
+    let x = c.args.found.now in
+    let got = c.in_ok-more-in-Sat.ensures in
+    let fits = sat_fits c.args.vars (length old) x s c.in-Sat.is c.requires.found in
+    let more = c.in_ok-more-in-Sat.more.items in
+    let f = turned_sat (axioms_in scene) c.args.level (state_in old scene) c.args.part.now c.args.negate in
+    IfOk-weaker c.turn.result _ _
+    (λ v h. hears_vars new (length s.values) c.args.vars v.items _ fits.0
+    (hears_same new (length s.values) v.items _ _ (ap heard (sat_replaced old f x s c.in-Sat.is))
+    (turn_gives new (length s.values) more v.items c.args.negate (bindings_of new s) (bindings_of old s) _ got.found
+    (bindings_stay old new got.cells s fits.1)
+    (h new (below_grows old new got.cells s fits.1) got.fit))))
+    c.turn.ensures
+
+-- ---- atoms
+
+pub atom_events-returns-in-Ok-clause-finds : goal.atom_events-returns-in-Ok-clause-finds
+atom_events-returns-in-Ok-clause-finds t c =
+    let scene = c.args.self.now in
+    let axioms = axioms_in scene in
+    let level = c.args.level in
+    let old = c.args.cells.now in
+    let mid = c.fill_goal.new.cells in
+    let filled = c.in-Ok.ensures in
+    let s = c.args.slots.now in
+    let e = bindings_of old s in
+    let events : State → Bindings → Result Goal RunFault → List Event
+    = λ st b r. filled_events axioms (below_at axioms level st) st r b in
+    IfOk-weaker c.goal_events.result _ _
+    (λ v h. hears_same c.goal_events.new.cells (length s.values) v.items _ _
+    (ap heard (ap₂ (λ st b. events st b (Ok (goal_of mid c.in-Ok.goal)))
+    (state_stays old mid filled.cells (stage_in scene) c.requires.world)
+    (bindings_stay old mid filled.cells s c.requires.slots)
+    ∙ ap (events (state_in old scene) e) (sym filled.gives))) h)
+    c.goal_events.ensures.finds
+
+pub goal_events-loop-place-init : goal.goal_events-loop-place-init
+goal_events-loop-place-init t c =
+    let scene = c.args.self.now in
+    let axioms = axioms_in scene in
+    let old = c.args.cells.now in
+    let state = state_in old scene in
+    let lower = below_at axioms c.args.level state in
+    let q = goal_of old c.args.goal.now in
+    let e = bindings_of old c.args.slots.now in
+    let got = c.in_ok-found.ensures in
+    let left = flat_map (λ x. axiom_events lower x q e) (concluding q.name (rules_in scene)) in
+    record {
+      grows = grows_self old;
+      found = record {
+        so_far =
+            ap heard (goal_begins lower q e state (rules_in scene) ∙ ap (λ xs. xs ++ left) (sym got.stand));
+        fit = got.fit;
+      };
+    }
+
+pub goal_events-axiom_events-requires : goal.goal_events-axiom_events-requires
+goal_events-axiom_events-requires t c =
+    let old = c.args.cells.now in
+    let mid = c.loop-place.cells in
+    let grown = c.loop-place.invariant.grows in (
+      omega (arith, c.decreases),
+      (
+        c.requires.few,
+        (
+          below_grows old mid grown c.args.slots.now c.requires.slots,
+          (
+            goal_below_grows old mid grown c.args.goal.now c.requires.goal,
+            stage_below_grows old mid grown (stage_in c.args.self.now) c.requires.world,
+          ),
+        ),
+      ),
+    )
+
+pub goal_events-loop-place-preserved : goal.goal_events-loop-place-preserved
+goal_events-loop-place-preserved t c =
+    let scene = c.args.self.now in
+    let axioms = axioms_in scene in
+    let level = c.args.level in
+    let old = c.args.cells.now in
+    let mid = c.loop-place.cells in
+    let new = c.axiom_events.new.cells in
+    let held = c.loop-place.invariant in
+    let got = c.in_ok-more.ensures in
+    let s = c.args.slots.now in
+    let places = c.axioms-place-items.result.now in
+    let i = c.loop-place.place-index in
+    let items = c.add.new.found.items in
+    let found =
+    goal_next old mid new held.grows got.cells (stage_in scene) c.requires.world axioms level c.loop-place.found.items
+    c.in_ok-more.more.items items c.in_ok-over.ensures.added s c.requires.slots (rules_in scene) c.args.goal.now
+    c.requires.goal places c.axioms-place-items.ensures i (get_or places i 0)
+    (slice_get-get_or places i 0 c.loop-place-test.true) held.found got.finds in
+    record { grows = grows_on old mid new held.grows got.cells; found = found }
+
+pub goal_events-returns-then-over-clause-finds : goal.goal_events-returns-then-over-clause-finds
+goal_events-returns-then-over-clause-finds t c =
+    let scene = c.args.self.now in
+    let axioms = axioms_in scene in
+    let level = c.args.level in
+    let old = c.args.cells.now in
+    let mid = c.loop-place.cells in
+    let new = c.axiom_events.new.cells in
+    let held = c.loop-place.invariant in
+    let got = c.in_ok-more.ensures in
+    let s = c.args.slots.now in
+    let places = c.axioms-place-items.result.now in
+    let i = c.loop-place.place-index in
+    let items = c.add.new.found.items in
+    let found =
+    goal_next old mid new held.grows got.cells (stage_in scene) c.requires.world axioms level c.loop-place.found.items
+    c.in_ok-more.more.items items c.in_ok-over.ensures.added s c.requires.slots (rules_in scene) c.args.goal.now
+    c.requires.goal places c.axioms-place-items.ensures i (get_or places i 0)
+    (slice_get-get_or places i 0 c.loop-place-test.true) held.found got.finds in
+    hears_over new (length s.values) items _ _
+    (sym c.in_ok-over.ensures.over ∙ c.if-over.true) found
+
+pub goal_events-returns-clause-finds : goal.goal_events-returns-clause-finds
+goal_events-returns-clause-finds t c =
+    let scene = c.args.self.now in
+    let old = c.args.cells.now in
+    let q = goal_of old c.args.goal.now in
+    let s = c.args.slots.now in
+    hears_all c.loop-place.cells (length s.values) c.loop-place.found.items _ _
+    (axioms_end (below_at (axioms_in scene) c.args.level (state_in old scene)) q (bindings_of old s) (rules_in scene)
+    c.axioms-place-items.result.now (concluding q.name (rules_in scene)) c.axioms-place-items.ensures
+    c.loop-place.place-index c.loop-place-test.false)
+    c.loop-place.invariant.found
+
+-- ---- an axiom
+
+pub axiom_events-own_slots-requires : goal.axiom_events-own_slots-requires
+axiom_events-own_slots-requires t c =
+    let rules = rules_in c.args.self.now in
+    let there =
+    placed_axiom (axiom_at rules c.args.place) c.axiom.result c.in-Some.axiom c.axiom.ensures c.in-Some.is in
+    record {
+      few = few_at rules c.args.place (axiom_of c.in-Some.axiom.now) c.args.self.now.book.now.few there;
+      goal = c.requires.goal;
+    }
+
+pub axiom_events-returns-in-None-clause-finds : goal.axiom_events-returns-in-None-clause-finds
+axiom_events-returns-in-None-clause-finds t c =
+    let scene = c.args.self.now in
+    let old = c.args.cells.now in
+    let new = c.own_slots.new.cells in
+    let x = axiom_of c.in-Some.axiom.now in
+    let q = goal_of old c.args.goal.now in
+    let e = bindings_of old c.args.slots.now in
+    let vars = length c.args.slots.now.values in
+    let items = c.new-in-None.result.items in
+    let lower = below_at (axioms_in scene) c.args.level (state_in old scene) in
+    let there =
+    placed_axiom (axiom_at (rules_in scene) c.args.place) c.axiom.result c.in-Some.axiom c.axiom.ensures c.in-Some.is in
+    let none =
+    subst (λ o. MeetsHead new (length x.vars) o (start_goal x.head q (unbound (length x.vars)))) c.in-None.is
+    c.in_ok-started.ensures.starts in
+    hears_found new vars items _
+    (finds_none new vars items _ c.new-in-None.ensures.items
+    (ap (λ o. placed_events lower o q e) there ∙ axiom_unstarted lower q e x none))
+
+pub axiom_events-branch_events-requires : goal.axiom_events-branch_events-requires
+axiom_events-branch_events-requires t c =
+    let old = c.args.cells.now in
+    let new = c.own_slots.new.cells in
+    let rules = rules_in c.args.self.now in
+    let x = axiom_of c.in-Some.axiom.now in
+    let q = goal_of old c.args.goal.now in
+    let there =
+    placed_axiom (axiom_at rules c.args.place) c.axiom.result c.in-Some.axiom c.axiom.ensures c.in-Some.is in
+    let m =
+    subst (λ o. MeetsHead new (length x.vars) o (start_goal x.head q (unbound (length x.vars)))) c.in-Some-started.is
+    c.in_ok-started.ensures.starts in
+    let vars = m.1 in
+    let few = few_at rules c.args.place x c.args.self.now.book.now.few there in (
+      omega (arith, c.decreases),
+      (
+        axiom_among rules c.args.place x there,
+        (
+          omega (arith, vars, few),
+          (
+            m.2,
+            stage_below_grows old new c.in_ok-started.ensures.cells (stage_in c.args.self.now) c.requires.world,
+          ),
+        ),
+      ),
+    )
+
+pub axiom_events-conclusions-requires-clause-slots : goal.axiom_events-conclusions-requires-clause-slots
+axiom_events-conclusions-requires-clause-slots t c =
+    let old = c.args.cells.now in
+    let mid = c.own_slots.new.cells in
+    let new = c.branch_events.new.cells in
+    below_grows old new (grows_on old mid new c.in_ok-started.ensures.cells c.branch_events.ensures.cells)
+    c.args.slots.now c.requires.slots
+
+pub axiom_events-conclusions-requires-clause-goal : goal.axiom_events-conclusions-requires-clause-goal
+axiom_events-conclusions-requires-clause-goal t c =
+    let old = c.args.cells.now in
+    let mid = c.own_slots.new.cells in
+    let new = c.branch_events.new.cells in
+    goal_below_grows old new (grows_on old mid new c.in_ok-started.ensures.cells c.branch_events.ensures.cells)
+    c.args.goal.now c.requires.goal
+
+pub axiom_events-returns-in_ok-found-in-Some-started-clause-finds :
+    goal.axiom_events-returns-in_ok-found-in-Some-started-clause-finds
+axiom_events-returns-in_ok-found-in-Some-started-clause-finds t c =
+    let scene = c.args.self.now in
+    let axioms = axioms_in scene in
+    let level = c.args.level in
+    let old = c.args.cells.now in
+    let mid = c.own_slots.new.cells in
+    let new = c.branch_events.new.cells in
+    let grown = grows_on old mid new c.in_ok-started.ensures.cells c.branch_events.ensures.cells in
+    let x = axiom_of c.in-Some.axiom.now in
+    let goal' = c.args.goal.now in
+    let q = goal_of old goal' in
+    let s = c.args.slots.now in
+    let e = bindings_of old s in
+    let own = c.in-Some-started.own in
+    let state = state_in old scene in
+    let lower = below_at axioms level state in
+    let there =
+    placed_axiom (axiom_at (rules_in scene) c.args.place) c.axiom.result c.in-Some.axiom c.axiom.ensures c.in-Some.is in
+    let m =
+    subst (λ o. MeetsHead mid (length x.vars) o (start_goal x.head q (unbound (length x.vars)))) c.in-Some-started.is
+    c.in_ok-started.ensures.starts in
+    let met =
+    ap (λ xs. heard (found_events new xs)) c.as_slice.ensures.value
+    ∙ (c.in_ok-found-in-Some-started.ensures.finds.stand
+    ∙ ap (λ st. heard (branch_events (below_at axioms level st) x (bindings_of mid own)))
+    (state_stays old mid c.in_ok-started.ensures.cells (stage_in scene) c.requires.world)) in
+    let same =
+    ap₂ {C = Bindings → List Event} (λ p b d. concluded x.head d p b) (goal_stays old new grown goal' c.requires.goal)
+    (bindings_stay old new grown s c.requires.slots) in
+    IfOk-weaker c.conclusions.result _ _
+    (λ v h. hears_same c.conclusions.new.cells (length s.values) v.items _ _
+    (alike_through (found_events new c.as_slice.result.now) (branch_events lower x (bindings_of mid own))
+    (λ d. concluded x.head d (goal_of new goal') (bindings_of new s)) met
+    ∙ ap heard (ap (through (branch_events lower x (bindings_of mid own))) same
+    ∙ (axiom_started lower q e x (bindings_of mid own) m.0
+    ∙ sym (ap (λ o. placed_events lower o q e) there))))
+    h)
+    c.conclusions.ensures.found
+
+-- ---- the branches of an axiom
+
+pub branch_events-events-requires : goal.branch_events-events-requires
+branch_events-events-requires t c =
+    let scene = c.args.self.now in
+    let axioms = axioms_in scene in
+    let level = c.args.level in
+    let old = c.args.cells.now in
+    let mid = c.loop-clause.cells in
+    let grown = c.loop-clause.invariant.grows in
+    let x = axiom_of c.args.rule.now in
+    let clause = c.clause-item.result in
+    let some : 0 < level = omega arith in
+    let clauses = c.args.rule.now.clauses.items in
+    let i = c.loop-clause.clause-index in
+    let is = c.deref-clause-items.ensures.value in
+    let among =
+    map_has clause_of clauses clause (
+      i,
+      subst (λ cs. i < length cs) is c.loop-clause-test.true,
+      sym (c.clause-item.is ∙ ap (λ cs. get_or cs i clause) is),
+    ) in (
+      subst
+          (λ m. left_to_do axioms (level - 1) (8 * size (expression_of clause.body)) < m) c.decreases
+          (less_to_do_below axioms level (size (expression_of clause.body)) 4 some
+          (branch_size axioms x (clause_of clause) c.requires.known among)),
+      (
+        c.requires.few,
+        (
+          below_grows old mid grown c.args.slots.now c.requires.slots,
+          stage_below_grows old mid grown (stage_in scene) c.requires.world,
+        ),
+      ),
+    )
+
+pub branch_events-returns-then-not-is_empty-clause-finds : goal.branch_events-returns-then-not-is_empty-clause-finds
+branch_events-returns-then-not-is_empty-clause-finds t c =
+    let scene = c.args.self.now in
+    let axioms = axioms_in scene in
+    let level = c.args.level in
+    let old = c.args.cells.now in
+    let mid = c.loop-clause.cells in
+    let new = c.events.new.cells in
+    let held = c.loop-clause.invariant in
+    let got = c.in_ok-found.ensures in
+    let s = c.args.slots.now in
+    let clauses = c.args.rule.now.clauses.items in
+    let clause = c.clause-item.result in
+    let i = c.loop-clause.clause-index in
+    let is = c.deref-clause-items.ensures.value in
+    let found = c.in_ok-found.found.items in
+    let f : Clause → List Event
+    = λ x. sat axioms (level - 1) (state_in old scene) x.body (bindings_of old s) in
+    let met : AreHeardAlike (found_events new found) (f (clause_of clause))
+    = got.found
+    ∙ ap heard (sat_stays old mid held.grows (stage_in scene) c.requires.world s c.requires.slots axioms (level - 1)
+    (expression_of clause.body)) in
+    let many = eqb-false (vec_len c.in_ok-found.found) 0 (sym c.is_empty.ensures ∙ c.if-not-is_empty.true) in
+    let some : 0 < length found = omega (arith, many, c.in_ok-found.found.ok.0) in
+    let first =
+    chosen_here (clause_of clause) (f (clause_of clause)) (chosen f (map clause_of (drop (i + 1) clauses)))
+    (some_met new found (f (clause_of clause)) met some) in
+    record {
+      stand =
+          met
+          ∙ ap heard (sym (held.so_far
+          ∙ ap chosen_events (chosen_left f clause_of clauses i clause
+          (subst (λ cs. i < length cs) is c.loop-clause-test.true)
+          (c.clause-item.is ∙ ap (λ cs. get_or cs i clause) is)
+          ∙ first)));
+      fit = got.fit;
+    }
+
+pub branch_events-loop-clause-preserved : goal.branch_events-loop-clause-preserved
+branch_events-loop-clause-preserved t c =
+    let scene = c.args.self.now in
+    let axioms = axioms_in scene in
+    let level = c.args.level in
+    let old = c.args.cells.now in
+    let mid = c.loop-clause.cells in
+    let new = c.events.new.cells in
+    let held = c.loop-clause.invariant in
+    let got = c.in_ok-found.ensures in
+    let s = c.args.slots.now in
+    let clauses = c.args.rule.now.clauses.items in
+    let clause = c.clause-item.result in
+    let i = c.loop-clause.clause-index in
+    let is = c.deref-clause-items.ensures.value in
+    let found = c.in_ok-found.found.items in
+    let f : Clause → List Event
+    = λ x. sat axioms (level - 1) (state_in old scene) x.body (bindings_of old s) in
+    let met : AreHeardAlike (found_events new found) (f (clause_of clause))
+    = got.found
+    ∙ ap heard (sat_stays old mid held.grows (stage_in scene) c.requires.world s c.requires.slots axioms (level - 1)
+    (expression_of clause.body)) in
+    let many = eqb-true (vec_len c.in_ok-found.found) 0 (sym c.is_empty.ensures ∙ c.if-not-is_empty.false) in
+    let none : length found ≡ 0 = omega (arith, many, c.in_ok-found.found.ok.0) in
+    record {
+      grows = grows_on old mid new held.grows got.cells;
+      so_far =
+          held.so_far
+          ∙ ap chosen_events (chosen_left f clause_of clauses i clause
+          (subst (λ cs. i < length cs) is c.loop-clause-test.true)
+          (c.clause-item.is ∙ ap (λ cs. get_or cs i clause) is)
+          ∙ chosen_passes (clause_of clause) (f (clause_of clause)) (chosen f (map clause_of (drop (i + 1) clauses)))
+          (none_met new found (f (clause_of clause)) met (nil_from_length found none)));
+    }
+
+-- ---- cells that are added
+
+pub all_events-returns-in_err-found-2-clause-cells : goal.all_events-returns-in_err-found-2-clause-cells
+all_events-returns-in_err-found-2-clause-cells t c =
+    grows_on c.args.cells.now c.loop-part.cells c.each_events.new.cells c.loop-part.invariant.grows
+    c.each_events.ensures.cells
+
+pub any_events-returns-in_err-more-clause-cells : goal.any_events-returns-in_err-more-clause-cells
+any_events-returns-in_err-more-clause-cells t c =
+    grows_on c.args.cells.now c.loop-part.cells c.events.new.cells c.loop-part.invariant.grows c.events.ensures.cells
+
+pub any_events-returns-in_err-over-clause-cells : goal.any_events-returns-in_err-over-clause-cells
+any_events-returns-in_err-over-clause-cells t c =
+    grows_on c.args.cells.now c.loop-part.cells c.events.new.cells c.loop-part.invariant.grows c.events.ensures.cells
+
+pub any_events-returns-then-over-clause-cells : goal.any_events-returns-then-over-clause-cells
+any_events-returns-then-over-clause-cells t c =
+    grows_on c.args.cells.now c.loop-part.cells c.events.new.cells c.loop-part.invariant.grows c.events.ensures.cells
+
+pub each_events-returns-in_err-more-clause-cells : goal.each_events-returns-in_err-more-clause-cells
+each_events-returns-in_err-more-clause-cells t c =
+    grows_on c.args.cells.now c.loop-x.cells c.one_events.new.cells c.loop-x.invariant.grows c.one_events.ensures.cells
+
+pub each_events-returns-in_err-over-clause-cells : goal.each_events-returns-in_err-over-clause-cells
+each_events-returns-in_err-over-clause-cells t c =
+    grows_on c.args.cells.now c.loop-x.cells c.one_events.new.cells c.loop-x.invariant.grows c.one_events.ensures.cells
+
+pub each_events-returns-then-over-clause-cells : goal.each_events-returns-then-over-clause-cells
+each_events-returns-then-over-clause-cells t c =
+    grows_on c.args.cells.now c.loop-x.cells c.one_events.new.cells c.loop-x.invariant.grows c.one_events.ensures.cells
+
+pub goal_events-returns-in_err-more-clause-cells : goal.goal_events-returns-in_err-more-clause-cells
+goal_events-returns-in_err-more-clause-cells t c =
+    grows_on c.args.cells.now c.loop-place.cells c.axiom_events.new.cells c.loop-place.invariant.grows
+    c.axiom_events.ensures.cells
+
+pub goal_events-returns-in_err-over-clause-cells : goal.goal_events-returns-in_err-over-clause-cells
+goal_events-returns-in_err-over-clause-cells t c =
+    grows_on c.args.cells.now c.loop-place.cells c.axiom_events.new.cells c.loop-place.invariant.grows
+    c.axiom_events.ensures.cells
+
+pub goal_events-returns-then-over-clause-cells : goal.goal_events-returns-then-over-clause-cells
+goal_events-returns-then-over-clause-cells t c =
+    grows_on c.args.cells.now c.loop-place.cells c.axiom_events.new.cells c.loop-place.invariant.grows
+    c.axiom_events.ensures.cells
+
+pub branch_events-returns-in_err-found-clause-cells : goal.branch_events-returns-in_err-found-clause-cells
+branch_events-returns-in_err-found-clause-cells t c =
+    grows_on c.args.cells.now c.loop-clause.cells c.events.new.cells c.loop-clause.invariant.grows
+    c.events.ensures.cells
+
+pub branch_events-returns-then-not-is_empty-clause-cells : goal.branch_events-returns-then-not-is_empty-clause-cells
+branch_events-returns-then-not-is_empty-clause-cells t c =
+    grows_on c.args.cells.now c.loop-clause.cells c.events.new.cells c.loop-clause.invariant.grows
+    c.events.ensures.cells
+
+pub forall_events-returns-in_err-refuted-clause-cells : goal.forall_events-returns-in_err-refuted-clause-cells
+forall_events-returns-in_err-refuted-clause-cells t c =
+    grows_on c.args.cells.now c.events.new.cells c.each_events.new.cells c.events.ensures.cells
+    c.each_events.ensures.cells
+
+pub forall_events-returns-clause-cells : goal.forall_events-returns-clause-cells
+forall_events-returns-clause-cells t c =
+    grows_on c.args.cells.now c.events.new.cells c.each_events.new.cells c.events.ensures.cells
+    c.each_events.ensures.cells
+
+pub atom_events-returns-in-Ok-clause-cells : goal.atom_events-returns-in-Ok-clause-cells
+atom_events-returns-in-Ok-clause-cells t c =
+    grows_on c.args.cells.now c.fill_goal.new.cells c.goal_events.new.cells c.fill_goal.ensures.cells
+    c.goal_events.ensures.cells
+
+pub axiom_events-returns-in_err-found-in-Some-started-clause-cells :
+    goal.axiom_events-returns-in_err-found-in-Some-started-clause-cells
+axiom_events-returns-in_err-found-in-Some-started-clause-cells t c =
+    grows_on c.args.cells.now c.own_slots.new.cells c.branch_events.new.cells c.own_slots.ensures.cells
+    c.branch_events.ensures.cells
+
+pub axiom_events-returns-in_ok-found-in-Some-started-clause-cells :
+    goal.axiom_events-returns-in_ok-found-in-Some-started-clause-cells
+axiom_events-returns-in_ok-found-in-Some-started-clause-cells t c =
+    let old = c.args.cells.now in
+    let mid = c.own_slots.new.cells in
+    let new = c.branch_events.new.cells in
+    grows_on old new c.conclusions.new.cells
+    (grows_on old mid new c.own_slots.ensures.cells c.branch_events.ensures.cells) c.conclusions.ensures.cells
+
+-- ---- what an expression meets fits, and only adds cells
+
+pub events-returns-in-Atom-clause-fit : goal.events-returns-in-Atom-clause-fit
+events-returns-in-Atom-clause-fit t c =
+    IfOk-weaker c.atom_events.result _ _ (λ v h. h.fit) c.atom_events.ensures.finds
+
+pub events-returns-in-Atom-clause-cells : goal.events-returns-in-Atom-clause-cells
+events-returns-in-Atom-clause-cells t c = c.atom_events.ensures.cells
+
+pub events-returns-in-And-clause-fit : goal.events-returns-in-And-clause-fit
+events-returns-in-And-clause-fit t c =
+    IfOk-weaker c.all_events.result _ _ (λ v h. h.fit) c.all_events.ensures.finds
+
+pub events-returns-in-And-clause-cells : goal.events-returns-in-And-clause-cells
+events-returns-in-And-clause-cells t c = c.all_events.ensures.cells
+
+pub events-returns-in-Or-clause-fit : goal.events-returns-in-Or-clause-fit
+events-returns-in-Or-clause-fit t c =
+    IfOk-weaker c.any_events.result _ _ (λ v h. h.fit) c.any_events.ensures.finds
+
+pub events-returns-in-Or-clause-cells : goal.events-returns-in-Or-clause-cells
+events-returns-in-Or-clause-cells t c = c.any_events.ensures.cells
+
+pub events-returns-in-Forall-clause-fit : goal.events-returns-in-Forall-clause-fit
+events-returns-in-Forall-clause-fit t c =
+    IfOk-weaker c.forall_events.result _ _ (λ v h. h.fit) c.forall_events.ensures.finds
+
+pub events-returns-in-Forall-clause-cells : goal.events-returns-in-Forall-clause-cells
+events-returns-in-Forall-clause-cells t c = c.forall_events.ensures.cells
+
+pub events-returns-in-Assign-clause-fit : goal.events-returns-in-Assign-clause-fit
+events-returns-in-Assign-clause-fit t c =
+    IfOk-weaker c.assigned.result _ _ (λ v h. h.fit) c.assigned.ensures.found
+
+pub events-returns-in-Assign-clause-cells : goal.events-returns-in-Assign-clause-cells
+events-returns-in-Assign-clause-cells t c = c.assigned.ensures.cells
+
+pub events-returns-in-Call-clause-fit : goal.events-returns-in-Call-clause-fit
+events-returns-in-Call-clause-fit t c =
+    IfOk-weaker c.tested.result _ _ (λ v h. h.fit) c.tested.ensures.found
+
+pub events-returns-in-Call-clause-cells : goal.events-returns-in-Call-clause-cells
+events-returns-in-Call-clause-cells t c = c.tested.ensures.cells
+
+pub events-returns-in_err-found-in-Not-clause-cells : goal.events-returns-in_err-found-in-Not-clause-cells
+events-returns-in_err-found-in-Not-clause-cells t c = c.events.ensures.cells
+
+pub events-returns-in_ok-found-in-Not-clause-cells : goal.events-returns-in_ok-found-in-Not-clause-cells
+events-returns-in_ok-found-in-Not-clause-cells t c = c.events.ensures.cells
+
+-- ---- before the first
+
+pub any_events-loop-part-init : goal.any_events-loop-part-init
+any_events-loop-part-init t c =
+    let old = c.args.cells.now in
+    let vars = length c.args.slots.now.values in
+    record { grows = grows_self old; found = hears_begin old vars c.new-found.result.items _ c.new-found.ensures.items }
+
+pub each_events-loop-x-init : goal.each_events-loop-x-init
+each_events-loop-x-init t c =
+    let old = c.args.cells.now in
+    record {
+      grows = grows_self old;
+      found = hears_begin old c.args.vars c.new-all.result.items _ c.new-all.ensures.items;
+    }
+
+pub forall_events-events-requires : goal.forall_events-events-requires
+forall_events-events-requires t c =
+    (omega (arith, c.decreases), (c.requires.few, (c.requires.slots, c.requires.world)))
+
+pub forall_events-each_events-requires : goal.forall_events-each_events-requires
+forall_events-each_events-requires t c =
+    let old = c.args.cells.now in
+    let mid = c.events.new.cells in
+    let met = c.in_ok-found.ensures in
+    let found = c.in_ok-found.found.items in (
+      omega (arith, c.decreases),
+      (
+        omega (arith, c.vars.ensures, c.requires.few),
+        (
+          subst (AllFit c.vars.result (length mid)) (sym c.as_slice.ensures.value)
+              (subst (λ n. AllFit n (length mid) found) (sym c.vars.ensures) met.fit),
+          stage_below_grows old mid met.cells (stage_in c.args.self.now) c.requires.world,
+        ),
+      ),
+    )
+
+pub axiom_events-conclusions-requires-clause-found : goal.axiom_events-conclusions-requires-clause-found
+axiom_events-conclusions-requires-clause-found t c =
+    let n = length c.branch_events.new.cells in
+    let vars = length c.in-Some-started.own.values in
+    subst (All (BindsBelow n)) (sym c.as_slice.ensures.value)
+    (All-weaker (Fits vars n) (BindsBelow n) (fits_below vars n) c.in_ok-found-in-Some-started.found.items
+    c.in_ok-found-in-Some-started.ensures.finds.fit)
+
+-- ---- behind the last
+
+pub all_events-returns-clause-cells : goal.all_events-returns-clause-cells
+all_events-returns-clause-cells t c = c.loop-part.invariant.grows
+
+pub any_events-returns-clause-cells : goal.any_events-returns-clause-cells
+any_events-returns-clause-cells t c = c.loop-part.invariant.grows
+
+pub each_events-returns-clause-cells : goal.each_events-returns-clause-cells
+each_events-returns-clause-cells t c = c.loop-x.invariant.grows
+
+pub goal_events-returns-clause-cells : goal.goal_events-returns-clause-cells
+goal_events-returns-clause-cells t c = c.loop-place.invariant.grows
+
+pub branch_events-returns-clause-cells : goal.branch_events-returns-clause-cells
+branch_events-returns-clause-cells t c = c.loop-clause.invariant.grows
+
+pub all_events-returns-in_err-found-clause-cells : goal.all_events-returns-in_err-found-clause-cells
+all_events-returns-in_err-found-clause-cells t c = grows_self c.args.cells.now
+
+pub goal_events-returns-in_err-found-clause-cells : goal.goal_events-returns-in_err-found-clause-cells
+goal_events-returns-in_err-found-clause-cells t c = grows_self c.args.cells.now
+
+-- ---- where one call is all
+
+pub forall_events-returns-in_err-found-clause-cells : goal.forall_events-returns-in_err-found-clause-cells
+forall_events-returns-in_err-found-clause-cells t c = c.events.ensures.cells
+
+pub atom_events-returns-in-Err-clause-cells : goal.atom_events-returns-in-Err-clause-cells
+atom_events-returns-in-Err-clause-cells t c = c.fill_goal.ensures.cells
+
+pub axiom_events-returns-in-None-clause-cells : goal.axiom_events-returns-in-None-clause-cells
+axiom_events-returns-in-None-clause-cells t c = c.own_slots.ensures.cells
+
+pub axiom_events-returns-in_err-started-clause-cells : goal.axiom_events-returns-in_err-started-clause-cells
+axiom_events-returns-in_err-started-clause-cells t c = c.own_slots.ensures.cells
+
+pub axiom_events-returns-in_default-clause-cells : goal.axiom_events-returns-in_default-clause-cells
+axiom_events-returns-in_default-clause-cells t c = grows_self c.args.cells.now
+
+pub branch_events-returns-then-level-eq0-clause-cells : goal.branch_events-returns-then-level-eq0-clause-cells
+branch_events-returns-then-level-eq0-clause-cells t c = grows_self c.args.cells.now
+
+pub one_events-returns-in-Cut-clause-cells : goal.one_events-returns-in-Cut-clause-cells
+one_events-returns-in-Cut-clause-cells t c = grows_self c.args.cells.now
+
+pub one_events-returns-in-Fault-clause-cells : goal.one_events-returns-in-Fault-clause-cells
+one_events-returns-in-Fault-clause-cells t c = grows_self c.args.cells.now
+
+pub one_events-returns-in_err-more-in-Sat-clause-cells : goal.one_events-returns-in_err-more-in-Sat-clause-cells
+one_events-returns-in_err-more-in-Sat-clause-cells t c = c.events.ensures.cells
+
+pub one_events-returns-in_ok-more-in-Sat-clause-cells : goal.one_events-returns-in_ok-more-in-Sat-clause-cells
+one_events-returns-in_ok-more-in-Sat-clause-cells t c = c.events.ensures.cells
+
+pub one_events-events-requires : goal.one_events-events-requires
+one_events-events-requires t c =
+    let fits =
+    sat_fits c.args.vars (length c.args.cells.now) c.args.found.now c.in-Sat.slots c.in-Sat.is c.requires.found in
+    (omega (arith, c.decreases), (omega (arith, fits.0, c.requires.few), (fits.1, c.requires.world)))
+
+pub one_events-returns-in-Cut-clause-finds : goal.one_events-returns-in-Cut-clause-finds
+one_events-returns-in-Cut-clause-finds t c =
+    let old = c.args.cells.now in
+    let vars = c.args.vars in
+    let x = c.args.found.now in
+    let f =
+    turned_sat (axioms_in c.args.self.now) c.args.level (state_in old c.args.self.now) c.args.part.now c.args.negate in
+    IfOk-weaker c.only.result _ _
+    (λ v is. hears_found old vars v.items _ (cut_replaced old f x vars v.items c.in-Cut.is is)) c.only.ensures
+
+pub one_events-returns-in-Fault-clause-finds : goal.one_events-returns-in-Fault-clause-finds
+one_events-returns-in-Fault-clause-finds t c =
+    let old = c.args.cells.now in
+    let vars = c.args.vars in
+    let x = c.args.found.now in
+    let f =
+    turned_sat (axioms_in c.args.self.now) c.args.level (state_in old c.args.self.now) c.args.part.now c.args.negate in
+    IfOk-weaker c.only-in-Fault.result _ _
+    (λ v is.
+    hears_found old vars v.items _ (fault_replaced old f x vars c.in-Fault.fault v.items c.in-Fault.is is))
+    c.only-in-Fault.ensures
+
+pub atom_events-goal_events-requires : goal.atom_events-goal_events-requires
+atom_events-goal_events-requires t c =
+    let old = c.args.cells.now in
+    let mid = c.fill_goal.new.cells in
+    let filled = c.in-Ok.ensures in (
+      omega (arith, c.decreases),
+      (
+        c.requires.few,
+        (
+          below_grows old mid filled.cells c.args.slots.now c.requires.slots,
+          (
+            filled.below,
+            stage_below_grows old mid filled.cells (stage_in c.args.self.now) c.requires.world,
+          ),
+        ),
+      ),
+    )

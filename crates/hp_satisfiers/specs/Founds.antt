@@ -1,0 +1,101 @@
+-- What is met while one looks for satisfiers, in memory.
+use Rattle.std.specs.Prelude.{◌≡◌, ℕ, ◌-◌, Bool, true, false, ◌&&◌, List, [], ◌∷◌, ◌++◌, map, length, slice_get, Option, None, Some}
+use Rattle.std.specs.List.{All}
+use Rattle.hp_syntax.specs.Terms.{Term}
+use Rattle.hp_syntax.specs.Values.{Bindings}
+use Rattle.hp_syntax.specs.Syntax.{Atom}
+use Rattle.hp_syntax.specs.Events as plain
+use Rattle.hp_syntax.specs.Events.{Event}
+use Rattle.hp_syntax.specs.Preconditions.{heard}
+use Rattle.hp_eval.specs.declared.event.EvalStop.{EvalStop}
+use Rattle.hp_eval.specs.declared.event.EvalStop.TheVariants as stops
+use Rattle.hp_eval.specs.Slotted.{Slotted, AreBelow, bindings_of}
+use Rattle.hp_satisfiers.specs.declared.found.Found.{Found}
+use Rattle.hp_satisfiers.specs.declared.found.Found.TheVariants.{Sat, Cut, Fault}
+use Rattle.hp_satisfiers.specs.declared.found.Finding.{Finding}
+use Rattle.hp_satisfiers.specs.declared.found.Finding.TheVariants as findings
+
+abbrev pub found_event : List Term → Found → Event
+found_event terms (Sat slots) = plain.Sat (bindings_of terms slots)
+found_event terms Cut = plain.Cut
+found_event terms (Fault f) = plain.Fault f
+
+abbrev pub found_events : List Term → List Found → List Event
+found_events terms found = map (found_event terms) found
+
+-- a Sat binds so many variables, to cells below a count
+abbrev pub Fits : ℕ → ℕ → Found → Type 0
+Fits vars n (Sat slots) = (length slots.values ≡ vars) × AreBelow n slots
+Fits vars n Cut = Unit {0}
+Fits vars n (Fault f) = Unit {0}
+
+abbrev pub AllFit : ℕ → ℕ → List Found → Type 0
+AllFit vars n found = All (Fits vars n) found
+
+-- what is found stands for these events, and each Sat fits
+pub record Finds (terms : List Term) (vars : ℕ) (found : List Found) (events : List Event) : Type 0 where
+  pub stand : found_events terms found ≡ events
+  pub fit : AllFit vars (length terms) found
+
+-- what is found so far stands for all events but those that are left
+pub record FindsUpTo (terms : List Term) (vars : ℕ) (found : List Found) (whole left : List Event) : Type 0 where
+  pub so_far : whole ≡ found_events terms found ++ left
+  pub fit : AllFit vars (length terms) found
+
+-- the same is heard of two lists of events
+abbrev pub AreHeardAlike : List Event → List Event → Type 0
+AreHeardAlike xs ys = heard xs ≡ heard ys
+
+-- what is found is heard as these events are, and each Sat fits
+pub record Hears (terms : List Term) (vars : ℕ) (found : List Found) (events : List Event) : Type 0 where
+  pub stand : AreHeardAlike (found_events terms found) events
+  pub fit : AllFit vars (length terms) found
+
+-- all events are heard as what is found so far and those that are left behind it
+pub record HearsUpTo (terms : List Term) (vars : ℕ) (found : List Found) (whole left : List Event) : Type 0 where
+  pub so_far : AreHeardAlike whole (found_events terms found ++ left)
+  pub fit : AllFit vars (length terms) found
+
+-- one is found, and it is a fault
+abbrev pub is_found_fault : Option Found → Bool
+is_found_fault None = false
+is_found_fault (Some (Sat slots)) = false
+is_found_fault (Some Cut) = false
+is_found_fault (Some (Fault f)) = true
+
+-- the last of a list is a fault
+abbrev pub ends_in_fault : List Found → Bool
+ends_in_fault found = is_found_fault (slice_get found (length found - 1))
+
+-- what is found where an evaluation stopped: its fault
+abbrev pub FindsStop : EvalStop → List Found → Type 0
+FindsStop (stops.Fault f) found = found ≡ Fault f ∷ []
+FindsStop stops.NoMemory found = ⊥
+
+-- what decides a negation, as the definition has it
+abbrev pub finding_of : Finding → plain.Finding
+finding_of findings.Satisfied = plain.Satisfied
+finding_of (findings.Faulty f) = plain.Faulty f
+finding_of findings.Undecided = plain.Undecided
+finding_of findings.Nothing = plain.Nothing
+
+-- the events of a part under bindings, or those of its negation
+abbrev pub turned : Bool → List Event → Bindings → List Event
+turned false xs b = xs
+turned true xs b = plain.negated (plain.finding xs) b
+
+-- a Sat binds to cells below a count
+abbrev pub BindsBelow : ℕ → Found → Type 0
+BindsBelow n (Sat slots) = AreBelow n slots
+BindsBelow n Cut = Unit {0}
+BindsBelow n (Fault f) = Unit {0}
+
+-- each variable of a head stands for a term
+abbrev pub head_bound : Atom → Bindings → Bool
+head_bound h b = plain.parts_bound h.args b && plain.tail_is_bound h.tail b
+
+-- the slots are of so many variables, and bind what was found to match, if anything was
+abbrev pub MeetsHead : List Term → ℕ → Option Slotted → Option Bindings → Type 0
+MeetsHead terms vars None found = found ≡ None
+MeetsHead terms vars (Some slots) found =
+    (found ≡ Some (bindings_of terms slots)) × (length slots.values ≡ vars) × AreBelow (length terms) slots

@@ -1,0 +1,336 @@
+//! The satisfiers of expressions in a state, as lists by their definition, as far as they are heard.
+ghost use Rattle.std.specs.Prelude.{◌≡◌, ◌<◌, ◌≤◌, true, IfOk, Contains, length};
+ghost use Rattle.hp_syntax.specs.Events as plain;
+ghost use Rattle.hp_syntax.specs.Events.{sat, axioms_of, events_of_all, events_of_any};
+ghost use Rattle.hp_syntax.specs.Views.{domain_of, atom_of, axiom_of, expression_of, expressions_of};
+ghost use Rattle.hp_eval.specs.GoalViews.{goal_of, GoalBelow};
+ghost use Rattle.hp_eval.specs.Growth.{Grows};
+ghost use Rattle.hp_eval.specs.Slotted.{AreBelow, bindings_of};
+ghost use Rattle.hp_world.specs.Stages.{StageBelow, state_of};
+ghost use Rattle.hp_satisfiers.specs.Founds.{found_event, found_events, Fits, AllFit, AreHeardAlike, Finds, Hears, turned};
+ghost use Rattle.hp_satisfiers.specs.Rulebooks.{axiom_at};
+ghost use Rattle.hp_satisfiers.specs.Scenes.{rules_in, axioms_in, stage_in, state_in, atoms_at, below_at, placed_events};
+
+use crate::conclusions::{conclusions, own_slots};
+use crate::found::{Found, add, only, satisfied, stopped, turn};
+use crate::matches::{assigned, state_events, tested};
+use crate::rulebook::Rulebook;
+use hp_cells::Cells;
+use hp_eval::{Goal, Slots, fill_goal};
+use hp_syntax::{AtomPat, Axiom, Expr, ExprKind};
+use hp_world::World;
+use std::alloc::{AllocError, Global};
+
+/// The rules and the world in which expressions are looked at.
+#[derive(Drop)]
+pub struct Scene<'a> {
+    pub alloc: Global,
+    pub book: &'a Rulebook<'a>,
+    pub world: &'a World,
+}
+
+impl Scene<'_> {
+    /// What is met while one looks for satisfiers of an expression, with so many axiom levels. All that is heard of it
+    /// is there; behind a fault, where nothing is heard, it may be cut short.
+    #[cycle(events)]
+    pub fn events(
+        &self,
+        expr: &Expr,
+        slots: &Slots,
+        level: u32,
+        cells: &mut Cells,
+    ) -> Result<Vec<Found>, AllocError>
+        requires few { length slots.now.values ≤ 256 }
+        requires slots { AreBelow (length cells.old) slots.now }
+        requires world { StageBelow (length cells.old) self.now.world.now.now }
+        ensures found { IfOk result (λ v. AreHeardAlike (found_events cells.new v.items)
+            (sat (axioms_of (domain_of self.now.book.now.domain.now).rules) level
+            (state_of cells.old self.now.world.now.now) (expression_of expr.now)
+            (bindings_of cells.old slots.now))) }
+        ensures fit { IfOk result (λ v. AllFit (length slots.now.values) (length cells.new) v.items) }
+        ensures cells { Grows cells.old cells.new }
+    {
+        match &expr.kind {
+            ExprKind::Atom(atom) => self.atom_events(atom, slots, level, cells),
+            ExprKind::And(parts) => self.all_events(parts.as_slice(), slots, level, cells),
+            ExprKind::Or(parts) => self.any_events(parts.as_slice(), slots, level, cells),
+            ExprKind::Not(part) => {
+                let found = self.events(part, slots, level, cells)?;
+                turn(self.alloc, true, found, slots)
+            }
+            ExprKind::Forall(_, range, body) => {
+                self.forall_events(range, body, slots, level, cells)
+            }
+            ExprKind::Assign(v, value) => assigned(self.alloc, *v, value, slots, cells),
+            ExprKind::Call(call) => tested(self.alloc, call, slots, cells),
+        }
+    }
+
+    // What is met where a body must hold for each satisfier of a range.
+    #[cycle(events)]
+    fn forall_events(
+        &self,
+        range: &Expr,
+        body: &Expr,
+        slots: &Slots,
+        level: u32,
+        cells: &mut Cells,
+    ) -> Result<Vec<Found>, AllocError>
+        requires few { length slots.now.values ≤ 256 }
+        requires slots { AreBelow (length cells.old) slots.now }
+        requires world { StageBelow (length cells.old) (stage_in self.now) }
+        ensures finds { IfOk result (λ v.
+            let axioms = axioms_in self.now in
+            let state = state_in cells.old self.now in
+            let e = bindings_of cells.old slots.now in
+            Finds cells.new (length slots.now.values) v.items (turned true
+            (plain.through (sat axioms level state (expression_of range.now) e)
+            (λ b. turned true (sat axioms level state (expression_of body.now) b) b)) e)) }
+        ensures cells { Grows cells.old cells.new }
+    {
+        let found = self.events(range, slots, level, cells)?;
+        let refuted = self.each_events(found.as_slice(), body, true, slots.vars(), level, cells)?;
+        turn(self.alloc, true, refuted, slots)
+    }
+
+    // What is met where all of some parts must hold. Each part in turn takes the place of each satisfier of those
+    // before.
+    #[cycle(events)]
+    fn all_events(
+        &self,
+        parts: &[Expr],
+        slots: &Slots,
+        level: u32,
+        cells: &mut Cells,
+    ) -> Result<Vec<Found>, AllocError>
+        requires few { length slots.now.values ≤ 256 }
+        requires slots { AreBelow (length cells.old) slots.now }
+        requires world { StageBelow (length cells.old) (stage_in self.now) }
+        ensures finds { IfOk result (λ v. Hears cells.new (length slots.now.values) v.items
+            (events_of_all (atoms_at (axioms_in self.now) level (state_in cells.old self.now))
+            (expressions_of parts.now) (bindings_of cells.old slots.now))) }
+        ensures cells { Grows cells.old cells.new }
+    {
+        let vars = slots.vars();
+        let mut found = satisfied(self.alloc, slots)?;
+        for part in parts {
+            found = self.each_events(found.as_slice(), part, false, vars, level, cells)?;
+        }
+        Ok(found)
+    }
+
+    // What is met where one of some parts must hold, part after part.
+    #[cycle(events)]
+    fn any_events(
+        &self,
+        parts: &[Expr],
+        slots: &Slots,
+        level: u32,
+        cells: &mut Cells,
+    ) -> Result<Vec<Found>, AllocError>
+        requires few { length slots.now.values ≤ 256 }
+        requires slots { AreBelow (length cells.old) slots.now }
+        requires world { StageBelow (length cells.old) (stage_in self.now) }
+        ensures finds { IfOk result (λ v. Hears cells.new (length slots.now.values) v.items
+            (events_of_any (atoms_at (axioms_in self.now) level (state_in cells.old self.now))
+            (expressions_of parts.now) (bindings_of cells.old slots.now))) }
+        ensures cells { Grows cells.old cells.new }
+    {
+        let mut found = Vec::new(self.alloc);
+        for part in parts {
+            let more = self.events(part, slots, level, cells)?;
+            let over = add(&mut found, more)?;
+            if over {
+                return Ok(found);
+            }
+        }
+        Ok(found)
+    }
+
+    // What is met where a part, or its negation, takes the place of each Sat.
+    #[cycle(events)]
+    fn each_events(
+        &self,
+        found: &[Found],
+        part: &Expr,
+        negate: bool,
+        vars: usize,
+        level: u32,
+        cells: &mut Cells,
+    ) -> Result<Vec<Found>, AllocError>
+        requires few { vars ≤ 256 }
+        requires found { AllFit vars (length cells.old) found.now }
+        requires world { StageBelow (length cells.old) (stage_in self.now) }
+        ensures finds { IfOk result (λ v.
+            let part_events = sat (axioms_in self.now) level (state_in cells.old self.now) (expression_of part.now) in
+            Hears cells.new vars v.items
+            (plain.through (found_events cells.old found.now) (λ b. turned negate (part_events b) b))) }
+        ensures cells { Grows cells.old cells.new }
+    {
+        let mut all = Vec::new(self.alloc);
+        for x in found {
+            let more = self.one_events(x, part, negate, vars, level, cells)?;
+            let over = add(&mut all, more)?;
+            if over {
+                return Ok(all);
+            }
+        }
+        Ok(all)
+    }
+
+    // What is met where a part, or its negation, takes the place of a Sat.
+    #[cycle(events)]
+    fn one_events(
+        &self,
+        found: &Found,
+        part: &Expr,
+        negate: bool,
+        vars: usize,
+        level: u32,
+        cells: &mut Cells,
+    ) -> Result<Vec<Found>, AllocError>
+        requires few { vars ≤ 256 }
+        requires found { Fits vars (length cells.old) found.now }
+        requires world { StageBelow (length cells.old) (stage_in self.now) }
+        ensures finds { IfOk result (λ v.
+            let part_events = sat (axioms_in self.now) level (state_in cells.old self.now) (expression_of part.now) in
+            Hears cells.new vars v.items
+            (plain.in_place (λ b. turned negate (part_events b) b) (found_event cells.old found.now))) }
+        ensures cells { Grows cells.old cells.new }
+    {
+        match found {
+            Found::Sat(slots) => {
+                let more = self.events(part, slots, level, cells)?;
+                turn(self.alloc, negate, more, slots)
+            }
+            Found::Cut => only(self.alloc, Found::Cut),
+            Found::Fault(fault) => only(self.alloc, Found::Fault(*fault)),
+        }
+    }
+
+    // What an atom meets.
+    #[cycle(events)]
+    fn atom_events(
+        &self,
+        atom: &AtomPat,
+        slots: &Slots,
+        level: u32,
+        cells: &mut Cells,
+    ) -> Result<Vec<Found>, AllocError>
+        requires few { length slots.now.values ≤ 256 }
+        requires slots { AreBelow (length cells.old) slots.now }
+        requires world { StageBelow (length cells.old) (stage_in self.now) }
+        ensures finds { IfOk result (λ v. Hears cells.new (length slots.now.values) v.items
+            (atoms_at (axioms_in self.now) level (state_in cells.old self.now) (atom_of atom.now)
+            (bindings_of cells.old slots.now))) }
+        ensures cells { Grows cells.old cells.new }
+    {
+        match fill_goal(self.alloc, atom, slots, cells) {
+            Ok(goal) => self.goal_events(&goal, slots, level, cells),
+            Err(stop) => stopped(self.alloc, stop),
+        }
+    }
+
+    // What a goal meets: by the atoms of the world, and then by the axioms of its name, in the order of the domain.
+    #[cycle(events)]
+    fn goal_events(
+        &self,
+        goal: &Goal,
+        slots: &Slots,
+        level: u32,
+        cells: &mut Cells,
+    ) -> Result<Vec<Found>, AllocError>
+        requires few { length slots.now.values ≤ 256 }
+        requires slots { AreBelow (length cells.old) slots.now }
+        requires goal { GoalBelow (length cells.old) goal.now }
+        requires world { StageBelow (length cells.old) (stage_in self.now) }
+        ensures finds { IfOk result (λ v.
+            let axioms = axioms_in self.now in
+            let state = state_in cells.old self.now in
+            Hears cells.new (length slots.now.values) v.items
+            (plain.goal_events axioms (below_at axioms level state) state (goal_of cells.old goal.now)
+            (bindings_of cells.old slots.now))) }
+        ensures cells { Grows cells.old cells.new }
+    {
+        let mut found = state_events(self.alloc, self.world, goal, slots, cells)?;
+        for place in self.book.axioms(&goal.name) {
+            let more = self.axiom_events(*place, goal, slots, level, cells)?;
+            let over = add(&mut found, more)?;
+            if over {
+                return Ok(found);
+            }
+        }
+        Ok(found)
+    }
+
+    // What a goal meets by the axiom of a place.
+    #[cycle(events)]
+    fn axiom_events(
+        &self,
+        place: usize,
+        goal: &Goal,
+        slots: &Slots,
+        level: u32,
+        cells: &mut Cells,
+    ) -> Result<Vec<Found>, AllocError>
+        requires few { length slots.now.values ≤ 256 }
+        requires slots { AreBelow (length cells.old) slots.now }
+        requires goal { GoalBelow (length cells.old) goal.now }
+        requires world { StageBelow (length cells.old) (stage_in self.now) }
+        ensures finds { IfOk result (λ v. Hears cells.new (length slots.now.values) v.items
+            (placed_events (below_at (axioms_in self.now) level (state_in cells.old self.now))
+            (axiom_at (rules_in self.now) place) (goal_of cells.old goal.now)
+            (bindings_of cells.old slots.now))) }
+        ensures cells { Grows cells.old cells.new }
+    {
+        let Some(axiom) = self.book.axiom(place) else {
+            return Ok(Vec::new(self.alloc));
+        };
+        let started = own_slots(self.alloc, axiom, goal, cells)?;
+        match started {
+            Some(own) => {
+                let found = self.branch_events(axiom, &own, level, cells)?;
+                conclusions(
+                    self.alloc,
+                    &axiom.head,
+                    goal,
+                    slots,
+                    found.as_slice(),
+                    cells,
+                )
+            }
+            None => Ok(Vec::new(self.alloc)),
+        }
+    }
+
+    // What the branches of an axiom meet: a cut where no level is left, or what the first branch meets that meets
+    // anything.
+    #[cycle(events)]
+    fn branch_events(
+        &self,
+        rule: &Axiom,
+        slots: &Slots,
+        level: u32,
+        cells: &mut Cells,
+    ) -> Result<Vec<Found>, AllocError>
+        requires known { Contains (axioms_in self.now) (axiom_of rule.now) }
+        requires few { length slots.now.values ≤ 256 }
+        requires slots { AreBelow (length cells.old) slots.now }
+        requires world { StageBelow (length cells.old) (stage_in self.now) }
+        ensures finds { IfOk result (λ v. Hears cells.new (length slots.now.values) v.items
+            (plain.branch_events (below_at (axioms_in self.now) level (state_in cells.old self.now))
+            (axiom_of rule.now) (bindings_of cells.old slots.now))) }
+        ensures cells { Grows cells.old cells.new }
+    {
+        if level == 0 {
+            return only(self.alloc, Found::Cut);
+        }
+        for clause in &rule.clauses {
+            let found = self.events(&clause.body, slots, level - 1, cells)?;
+            if !found.is_empty() {
+                return Ok(found);
+            }
+        }
+        Ok(Vec::new(self.alloc))
+    }
+}
