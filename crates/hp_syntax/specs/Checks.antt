@@ -1,5 +1,5 @@
 -- What the checks find in a domain and a problem that have their forms, and which of it is told.
-use Rattle.std.specs.Prelude.{ℕ, ◌+◌, Bool, true, false, ◌&&◌, ◌||◌, cond, nat_lt, ◌==◌, List, [], ◌∷◌, ◌++◌, length, Option, Some, None, bytes_eq}
+use Rattle.std.specs.Prelude.{ℕ, ◌+◌, ◌≤◌, Bool, true, false, ◌&&◌, ◌||◌, cond, nat_lt, ◌==◌, List, [], ◌∷◌, ◌++◌, length, Option, Some, None, bytes_eq}
 use Rattle.std.specs.List.{flat_map}
 use Rattle.hp_syntax.specs.declared.pattern.Span.{Span}
 use Rattle.hp_syntax.specs.declared.pattern.Tail.{Tail}
@@ -122,6 +122,12 @@ effect_faults (Each vars e atoms) = expression_faults 1 e ++ atoms_faults InBody
 -- a rule has too many variables
 abbrev pub vars_faults : List (List ℕ) → Span → List CheckFault
 vars_faults vars s = found_if (nat_lt MOST_VARIABLES (length vars)) TooManyVariables InBody s
+
+-- a rule has few variables: no more than there is room for
+abbrev pub HasFewVariables : Rule → Type 0
+HasFewVariables (Does o) = length o.vars ≤ MOST_VARIABLES
+HasFewVariables (Refines m) = length m.vars ≤ MOST_VARIABLES
+HasFewVariables (Concludes x) = length x.vars ≤ MOST_VARIABLES
 
 abbrev pub operator_faults : Operator → List CheckFault
 operator_faults o =

@@ -1,6 +1,7 @@
--- The terms and the network that a problem's atoms and tasks say, which hold no variable and no call.
-use Rattle.std.specs.Prelude.{List, map}
-use Rattle.hp_syntax.specs.Syntax.{Pattern, Patterns, Variable, Listing, Call, NoPattern, Before, Atom, Tasks, TaskList, NoTasks, Then}
+-- Patterns that hold no variable and no call, as a problem has them, and the terms and the network that they say.
+use Rattle.std.specs.Prelude.{◌≡◌, List, map, None}
+use Rattle.std.specs.List.{All}
+use Rattle.hp_syntax.specs.Syntax.{Pattern, Patterns, Variable, Listing, Call, NoPattern, Before, Atom, Tasks, TaskList, NoTasks, Then, Pair}
 use Rattle.hp_syntax.specs.Syntax as syntax
 use Rattle.hp_syntax.specs.Terms.{Term, Terms, Symbol, Number, Listed, NoTerm, More}
 use Rattle.hp_syntax.specs.Networks.{Network, Networks, Task, Ordered, Unordered, NoNetwork, And}
@@ -34,3 +35,39 @@ unfoldable mutual
   pub networks_said : TaskList → Networks
   networks_said NoTasks = NoNetwork
   networks_said (Then t ts) = And (network_said t) (networks_said ts)
+
+-- ---- what holds no variable and no call
+
+-- no variable and no call stands in a pattern
+abbrev mutual
+  pub IsGroundPattern : Pattern → Type 0
+  IsGroundPattern (Variable s v) = ⊥
+  IsGroundPattern (syntax.Symbol s name) = Unit {0}
+  IsGroundPattern (syntax.Number s n) = Unit {0}
+  IsGroundPattern (Listing s ps tail) = AreGroundPatterns ps × (tail ≡ None)
+  IsGroundPattern (Call s name args) = ⊥
+
+  pub AreGroundPatterns : Patterns → Type 0
+  AreGroundPatterns NoPattern = Unit {0}
+  AreGroundPatterns (Before p ps) = IsGroundPattern p × AreGroundPatterns ps
+
+-- no variable and no call stands in an atom
+pub record IsGroundAtom (a : Atom) : Type 0 where
+  pub args : AreGroundPatterns a.args
+  pub tail : a.tail ≡ None
+
+-- nor in tasks
+abbrev mutual
+  pub AreGroundTasks : Tasks → Type 0
+  AreGroundTasks (syntax.Task a i) = IsGroundAtom a
+  AreGroundTasks (syntax.Ordered ts) = IsGroundTaskList ts
+  AreGroundTasks (syntax.Unordered ts) = IsGroundTaskList ts
+
+  pub IsGroundTaskList : TaskList → Type 0
+  IsGroundTaskList NoTasks = Unit {0}
+  IsGroundTaskList (Then t ts) = AreGroundTasks t × IsGroundTaskList ts
+
+-- nor in a pair
+pub record IsGroundPair (p : Pair) : Type 0 where
+  pub state : All IsGroundAtom p.state
+  pub tasks : AreGroundTasks p.tasks
