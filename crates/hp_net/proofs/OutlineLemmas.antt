@@ -101,7 +101,7 @@ some_listed Ordered ns = refl
 some_listed Unordered ns = refl
 
 -- what comes after a number is not zero
-no_zero : (n : ℕ) → nat_eq (suc n) 0 ≡ false
+pub no_zero : (n : ℕ) → nat_eq (suc n) 0 ≡ false
 no_zero n = grind (arith, nat_tests)
 
 -- the network is empty where there is no entry
