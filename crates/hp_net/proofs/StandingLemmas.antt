@@ -5,7 +5,7 @@ use Rattle.hp_syntax.specs.Walk.{Node, Sight, Visit, visit, Did, Plan, CutHere, 
 use Rattle.hp_net.specs.declared.walk.Step.{Step}
 use Rattle.hp_net.specs.declared.walk.Step.TheVariants as steps
 use Rattle.hp_net.specs.Standings.{parent, step_of}
-use Rattle.hp_net.proofs.OutlineLemmas.{no_zero}
+use Rattle.hp_net.proofs.FlatNetworkLemmas.{no_zero}
 
 -- the way to a parent is shorter
 pub parent_shorter : (p : List ℕ) → p ≢ [] → length (parent p) < length p

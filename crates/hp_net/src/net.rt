@@ -5,7 +5,7 @@ ghost use Rattle.hp_syntax.specs.Terms.{Term};
 ghost use Rattle.hp_syntax.specs.Networks as plain;
 ghost use Rattle.hp_syntax.specs.Networks.{Place};
 ghost use Rattle.hp_eval.specs.GoalViews.{term_at, network_of, TreeBelow};
-ghost use Rattle.hp_net.specs.Outlines.{focused, place_of, NamesTask, EntryBelow};
+ghost use Rattle.hp_net.specs.FlatNetworks.{focused, place_of, NamesTask, EntryBelow};
 
 use crate::edits::{take_out, task_at, with_subtasks};
 use crate::entry::Entry;
@@ -71,13 +71,13 @@ impl Drop for Net {
 impl Model for Net {
     ghost use Rattle.std.specs.Prelude.{[]};
     ghost use Rattle.hp_world.specs.Histories.{History};
-    ghost use Rattle.hp_net.specs.Outlines.{Outline, IsOutline};
+    ghost use Rattle.hp_net.specs.FlatNetworks.{FlatNetwork, IsFlatNetwork};
 
-    ghost Value = { History Outline };
+    ghost Value = { History FlatNetwork };
 
     ghost view = { λ n. record { past = []; now = record { entries = n.entries.items; focus = n.focus } } };
 
-    ghost invariant = { λ n. IsOutline (record { entries = n.entries.items; focus = n.focus }) };
+    ghost invariant = { λ n. IsFlatNetwork (record { entries = n.entries.items; focus = n.focus }) };
 }
 
 impl Net {
