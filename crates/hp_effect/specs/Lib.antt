@@ -1,2 +1,3 @@
 pub mod Puts
 pub mod Costs
+pub mod Gathering
