@@ -1,9 +1,9 @@
 pub mod TrailLemmas
 pub mod HistoryLemmas
-pub mod IndexLemmas
-pub mod AtomLemmas
-pub mod GuardLemmas
-pub mod MoveLemmas
+pub mod IndexedLemmas
+pub mod StageLemmas
+pub mod DeletingLemmas
+pub mod UndoingLemmas
 pub mod ApplyingLemmas
 pub mod AnswerLemmas
-pub mod NameLemmas
+pub mod NamedLemmas

@@ -10,15 +10,15 @@ use Rattle.hp_world.specs.Stages.{Stage, AllBelow, PlacesKept}
 use Rattle.hp_world.specs.Trails.{IsUndoable}
 
 -- all but the last
-abbrev pub front : {A : Type 0} → List A → List A
-front xs = take (length xs - 1) xs
+abbrev pub all_but_last : {A : Type 0} → List A → List A
+all_but_last xs = take (length xs - 1) xs
 
 -- what stood before a change
 abbrev pub undone : Change → Stage → Stage
 undone (Deleted i a) s = record { places = slice_set s.places i (Some a); guards = s.guards }
-undone Added s = record { places = front s.places; guards = s.guards }
+undone Added s = record { places = all_but_last s.places; guards = s.guards }
 undone (Cancelled i a) s = record { places = s.places; guards = insert s.guards i a }
-undone Protected s = record { places = s.places; guards = front s.guards }
+undone Protected s = record { places = s.places; guards = all_but_last s.guards }
 
 -- the place is empty, the atom stands nowhere, and a table of this width has an entry for it
 pub record IsVacant (width : ℕ) (places : List (Option ℕ)) (i a : ℕ) : Type 0 where

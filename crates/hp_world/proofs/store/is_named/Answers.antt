@@ -1,7 +1,7 @@
 use Rattle.std.proofs.Common.{sym, ◌∙◌}
 use Rattle.std.proofs.lemmas.Bool.Decides.{Decides-eqb}
 use Rattle.hp_cells.specs.declared.keys.View.TheVariants.{Cons}
-use Rattle.hp_world.proofs.NameLemmas.{named_as_told, cons_named}
+use Rattle.hp_world.proofs.NamedLemmas.{named_as_told, cons_named}
 use Rattle.hp_world.proofs.store.is_named.Goals as goal
 
 pub returns-in-Cons : goal.returns-in-Cons

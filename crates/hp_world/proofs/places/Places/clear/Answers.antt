@@ -1,6 +1,6 @@
 use Rattle.std.proofs.Common.{◌<◌, subst, arith}
 use Rattle.hp_world.specs.Indexed.{Row}
-use Rattle.hp_world.proofs.IndexLemmas.{atom_in_row}
+use Rattle.hp_world.proofs.IndexedLemmas.{atom_in_row}
 use Rattle.hp_world.proofs.places.Places.clear.Goals as goal
 
 pub index_mut-requires-2 : goal.index_mut-requires-2

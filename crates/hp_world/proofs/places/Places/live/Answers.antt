@@ -1,5 +1,5 @@
 use Rattle.std.proofs.Common.{cond, ℕ, ap, ◌∙◌, sym, arith}
-use Rattle.hp_world.proofs.AtomLemmas.{live_more}
+use Rattle.hp_world.proofs.StageLemmas.{live_more}
 use Rattle.hp_world.proofs.places.Places.live.Goals as goal
 use Rattle.hp_world.proofs.places.Places.live.Goals.{then-is_some, else-is_some}
 

@@ -2,7 +2,7 @@ use Rattle.std.proofs.Common.{◌≡◌, ◌<◌, None, length, get_or, subst, s
 use Rattle.std.proofs.lemmas.List.{get_or_default, get_or_past}
 use Rattle.std.specs.Option.{MatchOption}
 use Rattle.hp_world.specs.Indexed.{Row, IsAbsent, IsOnlyAt}
-use Rattle.hp_world.proofs.IndexLemmas.{place_from}
+use Rattle.hp_world.proofs.IndexedLemmas.{place_from}
 use Rattle.hp_world.proofs.places.Places.place_of.Goals as goal
 
 pub returns-then-index-len : goal.returns-then-index-len

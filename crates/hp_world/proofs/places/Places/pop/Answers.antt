@@ -1,6 +1,6 @@
 use Rattle.std.proofs.Common.{◌≡◌, ◌∷◌, ◌++◌, [], List, Option, ℕ, Some, None, set, length, subst, ap, ◌∙◌, sym, arith}
 use Rattle.hp_world.specs.Indexed.{IsIndex}
-use Rattle.hp_world.proofs.IndexLemmas.{atom_within, last_at, index_popped, index_shrunk}
+use Rattle.hp_world.proofs.IndexedLemmas.{atom_within, last_at, index_popped, index_shrunk}
 use Rattle.hp_world.proofs.places.Places.pop.Goals as goal
 
 pub index_mut-requires : goal.index_mut-requires

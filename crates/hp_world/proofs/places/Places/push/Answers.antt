@@ -1,6 +1,6 @@
 use Rattle.std.proofs.Common.{◌≡◌, ◌<◌, List, Option, ℕ, Some, set, length, subst, ap, ◌∙◌, sym}
 use Rattle.hp_world.specs.Indexed.{Row, IsIndex, IsAbsent}
-use Rattle.hp_world.proofs.IndexLemmas.{index_pushed}
+use Rattle.hp_world.proofs.IndexedLemmas.{index_pushed}
 use Rattle.hp_world.proofs.places.Places.push.Goals as goal
 
 pub invariant_of-self : goal.invariant_of-self

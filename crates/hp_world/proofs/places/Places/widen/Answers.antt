@@ -1,7 +1,7 @@
 use Rattle.std.proofs.Common.{◌≡◌, ◌≤◌, length, ◌++◌, ◌-◌, ◌+◌, List, Option, ℕ, None, take, replicate, ap, ◌∙◌, sym, subst, arith, vec_len, refl}
 use Rattle.std.proofs.lemmas.List.{take_all}
 use Rattle.hp_world.specs.Indexed.{IsIndex}
-use Rattle.hp_world.proofs.IndexLemmas.{index_padded}
+use Rattle.hp_world.proofs.IndexedLemmas.{index_padded}
 use Rattle.hp_world.proofs.places.Places.widen.Goals as goal
 
 pub invariant_of-self : goal.invariant_of-self

@@ -2,10 +2,10 @@ use Rattle.std.proofs.Common.{◌∷◌, ◌++◌, [], cond, List, Option, ℕ, 
 use Rattle.std.proofs.lemmas.List.{length_push}
 use Rattle.hp_world.specs.Indexed.{Row, IsAbsent}
 use Rattle.hp_world.specs.Stages.{live_atoms, PlacesKept}
-use Rattle.hp_world.specs.Undoing.{front}
+use Rattle.hp_world.specs.Undoing.{all_but_last}
 use Rattle.hp_world.specs.declared.store.Change.TheVariants.{Added}
-use Rattle.hp_world.proofs.AtomLemmas.{absent_from, present_from, among_absent, live_pushed, kept_joined}
-use Rattle.hp_world.proofs.MoveLemmas.{moved, front_pushed, same_stage}
+use Rattle.hp_world.proofs.StageLemmas.{absent_from, present_from, among_absent, live_pushed, kept_joined}
+use Rattle.hp_world.proofs.UndoingLemmas.{moved, all_but_last_pushed, same_stage}
 use Rattle.hp_world.proofs.store.Store.add.Goals as goal
 
 pub push-requires-clause-absent : goal.push-requires-clause-absent
@@ -28,7 +28,7 @@ returns-then-is_none-clause-places c =
 pub returns-then-is_none-clause-moves : goal.returns-then-is_none-clause-moves
 returns-then-is_none-clause-moves c =
     let ps : List (Option ℕ) = c.args.self.now.places.places in
-    let back = ap (λ (r : Row). front r.places) c.push.ensures ∙ front_pushed ps (Some c.args.atom) in
+    let back = ap (λ (r : Row). all_but_last r.places) c.push.ensures ∙ all_but_last_pushed ps (Some c.args.atom) in
     let kept = subst (PlacesKept ps) (sym (ap (λ (r : Row). r.places) c.push.ensures)) (kept_joined ps _) in
     moved _ _ Added c.requires.sound c.push_reserved.ensures.items (same_stage _ _ _ _ back refl) kept tt
     c.push_reserved.ensures.len c.push_reserved.ensures.capacity refl (ap (λ (r : Row). r.room) c.push.ensures)

@@ -7,9 +7,9 @@ use Rattle.hp_world.specs.Indexed.{Row}
 use Rattle.hp_world.specs.Stages.{Stage, live_atoms, same_cell, PlacesKept}
 use Rattle.hp_world.specs.Undoing.{history_of}
 use Rattle.hp_world.proofs.AnswerLemmas.{deleted_is, gives_guarded, gives_done}
-use Rattle.hp_world.proofs.AtomLemmas.{kept_same}
+use Rattle.hp_world.proofs.StageLemmas.{kept_same}
 use Rattle.hp_world.proofs.HistoryLemmas.{rewound}
-use Rattle.hp_world.proofs.MoveLemmas.{moves_more}
+use Rattle.hp_world.proofs.UndoingLemmas.{moves_more}
 use Rattle.hp_world.proofs.store.Store.apply.Goals as goal
 
 pub returns-in-Some-clause-ok : goal.returns-in-Some-clause-ok
@@ -21,7 +21,8 @@ returns-in-Some-clause-ok c =
     c.undo_to.ensures.back ∙ ap (λ m. undone_to m between) c.mark-before.ensures
     ∙ rewound (history_of c.reserve.new.self) between c.cancel_all.ensures.moves.keeps ∙ same in
     let guards : c.cancel_all.new.self.guards.items ≡ cancelled same_cell old.now.guards c.args.unguard.now =
-    c.cancel_all.ensures.guards ∙ ap (λ (h : History Stage). cancelled same_cell h.now.guards c.args.unguard.now) same in
+    c.cancel_all.ensures.guards
+    ∙ ap (λ (h : History Stage). cancelled same_cell h.now.guards c.args.unguard.now) same in
     let changes : ChangesOf ℕ = record {
       unguard = c.args.unguard.now;
       delete = c.args.del.now;
@@ -37,7 +38,8 @@ returns-clause-ok c =
     let old : History Stage = history_of c.args.self.now in
     let same : history_of c.reserve.new.self ≡ old = c.in_ok-reserve.ensures.same in
     let guards : c.cancel_all.new.self.guards.items ≡ cancelled same_cell old.now.guards c.args.unguard.now =
-    c.cancel_all.ensures.guards ∙ ap (λ (h : History Stage). cancelled same_cell h.now.guards c.args.unguard.now) same in
+    c.cancel_all.ensures.guards
+    ∙ ap (λ (h : History Stage). cancelled same_cell h.now.guards c.args.unguard.now) same in
     let then_added : List ℕ → List ℕ = λ xs. with_added same_cell xs c.args.add.now in
     let then_changed : List ℕ → List ℕ = λ xs. then_added (deleted xs c.args.del.now) in
     let atoms : live_atoms c.protect_all.new.self.places.places ≡ then_changed (live_atoms old.now.places) =
@@ -85,5 +87,6 @@ returns-clause-kept c =
     moves_more _ _ _ _ _
     (moves_more _ _ _ _ _ (moves_more _ _ _ _ _ c.cancel_all.ensures.moves c.delete_all.ensures.moves)
     c.add_all.ensures.moves) c.protect_all.ensures.moves in
-    subst (λ (h : History Stage). PlacesKept h.now.places c.protect_all.new.self.places.places) c.in_ok-reserve.ensures.same
+    subst (λ (h : History Stage). PlacesKept h.now.places c.protect_all.new.self.places.places)
+    c.in_ok-reserve.ensures.same
     moves.kept

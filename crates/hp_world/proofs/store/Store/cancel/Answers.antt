@@ -4,9 +4,9 @@ use Rattle.std.proofs.lemmas.List.Edits.{length-remove}
 use Rattle.std.specs.List.{insert}
 use Rattle.hp_world.specs.Deleting.{IsFirstAt}
 use Rattle.hp_world.specs.declared.store.Change.TheVariants.{Cancelled}
-use Rattle.hp_world.proofs.AtomLemmas.{kept_same}
-use Rattle.hp_world.proofs.GuardLemmas.{without_first_absent, without_first_at, put_back}
-use Rattle.hp_world.proofs.MoveLemmas.{moved, same_stage}
+use Rattle.hp_world.proofs.StageLemmas.{kept_same}
+use Rattle.hp_world.proofs.DeletingLemmas.{without_first_absent, without_first_at, put_back}
+use Rattle.hp_world.proofs.UndoingLemmas.{moved, same_stage}
 use Rattle.hp_world.proofs.store.Store.cancel.Goals as goal
 
 pub returns-in-Some-clause-guards : goal.returns-in-Some-clause-guards

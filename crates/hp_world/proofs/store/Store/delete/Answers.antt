@@ -4,8 +4,8 @@ use Rattle.hp_world.specs.Indexed.{Row}
 use Rattle.hp_world.specs.Stages.{live_atoms, PlacesKept}
 use Rattle.hp_world.specs.Undoing.{IsVacant}
 use Rattle.hp_world.specs.declared.store.Change.TheVariants.{Deleted}
-use Rattle.hp_world.proofs.AtomLemmas.{without_absent, live_cleared, kept_cleared}
-use Rattle.hp_world.proofs.MoveLemmas.{moved, vacated, same_stage}
+use Rattle.hp_world.proofs.StageLemmas.{without_absent, live_cleared, kept_cleared}
+use Rattle.hp_world.proofs.UndoingLemmas.{moved, vacated, same_stage}
 use Rattle.hp_world.proofs.store.Store.delete.Goals as goal
 
 pub clear-requires : goal.clear-requires

@@ -1,7 +1,7 @@
 use Rattle.std.proofs.Common.{List, ℕ, ap, ◌∙◌}
 use Rattle.hp_syntax.specs.Applying.{is_among}
 use Rattle.hp_world.specs.Stages.{same_cell}
-use Rattle.hp_world.proofs.GuardLemmas.{among_turned}
+use Rattle.hp_world.proofs.DeletingLemmas.{among_turned}
 use Rattle.hp_world.proofs.store.Store.is_guarded.Goals as goal
 
 pub returns : goal.returns

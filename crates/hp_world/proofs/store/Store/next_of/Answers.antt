@@ -1,8 +1,8 @@
 use Rattle.std.proofs.Common.{◌≡◌, ◌∙◌, inl, inr, length, get_or, None, Some, arith, rules}
 use Rattle.std.proofs.lemmas.Bool.{cases_lt}
 use Rattle.std.proofs.lemmas.Option.{get_or_from_slice_get}
-use Rattle.hp_world.proofs.AtomLemmas.{atom_below}
-use Rattle.hp_world.proofs.NameLemmas.{past_unnamed}
+use Rattle.hp_world.proofs.StageLemmas.{atom_below}
+use Rattle.hp_world.proofs.NamedLemmas.{past_unnamed}
 use Rattle.hp_world.proofs.store.Store.next_of.Goals as goal
 
 pub is_named-requires : goal.is_named-requires

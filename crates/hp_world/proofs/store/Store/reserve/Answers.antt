@@ -1,6 +1,6 @@
 use Rattle.std.proofs.Common.{vec_capacity, arith}
 use Rattle.hp_world.specs.Undoing.{stage_of}
-use Rattle.hp_world.proofs.MoveLemmas.{undoable_more}
+use Rattle.hp_world.proofs.UndoingLemmas.{undoable_more}
 use Rattle.hp_world.proofs.store.Store.reserve.Goals as goal
 
 pub returns-in_err-reserve-2-clause-sound : goal.returns-in_err-reserve-2-clause-sound

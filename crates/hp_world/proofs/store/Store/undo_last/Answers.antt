@@ -2,8 +2,8 @@ use Rattle.std.proofs.Common.{◌≡◌, ◌-◌, true, is_ok, cond, take, vec_c
 use Rattle.std.specs.List.{insert}
 use Rattle.hp_world.specs.declared.store.Change.TheVariants.{Deleted, Added, Cancelled, Protected}
 use Rattle.hp_world.specs.Indexed.{Row}
-use Rattle.hp_world.specs.Undoing.{front, stage_of}
-use Rattle.hp_world.proofs.MoveLemmas.{last_fits, taken_back, same_stage}
+use Rattle.hp_world.specs.Undoing.{all_but_last, stage_of}
+use Rattle.hp_world.proofs.UndoingLemmas.{last_fits, taken_back, same_stage}
 use Rattle.hp_world.proofs.store.Store.undo_last.Goals as goal
 
 pub put_back-requires : goal.put_back-requires
@@ -63,7 +63,7 @@ returns-in-Cancelled c =
 pub returns-in-Protected : goal.returns-in-Protected
 returns-in-Protected c =
     let s = c.args.self.now in
-    let short : c.pop-in-Protected.new.self.items ≡ front s.guards.items =
+    let short : c.pop-in-Protected.new.self.items ≡ all_but_last s.guards.items =
     c.pop-in-Protected.ensures.rest ∙ ap (λ n. take (n - 1) s.guards.items) s.guards.ok.0 in
     taken_back _ _ Protected c.requires.sound c.in-Protected.ensures.items
     c.in-Protected.ensures.len (same_stage _ _ _ _ refl short) (omega arith)

@@ -15,4 +15,5 @@ returns-clause-below c = λ n s b.
       guard = c.args.guard.now;
     } in
     applied_below c.apply.result changes (history_of c.self.inside.store) (history_of c.apply.new.self)
-    c.apply.ensures.ok c.apply.ensures.err n (subst (λ (h : History Stage). StageBelow n h.now) (sym c.self.view_is) s) b
+    c.apply.ensures.ok c.apply.ensures.err n
+    (subst (λ (h : History Stage). StageBelow n h.now) (sym c.self.view_is) s) b

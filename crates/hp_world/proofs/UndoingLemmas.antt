@@ -10,14 +10,14 @@ use Rattle.hp_world.specs.Histories.{history, undone_to, KeepsPasts}
 use Rattle.hp_world.specs.Indexed.{IsOnlyAt}
 use Rattle.hp_world.specs.Stages.{Stage, PlacesKept}
 use Rattle.hp_world.specs.Trails.{IsUndoable}
-use Rattle.hp_world.specs.Undoing.{front, undone, Fits, IsVacant, IsAny, stage_of, history_of, IsSound, Moves, Undoes}
-use Rattle.hp_world.proofs.AtomLemmas.{kept_more}
+use Rattle.hp_world.specs.Undoing.{all_but_last, undone, Fits, IsVacant, IsAny, stage_of, history_of, IsSound, Moves, Undoes}
+use Rattle.hp_world.proofs.StageLemmas.{kept_more}
 use Rattle.hp_world.proofs.HistoryLemmas.{undone_pushed}
 use Rattle.hp_world.proofs.TrailLemmas.{keeps_pushed, undoable_pushed, undoable_popped, undoable_weaker}
 
 -- all but what comes last are those before it
-pub front_pushed : {A : Type 0} (xs : List A) (x : A) → front (xs ++ x ∷ []) ≡ xs
-front_pushed xs x = take_at xs (x ∷ []) _ (omega (arith, length_push xs x))
+pub all_but_last_pushed : {A : Type 0} (xs : List A) (x : A) → all_but_last (xs ++ x ∷ []) ≡ xs
+all_but_last_pushed xs x = take_at xs (x ∷ []) _ (omega (arith, length_push xs x))
 
 -- a change that can be undone can be undone in a wider table and in more room
 fits_more : (width wider room more : ℕ) → width ≤ wider → room ≤ more → (t : Change) (s : Stage)
@@ -67,12 +67,14 @@ moved old new t sound trail back kept fits count trail_room guards_room places_r
     let before : IsUndoable undone fit IsAny old.trail.items (undone t (stage_of new)) =
     rw (back, guards_room, width) sound in
     let keeps : KeepsPasts (history undone old.trail.items (undone t (stage_of new)))
-    (history undone (old.trail.items ++ t ∷ []) (stage_of new)) = keeps_pushed undone old.trail.items t (stage_of new) in
+    (history undone (old.trail.items ++ t ∷ []) (stage_of new)) = keeps_pushed undone old.trail.items t
+    (stage_of new) in
     record {
       keeps =
           subst (λ (ts : List Change). KeepsPasts (history_of old) (history undone ts (stage_of new))) (sym trail)
           (subst
-          (λ (s : Stage). KeepsPasts (history undone old.trail.items s) (history undone (old.trail.items ++ t ∷ []) (stage_of new)))
+          (λ (s : Stage). KeepsPasts (history undone old.trail.items s) (history undone (old.trail.items ++ t ∷ [])
+          (stage_of new)))
           back keeps);
       kept = kept;
       sound =
