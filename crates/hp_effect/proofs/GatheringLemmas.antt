@@ -210,7 +210,8 @@ module _ (side : Side) (whole : Going Gathered) (old : Changes) where
 
   -- where an effect stops the whole does
   pub along_stops : (terms : List Term) (now : ChangesOf ℕ) (first left rest : Going Gathered) (obstacle : Obstacle)
-      → left ≡ both first rest → Along side whole left terms old now → StopsHere obstacle first → StopsHere obstacle whole
+      → left ≡ both first rest → Along side whole left terms old now → StopsHere obstacle first
+      → StopsHere obstacle whole
   along_stops terms now first left rest Cut e h s =
       h.splits ∙ ap (both (Went h.values)) (e ∙ ap (λ x. both x rest) s)
   along_stops terms now first left rest (Fault f) e h s =

@@ -411,7 +411,8 @@ module _ (es : List Entry) (task list : ℕ) (f : AreFull es) (t : HasTask es ta
         → network_in terms (take list es ++ tail) ≡ normal (with_part (network_in terms es) q Empty)
     left_network q h =
         let s =
-        entry_path_parts (entry_path list es) p.before q (is_entry_path list es) (sym (entry_path_from_place es task q h) ∙ entry_path_there) in
+        entry_path_parts (entry_path list es) p.before q (is_entry_path list es)
+        (sym (entry_path_from_place es task q h) ∙ entry_path_there) in
         let net = network_in terms es in
         let m = listed p.order (as_networks parts) in
         let y = with_part m (p.before ∷ []) Empty in
@@ -443,7 +444,8 @@ place_named o b i id p e f h = ap (place_of o.entries) f ∙ (ap (λ a. place_of
 pub nothing_is_flat : IsFlatNetwork (record { entries = []; focus = None })
 nothing_is_flat = record { full = tt; one = omega arith; focus = tt }
 
-module _ (es new : List Entry) (focus : Option ℕ) (task : ℕ) (o : IsFlatNetwork (record { entries = es; focus = focus }))
+module _ (es new : List Entry) (focus : Option ℕ) (task : ℕ)
+    (o : IsFlatNetwork (record { entries = es; focus = focus }))
     (t : HasTask es task) (taken : IsTakenOut task es new) where
   -- what is left are the entries before the list, and what is left of those from it on
   left_is : (list : ℕ) (p : IsPart es task list) → new ≡ without_part task list es

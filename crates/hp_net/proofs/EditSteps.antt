@@ -14,7 +14,8 @@ module _ (es : List Entry) (task place before : ℕ) (e : Entry) (earlier : plac
     (is : slice_get es place ≡ Some e)
     (there : entry_path (task - suc place) (drop (suc place) es) ≡ Some (before ∷ [])) where
   -- the task's path from this entry on is that from the next one on, behind this one
-  entry_path_from : entry_path (task - place) (drop place es) ≡ entry_path (suc (task - suc place)) (e ∷ drop (suc place) es)
+  entry_path_from : entry_path (task - place) (drop place es)
+      ≡ entry_path (suc (task - suc place)) (e ∷ drop (suc place) es)
   entry_path_from =
       let n : task - place ≡ suc (task - suc place) = omega arith in
       ap₂ entry_path n (drop-from es place e is)

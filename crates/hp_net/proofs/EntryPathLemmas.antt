@@ -289,10 +289,12 @@ entry_path-below j i [] q h = refl
 entry_path-below zero i (e ∷ es) q h = let n : 0 + i ≡ i = omega arith in rw n h
 entry_path-below (suc j) i (Task cell immediate ∷ es) q h =
     let n : suc j + i ≡ suc (j + i) = omega arith in
-    rw n (ap (option_map behind_task) (entry_path-below j i es q h) ∙ below_task (entry_path j es) q (is_entry_path j es))
+    rw n (ap (option_map behind_task) (entry_path-below j i es q h)
+    ∙ below_task (entry_path j es) q (is_entry_path j es))
 entry_path-below (suc j) i (Parts order n ∷ es) q h =
     let m : suc j + i ≡ suc (j + i) = omega arith in
-    rw m (ap (option_map (behind_list n)) (entry_path-below j i es q h) ∙ below_list n (entry_path j es) q (is_entry_path j es))
+    rw m (ap (option_map (behind_list n)) (entry_path-below j i es q h)
+    ∙ below_list n (entry_path j es) q (is_entry_path j es))
 
 -- ---- how far paths reach
 
@@ -318,7 +320,8 @@ within_list n m (Some (k ∷ p)) h =
     (λ e. let l : n ≤ k = grind (arith, nat_tests) in rw e (omega arith)) (cases_Bool (nat_lt k n))
 
 -- the path of an entry is within the networks
-within_first : (terms : List Term) (i : ℕ) (es : List Entry) → IsWithinFirst (length (forest terms es)) (entry_path i es)
+within_first : (terms : List Term) (i : ℕ) (es : List Entry)
+    → IsWithinFirst (length (forest terms es)) (entry_path i es)
 within_first terms i [] = tt
 within_first terms zero (Task cell immediate ∷ es) = omega arith
 within_first terms zero (Parts order n ∷ es) = omega arith
@@ -330,7 +333,8 @@ within_first terms (suc i) (Parts order n ∷ es) =
     (within_list n (length (forest terms es)) (entry_path i es) (within_first terms i es))
 
 -- a path is of one of the networks
-pub entry_path_within : (terms : List Term) (i : ℕ) (es : List Entry) (k : ℕ) (p : Place) → entry_path i es ≡ Some (k ∷ p)
+pub entry_path_within : (terms : List Term) (i : ℕ) (es : List Entry) (k : ℕ) (p : Place)
+    → entry_path i es ≡ Some (k ∷ p)
     → k < length (forest terms es)
 entry_path_within terms i es k p h = subst (IsWithinFirst (length (forest terms es))) h (within_first terms i es)
 
@@ -372,12 +376,14 @@ place_parts (Some (zero ∷ q)) p h = ap (λ r. Some (zero ∷ r)) (same_Some q 
 place_parts (Some (suc k ∷ q)) p h = absurd cc
 
 -- an entry's place is its path below the first network
-pub entry_path_from_place : (es : List Entry) (i : ℕ) (p : Place) → place_of es i ≡ Some p → entry_path i es ≡ Some (zero ∷ p)
+pub entry_path_from_place : (es : List Entry) (i : ℕ) (p : Place) → place_of es i ≡ Some p
+    → entry_path i es ≡ Some (zero ∷ p)
 unfolding place_of
 entry_path_from_place es i p h = place_parts (entry_path i es) p h
 
 -- an entry with a path in the first network has a place there
-pub place_from_entry_path : (es : List Entry) (i : ℕ) (p : Place) → entry_path i es ≡ Some (zero ∷ p) → place_of es i ≡ Some p
+pub place_from_entry_path : (es : List Entry) (i : ℕ) (p : Place) → entry_path i es ≡ Some (zero ∷ p)
+    → place_of es i ≡ Some p
 unfolding place_of
 place_from_entry_path es i p h = ap (option_and_then below_root) h
 
@@ -398,7 +404,8 @@ entry_path_has_place es i (zero ∷ p) one h = (p, place_from_entry_path es i p 
 entry_path_has_place es i (suc k ∷ p) one h = let l = entry_path_within [] i es (suc k) p h in absurd (omega arith)
 
 -- a task of a flat network has a place
-pub task_has_place : (o : FlatNetwork) (i : ℕ) → IsFlatNetwork o → NamesTask o i → (p : Place) × (place_of o.entries i ≡ Some p)
+pub task_has_place : (o : FlatNetwork) (i : ℕ) → IsFlatNetwork o → NamesTask o i
+    → (p : Place) × (place_of o.entries i ≡ Some p)
 task_has_place o i h t =
     let s = has_entry_path i o.entries (slice_get_within o.entries i _ t.2) in
     entry_path_has_place o.entries i s.0 h.one s.1
@@ -437,12 +444,15 @@ only_first : (i : ℕ) (es : List Entry) → entry_path i es ≡ Some (zero ∷ 
 only_first i [] h = absurd cc
 only_first zero (e ∷ es) h = refl
 only_first (suc i) (Task cell immediate ∷ es) h =
-    absurd (subst IsEntryPath (sym (from_behind_task (entry_path i es)) ∙ ap (option_map before_task) h) (is_entry_path i es))
+    absurd (subst IsEntryPath (sym (from_behind_task (entry_path i es)) ∙ ap (option_map before_task) h)
+    (is_entry_path i es))
 only_first (suc i) (Parts order n ∷ es) h =
-    absurd (subst IsEntryPath (sym (from_behind_list n (entry_path i es)) ∙ ap (option_map (before_list n)) h) (is_entry_path i es))
+    absurd (subst IsEntryPath (sym (from_behind_list n (entry_path i es)) ∙ ap (option_map (before_list n)) h)
+    (is_entry_path i es))
 
 -- no two entries have the same path
-entry_paths_apart : (i j : ℕ) (es : List Entry) (s : List ℕ) → entry_path i es ≡ Some s → entry_path j es ≡ Some s → i ≡ j
+entry_paths_apart : (i j : ℕ) (es : List Entry) (s : List ℕ) → entry_path i es ≡ Some s → entry_path j es ≡ Some s
+    → i ≡ j
 entry_paths_apart i j [] s h k = absurd cc
 entry_paths_apart zero j (e ∷ es) s h k = sym (only_first j (e ∷ es) (k ∙ sym h))
 entry_paths_apart (suc i) zero (e ∷ es) s h k = only_first (suc i) (e ∷ es) (h ∙ sym k)
@@ -452,9 +462,11 @@ entry_paths_apart (suc i) (suc j) (Task cell immediate ∷ es) s h k =
     (sym (from_behind_task (entry_path j es)) ∙ ap (option_map before_task) k))
 entry_paths_apart (suc i) (suc j) (Parts order n ∷ es) s h k =
     ap suc
-    (entry_paths_apart i j es (before_list n s) (sym (from_behind_list n (entry_path i es)) ∙ ap (option_map (before_list n)) h)
+    (entry_paths_apart i j es (before_list n s)
+    (sym (from_behind_list n (entry_path i es)) ∙ ap (option_map (before_list n)) h)
     (sym (from_behind_list n (entry_path j es)) ∙ ap (option_map (before_list n)) k))
 
 -- no two entries have the same place
 pub places_apart : (es : List Entry) (i j : ℕ) (p : Place) → place_of es i ≡ Some p → place_of es j ≡ Some p → i ≡ j
-places_apart es i j p h k = entry_paths_apart i j es (zero ∷ p) (entry_path_from_place es i p h) (entry_path_from_place es j p k)
+places_apart es i j p h k =
+    entry_paths_apart i j es (zero ∷ p) (entry_path_from_place es i p h) (entry_path_from_place es j p k)

@@ -208,7 +208,8 @@ place_below es j i p q h a =
     ap (option_and_then below_root) (entry_path-below j i es q a ∙ ap (option_map (λ r. r ++ q)) h)
 
 -- below an entry's place stand those of its network
-places-below : (es : List Entry) (j : ℕ) (p : Place) → entry_path j es ≡ Some (zero ∷ p) → (is : List ℕ) (qs : List Place)
+places-below : (es : List Entry) (j : ℕ) (p : Place) → entry_path j es ≡ Some (zero ∷ p)
+    → (is : List ℕ) (qs : List Place)
     → map (λ i. entry_path i (drop j es)) is ≡ map Some (map (λ q. zero ∷ q) qs)
     → map (place_of es) (map (λ i. j + i) is) ≡ map Some (map (λ q. p ++ q) qs)
 places-below es j p h [] [] e = refl

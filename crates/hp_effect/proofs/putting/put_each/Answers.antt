@@ -1,9 +1,10 @@
 use Rattle.std.proofs.Common.{refl, ◌∙◌, arith}
+use Rattle.std.proofs.lemmas.Result.{err_from_is_err_and}
 use Rattle.hp_syntax.specs.Views.{atoms_of}
 use Rattle.hp_eval.proofs.GrowthLemmas.{grows_self, grows_on}
 use Rattle.hp_world.specs.Stages.{changes_of}
-use Rattle.hp_effect.specs.Gathering.{each_going, PutsFirst}
-use Rattle.hp_effect.proofs.GatheringLemmas.{along_none, along_more}
+use Rattle.hp_effect.specs.Gathering.{each_going, HasPut, PutsFirst}
+use Rattle.hp_effect.proofs.GatheringLemmas.{along_none, along_more, along_ends, along_halts}
 use Rattle.hp_effect.proofs.putting.put_each.Goals as goal
 
 pub loop-init : goal.loop-init
@@ -71,3 +72,25 @@ loop-preserved g c =
       few = kept.1;
       grown = grows_on old c.loop.cells c.put_next.new.cells held.grown next.cells;
     }
+
+pub returns-clause-puts : goal.returns-clause-puts
+returns-clause-puts g c =
+    let old = c.args.cells.now in
+    let as' = atoms_of c.args.atoms.now in
+    let whole = each_going as' (g.S.Sats.rest c.args.sats.now c.args.base.now old c.args.slots.now) in
+    let left = each_going as' (g.S.Sats.rest c.loop.sats c.args.base.now c.loop.cells c.loop.slots) in
+    let put : HasPut c.args.side left c.put_next.new.cells (changes_of c.loop.cells c.loop.changes)
+    c.put_next.new.changes =
+    rw c.if-branch.false at c.in_ok-put_next.ensures.puts in
+    along_ends c.args.side whole (changes_of old c.args.changes.now) c.loop.cells c.put_next.new.cells c.loop.changes
+    c.put_next.new.changes left c.loop.invariant.along put
+
+pub returns-in_err-put_next-clause-puts : goal.returns-in_err-put_next-clause-puts
+returns-in_err-put_next-clause-puts g c =
+    let old = c.args.cells.now in
+    let as' = atoms_of c.args.atoms.now in
+    let whole = each_going as' (g.S.Sats.rest c.args.sats.now c.args.base.now old c.args.slots.now) in
+    let left = each_going as' (g.S.Sats.rest c.loop.sats c.args.base.now c.loop.cells c.loop.slots) in
+    let p = err_from_is_err_and c.from_residual.result c.from_residual.ensures.1 in
+    rw (p.1, p.2) (along_halts c.args.side whole (changes_of old c.args.changes.now) c.loop.cells c.loop.changes left
+    c.in_err-put_next.field-0.0 c.loop.invariant.along c.in_err-put_next.ensures.puts)

@@ -47,7 +47,9 @@ returns-clause-puts g c =
     let same = g.met.S.Sats.same_cells sats c.args.base.now between new slots c.next.ensures.base c.next.ensures.slots
     (kept_agree (g.S.Sats.kept sats) between new c.put_event.ensures.cells (c.next.ensures.kept.1)) in
     let left : each_going as' (left_after xs) ≡ each_going as' (g.S.Sats.rest sats c.args.base.now new slots)
-    = ap (each_going as') (sym c.in_ok-event.ensures.rest ∙ same) in
+    = ap (each_going as')
+    (sym {a = g.S.Sats.rest sats c.args.base.now between slots} {b = left_after xs} c.in_ok-event.ensures.rest
+    ∙ same) in
     let stay = changes_stay old between c.next.ensures.cells changes c.requires.below in
     let put = c.put_event.ensures.puts xs c.in_ok-event.ensures.event c.in_ok-event.ensures.sat in
     subst (λ o. PutsNext side c.put_event.result (each_going as' xs)

@@ -30,6 +30,7 @@ returns-clause-places c = λ terms.
     c.unwrap_or-start.ensures in
     subst
     (λ (h : History FlatNetwork). map (place_of h.now.entries) c.keep_immediate.new.found.items
-    ≡ map Some (plain.candidates (network_in terms h.now.entries) (option_and_then (place_of h.now.entries) h.now.focus)))
+    ≡ map Some
+    (plain.candidates (network_in terms h.now.entries) (option_and_then (place_of h.now.entries) h.now.focus)))
     c.self.view_is
     (ap (map (place_of es)) is ∙ places_found terms es c.self.inside.focus found c.self.invariant marked a)
