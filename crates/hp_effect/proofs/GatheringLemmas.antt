@@ -121,7 +121,7 @@ module _ (old new : List Term) (g : Grows old new) (c : ChangesOf ℕ) (below : 
 
   module _ (side : Side) (part : Part) (r : Result Term RunFault) (after : ChangesOf ℕ)
       (there : ChangesBelow (length new) after) where
-    -- an atom's value that was put is what the effect gathers
+    -- the effect gathers the value of the atom put there
     pub atom_gathered : part ≡ part_of_atoms side → IsPut part r after
         → HasPut side (of_atom r) new (changes_of old c) after
     atom_gathered e h = record {
@@ -131,7 +131,7 @@ module _ (old new : List Term) (g : Grows old new) (c : ChangesOf ℕ) (below : 
       below = there;
     }
 
-    -- a protection's value that was put is what the effect gathers
+    -- the effect gathers the value of the protection put there
     pub guard_gathered : part ≡ part_of_protections side → IsPut part r after
         → HasPut side (of_guard r) new (changes_of old c) after
     guard_gathered e h = record {
@@ -247,7 +247,7 @@ each_step as' (plain.Fault f) xs = refl
 abbrev pub atoms_going : Bindings → List AtomPat → Going Gathered
 atoms_going e atoms = only_atoms (atom_values (atoms_of atoms) e)
 
--- the next atom is valued before the others that are left
+-- the next atom is valued before the remaining ones
 pub atoms_left : (atoms : List AtomPat) (i : ℕ) (e : Bindings) (a : AtomPat) → i < length atoms → a ≡ get_or atoms i a
     → atoms_going e (drop i atoms)
     ≡ both (of_atom (atom_value (atom_of a) e)) (atoms_going e (drop (i + 1) atoms))
@@ -333,11 +333,11 @@ fewer_behind (plain.Sat e ∷ xs) h = omega arith
 fewer_behind (plain.Cut ∷ xs) h = absurd cc
 fewer_behind (plain.Fault f ∷ xs) h = absurd cc
 
--- terms that were added to agree with those before below what was kept
+-- grown terms agree with those before below the kept number
 pub kept_agree : (k : ℕ) (old new : List Term) → Grows old new → k ≤ length old → take k old ≡ take k new
 kept_agree k old new g h =
     sym (ap (take k) (front old new g) ∙ take-append-le k old (drop (length old) new) h)
 
--- bindings that stand above those of a mark are undone to these
+-- bindings above those of a mark are undone to these
 pub undone_above : (n : ℕ) (e f : Slotted) → n ≤ length e.trail → Binds (undone n e) f → undone n f ≡ undone n e
 undone_above n e f h b = ap (λ m. undone m f) (sym (length-take-le n e.trail h)) ∙ b.undoes

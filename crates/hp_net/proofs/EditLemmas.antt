@@ -1,4 +1,4 @@
--- Entries of which a task goes, or that have subtasks in its place.
+-- Entries without a task, or with subtasks in its place.
 use Rattle.std.proofs.Common.{◌≡◌, ℕ, ◌+◌, ◌-◌, ◌<◌, ◌≤◌, zero, suc, Bool, false, cond, nat_lt, List, [], ◌∷◌, ◌++◌, length, take, drop, Option, Some, None, option_map, refl, sym, ap, ap₂, subst, ◌∙◌, arith, ⊎_elim, length-append}
 use Rattle.std.specs.Prelude.{slice_get}
 use Rattle.std.specs.List.{All, remove}
@@ -25,7 +25,7 @@ use Rattle.hp_net.proofs.FlatNetworkLemmas.{forest_in_form, taken_in_form, norma
 use Rattle.hp_net.proofs.PushedLemmas.{below_closed, below_removed, closed_behind, normal-listed}
 use Rattle.hp_net.proofs.EntryPathLemmas.{IsEntryPath, is_entry_path, behind_list-within, drop-from, entry_within, forest-replaced, full-replaced, length-put_at, part_of, part_of-entry_path, put, put_at, entry_path-below, entry_path-replaced, entry_path_from_place, entry_path_within, with_part-listed}
 
--- ---- a task that is a part of no list
+-- ---- a task by itself, in no list
 
 -- without a later network the first ones are the same
 take-remove : (ns : List Network) (n k : ℕ) → n ≤ k → take n (remove ns k) ≡ take n ns
@@ -63,7 +63,7 @@ behind_task_parts (Some (j ∷ p)) k h =
     let f : p ≡ [] = cc in
     (j, sym e, ap (λ q. Some (j ∷ q)) f)
 
--- a number behind a list is that of a network that is no part of it, less by the parts but one
+-- a number behind a list is that of a network behind its parts, less by the parts but one
 behind_list_parts : (n : ℕ) (s : Option (List ℕ)) (k : ℕ) → Number (option_map (behind_list n) s) k
     → (j : ℕ) × (n ≤ j) × (k ≡ suc (j - n)) × Number s j
 behind_list_parts n None k h = absurd cc
@@ -78,7 +78,7 @@ behind_list_parts n (Some (j ∷ p)) k h =
     (j, grind (arith, nat_tests), sym a, ap (λ q. Some (j ∷ q)) b))
     (cases_Bool (nat_lt j n))
 
--- where a task that is a part of no list goes, its network goes
+-- where a task in no list goes, its network goes
 pub forest-remove : (terms : List Term) (es : List Entry) (i k : ℕ) → HasTask es i → entry_path i es ≡ Some (k ∷ [])
     → forest terms (remove es i) ≡ remove (forest terms es) k
 forest-remove terms [] i k t h = absurd cc
@@ -97,7 +97,7 @@ forest-remove terms (Parts order n ∷ es) (suc i) k t h =
     ∙ (ap₂ (λ f g. listed order (as_networks f) ∷ g) (take-remove ns n p.0 p.1) (drop-remove ns n p.0 p.1)
     ∙ ap (remove (listed order (as_networks (take n ns)) ∷ drop n ns)) (sym p.2))
 
--- the lists that are left are full
+-- the remaining lists are full
 pub full-remove : (es : List Entry) (i k : ℕ) → HasTask es i → entry_path i es ≡ Some (k ∷ []) → AreFull es
     → AreFull (remove es i)
 full-remove [] i k t h f = absurd cc
@@ -114,7 +114,7 @@ full-remove (Parts order n ∷ es) (suc i) k t h f =
     let m = p.1 in
     (f.0, omega arith, full-remove es i p.0 t p.3 f.2)
 
--- ---- a task that is a part of a list
+-- ---- a task in a list
 
 -- the entries from the list on, without the task
 abbrev pub tail_without : Order → ℕ → List Entry → ℕ → List Entry
@@ -130,7 +130,7 @@ module _ (order : Order) (n : ℕ) (es : List Entry) (i k : ℕ) (t : HasTask es
   enough : (terms : List Term) → n ≤ length (forest terms es)
   enough terms = let e = length-forest terms [] es in let g = f.1 in omega arith
 
-  -- the parts that are left
+  -- the remaining parts
   abbrev left : List Term → List Network
   left terms = remove (take n (forest terms es)) k
 
@@ -140,7 +140,7 @@ module _ (order : Order) (n : ℕ) (es : List Entry) (i k : ℕ) (t : HasTask es
       let e = length-take-le n (forest terms es) (enough terms) in
       length-remove (take n (forest terms es)) k (omega arith) ∙ e
 
-  -- the networks behind the list are the parts that are left, and those that are no parts
+  -- the networks behind the list are the remaining parts, and the networks behind them
   left_behind : (terms : List Term) → forest terms (remove es i) ≡ left terms ++ drop n (forest terms es)
   left_behind terms =
       let e = length-take-le n (forest terms es) (enough terms) in
@@ -194,7 +194,7 @@ module _ (order : Order) (n : ℕ) (es : List Entry) (i k : ℕ) (t : HasTask es
       rw e (many, omega arith, r))
       (cases_Bool (nat_lt (n - 1) 2))
 
--- ---- a task that goes, by the whole entries
+-- ---- a task goes, by the whole entries
 
 -- what stands behind some entries stands so many further in all of them
 slice_get-drop : (n i : ℕ) (es : List Entry) → slice_get (drop n es) i ≡ slice_get es (n + i)
@@ -303,7 +303,7 @@ whole_in_form : (terms : List Term) (es : List Entry) → AreFull es → 0 < len
 unfolding network_in
 whole_in_form terms es f l = first_in_form (forest terms es) l (forest_in_form terms es f)
 
--- ---- a task that is a part of a list goes
+-- ---- a task goes from its list
 
 module _ (es : List Entry) (task list : ℕ) (f : AreFull es) (t : HasTask es task) (p : IsPart es task list) where
   -- the number of the task among the entries behind its list
@@ -467,7 +467,7 @@ module _ (es new : List Entry) (focus : Option ℕ) (task : ℕ)
         focus = tt;
       })) taken
 
-  -- a task that is alone is the whole network
+  -- a task by itself is the whole network
   alone_left : (terms : List Term) (q : Place) → place_of es task ≡ Some q → IsAlone es task → new ≡ []
       → network_in terms new ≡ normal (with_part (network_in terms es) q Empty)
   unfolding network_in with_part normal
@@ -495,7 +495,7 @@ module _ (es new : List Entry) (focus : Option ℕ) (task : ℕ)
   below_fewer k (Some (Task cell immediate)) list xs h = h
   below_fewer k (Some (Parts order n)) list xs h = below_closed k list order (n - 1) xs h
 
-  -- each cell that is left stays below a count
+  -- each remaining cell stays below a count
   pub below_left : (k : ℕ) → All (EntryBelow k) es → All (EntryBelow k) new
   below_left k h =
       ⊎_elim (λ a. subst (All (EntryBelow k)) (sym a.1) (All-nil (EntryBelow k)))
@@ -571,7 +571,7 @@ module _ (es sub : List Entry) (focus : Option ℕ) (task : ℕ) (tree : TaskTre
         omega arith;
   }
 
-  -- they are the network with the subtasks, which have the focus
+  -- they are the network with the subtasks, and these have the focus
   pub expand_expanded : (terms : List Term) (p : Place) → place_of es task ≡ Some p
       → (network_in terms (replaced task sub es), place_of (replaced task sub es) task)
       ≡ expand (network_in terms es) p (subtasks terms)

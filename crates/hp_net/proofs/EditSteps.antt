@@ -20,7 +20,7 @@ module _ (es : List Entry) (task place before : ℕ) (e : Entry) (earlier : plac
       let n : task - place ≡ suc (task - suc place) = omega arith in
       ap₂ entry_path n (drop-from es place e is)
 
-  -- the networks before the task are those behind this entry that are no parts of it, and its own
+  -- the networks before the task are the entry's own and the networks behind its parts
   past_one : (f : Entry) → e ≡ f → (count : ℕ) → further_of f before ≡ Some count
       → (entry_path (suc (task - suc place)) (f ∷ drop (suc place) es) ≡ Some (count ∷ [])) × (count ≤ before + 1)
   past_one (Task cell immediate) s count h =

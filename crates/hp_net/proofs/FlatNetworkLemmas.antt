@@ -206,9 +206,9 @@ mutual
   with_nth_part_below (And n ns) zero p q m y e = ap (λ x. And x ns) (with_part_below n p q m y e)
   with_nth_part_below (And n ns) (suc i) p q m y e = ap (And n) (with_nth_part_below ns i p q m y e)
 
--- ---- a part that goes
+-- ---- one part less
 
--- the normal form of parts of which one is empty has the others
+-- the normal form of parts leaves an empty one out
 pub normal_parts-without : (ns : List Network) (k : ℕ) → AreInForm (as_networks ns) → k < length ns
     → normal_parts (with_nth_part (as_networks ns) k [] Empty) ≡ as_networks (remove ns k)
 unfolding normal with_part
@@ -219,7 +219,7 @@ normal_parts-without (n ∷ ns) (suc k) h l =
     ∙ (ap (λ m. unless_empty m (as_networks (remove ns k))) (normal_from_form n h.1)
     ∙ ap (λ b. cond b (as_networks (remove ns k)) (And n (as_networks (remove ns k)))) h.0)
 
--- parts of which one goes stay in normal form
+-- parts stay in normal form without one of them
 pub removed_in_form : (ns : List Network) (k : ℕ) → AreInForm (as_networks ns)
     → AreInForm (as_networks (remove ns k))
 removed_in_form [] zero h = tt

@@ -78,7 +78,7 @@ abbrev AreSome : List Network → Type 0
 AreSome [] = Unit {0}
 AreSome (n ∷ ns) = (is_empty n ≡ false) × AreSome ns
 
--- networks stay none of them empty with one more, which is left out where it is empty
+-- networks stay none of them empty with one more, left out where it is empty
 some_shown : (n : Network) (ms : List Network) → AreSome ms → AreSome (shown n ++ ms)
 some_shown Empty ms h = h
 some_shown (Task t i) ms h = (refl, h)
@@ -96,7 +96,7 @@ listed_some : (order : Order) (ns : Networks) → shown (listed order ns) ≡ li
 listed_some Ordered ns = refl
 listed_some Unordered ns = refl
 
--- networks of which none is empty are a list where they are two or more, and else stay
+-- networks, none of them empty, are a list where they are two or more, and else stay
 listed_kept : (order : Order) (ns : List Network) → AreSome ns
     → shown (as_list (listed order) (as_networks ns))
     ≡ cond (nat_lt (length ns) 2) ns (listed order (as_networks ns) ∷ [])
@@ -169,7 +169,7 @@ reads_list order ns count added two r = record {
   );
 }
 
--- ---- a list that is closed
+-- ---- a closed list
 
 -- behind some entries the next one goes
 removed_behind : (es : List Entry) (e : Entry) (others : List Entry) (at : ℕ) → length es ≡ at
@@ -181,7 +181,7 @@ removed_behind es e others at l =
     from [] = refl
     from (x ∷ xs) = from xs
 
--- a list that is closed behind entries goes, or has its number of parts
+-- a list closed behind entries goes, or has its number of parts
 pub closed_behind : (es : List Entry) (e : Entry) (others : List Entry) (at : ℕ) (order : Order) (count : ℕ)
     → length es ≡ at
     → closed at order count (es ++ e ∷ others)
@@ -201,7 +201,7 @@ module _ (order : Order) (ts : List TaskTree) (count : ℕ) (added : List Entry)
       ∙ ap (λ n. cond (nat_lt n 2) (all_kept ts terms) (listed order (as_networks (all_kept ts terms)) ∷ []))
       (r.count terms)
 
-  -- the parts of a list that goes are what stays of it
+  -- where a list goes, its parts stay
   few : nat_lt count 2 ≡ true → Reads (kept_list order ts) count added
   few e =
       reads_same (all_kept ts) (kept_list order ts) count added
@@ -217,7 +217,7 @@ module _ (order : Order) (ts : List TaskTree) (count : ℕ) (added : List Entry)
       ∙ ap (λ b. cond b (all_kept ts terms) (listed order (as_networks (all_kept ts terms)) ∷ [])) e)
       (reads_list order (all_kept ts) count added (grind (arith, nat_tests)) r)
 
-  -- a list that is closed is what stays of it
+  -- a closed list is what stays of it
   pub adds_closed : (old : List Entry) → Adds (kept_list order ts) (cond (nat_lt count 2) count 1) old
       (closed (length old) order count (old ++ entries.List order 0 ∷ added))
   adds_closed old =
@@ -242,7 +242,7 @@ one_or_none t count old new a = let c = a.reads.count [] in let l = length-kept 
 pub adds_none : (es new : List Entry) → new ≡ es → Adds (λ _. []) 0 es new
 adds_none es new e = record { added = []; is = e ∙ sym (append-nil es); reads = reads_none }
 
--- a task that was put behind entries adds itself
+-- a task put behind entries adds itself
 pub adds_task : (cell : ℕ) (immediate : Bool) (old new : List Entry)
     → new ≡ old ++ entries.Task cell immediate ∷ [] → Adds (kept (trees.Task cell immediate)) 1 old new
 adds_task cell immediate old new e = record {
@@ -272,7 +272,7 @@ adds_tree ts us t count one old middle new e a b = record {
       (reads_more (all_kept ts) (kept t) count one a.added b.added a.reads b.reads);
 }
 
--- a list that is closed adds what stays of it
+-- a closed list adds what stays of it
 pub adds_list : (order : Order) (ts us : List TaskTree) (count result : ℕ) (old opened closing new : List Entry)
     → us ≡ ts → opened ≡ old ++ entries.List order 0 ∷ [] → Adds (all_kept us) count opened closing
     → new ≡ closed (length old) order count closing → result ≡ cond (nat_lt count 2) count 1

@@ -1,4 +1,4 @@
--- The tasks that are found are the first ones of a network.
+-- The found tasks are the first ones of a network.
 use Rattle.std.proofs.Common.{◌≡◌, ℕ, ◌+◌, ◌-◌, ◌<◌, ◌≤◌, zero, suc, Bool, true, false, ◌||◌, cond, unwrap_or, List, [], ◌∷◌, ◌++◌, length, take, drop, map, Option, Some, None, option_map, refl, sym, ap, ap₂, ◌∙◌, arith, ⊎_elim}
 use Rattle.std.specs.Prelude.{filter, slice_get}
 use Rattle.std.specs.List.{All, list_any}
@@ -67,7 +67,7 @@ each_within : (n k : ℕ) (ps : List Place) → k < n
 each_within n k [] l = refl
 each_within n k (p ∷ ps) l = ap₂ ◌∷◌ (behind_list-within n k p l) (each_within n k ps l)
 
--- behind a list the networks that are no parts of it have numbers less by those
+-- the networks behind the parts of a list have numbers less by the parts
 places-past : (n k : ℕ) (bs : List Bool) (ns : List Network)
     → map (behind_list n) (places bs (n + k) ns) ≡ places bs (suc k) ns
 places-past n k [] ns = refl
@@ -91,7 +91,7 @@ firsts-within n k (m ∷ ns) l =
     ∙ (ap₂ ◌++◌ (each_within n k (firsts m) (omega arith)) (firsts-within n (suc k) ns (omega arith))
     ∙ sym (map-append (λ p. zero ∷ p) (map (λ p. k ∷ p) (firsts m)) (firsts_from (suc k) (as_networks ns))))
 
--- of networks that are read the first tasks are those of each
+-- the first tasks of networks, all of them read, are those of each
 places-read : (n k : ℕ) (bs : List Bool) (ns : List Network) → n ≤ length ns
     → places (so_many n true bs) k ns ≡ firsts_from k (as_networks (take n ns)) ++ places bs (n + k) (drop n ns)
 unfolding firsts
@@ -106,7 +106,7 @@ places-read (suc n) k bs (m ∷ ns) l =
     (append_assoc (map (λ p. k ∷ p) (firsts m)) (firsts_from (suc k) (as_networks (take n ns)))
     (places bs (suc n + k) (drop n ns)))
 
--- of networks that are passed over there is none
+-- networks passed over have none
 places-passed : (n k : ℕ) (bs : List Bool) (ns : List Network) → n ≤ length ns
     → places (so_many n false bs) k ns ≡ places bs (n + k) (drop n ns)
 places-passed zero k bs ns l = ap (λ j. places bs j ns) (let e : k ≡ 0 + k = omega arith in e)
@@ -139,7 +139,7 @@ places-list true Ordered (suc n) bs (m ∷ ns) two l =
     ∙ (map-append (behind_list (suc n)) (map (λ p. zero ∷ p) (firsts m)) (places bs (suc n + 0) (drop n ns))
     ∙ ap₂ ◌++◌ (each_within (suc n) 0 (firsts m) (omega arith)) (places-past (suc n) 0 bs (drop n ns))))
 
--- the tasks that are found stand at the paths of the first tasks
+-- the found tasks stand at the paths of the first tasks
 entry_paths-marks : (terms : List Term) (es : List Entry) (bs : List Bool) → AreFull es
     → map (λ i. entry_path i es) (marks es bs 0) ≡ map Some (places bs 0 (forest terms es))
 unfolding firsts
@@ -172,7 +172,7 @@ entry_paths-marks terms (Parts order n ∷ es) (read ∷ bs) f =
     ∙ (map-Some (behind_list n) (places cs 0 (forest terms es))
     ∙ ap (map Some) (places-list read order n bs (forest terms es) f.0 enough)))))
 
--- the tasks that are found from one entry on stand at the paths of the first tasks of its network
+-- the tasks found from one entry on stand at the paths of the first tasks of its network
 first_entry_paths : (terms : List Term) (es : List Entry) → AreFull es
     → map (λ i. entry_path i es) (marks es (true ∷ []) 0)
     ≡ map Some (map (λ p. zero ∷ p) (firsts (first_network (forest terms es))))
@@ -287,7 +287,7 @@ module _ (terms : List Term) (es : List Entry) where
           ap (λ k. map (place_of es) (cond k (i ∷ filter entry_is is) (filter entry_is is))) b
           ∙ both (place_is p) h s
 
-  -- the tasks that are left are those that stand at the places that are left
+  -- the remaining tasks are those at the remaining places
   places_left : (is : List ℕ) (ps : List Place) → All (HasTask es) is → map (place_of es) is ≡ map Some ps
       → map (place_of es) (immediate_ids es is) ≡ map Some (immediate_first (network_in terms es) ps)
   places_left is ps a e =
@@ -295,7 +295,7 @@ module _ (terms : List Term) (es : List Entry) where
       ⊎_elim (λ t. let u : list_any place_is ps ≡ true = sym s.0 ∙ t in rw (t, u) s.1)
       (λ t. let u : list_any place_is ps ≡ false = sym s.0 ∙ t in rw (t, u) e) (cases_Bool (list_any entry_is is))
 
-  -- the first tasks from the entry that has the focus on
+  -- the first tasks from the entry with the focus on
   first_below : (i : ℕ) (p : Place) → AreFull es → entry_path i es ≡ Some (zero ∷ p)
       → map (place_of es) (marks (drop i es) (true ∷ []) i)
       ≡ map Some (firsts_below p (part_at (network_in terms es) p))
@@ -305,7 +305,7 @@ module _ (terms : List Term) (es : List Entry) where
       (first_entry_paths terms (drop i es) (full_behind i es f))
       ∙ ap (λ n. map Some (firsts_below p n)) (sym (part_at-place terms es i p h)))
 
-  -- the tasks that are found are the candidates
+  -- the found tasks are the candidates
   pub places_found : (focus : Option ℕ) (found : List ℕ) → IsFlatNetwork (record { entries = es; focus = focus })
       → found ≡ marks (drop (unwrap_or focus 0) es) (true ∷ []) (unwrap_or focus 0) → All (HasTask es) found
       → map (place_of es) (immediate_ids es found)

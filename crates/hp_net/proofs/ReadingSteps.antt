@@ -1,4 +1,4 @@
--- Networks that are read from left to right, or passed over.
+-- Networks are read from left to right, or passed over.
 use Rattle.std.proofs.Common.{◌≡◌, ℕ, ◌+◌, ◌-◌, ◌<◌, ◌≤◌, zero, suc, Bool, true, false, List, [], ◌∷◌, ◌++◌, length, drop, refl, sym, ap, ap₂, subst, ◌∙◌, arith, append_assoc, length-drop}
 use Rattle.std.specs.Prelude.{Some, slice_get}
 use Rattle.std.specs.List.{All}
@@ -174,7 +174,7 @@ module _ (es : List Entry) (place : ℕ) (e : Entry) (is : slice_get es place �
         few = omega arith;
       }
 
-  -- of an entry that is read come its own task, and then what is found behind it
+  -- of an entry come its own task, and then what is found behind it
   read_here : (d : Entry) (xs : List Entry) (bs : List Bool) (b : ℕ)
       → marks (d ∷ xs) (true ∷ bs) b ≡ task_found d b ++ marks xs (read_behind d bs) (suc b)
   read_here (Task cell immediate) xs bs b = refl
@@ -243,7 +243,7 @@ module _ (es : List Entry) (place : ℕ) (e : Entry) (is : slice_get es place �
       inside : {k : ℕ} → suc k ≤ length (forest [] (e ∷ drop (suc place) es)) → place < length es
       inside l = slice_get_within es place e is
 
--- a list that is read puts a level for its parts behind the others
+-- reading a list puts a level for its parts behind the others
 pub enters_list : (e : Entry) (order : Order) (n place : ℕ) (old new : List Level) (found : List ℕ) (l : Level)
     → e ≡ Parts order n → new ≡ old ++ l ∷ [] → ((bs : List Bool) → level_read l bs ≡ parts_read true order n bs)
     → Enters e place old new found found

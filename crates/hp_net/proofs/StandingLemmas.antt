@@ -18,12 +18,12 @@ pub nothing : (o : Option Visit) → option_map step_of o ≡ None → o ≡ Non
 nothing None e = refl
 nothing (Some v) e = cc
 
--- a path that is told with some numbers isn't empty
+-- a path told with some numbers isn't empty
 pub not_empty : (f : ℕ → ℕ) (p q : List ℕ) → q ≡ map f p → false ≡ (length q == 0) → p ≢ []
 not_empty f [] q e h = let h' : false ≡ true = h ∙ ap (λ r. length r == 0) e in λ _. cc
 not_empty f (i ∷ p) q e h = λ k. cc
 
--- a path that is told with no numbers is empty
+-- a path told with no numbers is empty
 pub told_empty : (f : ℕ → ℕ) (p q : List ℕ) → q ≡ map f p → true ≡ (length q == 0) → p ≡ []
 told_empty f [] q e h = refl
 told_empty f (i ∷ p) q e h =
@@ -36,7 +36,7 @@ visit_is_no_end p n Plan = λ e. cc
 visit_is_no_end p n CutHere = λ e. cc
 visit_is_no_end p n (FaultHere f) = λ e. cc
 
--- a step that tells a visit is not the end
+-- a step tells a visit, and not the end
 pub some_step_is_no_end : (s : Step) (o : Option Visit) → Some s ≡ option_map step_of o → s ≢ steps.End
 some_step_is_no_end s None e = λ _. cc
 some_step_is_no_end s (Some v) e = λ h. visit_is_no_end v.path v.node v.sight (sym (same_Some s (step_of v) e) ∙ h)

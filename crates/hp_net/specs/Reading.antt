@@ -14,7 +14,7 @@ abbrev pub so_many : ℕ → Bool → List Bool → List Bool
 so_many zero b bs = bs
 so_many (suc n) b bs = b ∷ so_many n b bs
 
--- which parts of a list are read: none of a list that is passed over, the first of an ordered one, else all
+-- which parts of a list are read: none of a list passed over, the first of an ordered one, else all
 abbrev pub parts_read : Bool → Order → ℕ → List Bool → List Bool
 parts_read false order n bs = so_many n false bs
 parts_read true Ordered n bs = true ∷ so_many (n - 1) false bs
@@ -72,12 +72,12 @@ entry_immediate None = false
 entry_immediate (Some (Task cell immediate)) = immediate
 entry_immediate (Some (Parts order n)) = false
 
--- where one of the tasks is immediate, only those that are
+-- where one of the tasks is immediate, the immediate ones alone
 abbrev pub immediate_ids : List Entry → List ℕ → List ℕ
 immediate_ids es is =
     cond (list_any (λ i. entry_immediate (slice_get es i)) is) (filter (λ i. entry_immediate (slice_get es i)) is) is
 
--- ---- an entry that is read
+-- ---- one entry is read
 
 -- a list has two parts or more
 abbrev pub IsFullEntry : Entry → Type 0

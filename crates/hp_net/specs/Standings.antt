@@ -12,7 +12,7 @@ pub record Tree : Type 0 where
   pub nest : ℕ
   pub root : Node
 
--- the path of the node reached, the visits that are left, and whether the last call answered a Did
+-- the path of the node reached, the remaining visits, and whether the last call answered a Did
 pub record Standing : Type 0 where
   pub path : List ℕ
   pub rest : List Visit

@@ -35,7 +35,7 @@ deleted_none : (atoms : List ℕ) → atoms ≡ filter (λ a. not (is_among same
 deleted_none [] = refl
 deleted_none (a ∷ atoms) = ap (λ xs. a ∷ xs) (deleted_none atoms)
 
--- deleting atoms in turn leaves those that are not among them
+-- deleting atoms in turn leaves the others
 pub deleted_is : (atoms ds : List ℕ) → deleted atoms ds ≡ filter (λ a. not (is_among same_cell a ds)) atoms
 deleted_is atoms [] = deleted_none atoms
 deleted_is atoms (d ∷ ds) = deleted_is (without d atoms) ds ∙ deleted_twice d ds atoms

@@ -1,4 +1,4 @@
--- What applying changes keeps of all atoms, and what it does to atoms that are named otherwise.
+-- What applying changes keeps of all atoms, and what it does to atoms under other names.
 use Rattle.std.proofs.Common.{◌≡◌, Bool, true, false, cond, not, ◌||◌, List, [], ◌∷◌, ◌++◌, Some, map, filter, option_map, refl, ap, ap₂, ◌∙◌}
 use Rattle.std.specs.List.{All}
 use Rattle.std.proofs.lemmas.List.{map-append}

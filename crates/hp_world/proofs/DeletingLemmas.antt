@@ -1,4 +1,4 @@
--- Protections that are cancelled and come back.
+-- Protections are cancelled and come back.
 use Rattle.std.proofs.Common.{◌≡◌, ◌≢◌, ℕ, zero, suc, ◌<◌, cond, eqb, List, [], ◌∷◌, length, get_or, refl, sym, ap, ◌∙◌, arith, eq-eqb}
 use Rattle.std.specs.List.{remove, insert, list_any}
 use Rattle.std.proofs.lemmas.Bool.{ne_eqb}
@@ -15,7 +15,7 @@ eqb_turned a b = grind (arith, nat_tests)
 pub among_turned : (a : ℕ) (xs : List ℕ) → list_any (λ x. eqb x a) xs ≡ is_among same_cell a xs
 among_turned a xs = λ i. list_any (λ x. eqb_turned x a i) xs
 
--- cancelling an atom that is not protected changes nothing
+-- cancelling changes nothing where the atom is not protected
 pub without_first_absent : (a : ℕ) (xs : List ℕ) → ((k : ℕ) → k < length xs → get_or xs k 0 ≢ a)
     → without_first same_cell a xs ≡ xs
 without_first_absent a [] h = refl
@@ -23,7 +23,7 @@ without_first_absent a (x ∷ xs) h =
     ap (λ t. cond t xs (x ∷ without_first same_cell a xs)) (ne_eqb a x (λ e. h 0 (omega arith) (sym e)))
     ∙ ap (λ ys. x ∷ ys) (without_first_absent a xs (λ k l. h (suc k) (omega arith)))
 
--- cancelling an atom removes the first protection that is it
+-- cancelling removes the first protection of the atom
 pub without_first_at : (a : ℕ) (xs : List ℕ) (i : ℕ) → IsFirstAt a xs i → without_first same_cell a xs ≡ remove xs i
 without_first_at a [] i h = absurd (omega (arith, h.within))
 without_first_at a (x ∷ xs) zero h =

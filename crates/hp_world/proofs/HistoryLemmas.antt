@@ -1,4 +1,4 @@
--- Histories that are undone to a mark.
+-- Histories are undone to a mark.
 use Rattle.std.proofs.Common.{◌≡◌, ℕ, ◌≤◌, List, [], ◌∷◌, ◌++◌, length, take, ◌∙◌, arith}
 use Rattle.std.proofs.lemmas.List.{take_all, get_or_past, same_lists, get_or_default, get_or-take, length-take-le}
 use Rattle.hp_world.specs.Histories.{History, history, mark_of, past_at, undone_to, KeepsPasts}

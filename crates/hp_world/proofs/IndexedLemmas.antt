@@ -18,7 +18,7 @@ some_within (y ∷ xs) (suc i) x h = let l = some_within xs i x h in omega arith
 stands_at : (xs : List (Option ℕ)) (i x : ℕ) → get_or xs i None ≡ Some x → slice_get xs i ≡ Some (Some x)
 stands_at xs i x h = slice_get-get_or xs i None (some_within xs i x h) ∙ ap Some h
 
--- an atom that stands at a place has an entry in the table
+-- an atom at a place has an entry in the table
 pub atom_within : (table places : List (Option ℕ)) (i a : ℕ) → IsIndex table places
     → get_or places i None ≡ Some a → a < length table
 atom_within table places i a h e = some_within table a i (h.finds a i e)
@@ -42,7 +42,7 @@ place_from table places a (Some i) h e =
       only = λ j f. same_Some j i (sym (h.finds a j f) ∙ sym e);
     }
 
--- in a row that is longer by one an atom stands where it stood, or last
+-- in a row longer by one an atom stands where it stood, or last
 pushed_at : (ps : List (Option ℕ)) (q : Option ℕ) (i b : ℕ) → get_or (ps ++ q ∷ []) i None ≡ Some b
     → (get_or ps i None ≡ Some b) ⊎ ((i ≡ length ps) × (q ≡ Some b))
 pushed_at ps q i b h =
@@ -51,7 +51,7 @@ pushed_at ps q i b h =
       | inr e ↦ inr e
     ]
 
--- in a row that is longer by one an atom stands where it stood
+-- in a row longer by one an atom stands where it stood
 stays_at : (ps : List (Option ℕ)) (q : Option ℕ) (i b : ℕ) → get_or ps i None ≡ Some b
     → get_or (ps ++ q ∷ []) i None ≡ Some b
 stays_at ps q i b h = get_or_append_left ps (q ∷ []) None i (some_within ps i b h) ∙ h

@@ -17,7 +17,7 @@ IsNamed (Sym text) name = ⊥
 IsNamed (Num n) name = ⊥
 IsNamed (Cons head tail) name = head ≡ name
 
--- an atom that stands at a place has a name exactly where its view has it
+-- an atom at a place has a name exactly where its view has it
 named_as_shown : (terms : List Term) (name cell : ℕ) (v : View) (places : List (Option ℕ)) (i : ℕ)
     → AreCells terms → cell < length terms
     → ((t : Term) → slice_get terms cell ≡ Some t → Shows terms v t)

@@ -11,7 +11,7 @@ use Rattle.hp_world.specs.Deleting.{without}
 use Rattle.hp_world.specs.Indexed.{IsAbsent, IsOnlyAt}
 use Rattle.hp_world.specs.Stages.{live_atoms, same_cell, AllBelow, PlacesKept}
 
--- an atom that stands nowhere is not among the atoms
+-- an absent atom is not among the atoms
 pub among_absent : (a : ℕ) (ps : List (Option ℕ)) → IsAbsent a ps → is_among same_cell a (live_atoms ps) ≡ false
 among_absent a [] h = refl
 among_absent a (None ∷ ps) h = among_absent a ps (λ i. h (suc i))
@@ -19,7 +19,7 @@ among_absent a (Some b ∷ ps) h =
     ap (λ t. t || is_among same_cell a (live_atoms ps)) (ne_eqb a b (λ e. h 0 (ap Some (sym e))))
     ∙ among_absent a ps (λ i. h (suc i))
 
--- an atom that stands at a place is among the atoms
+-- an atom at a place is among the atoms
 among_present : (a : ℕ) (ps : List (Option ℕ)) (i : ℕ) → get_or ps i None ≡ Some a
     → is_among same_cell a (live_atoms ps) ≡ true
 among_present a [] i h = absurd (none-some a h)
@@ -42,7 +42,7 @@ pub present_from : (place : Option ℕ) (a : ℕ) (ps : List (Option ℕ)) → i
 present_from None a ps s h = absurd (cc)
 present_from (Some i) a ps s h = among_present a ps i h.stands
 
--- deleting an atom that stands nowhere changes nothing
+-- deleting an absent atom changes nothing
 pub without_absent : (a : ℕ) (ps : List (Option ℕ)) → IsAbsent a ps → without a (live_atoms ps) ≡ live_atoms ps
 without_absent a [] h = refl
 without_absent a (None ∷ ps) h = without_absent a ps (λ i. h (suc i))
@@ -111,13 +111,13 @@ atom_below n (Some b ∷ ps) zero a h e =
     omega arith
 atom_below n (Some b ∷ ps) (suc i) a h e = atom_below n ps i a (All-tail (λ c. c < n) b (live_atoms ps) h) e
 
--- ---- places that are kept
+-- ---- places are kept
 
 -- equal places are kept
 pub kept_same : (ps qs : List (Option ℕ)) → qs ≡ ps → PlacesKept ps qs
 kept_same ps qs e i held h = inl (ap (λ (xs : List (Option ℕ)). slice_get xs i) e ∙ h)
 
--- places that are kept twice are kept
+-- places kept twice are kept
 pub kept_more : (ps qs rs : List (Option ℕ)) → PlacesKept ps qs → PlacesKept qs rs → PlacesKept ps rs
 kept_more ps qs rs f g i held h = elim (f i held h) [
   | inl e ↦ g i held e

@@ -40,7 +40,7 @@ pub same_stage : (ps qs : List (Option ℕ)) (gs hs : List ℕ) → ps ≡ qs �
 same_stage ps qs gs hs e f =
     let stage : List (Option ℕ) → List ℕ → Stage = λ xs ys. record { places = xs; guards = ys } in ap₂ stage e f
 
--- an atom that was taken off its only place can be put back
+-- an atom taken off its only place can be put back
 pub vacated : (width : ℕ) (ps : List (Option ℕ)) (i a : ℕ) → IsOnlyAt a ps i → a < width
     → IsVacant width (set ps i None) i a
 vacated width ps i a h l = record {
@@ -55,7 +55,7 @@ vacated width ps i a h l = record {
   within = l;
 }
 
--- one change that is noted, that undoing takes back, and that keeps the places keeps what stood before
+-- where one change is noted, undoing takes it back and places are kept, what stood before is kept
 pub moved : (old new : Store) (t : Change) → IsSound old → new.trail.items ≡ old.trail.items ++ t ∷ []
     → undone t (stage_of new) ≡ stage_of old → PlacesKept old.places.places new.places.places
     → Fits new.places.width (vec_capacity new.guards) t (stage_of new)
