@@ -69,7 +69,14 @@ returns-clause-fewer g c =
     let same = g.met.S.Sats.same_cells sats c.args.base.now between new slots c.next.ensures.base c.next.ensures.slots
     (kept_agree (g.S.Sats.kept sats) between new c.put_event.ensures.cells (c.next.ensures.kept.1)) in
     let fewer = c.put_event.ensures.fewer xs c.in_ok-event.ensures.event e in
-    omega (arith, fewer, ap length (sym same ∙ c.in_ok-event.ensures.rest))
+    let there = g.S.Sats.rest sats c.args.base.now between slots in
+    let after = g.S.Sats.rest sats c.args.base.now new slots in
+    omega (
+      arith,
+      fewer,
+      ap length {x = there} {y = after} same,
+      ap length {x = there} {y = left_after xs} c.in_ok-event.ensures.rest,
+    )
 
 pub returns-in_err-event-clause-base : goal.returns-in_err-event-clause-base
 returns-in_err-event-clause-base g c = c.next.ensures.base
