@@ -4,7 +4,7 @@ use Rattle.std.proofs.lemmas.Option.{same_Some}
 use Rattle.hp_syntax.specs.Walk.{Node, Sight, Visit, visit, Did, Plan, CutHere, FaultHere}
 use Rattle.hp_net.specs.declared.walk.Step.{Step}
 use Rattle.hp_net.specs.declared.walk.Step.TheVariants as steps
-use Rattle.hp_net.specs.Standings.{parent, step_of}
+use Rattle.hp_net.specs.Standings.{Standing, standing, parent, step_of, next_below, arrived, stepped}
 use Rattle.hp_net.proofs.FlatNetworkLemmas.{no_zero}
 
 -- the way to a parent is shorter
@@ -17,6 +17,11 @@ parent_shorter (i ∷ j ∷ p) h = omega (arith, parent_shorter (j ∷ p) (λ e.
 pub nothing : (o : Option Visit) → option_map step_of o ≡ None → o ≡ None
 nothing None e = refl
 nothing (Some v) e = cc
+
+-- where no step is told, the walk stays where it stands
+pub stays_put : (s t : Standing) → t ≡ stepped s → option_map step_of (next_below s.path s.rest) ≡ None
+    → t ≡ standing s.path s.rest false
+stays_put s t h e = h ∙ ap (λ o. arrived s.path o s.rest) (nothing (next_below s.path s.rest) e)
 
 -- a path told with some numbers isn't empty
 pub not_empty : (f : ℕ → ℕ) (p q : List ℕ) → q ≡ map f p → false ≡ (length q == 0) → p ≢ []

@@ -1,15 +1,14 @@
-use Rattle.std.proofs.Common.{arith, ◌≡◌, ◌≢◌, None, [], length, ap, sym, ◌∙◌, refl}
-use Rattle.hp_net.specs.Standings.{next_below, arrived}
-use Rattle.hp_net.proofs.StandingLemmas.{parent_shorter, nothing, not_empty, told_empty, some_step_is_no_end}
+use Rattle.std.proofs.Common.{arith, ◌≡◌, ◌≢◌, [], length, ap, sym, ◌∙◌, refl}
+use Rattle.hp_net.specs.Standings.{next_below}
+use Rattle.hp_net.proofs.StandingLemmas.{parent_shorter, nothing, stays_put, not_empty, told_empty, some_step_is_no_end}
 use Rattle.hp_net.proofs.walk.Walk.next.Goals as goal
 
 pub loop-step-smaller : goal.loop-step-smaller
 loop-step-smaller g c =
     let walk = g.Self.Walk in
-    let before = walk.stands c.loop-step.self in
-    let none : next_below before.path before.rest ≡ None =
-    nothing _ (sym c.in_ok-step.ensures.answer ∙ c.in_default.is) in
-    let stays = c.in_ok-step.ensures.stands ∙ ap (λ o. arrived before.path o before.rest) none in
+    let stays =
+    stays_put (walk.stands c.loop-step.self) (walk.stands c.step.new.self) c.in_ok-step.ensures.stands
+    (sym c.in_ok-step.ensures.answer ∙ c.in_default.is) in
     let same = ap (λ s. s.path) stays in
     let some : (walk.stands c.step.new.self).path ≢ [] = not_empty _ _ _ c.path.ensures c.if-is_empty.ensures in
     omega (
@@ -50,11 +49,10 @@ returns-in-Some-clause-given_back g c =
 pub returns-then-is_empty-clause-given_back : goal.returns-then-is_empty-clause-given_back
 returns-then-is_empty-clause-given_back g c = λ _.
     let walk = g.Self.Walk in
-    let before = walk.stands c.loop-step.self in
-    let none : next_below before.path before.rest ≡ None =
-    nothing _ (sym c.in_ok-step.ensures.answer ∙ c.in_default.is) in
-    let stays = c.in_ok-step.ensures.stands ∙ ap (λ o. arrived before.path o before.rest) none in
-    let at_root : before.path ≡ [] =
+    let stays =
+    stays_put (walk.stands c.loop-step.self) (walk.stands c.step.new.self) c.in_ok-step.ensures.stands
+    (sym c.in_ok-step.ensures.answer ∙ c.in_default.is) in
+    let at_root : (walk.stands c.loop-step.self).path ≡ [] =
     sym (ap (λ s. s.path) stays) ∙ told_empty _ _ _ c.path.ensures c.if-is_empty.ensures in
     c.in_ok-step.ensures.given_back c.in_default.is at_root
 
@@ -73,19 +71,17 @@ back-requires-clause-below g c = not_empty _ _ _ c.path.ensures c.if-is_empty.en
 pub back-requires-clause-done : goal.back-requires-clause-done
 back-requires-clause-done g c =
     let walk = g.Self.Walk in
-    let before = walk.stands c.loop-step.self in
-    let none : next_below before.path before.rest ≡ None =
-    nothing _ (sym c.in_ok-step.ensures.answer ∙ c.in_default.is) in
-    let stays = c.in_ok-step.ensures.stands ∙ ap (λ o. arrived before.path o before.rest) none in
-    ap (λ s. next_below s.path s.rest) stays ∙ none
+    let stays =
+    stays_put (walk.stands c.loop-step.self) (walk.stands c.step.new.self) c.in_ok-step.ensures.stands
+    (sym c.in_ok-step.ensures.answer ∙ c.in_default.is) in
+    ap (λ s. next_below s.path s.rest) stays ∙ nothing _ (sym c.in_ok-step.ensures.answer ∙ c.in_default.is)
 
 pub loop-step-preserved : goal.loop-step-preserved
 loop-step-preserved g c =
     let walk = g.Self.Walk in
-    let before = walk.stands c.loop-step.self in
-    let none : next_below before.path before.rest ≡ None =
-    nothing _ (sym c.in_ok-step.ensures.answer ∙ c.in_default.is) in
-    let stays = c.in_ok-step.ensures.stands ∙ ap (λ o. arrived before.path o before.rest) none in
+    let stays =
+    stays_put (walk.stands c.loop-step.self) (walk.stands c.step.new.self) c.in_ok-step.ensures.stands
+    (sym c.in_ok-step.ensures.answer ∙ c.in_default.is) in
     let held = c.loop-step.invariant in
     record {
       rest = ap (λ s. s.rest) c.back.ensures.stands ∙ (ap (λ s. s.rest) stays ∙ held.rest);
