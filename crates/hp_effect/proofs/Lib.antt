@@ -1,3 +1,3 @@
 pub mod CostLemmas
-pub mod ApplyLemmas
+pub mod PutLemmas
 pub mod GatheringLemmas

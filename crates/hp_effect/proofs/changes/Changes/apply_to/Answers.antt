@@ -1,4 +1,4 @@
-use Rattle.hp_effect.proofs.ApplyLemmas.{comes_to_terms}
+use Rattle.hp_effect.proofs.PutLemmas.{comes_to_terms}
 use Rattle.hp_effect.proofs.changes.Changes.apply_to.Goals as goal
 
 pub returns-clause-below : goal.returns-clause-below
