@@ -16,7 +16,7 @@ use hp_check::{CheckFault, first_fault};
 use hp_forms::{FormRefusal, into_domain, into_problem};
 use hp_laws::tree_laws::visits_are_in_the_tree;
 use hp_plain::PlainWalk;
-use hp_ready::laws::{
+use hp_laws::pair_laws::{
     accepted_pairs_are_ground, checked_rules_have_few_variables, problems_have_one_pair,
 };
 use hp_syntax::limits::{DEEPEST_WALK, USUAL_LEVELS};

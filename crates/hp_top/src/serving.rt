@@ -27,7 +27,7 @@ use hp_io::Sink;
 use hp_laws::tree_laws::visits_are_in_the_tree;
 use hp_out::Refusal;
 use hp_plain::PlainWalk;
-use hp_ready::laws::{
+use hp_laws::pair_laws::{
     accepted_pairs_are_ground, checked_rules_have_few_variables, problems_have_one_pair,
 };
 use hp_syntax::Status;
