@@ -14,11 +14,11 @@ ghost use Rattle.hp_top.specs.Telling.{IsAtItsNode};
 
 use hp_check::{CheckFault, first_fault};
 use hp_forms::{FormRefusal, into_domain, into_problem};
+use hp_laws::pair_laws::{
+    accepted_domains_are_checked, accepted_pairs_are_ground, problems_have_one_pair,
+};
 use hp_laws::tree_laws::visits_are_in_the_tree;
 use hp_plain::PlainWalk;
-use hp_ready::laws::{
-    accepted_pairs_are_ground, checked_rules_have_few_variables, problems_have_one_pair,
-};
 use hp_syntax::limits::{DEEPEST_WALK, USUAL_LEVELS};
 use hp_syntax::{Domain, Problem};
 use hp_text::{TextRefusal, read};
@@ -90,7 +90,7 @@ pub fn walk<'a>(
 {
     // Nothing runs here: the laws make known that what is accepted can be walked.
     problems_have_one_pair();
-    checked_rules_have_few_variables();
+    accepted_domains_are_checked();
     accepted_pairs_are_ground();
     visits_are_in_the_tree();
     let pair = &problem.pairs[0];

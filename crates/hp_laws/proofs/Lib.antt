@@ -5,6 +5,7 @@ pub mod DepthLemmas
 pub mod Derived
 pub mod Executed
 pub mod ExtendLemmas
+pub mod FaultLemmas
 pub mod FillLemmas
 pub mod HearingLemmas
 pub mod JoinLemmas
@@ -15,9 +16,12 @@ pub mod NextTasks
 pub mod NormalWalks
 pub mod OrderLemmas
 pub mod PathLemmas
+pub mod PlainLemmas
 pub mod ReportLemmas
 pub mod ResultLemmas
 pub mod SatisfierLemmas
+pub mod SayingLemmas
+pub mod StepLemmas
 pub mod ValueLemmas
 pub mod VisitLemmas
 pub mod WholeLemmas

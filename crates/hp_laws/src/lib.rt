@@ -1,9 +1,10 @@
 //! Laws over the definitions of the language's meaning: of terms and matching, of satisfiers, of networks and walks,
-//! and of plans.
+//! of plans, and of what the checks let through.
 //!
 //! Each function does nothing, and its contract is the law.
 #![tactic(auto)]
 
+pub mod pair_laws;
 pub mod plan_laws;
 pub mod satisfier_laws;
 pub mod term_laws;

@@ -1,6 +1,7 @@
 //! Terms, calls, matching and goals that are computed from the definitions alone.
 //!
 //! Each function does nothing, and its contract says what is computed.
+#![tactic(auto, unfolding(crate::proofs::Computed::the_language))]
 
 ghost use Rattle.std.specs.Prelude.{◌≡◌, pos, negsuc, [], ◌∷◌, Some, None, Ok, Err, codes};
 ghost use Rattle.hp_syntax.specs.declared.fault.FaultKind.TheVariants.{NotGround, NotNumber, Overflow, ZeroDivisor, NegativePower, NotList, TooDeep};

@@ -1,7 +1,8 @@
 -- Numbers of a command.
-use Rattle.std.proofs.Common.{◌≡◌, ℕ, ◌+◌, ◌-◌, ◌*◌, ◌<◌, ◌≤◌, ◌≢◌, nat_le, drop, add-one, drop-cons, ◌∙◌, Bool, true, List, [], ◌∷◌, length, map, Option, Some, None, String, Global, string_bytes, bytes_eq, codes, get_or, arith, refl, sym}
+use Rattle.std.proofs.Common.{◌≡◌, ℕ, ◌+◌, ◌-◌, ◌*◌, ◌<◌, ◌≤◌, ◌≢◌, nat_le, drop, add-one, drop-cons, ◌∙◌, Bool, true, false, ◌&&◌, List, [], ◌∷◌, length, map, Option, Some, None, String, Global, string_bytes, bytes_eq, codes, get_or, arith, refl, sym}
 use Rattle.std.proofs.lemmas.Bool.{lt-leb}
-use Rattle.hp_top.specs.Command.{Options, Planning, Request, only_if, number_from, number_within, planning, making, asked_by_three, accepts}
+use Rattle.std.proofs.lemmas.Bool.Decides.{nat_tests}
+use Rattle.hp_top.specs.Command.{Options, Planning, Request, only_if, is_number, number_from, number_within, planning, making, asked_by_three, accepts}
 use Rattle.hp_top.specs.declared.words.TheConstants.{LARGEST_SEED, MOST_PACKAGES}
 
 -- more digits spell no smaller number
@@ -18,6 +19,21 @@ over_most bs i n m most e h k over =
     let all : number_from m (drop (i + 1) bs) ≡ number_from 0 bs = sym s ∙ e in
     let g : m ≤ number_from 0 bs = omega (arith, number_from_grows m (drop (i + 1) bs)) in
     rw (lt-leb (number_from 0 bs) most (omega arith)) refl
+
+-- what is given where a number is up to a limit is up to the limit
+up_to_most : (b : Bool) (m most n : ℕ) → b ≡ nat_le m most → Some n ≡ only_if b (Some m) → n ≤ most
+up_to_most true m most n b e = grind (arith, nat_tests)
+up_to_most false m most n b e = absurd cc
+
+-- a number within bounds is up to the greatest
+pub within_most : (least most n : ℕ) (bs : List ℕ) → Some n ≡ number_within least most bs → n ≤ most
+within_most least most n bs e = within (is_number bs) (nat_le least (number_from 0 bs)) e
+  where
+    within : (a b : Bool) → Some n ≡ only_if (a && (b && nat_le (number_from 0 bs) most)) (Some (number_from 0 bs))
+        → n ≤ most
+    within true true e = up_to_most _ (number_from 0 bs) most n refl e
+    within true false e = absurd cc
+    within false b e = absurd cc
 
 -- words of another number than three and than five and more are no command
 pub accepts_few : (ws : List (String Global)) → length ws < 5 → length ws ≢ 3 → accepts (map string_bytes ws) ≡ None

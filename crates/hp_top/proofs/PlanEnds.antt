@@ -1,6 +1,7 @@
 -- What is told of the walk of the one pair of a problem.
 use Rattle.std.proofs.Common.{◌≡◌, ℕ, Bool, false, List, [], ◌∷◌, length, map, get_or, Some, None, Result, Ok, Err, OnOk, IfOk, IfErr, refl, ap, sym, ◌∙◌, subst, arith}
 use Rattle.std.specs.List.{All}
+use Rattle.std.proofs.lemmas.List.Elements.{All-head}
 use Rattle.hp_net.specs.Standings.{Tree, Standing, standing}
 use Rattle.hp_out.specs.Writing.{SinkRun, Wrote}
 use Rattle.hp_syntax.specs.declared.domain.Pair.{Pair}
@@ -29,6 +30,12 @@ pub one_pair : (ps : List Pair) (x : Pair) → length ps ≡ 1 → x ≡ get_or 
 one_pair [] x one e = absurd (omega (arith, one))
 one_pair (p ∷ []) x one e = ap (λ y. pair_of y ∷ []) (sym e)
 one_pair (p ∷ q ∷ ps) x one e = absurd (omega (arith, one))
+
+-- what holds of each pair of a list holds of its first where it is the only one
+pub held_by_first : (P : plain.Pair → Type 0) (ps : List Pair) (x : Pair) → length (map pair_of ps) ≡ 1
+    → x ≡ get_or ps 0 x → All P (map pair_of ps) → P (pair_of x)
+held_by_first P ps x one e h =
+    All-head P (pair_of x) [] (subst (All P) (one_pair ps x (one_in_memory ps one) e) h)
 
 -- the visits that are left at the root are at their nodes, where all visits of its tree are
 pub all_at : (rules : List Rule) (nest : ℕ) (n : Node) (t : Tree) (s : Standing)

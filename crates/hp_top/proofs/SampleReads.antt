@@ -1,12 +1,18 @@
 -- What the texts of the samples are read as.
-use Rattle.std.proofs.Common.{ℕ, false, [], length, Result, Ok, Err, refl, codes}
+use Rattle.std.proofs.Common.{◌≡◌, ℕ, false, List, [], length, Some, Result, Ok, Err, refl, sym, codes}
+use Rattle.hp_samples.proofs.Computed.{the_language}
+use Rattle.hp_syntax.specs.Checks as checks
 use Rattle.hp_syntax.specs.Forest.{IsForest}
-use Rattle.hp_syntax.specs.Grammar.{domain_form, problem_form, atoms, branch_name, branch_tasks, branches, cost, domain_list, effect, effects, expression, expressions, file, file_list, headed, items, keyed_effect, keyed_rule, list, list_expression, list_precondition, list_tasks, method, name, named_atom, named_branch, operator, pair, precondition, problem_list, rule, task_list, tasks, term, terms, word_tail, word_term}
+use Rattle.hp_syntax.specs.Grammar.{domain_form, problem_form}
+use Rattle.hp_syntax.specs.Report.{Answer}
 use Rattle.hp_syntax.specs.Samples.{basic_text, basic_forest, swap_text, swap_forest, empty_text, empty_forest}
 use Rattle.hp_syntax.specs.Steps.{Misform}
 use Rattle.hp_syntax.specs.Syntax.{Domain, Problem}
 use Rattle.hp_syntax.specs.TextForms.{IsRead}
-use Rattle.hp_top.specs.Command.{Command, Planning, make_command, options}
+use Rattle.hp_top.specs.Command.{Command, OnFiles, Planning, accepts, make_command, options}
+use Rattle.hp_top.specs.Outcome.{ByCommand, Outcome, answer_of_read}
+use Rattle.hp_top.specs.Samples.{basic_files}
+use Rattle.hp_top.proofs.Outcomes.{judged_comes}
 
 abbrev domain_or_none : Result Domain Misform → Domain
 domain_or_none (Ok d) = d
@@ -31,23 +37,36 @@ empty_read = problem_or_none (problem_form (length empty_text) empty_forest)
 
 -- the text of the sample basic is read as a domain
 pub basic_is_read : IsForest basic_text basic_forest → IsRead domain_form basic_text basic_read
-unfolding basic_read file file_list domain_list rule keyed_rule operator cost method branches named_branch
-    branch_tasks branch_name precondition list_precondition expression list_expression expressions tasks list_tasks
-    task_list effect effects keyed_effect headed named_atom term items terms word_term word_tail name list
+unfolding basic_read the_language
 basic_is_read h = record { forest = basic_forest; spelled = h; form_is = refl }
 
 -- the text of the sample swap is read as a problem
 pub swap_is_read : IsForest swap_text swap_forest → IsRead problem_form swap_text swap_read
-unfolding swap_read file file_list problem_list pair atoms tasks list_tasks task_list named_atom term items word_term
-    word_tail name list headed
+unfolding swap_read the_language
 swap_is_read h = record { forest = swap_forest; spelled = h; form_is = refl }
 
 -- the text of the sample empty is read as a problem
 pub empty_is_read : IsForest empty_text empty_forest → IsRead problem_form empty_text empty_read
-unfolding empty_read file file_list problem_list pair atoms tasks list_tasks task_list named_atom term items word_term
-    word_tail name list headed
+unfolding empty_read the_language
 empty_is_read h = record { forest = empty_forest; spelled = h; form_is = refl }
 
 -- the command that plans the domain `d` and the problem `p`
 abbrev pub plan_of : ℕ → ℕ → Command
 plan_of plans depth = make_command (codes "d") (codes "p") (Planning plans depth (options 64 false))
+
+-- a proof that names this on its line has unfolded what the samples are read as, the checks and the language
+unfoldable pub the_samples : Unit {0}
+unfolding basic_read swap_read empty_read checks.domain_faults checks.problem_faults checks.pattern_faults
+    checks.patterns_faults checks.expression_faults checks.expressions_faults checks.tasks_faults
+    checks.task_list_faults the_language
+the_samples = tt
+
+-- to plan the sample basic and a problem that is read comes to what is computed of both
+pub basic_comes : {words : List (List ℕ)} {text : List ℕ} {p : Problem} {a : Answer} (plans depth : ℕ)
+    → accepts words ≡ Some (OnFiles (plan_of plans depth)) → IsForest basic_text basic_forest
+    → IsRead problem_form text p → answer_of_read (plan_of plans depth) basic_read p ≡ a
+    → Outcome words (basic_files text) a
+basic_comes {words} {text} {p} {a} plans depth asked spelled read e =
+    ByCommand (plan_of plans depth) asked
+    (judged_comes (basic_files text) (plan_of plans depth) basic_text text basic_read p a refl (basic_is_read spelled)
+    refl read (sym e))

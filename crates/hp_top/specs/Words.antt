@@ -1,6 +1,6 @@
 -- What a command asks.
 use Rattle.std.specs.Prelude.{ℕ, ◌<◌, ◌≤◌}
-use Rattle.hp_syntax.specs.declared.limits.TheConstants.{GREATEST_DEPTH}
+use Rattle.hp_syntax.specs.declared.limits.TheConstants.{GREATEST_DEPTH, MOST_LEVELS}
 use Rattle.hp_top.specs.declared.words.TheConstants.{LARGEST_SEED, MOST_PACKAGES}
 use Rattle.hp_top.specs.Command.{Job, Options, Planning, Checking, Showing, Summing, Request, Making, on_files, options}
 use Rattle.hp_top.specs.declared.words.Asked.{Asked}
@@ -20,10 +20,11 @@ job_of jobs.Check = Checking
 job_of jobs.Show = Showing
 job_of (jobs.Sum seed packages) = Summing seed packages
 
--- at least one plan is asked for, down to a depth that may be asked
+-- at least one plan is asked for, down to a depth and with so many axiom levels as may be asked
 pub record IsPlanned (a : Asked) : Type 0 where
   pub plans : 0 < a.plans
   pub depth : a.depth ≤ GREATEST_DEPTH
+  pub levels : a.options.levels ≤ MOST_LEVELS
 
 -- a seed and a number of packages of which a problem can be made
 pub record IsMakeable (seed packages : ℕ) : Type 0 where

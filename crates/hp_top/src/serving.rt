@@ -24,14 +24,14 @@ use crate::telling::Halt;
 use crate::words::{Asked, Job};
 use hp_check::{first_fault, unserved_tasks};
 use hp_io::Sink;
+use hp_laws::pair_laws::{
+    accepted_domains_are_checked, accepted_pairs_are_ground, problems_have_one_pair,
+};
 use hp_laws::tree_laws::visits_are_in_the_tree;
 use hp_out::Refusal;
 use hp_plain::PlainWalk;
-use hp_ready::laws::{
-    accepted_pairs_are_ground, checked_rules_have_few_variables, problems_have_one_pair,
-};
 use hp_syntax::Status;
-use hp_syntax::limits::{DEEPEST_WALK, MADE_DEPTH, USUAL_LEVELS};
+use hp_syntax::limits::{DEEPEST_WALK, MADE_DEPTH, MOST_LEVELS, USUAL_LEVELS};
 use std::alloc::{AllocError, Global};
 
 /// The status of a run whose text was told, or whose telling stopped.
@@ -55,6 +55,7 @@ fn walk_of(
     requires text { HasText problem_form (problem_of loaded.now.problem) }
     requires checked { first_fault (domain_of loaded.now.domain) (problem_of loaded.now.problem) ≡ None }
     requires depth { depth ≤ DEEPEST_WALK }
+    requires levels { levels ≤ MOST_LEVELS }
     ensures live { IfOk result (λ w. w.live ≡ true) }
     ensures at { IfOk result (λ w. All (IsAtItsNode (tree_walked w)) (stands_walked w).rest) }
     ensures walk { IfOk result (λ w. heard_visits (stands_walked w).rest
@@ -62,7 +63,7 @@ fn walk_of(
 {
     // Nothing runs here: the laws make known that what is accepted can be walked.
     problems_have_one_pair();
-    checked_rules_have_few_variables();
+    accepted_domains_are_checked();
     accepted_pairs_are_ground();
     visits_are_in_the_tree();
     PlainWalk::new(

@@ -1,7 +1,7 @@
 //! The words of a command.
 
 ghost use Rattle.std.specs.List.{list_all};
-ghost use Rattle.std.specs.Prelude.{true, false, nat_le, IfSome, ◌≡◌, ◌≢◌, ◌^◌, ◌<◌, None, Some, length, map, string_bytes, slice_get, unwrap_or, [], option_map};
+ghost use Rattle.std.specs.Prelude.{true, false, nat_le, IfSome, ◌≡◌, ◌≢◌, ◌^◌, ◌<◌, ◌≤◌, None, Some, length, map, string_bytes, slice_get, unwrap_or, [], option_map};
 ghost use Rattle.hp_top.specs.Words.{IsPlanned, IsAsked, IsRequested, job_of, options_of, request_of};
 ghost use Rattle.hp_top.specs.Command.{accepts, only_if, planning, making, plan_options, job_by_word, asked_by_three, number_within, number_from, is_number};
 ghost use Rattle.hp_syntax.specs.Text.{is_digit};
@@ -110,7 +110,8 @@ fn number_within(word: &[u8], least: u64, most: u64) -> Option<u64>
 
 /// The options that words spell, in any order, each at most once.
 fn plan_options(words: &[String]) -> Option<Options>
-    ensures { option_map options_of result ≡ plan_options (map string_bytes words.now) }
+    ensures spelled { option_map options_of result ≡ plan_options (map string_bytes words.now) }
+    ensures levels { IfSome result (λ o. o.levels ≤ MOST_LEVELS) }
 {
     let mut levels: Option<u32> = None;
     let mut states = false;

@@ -1,80 +1,20 @@
 use Rattle.std.proofs.Common.{refl}
-use Rattle.std.specs.Fmt.{digits}
-use Rattle.hp_syntax.specs.Grammar as grammar
-use Rattle.hp_syntax.specs.Calls as calls
-use Rattle.hp_syntax.specs.Values as values
-use Rattle.hp_syntax.specs.Matching as matching
-use Rattle.hp_syntax.specs.Goals as goals
-use Rattle.hp_syntax.specs.Events as events
-use Rattle.hp_syntax.specs.Preconditions as preconditions
-use Rattle.hp_syntax.specs.Networks as networks
-use Rattle.hp_syntax.specs.Changes as changes
-use Rattle.hp_syntax.specs.GroundPatterns as ground_patterns
-use Rattle.hp_syntax.specs.Walk as walk
-use Rattle.hp_syntax.specs.Report as report
-use Rattle.hp_samples.proofs.Forests.{named_cost_domain_forest, named_cost_domain_spelled, open_head_domain_forest, open_head_domain_spelled, quotient_domain_forest, quotient_domain_spelled, weights_problem_forest, weights_problem_spelled, x_problem_forest, x_problem_spelled}
+use Rattle.hp_samples.proofs.Computed.{the_language, run}
+use Rattle.hp_samples.proofs.Forests.{named_cost_domain_spelled, open_head_domain_spelled, quotient_domain_spelled, weights_problem_spelled, x_problem_spelled}
 use Rattle.hp_samples.proofs.runs.faults_end_a_walk.Goals as goal
 
--- what each clause says is computed
-all : goal.returns-clause-fault × goal.returns-clause-stopped × goal.returns-clause-cost × goal.returns-clause-head
-unfolding digits grammar.assigned grammar.atoms grammar.axiom_rule grammar.branch_name grammar.branch_tasks
-    grammar.branches grammar.called grammar.clauses grammar.cost grammar.domain_list grammar.dotted
-    grammar.effect grammar.effects grammar.expression grammar.expressions grammar.file grammar.file_list
-    grammar.for_each grammar.headed grammar.immediate grammar.items grammar.keyed_effect grammar.keyed_rule
-    grammar.list grammar.list_expression grammar.list_precondition grammar.list_tail grammar.list_tasks
-    grammar.list_term grammar.method grammar.name grammar.named_atom grammar.named_branch grammar.named_clause
-    grammar.one_expression grammar.operator grammar.order grammar.pair grammar.precondition grammar.problem_list
-    grammar.protection grammar.quantified grammar.rule grammar.sorted grammar.tail grammar.task_list
-    grammar.tasks grammar.term grammar.terms grammar.two_expressions grammar.variable grammar.variables
-    grammar.word_tail grammar.word_term calls.call values.value values.values matching.match_pattern
-    matching.match_parts goals.fill goals.fill_parts goals.match_filled goals.match_fillings goals.start
-    goals.start_parts events.events events.events_of_all events.events_of_any events.all_bound
-    events.parts_bound events.sat preconditions.precondition_events networks.tasks_value
-    networks.task_list_value networks.normal networks.normal_parts networks.firsts networks.firsts_of_first
-    networks.firsts_from networks.part_at networks.nth_part_at networks.with_part networks.with_nth_part
-    networks.candidates networks.finish networks.expand changes.apply changes.effects ground_patterns.term_said
-    ground_patterns.terms_said ground_patterns.network_said ground_patterns.networks_said walk.children
-    walk.visits_within walk.visits walk.root walk.walk walk.node_at report.plan_line report.state_text
-    report.ending_text report.plan_report
-all = (
-  λ c. record {
-    domain_forest = quotient_domain_forest;
-    problem_forest = weights_problem_forest;
-    domain_spelled = quotient_domain_spelled;
-    problem_spelled = weights_problem_spelled;
-    written = refl;
-  },
-  λ c. record {
-    domain_forest = quotient_domain_forest;
-    problem_forest = weights_problem_forest;
-    domain_spelled = quotient_domain_spelled;
-    problem_spelled = weights_problem_spelled;
-    written = refl;
-  },
-  λ c. record {
-    domain_forest = named_cost_domain_forest;
-    problem_forest = x_problem_forest;
-    domain_spelled = named_cost_domain_spelled;
-    problem_spelled = x_problem_spelled;
-    written = refl;
-  },
-  λ c. record {
-    domain_forest = open_head_domain_forest;
-    problem_forest = weights_problem_forest;
-    domain_spelled = open_head_domain_spelled;
-    problem_spelled = weights_problem_spelled;
-    written = refl;
-  },
-)
-
 pub returns-clause-fault : goal.returns-clause-fault
-returns-clause-fault = all.0
+unfolding the_language
+returns-clause-fault c = run quotient_domain_spelled weights_problem_spelled refl
 
 pub returns-clause-stopped : goal.returns-clause-stopped
-returns-clause-stopped = all.1
+unfolding the_language
+returns-clause-stopped c = run quotient_domain_spelled weights_problem_spelled refl
 
 pub returns-clause-cost : goal.returns-clause-cost
-returns-clause-cost = all.2
+unfolding the_language
+returns-clause-cost c = run named_cost_domain_spelled x_problem_spelled refl
 
 pub returns-clause-head : goal.returns-clause-head
-returns-clause-head = all.3
+unfolding the_language
+returns-clause-head c = run open_head_domain_spelled weights_problem_spelled refl

@@ -1,10 +1,8 @@
-use Rattle.std.proofs.Common.{◌≡◌, [], ap, subst, arith, length}
-use Rattle.std.specs.List.{All}
-use Rattle.std.proofs.lemmas.List.Elements.{All-head}
-use Rattle.hp_plain.specs.Begins.{IsGround}
+use Rattle.std.proofs.Common.{◌≡◌, ap, arith, length}
 use Rattle.hp_plain.specs.Walked.{stands_walked}
+use Rattle.hp_syntax.specs.GroundPatterns.{IsGroundPair}
 use Rattle.hp_syntax.specs.Views.{domain_of, problem_of, pair_of}
-use Rattle.hp_top.proofs.PlanEnds.{ok_weaker, one_in_memory, one_pair, walk_left}
+use Rattle.hp_top.proofs.PlanEnds.{held_by_first, ok_weaker, one_in_memory, one_pair, walk_left}
 use Rattle.hp_top.proofs.serving.walk_of.Goals as goal
 
 pub index-requires : goal.index-requires
@@ -15,14 +13,16 @@ index-requires c =
 
 pub new-requires-clause-pair : goal.new-requires-clause-pair
 new-requires-clause-pair c =
-    let one : length (problem_of c.args.loaded.now.problem).pairs ≡ 1 =
-    c.problems_have_one_pair.ensures c.requires.text.0 (problem_of c.args.loaded.now.problem) c.requires.text.1 in
-    let only = one_pair c.args.loaded.now.problem.pairs.items c.index.result.now
-    (one_in_memory c.args.loaded.now.problem.pairs.items one) c.index.ensures in
-    All-head IsGround (pair_of c.index.result.now) []
-    (subst (All IsGround) only
+    held_by_first IsGroundPair c.args.loaded.now.problem.pairs.items c.index.result.now
+    (c.problems_have_one_pair.ensures c.requires.text.0 (problem_of c.args.loaded.now.problem) c.requires.text.1)
+    c.index.ensures
     (c.accepted_pairs_are_ground.ensures c.requires.text.0 (domain_of c.args.loaded.now.domain)
-    (problem_of c.args.loaded.now.problem) c.requires.text.1 c.requires.checked))
+    (problem_of c.args.loaded.now.problem) c.requires.text.1 c.requires.checked)
+
+pub new-requires-clause-checked : goal.new-requires-clause-checked
+new-requires-clause-checked c =
+    c.accepted_domains_are_checked.ensures (domain_of c.args.loaded.now.domain)
+    (problem_of c.args.loaded.now.problem) c.requires.checked
 
 pub returns-clause-walk : goal.returns-clause-walk
 returns-clause-walk c =

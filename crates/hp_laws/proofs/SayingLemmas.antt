@@ -1,19 +1,20 @@
--- What holds no variable and no call, and nests no deeper than a term may, has as its value what it says.
-use Rattle.std.proofs.Common.{◌≡◌, ◌≤◌, [], Option, Some, None, Ok, refl, ap, ◌∙◌, arith}
+-- What the checks and the form let through in a problem holds no variable and no call, and has as its value what it
+-- says.
+use Rattle.std.proofs.Common.{◌≡◌, ℕ, ◌≤◌, [], Option, Some, None, Ok, refl, ap, ◌∙◌, arith}
 use Rattle.std.proofs.lemmas.Bool.{le-ltb}
 use Rattle.hp_syntax.specs.declared.limits.TheConstants.{DEEPEST_TERM}
 use Rattle.hp_syntax.specs.declared.pattern.Span.{Span}
 use Rattle.hp_syntax.specs.declared.pattern.Tail.{Tail}
 use Rattle.hp_syntax.specs.Checks.{InProblem, pattern_faults, patterns_faults, tail_faults, atom_faults, tasks_faults, task_list_faults, pair_faults}
-use Rattle.hp_syntax.specs.GroundPatterns.{term_said, terms_said, network_said, networks_said}
+use Rattle.hp_syntax.specs.GroundPatterns.{IsGroundPattern, AreGroundPatterns, IsGroundAtom, AreGroundTasks, IsGroundTaskList, IsGroundPair, term_said, terms_said, network_said, networks_said}
 use Rattle.hp_syntax.specs.Networks.{tasks_value, task_list_value}
 use Rattle.hp_syntax.specs.Networks as networks
 use Rattle.hp_syntax.specs.Syntax.{Pattern, Patterns, Variable, Symbol, Number, Listing, Call, NoPattern, Before, Atom, Tasks, TaskList, Task, Ordered, Unordered, NoTasks, Then, Pair}
 use Rattle.hp_syntax.specs.Terms.{Terms, Listed, NoTerm, term_nesting, deepest}
 use Rattle.hp_syntax.specs.Values.{Bindings, on_ok, value, values, tail_value, list_of}
-use Rattle.hp_plain.specs.Begins.{SaysItself, IsGround}
-use Rattle.hp_ready.specs.Plain.{IsCallFree, AreCallFree, IsPlainAtom, ArePlainTasks, IsPlainTaskList, IsPlainPair}
-use Rattle.hp_ready.proofs.FaultLemmas.{both_empty, each_empty}
+use Rattle.hp_laws.specs.Plain.{IsCallFree, AreCallFree, IsPlainAtom, ArePlainTasks, IsPlainTaskList, IsPlainPair}
+use Rattle.hp_laws.specs.Sayings.{SaysItself, PairSaysItself}
+use Rattle.hp_laws.proofs.FaultLemmas.{both_empty, each_empty}
 
 -- a list that doesn't nest too deep is the list of its parts
 list_made : (s : Span) (ts : Terms) → term_nesting (Listed ts) ≤ DEEPEST_TERM → list_of s ts ≡ Ok (Listed ts)
@@ -73,12 +74,72 @@ mutual
       let b = both_empty (tasks_faults InProblem t) (task_list_faults InProblem ts) f in
       rw (tasks_say t b.0 h.0) (rw (task_list_says ts b.1 h.1) refl)
 
--- a walk of a plain pair without faults can begin
-pub plain_is_ground : (p : Pair) → pair_faults p ≡ [] → IsPlainPair DEEPEST_TERM p → IsGround p
-plain_is_ground p f h =
+-- the values of a plain pair without faults are what they say
+pub plain_says_itself : (p : Pair) → pair_faults p ≡ [] → IsPlainPair DEEPEST_TERM p → PairSaysItself p
+plain_says_itself p f h =
     let b = both_empty _ (tasks_faults InProblem p.tasks) f in
     let a = each_empty (atom_faults InProblem) p.state b.0 in
     record {
       state = λ k d l. atom_says_itself _ (a k d l) (h.state k d l);
       tasks = tasks_say p.tasks b.1 h.tasks;
+    }
+
+-- ---- what holds no variable and no call
+
+-- where no variable is found as a tail there is no tail
+tail_is_none : (tail : Option Tail) → tail_faults InProblem tail ≡ [] → tail ≡ None
+tail_is_none None f = refl
+tail_is_none (Some t) f = absurd cc
+
+mutual
+  unfolding pattern_faults patterns_faults
+
+  -- a pattern without calls in which no variable is found is ground
+  pattern_is_ground : (p : Pattern) → IsCallFree p → pattern_faults InProblem p ≡ [] → IsGroundPattern p
+  pattern_is_ground (Variable s v) c f = absurd cc
+  pattern_is_ground (Symbol s name) c f = tt
+  pattern_is_ground (Number s n) c f = tt
+  pattern_is_ground (Listing s ps tail) c f =
+      let b = both_empty (patterns_faults InProblem ps) (tail_faults InProblem tail) f in
+      (patterns_are_ground ps c b.0, tail_is_none tail b.1)
+  pattern_is_ground (Call s name args) c f = absurd c
+
+  -- patterns without calls in which no variable is found are ground
+  patterns_are_ground : (ps : Patterns) → AreCallFree ps → patterns_faults InProblem ps ≡ [] → AreGroundPatterns ps
+  patterns_are_ground NoPattern c f = tt
+  patterns_are_ground (Before p ps) c f =
+      let b = both_empty (pattern_faults InProblem p) (patterns_faults InProblem ps) f in
+      (pattern_is_ground p c.0 b.0, patterns_are_ground ps c.1 b.1)
+
+-- an atom without calls in which no variable is found is ground
+atom_is_ground : {most : ℕ} (a : Atom) → atom_faults InProblem a ≡ [] → IsPlainAtom most a → IsGroundAtom a
+atom_is_ground a f h =
+    let b = both_empty (patterns_faults InProblem a.args) (tail_faults InProblem a.tail) f in
+    record { args = patterns_are_ground a.args h.call_free b.0; tail = tail_is_none a.tail b.1 }
+
+mutual
+  unfolding tasks_faults task_list_faults
+
+  -- plain tasks in which no variable is found are ground
+  tasks_are_ground : (most : ℕ) (t : Tasks) → tasks_faults InProblem t ≡ [] → ArePlainTasks most t → AreGroundTasks t
+  tasks_are_ground most (Task a i) f h = atom_is_ground a f h
+  tasks_are_ground most (Ordered ts) f h = task_list_is_ground most ts f h
+  tasks_are_ground most (Unordered ts) f h = task_list_is_ground most ts f h
+
+  -- a list of plain tasks in which no variable is found is ground
+  task_list_is_ground : (most : ℕ) (ts : TaskList) → task_list_faults InProblem ts ≡ [] → IsPlainTaskList most ts
+      → IsGroundTaskList ts
+  task_list_is_ground most NoTasks f h = tt
+  task_list_is_ground most (Then t ts) f h =
+      let b = both_empty (tasks_faults InProblem t) (task_list_faults InProblem ts) f in
+      (tasks_are_ground most t b.0 h.0, task_list_is_ground most ts b.1 h.1)
+
+-- a plain pair without faults is ground
+pub plain_is_ground : {most : ℕ} (p : Pair) → pair_faults p ≡ [] → IsPlainPair most p → IsGroundPair p
+plain_is_ground {most} p f h =
+    let b = both_empty _ (tasks_faults InProblem p.tasks) f in
+    let a = each_empty (atom_faults InProblem) p.state b.0 in
+    record {
+      state = λ k d l. atom_is_ground _ (a k d l) (h.state k d l);
+      tasks = tasks_are_ground most p.tasks b.1 h.tasks;
     }

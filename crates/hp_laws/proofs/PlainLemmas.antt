@@ -16,8 +16,8 @@ use Rattle.hp_syntax.specs.Grammar.{InProblem, name, list, is_nil, tail_at, word
 use Rattle.hp_syntax.specs.Syntax.{Patterns, Variable, Task, Ordered, Unordered, NoTasks, Then, Problem}
 use Rattle.hp_syntax.specs.TextForms.{IsRead}
 use Rattle.hp_syntax.proofs.LimitLemmas.{forest_keeps_limits}
-use Rattle.hp_ready.specs.Plain.{IsPlain, ArePlain, IsPlainAtom, ArePlainTasks, IsPlainTaskList, IsPlainPair}
-use Rattle.hp_ready.proofs.StepLemmas.{Gives, gives_chain, gives_any, gives_then, gives_pure, gives_refusal, gives_made, gives_choice, gives_next, gives_each, gives_begun, given_value}
+use Rattle.hp_laws.specs.Plain.{IsPlain, ArePlain, IsPlainAtom, ArePlainTasks, IsPlainTaskList, IsPlainPair}
+use Rattle.hp_laws.proofs.StepLemmas.{Gives, gives_chain, gives_any, gives_then, gives_pure, gives_refusal, gives_made, gives_choice, gives_next, gives_each, gives_begun, given_value}
 
 -- the parts of a list are plain, whatever its tail
 abbrev PlainParts : ℕ → Patterns × Option Tail → Type 0

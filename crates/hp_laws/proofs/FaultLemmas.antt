@@ -1,13 +1,13 @@
 -- What it means that the checks find nothing.
-use Rattle.std.proofs.Common.{◌≡◌, ℕ, ◌≤◌, Bool, true, false, cond, List, [], ◌∷◌, ◌++◌, length, Option, Some, None, refl, arith}
+use Rattle.std.proofs.Common.{◌≡◌, ℕ, ◌≤◌, Bool, true, false, cond, List, [], ◌∷◌, ◌++◌, length, Option, Some, None, refl, ap, arith}
 use Rattle.std.proofs.lemmas.Bool.Decides.{nat_tests}
 use Rattle.std.proofs.lemmas.List.Elements.{All-nil, All-cons}
 use Rattle.std.specs.List.{All, flat_map}
 use Rattle.hp_syntax.specs.declared.pattern.Span.{Span}
 use Rattle.hp_syntax.specs.declared.check.CheckFault.{CheckFault}
-use Rattle.hp_syntax.specs.Checks.{vars_faults, rule_faults, pair_faults, domain_faults, problem_faults, comes_before, earlier, first_of}
+use Rattle.hp_syntax.specs.declared.limits.TheConstants.{MOST_VARIABLES}
+use Rattle.hp_syntax.specs.Checks.{HasFewVariables, vars_faults, rule_faults, pair_faults, domain_faults, problem_faults, comes_before, earlier, first_of}
 use Rattle.hp_syntax.specs.Syntax.{Rule, Does, Refines, Concludes, Domain, Problem}
-use Rattle.hp_plain.specs.Spots.{HasFew}
 
 -- the earlier of a fault and another one is a fault
 some_fault : (f : CheckFault) (o : Option CheckFault) → earlier (Some f) o ≡ None → ⊥
@@ -40,21 +40,24 @@ each_empty f (x ∷ xs) e =
     All-cons (λ y. f y ≡ []) x xs b.0 (each_empty f xs b.1)
 
 -- where not too many variables are found there are few
-few_variables : (vars : List (List ℕ)) (s : Span) → vars_faults vars s ≡ [] → length vars ≤ 256
+few_variables : (vars : List (List ℕ)) (s : Span) → vars_faults vars s ≡ [] → length vars ≤ MOST_VARIABLES
 few_variables vars s e = grind (arith, nat_tests)
 
 -- a rule without faults has few variables
-pub faultless_has_few : (r : Rule) → rule_faults r ≡ [] → HasFew r
+pub faultless_has_few : (r : Rule) → rule_faults r ≡ [] → HasFewVariables r
 faultless_has_few (Does o) e = few_variables o.vars o.span (search (front_empty, e))
 faultless_has_few (Refines m) e = few_variables m.vars m.span (search (front_empty, e))
 faultless_has_few (Concludes a) e = few_variables a.vars a.span (search (front_empty, e))
 
--- where no fault is the first of all no rule of the domain has faults
-pub faultless_rules : (d : Domain) (p : Problem) → first_of (domain_faults d ++ problem_faults d p) ≡ None
-    → All (λ r. rule_faults r ≡ []) d.rules
+-- where no fault is the first of a domain no rule of it has faults
+pub faultless_rules : (d : Domain) → first_of (domain_faults d) ≡ None → All (λ r. rule_faults r ≡ []) d.rules
 unfolding domain_faults
-faultless_rules d p e =
-    each_empty rule_faults d.rules (both_empty (domain_faults d) (problem_faults d p) (none_found _ e)).0
+faultless_rules d e = each_empty rule_faults d.rules (none_found (domain_faults d) e)
+
+-- where no fault is the first of all none is the first of the domain
+pub accepted_is_checked : (d : Domain) (p : Problem) → first_of (domain_faults d ++ problem_faults d p) ≡ None
+    → first_of (domain_faults d) ≡ None
+accepted_is_checked d p e = ap first_of (front_empty (domain_faults d) (problem_faults d p) (none_found _ e))
 
 -- where no fault is the first of all no pair of the problem has faults
 pub faultless_pairs : (d : Domain) (p : Problem) → first_of (domain_faults d ++ problem_faults d p) ≡ None

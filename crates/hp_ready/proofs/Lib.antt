@@ -1,4 +1,0 @@
-pub mod FaultLemmas
-pub mod SayingLemmas
-pub mod StepLemmas
-pub mod ReadingLemmas

@@ -1,5 +1,0 @@
-use Rattle.hp_ready.proofs.FaultLemmas.{faultless_has_few, faultless_rules}
-use Rattle.hp_ready.proofs.laws.checked_rules_have_few_variables.Goals as goal
-
-pub returns : goal.returns
-returns c = λ d p e k x l. faultless_has_few _ (faultless_rules d p e k x l)
