@@ -6,6 +6,7 @@ pub mod Derived
 pub mod Executed
 pub mod ExtendLemmas
 pub mod FillLemmas
+pub mod HeardAlikeLemmas
 pub mod HearingLemmas
 pub mod JoinLemmas
 pub mod Listings
@@ -17,6 +18,7 @@ pub mod OrderLemmas
 pub mod PathLemmas
 pub mod ReportLemmas
 pub mod ResultLemmas
+pub mod RuleNameLemmas
 pub mod SatisfierLemmas
 pub mod ValueLemmas
 pub mod VisitLemmas
