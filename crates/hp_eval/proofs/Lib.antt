@@ -17,3 +17,5 @@ pub mod AttemptLemmas
 pub mod MatchingLemmas
 pub mod GoalMatchLemmas
 pub mod StartLemmas
+pub mod CopyLemmas
+pub mod ConcludeSteps

@@ -71,6 +71,31 @@ impl Slots {
         self.slots[v as usize].value
     }
 
+    /// What a variable stands for; a number that no variable has stands for nothing.
+    pub fn value_of(&self, v: u32) -> Option<Cell>
+        ensures { result ≡ flat (slice_get self.now.values v) }
+    {
+        if (v as usize) < self.vars() {
+            self.get(v)
+        } else {
+            None
+        }
+    }
+
+    /// The same bindings in slots of their own, where the order in which they were bound is another.
+    pub fn copy(&self, alloc: Global) -> Result<Slots, AllocError>
+        ensures { IfOk result (λ copy. copy.values ≡ self.now.values) }
+    {
+        let vars = self.vars();
+        let mut copy = Slots::new(alloc, vars)?;
+        for v in 0..vars as u32 {
+            if let Some(cell) = self.get(v) {
+                copy.bind(v, cell);
+            }
+        }
+        Ok(copy)
+    }
+
     /// Binds a variable.
     pub fn bind(&mut self, v: u32, cell: Cell)
         requires unbound { slice_get self.old.values v ≡ Some None }
