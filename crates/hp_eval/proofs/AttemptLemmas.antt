@@ -35,6 +35,13 @@ pub list_named : (terms : List Term) (cell : ℕ) → NamesList terms cell
 list_named terms cell (ts, h) =
     let e = at_named terms cell (Listed ts) h in e ∙ ap (λ t. Listed (parts_of t)) (sym e)
 
+-- what a comparison tells of the term that a cell names, it tells of the term at the cell
+pub compared_at : (terms : List Term) (cell : ℕ) (t : Term) (does : Bool) (test : Term → Bool)
+    → slice_get terms cell ≡ Some t → ((u : Term) → slice_get terms cell ≡ Some u → does ≡ test u)
+    → does ≡ test (term_at terms cell)
+compared_at terms cell t does test names h =
+    h (term_at terms cell) (names ∙ ap Some (sym (at_named terms cell t names)))
+
 -- a cell below the count names a list where its term is one
 pub names_list : (terms : List Term) (cell : ℕ) → cell < length terms → is_list (term_at terms cell) ≡ true
     → NamesList terms cell

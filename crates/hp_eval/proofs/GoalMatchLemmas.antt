@@ -14,7 +14,8 @@ use Rattle.hp_syntax.specs.Goals.{Fillings, match_free_tail, match_filled, match
 use Rattle.hp_eval.specs.declared.goals.Filled.{Filled}
 use Rattle.hp_eval.specs.declared.goals.Filled.TheVariants as filled
 use Rattle.hp_eval.specs.GoalViews.{term_at, filled_of, fillings_of, is_below}
-use Rattle.hp_eval.specs.Attempts.{extended, is_symbol}
+use Rattle.hp_cells.specs.Compared.{is_symbol}
+use Rattle.hp_eval.specs.Attempts.{extended}
 use Rattle.hp_cells.specs.Keys.{parts_of}
 use Rattle.hp_eval.specs.FillSteps.{AreFilledBelow}
 use Rattle.hp_eval.specs.Steps.{is_list}

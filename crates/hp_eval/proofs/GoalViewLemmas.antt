@@ -15,8 +15,9 @@ use Rattle.hp_eval.specs.declared.goals.Filled.TheVariants.{outs-Known, outs-Fre
 use Rattle.hp_eval.specs.declared.goals.Filled.TheOpen.{Filled-F}
 use Rattle.hp_eval.specs.declared.goals.Filled.TheOpen as open_filled
 use Rattle.hp_eval.specs.declared.goals.Filled.TheFolds.{fold_out-Filled, fold-roll-Filled, map-Filled, ind-Filled}
+use Rattle.hp_eval.specs.declared.goals.Goal.{Goal}
 use Rattle.hp_eval.specs.Growth.{Grows}
-use Rattle.hp_eval.specs.GoalViews.{term_or_nil, term_at, as_fillings, filled_layer, filled_of, fillings_of, below_layer, is_below}
+use Rattle.hp_eval.specs.GoalViews.{term_or_nil, term_at, as_fillings, filled_layer, filled_of, fillings_of, goal_of, below_layer, is_below, GoalBelow}
 use Rattle.hp_eval.specs.FillSteps.{AreFilledBelow}
 use Rattle.hp_eval.proofs.GrowthLemmas as growth
 use Rattle.hp_eval.proofs.GrowthLemmas.{grows_length}
@@ -169,3 +170,18 @@ pub fillings_grow : (old new : List Term) (fs : List Filled) → Grows old new �
 fillings_grow old new fs g h =
     ap as_fillings (map_places (filled_of new) (filled_of old) fs
     (λ i f k. filled_grows old new f g (below_place (length old) fs i f h k)))
+
+-- ---- goals
+
+abbrev goal_with : List ℕ → plain.Fillings → Option ℕ → plain.Goal
+goal_with name parts tail = record { name = name; parts = parts; tail = tail }
+
+module _ (old new : List Term) (g : Grows old new) where
+  -- a goal stays below the number of terms
+  pub goal_below_grows : (q : Goal) → GoalBelow (length old) q → GoalBelow (length new) q
+  goal_below_grows q h = all_below_grow (length old) (length new) q.args.items (grows_length old new g) h
+
+  -- a goal below the number of terms stands for the same
+  pub goal_stays : (q : Goal) → GoalBelow (length old) q → goal_of new q ≡ goal_of old q
+  goal_stays q h =
+      ap (λ fs. goal_with q.name fs q.tail) (fillings_grow old new q.args.items g h)

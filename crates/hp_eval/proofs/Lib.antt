@@ -9,6 +9,7 @@ pub mod Stops
 pub mod ValueSteps
 pub mod TreeViews
 pub mod TaskSteps
+pub mod GroundSteps
 pub mod GoalViewLemmas
 pub mod FillStepLemmas
 pub mod SlotLemmas
@@ -16,3 +17,5 @@ pub mod AttemptLemmas
 pub mod MatchingLemmas
 pub mod GoalMatchLemmas
 pub mod StartLemmas
+pub mod CopyLemmas
+pub mod ConcludeSteps

@@ -11,7 +11,8 @@ use Rattle.hp_syntax.specs.Terms.{Term, Terms, Symbol, Number, Listed, NoTerm, M
 use Rattle.hp_syntax.specs.Values.{Bindings}
 use Rattle.hp_syntax.specs.Views.{pattern_of, patterns_of}
 use Rattle.hp_syntax.specs.Matching.{meet, match_tail, match_pattern, match_parts, match_atom}
-use Rattle.hp_eval.specs.Attempts.{extended, is_symbol, is_number}
+use Rattle.hp_cells.specs.Compared.{is_symbol, is_number}
+use Rattle.hp_eval.specs.Attempts.{extended}
 use Rattle.hp_cells.specs.Keys.{parts_of}
 use Rattle.hp_eval.specs.Steps.{is_list}
 

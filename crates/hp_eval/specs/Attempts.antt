@@ -1,7 +1,6 @@
 -- What an attempt to match answers and leaves, and what the cells of lists name.
-use Rattle.std.specs.Prelude.{◌≡◌, ℕ, ◌<◌, Bool, false, cond, ℤ, List, length, Option, Some, None, Result, Ok, Err, bytes_eq}
-use Rattle.std.specs.Ordering.{int_eq}
-use Rattle.hp_syntax.specs.Terms.{Term, Terms, Symbol, Number, Listed, NoTerm, More}
+use Rattle.std.specs.Prelude.{◌≡◌, ℕ, ◌<◌, Bool, cond, List, length, Option, Some, None, Result, Ok, Err}
+use Rattle.hp_syntax.specs.Terms.{Term, Terms, NoTerm, More}
 use Rattle.hp_syntax.specs.Values.{Bindings}
 use Rattle.hp_syntax.specs.Goals.{Filled, Known, Free, Partly}
 use Rattle.hp_cells.specs.Cells.{NamesList}
@@ -29,18 +28,6 @@ pub record Leaves (terms : List Term) (old new : Slotted) : Type 0 where
 abbrev pub Starts : {E : Type 0} → Result Bool E → Option Bindings → List Term → Slotted → Slotted → Type 0
 Starts (Ok does) found terms old new = Tries does found terms old new
 Starts (Err e) found terms old new = Leaves terms old new
-
--- the term is the symbol of this name
-abbrev pub is_symbol : List ℕ → Term → Bool
-is_symbol name (Symbol b) = bytes_eq name b
-is_symbol name (Number m) = false
-is_symbol name (Listed ts) = false
-
--- the term is this number
-abbrev pub is_number : ℤ → Term → Bool
-is_number n (Symbol b) = false
-is_number n (Number m) = int_eq n m
-is_number n (Listed ts) = false
 
 -- one cell names the first part of a list, and the other the list of the others
 pub record HasFirst (terms : List Term) (list first others : ℕ) : Type 0 where

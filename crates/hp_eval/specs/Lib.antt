@@ -8,3 +8,4 @@ pub mod Steps
 pub mod PartValues
 pub mod Events
 pub mod SlotLaws
+pub mod Concluding

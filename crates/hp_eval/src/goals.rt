@@ -13,7 +13,7 @@ ghost use Rattle.hp_eval.specs.FillSteps.{joined, before_rest, parts_at, rest_of
 use crate::event::EvalStop;
 use crate::lists::{list_or_fault, within_depth};
 use crate::slots::Slots;
-use crate::values::{bound_cell, value};
+use crate::values::value;
 use hp_cells::{Cell, Cells, View};
 use hp_syntax::limits::DEEPEST_TERM;
 use hp_syntax::{AtomPat, FaultKind, Name, Pat, PatKind, RunFault, Span, Tail};
@@ -102,7 +102,7 @@ fn fill(alloc: Global, pat: &Pat, slots: &Slots, cells: &mut Cells) -> Result<Fi
     ensures cells { Grows cells.old cells.new }
 {
     match &pat.kind {
-        PatKind::Var(v) => match bound_cell(*v, slots) {
+        PatKind::Var(v) => match slots.value_of(*v) {
             Some(cell) => Ok(Filled::Known(cell)),
             None => Ok(Filled::Free(*v)),
         },
@@ -147,7 +147,7 @@ fn fill_tail(tail: &Option<Tail>, slots: &Slots, cells: &Cells) -> Result<TailPa
 {
     match tail {
         None => Ok(TailParts::Listed(cells.nil())),
-        Some(tail) => match bound_cell(tail.var, slots) {
+        Some(tail) => match slots.value_of(tail.var) {
             None => Ok(TailParts::Free(tail.var)),
             Some(cell) => Ok(TailParts::Listed(list_or_fault(cell, tail.span, cells)?)),
         },

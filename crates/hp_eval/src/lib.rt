@@ -7,8 +7,10 @@
 
 mod arithmetic;
 mod calls;
+mod concluding;
 mod event;
 mod goals;
+mod grounds;
 pub mod laws;
 mod lists;
 mod matching;
@@ -20,9 +22,11 @@ mod tasks;
 mod values;
 
 pub use calls::call;
+pub use concluding::conclude;
 pub use event::{EvalStop, Event};
 pub use goals::{Filled, Goal, fill_goal};
-pub use matching::{match_atom, match_goal};
+pub use grounds::{ground_atom, ground_tasks, ground_term};
+pub use matching::{match_atom, match_goal, meet};
 pub use sats::Sats;
 pub use slots::Slots;
 pub use starting::start_goal;

@@ -9,14 +9,14 @@ ghost use Rattle.hp_syntax.specs.Goals.{match_goal, match_filled, match_fillings
 ghost use Rattle.hp_cells.specs.Cells.{NamesList};
 ghost use Rattle.hp_eval.specs.Slotted.{AreBelow, Matched, bindings_of};
 ghost use Rattle.hp_eval.specs.GoalViews.{term_at, filled_of, fillings_of, goal_of, is_below, GoalBelow};
-ghost use Rattle.hp_eval.specs.Attempts.{Tries, Splits, is_symbol, is_number};
+ghost use Rattle.hp_eval.specs.Attempts.{Tries, Splits};
 ghost use Rattle.hp_eval.specs.FillSteps.{AreFilledBelow, parts_at};
 
 use crate::goals::{Filled, Goal};
 use crate::lists::is_listed;
 use crate::slots::Slots;
 use hp_cells::{Cell, Cells, View};
-use hp_syntax::{AtomPat, Name, Pat, PatKind, Tail};
+use hp_syntax::{AtomPat, Pat, PatKind, Tail};
 
 /// Matches a rule's head with an atom: binds what makes them equal and answers true, or leaves the slots as they were
 /// and answers false. Takes no memory.
@@ -45,7 +45,7 @@ fn try_head(head: &AtomPat, atom: Cell, cells: &Cells, slots: &mut Slots) -> boo
 {
     match cells.get(atom) {
         View::Cons(name, args) => {
-            is_symbol(name, &head.name, cells)
+            cells.is_symbol(name, &head.name)
                 && match_parts(head.args.as_slice(), head.tail, args, cells, slots)
         }
         View::Nil | View::Sym(_) | View::Num(_) => false,
@@ -81,7 +81,7 @@ fn try_goal(goal: &Goal, atom: Cell, cells: &Cells, slots: &mut Slots) -> bool
 {
     match cells.get(atom) {
         View::Cons(name, args) => {
-            is_symbol(name, &goal.name, cells)
+            cells.is_symbol(name, &goal.name)
                 && match_fillings(goal.args.as_slice(), goal.tail, args, cells, slots)
         }
         View::Nil | View::Sym(_) | View::Num(_) => false,
@@ -98,8 +98,8 @@ pub(crate) fn match_pattern(pat: &Pat, cell: Cell, cells: &Cells, slots: &mut Sl
 {
     match &pat.kind {
         PatKind::Var(v) => meet(*v, cell, cells, slots),
-        PatKind::Sym(name) => is_symbol(cell, name, cells),
-        PatKind::Num(n) => is_number(cell, n, cells),
+        PatKind::Sym(name) => cells.is_symbol(cell, name),
+        PatKind::Num(n) => cells.is_number(cell, *n),
         PatKind::List(parts, tail) => {
             is_listed(cell, cells) && match_parts(parts.as_slice(), *tail, cell, cells, slots)
         }
@@ -207,7 +207,7 @@ fn match_free_tail(tail: Option<u32>, list: Cell, cells: &Cells, slots: &mut Slo
 }
 
 /// Binds a variable to a term, or compares what it stands for with it. A number that no variable has meets nothing.
-pub(crate) fn meet(v: u32, cell: Cell, cells: &Cells, slots: &mut Slots) -> bool
+pub fn meet(v: u32, cell: Cell, cells: &Cells, slots: &mut Slots) -> bool
     requires slots { AreBelow (length cells.now) slots.old }
     requires cell { cell < length cells.now }
     ensures { Tries result (meet v (term_at cells.now cell) (bindings_of cells.now slots.old)) cells.now slots.old
@@ -243,25 +243,5 @@ fn split(list: Cell, cells: &Cells) -> Option<(Cell, Cell)>
     match cells.get(list) {
         View::Cons(first, others) => Some((first, others)),
         View::Nil | View::Sym(_) | View::Num(_) => None,
-    }
-}
-
-fn is_symbol(cell: Cell, name: &Name, cells: &Cells) -> bool
-    requires { cell < length cells.now }
-    ensures { result ≡ is_symbol name.now (term_at cells.now cell) }
-{
-    match cells.get(cell) {
-        View::Sym(own) => name == own,
-        View::Nil | View::Num(_) | View::Cons(_, _) => false,
-    }
-}
-
-fn is_number(cell: Cell, n: &i64, cells: &Cells) -> bool
-    requires { cell < length cells.now }
-    ensures { result ≡ is_number n.now (term_at cells.now cell) }
-{
-    match cells.get(cell) {
-        View::Num(own) => *n == own,
-        View::Nil | View::Sym(_) | View::Cons(_, _) => false,
     }
 }

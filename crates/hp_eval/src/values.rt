@@ -20,20 +20,10 @@ use hp_cells::{Cell, Cells};
 use hp_syntax::{AtomPat, FaultKind, Name, Pat, PatKind, RunFault, Span, Tail};
 use std::alloc::Global;
 
-pub(crate) fn bound_cell(v: u32, slots: &Slots) -> Option<Cell>
-    ensures { result ≡ flat (slice_get slots.now.values v) }
-{
-    if (v as usize) < slots.vars() {
-        slots.get(v)
-    } else {
-        None
-    }
-}
-
 fn variable_value(v: u32, span: Span, slots: &Slots) -> Result<Cell, RunFault>
     ensures { result ≡ cell_or_fault span (flat (slice_get slots.now.values v)) }
 {
-    match bound_cell(v, slots) {
+    match slots.value_of(v) {
         Some(cell) => Ok(cell),
         None => Err(RunFault {
             kind: FaultKind::NotGround,

@@ -7,6 +7,7 @@ pub mod Executed
 pub mod ExtendLemmas
 pub mod FaultLemmas
 pub mod FillLemmas
+pub mod HeardAlikeLemmas
 pub mod HearingLemmas
 pub mod JoinLemmas
 pub mod Listings
@@ -19,6 +20,7 @@ pub mod PathLemmas
 pub mod PlainLemmas
 pub mod ReportLemmas
 pub mod ResultLemmas
+pub mod RuleNameLemmas
 pub mod SatisfierLemmas
 pub mod SayingLemmas
 pub mod StepLemmas

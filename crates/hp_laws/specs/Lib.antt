@@ -4,3 +4,5 @@ pub mod Derivations
 pub mod SatisfierLaws
 pub mod Plain
 pub mod Sayings
+pub mod RulesByName
+pub mod HeardAlike

@@ -1,10 +1,10 @@
 //! What is noted of satisfiers while their whole list is heard.
-ghost use Rattle.std.specs.Prelude.{◌≡◌, ℕ, ◌<◌, ◌^◌, ◌∷◌, [], ◌++◌, false, true, List, IfOk, Ok, length, slice_get};
+ghost use Rattle.std.specs.Prelude.{◌≡◌, ℕ, ◌<◌, ◌^◌, ◌∷◌, [], ◌++◌, false, true, List, IfOk, Ok, length};
 ghost use Rattle.std.specs.List.{All};
 ghost use Rattle.hp_syntax.specs.Views.{key_of};
 ghost use Rattle.hp_syntax.specs.Values.{bound};
 ghost use Rattle.hp_syntax.specs.Preconditions.{keyed};
-ghost use Rattle.hp_eval.specs.Slotted.{Slotted, Binds, AreBelow, bindings_of, flat};
+ghost use Rattle.hp_eval.specs.Slotted.{Slotted, Binds, AreBelow, bindings_of};
 ghost use Rattle.hp_eval.specs.Events.{Happening, event_of, left_after, AreOfFirst};
 ghost use Rattle.hp_pick.specs.Noted.{IsNoted, number_at, with_notes, AddsSat, HearsOn};
 
@@ -51,23 +51,12 @@ impl NotedSats {
     }
 }
 
-// What a variable stands for; one beyond the variables stands for nothing.
-fn cell_of(v: u32, slots: &Slots) -> Option<Cell>
-    ensures { result ≡ flat (slice_get slots.now.values v) }
-{
-    if (v as usize) < slots.vars() {
-        slots.get(v)
-    } else {
-        None
-    }
-}
-
 // The number that the variable of a key stands for.
 fn number_of(key: &SortKey, cells: &Cells, slots: &Slots) -> Result<i64, RunFault>
     requires below { AreBelow (length cells.now) slots.now }
     ensures { result ≡ number_at key.now.span (bound (bindings_of cells.now slots.now) key.now.var) }
 {
-    let Some(cell) = cell_of(key.var, slots) else {
+    let Some(cell) = slots.value_of(key.var) else {
         return Err(RunFault {
             kind: FaultKind::NotGround,
             span: key.span,

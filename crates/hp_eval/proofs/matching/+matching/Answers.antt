@@ -1,11 +1,16 @@
-use Rattle.std.proofs.Common.{◌+◌, ap, sym, ◌∙◌, false, drop, Bool, cond, None, arith}
+use Rattle.std.proofs.Common.{◌+◌, ap, sym, ◌∙◌, false, drop, Bool, cond, None, FitsSigned, rules, arith}
+use Rattle.std.specs.Int.{w64}
+use Rattle.std.proofs.lemmas.Int.{to_z-of_z}
+use Rattle.hp_cells.specs.Compared.{is_number}
 use Rattle.hp_syntax.specs.Views.{patterns_of, pattern_of}
 use Rattle.hp_syntax.specs.ViewLaws.{pattern_of-var, pattern_of-sym, pattern_of-num, pattern_of-list, pattern_of-call}
 use Rattle.hp_syntax.specs.Matching.{match_parts}
+use Rattle.hp_eval.specs.GoalViews.{term_at}
 use Rattle.hp_eval.specs.Slotted.{bindings_of}
 use Rattle.hp_eval.specs.Attempts.{extended}
 use Rattle.hp_eval.specs.FillSteps.{parts_at}
 use Rattle.hp_eval.proofs.SlotLemmas.{binds_through}
+use Rattle.hp_eval.proofs.CellViews.{named_at}
 use Rattle.hp_eval.proofs.AttemptLemmas.{tries_here, tries_as, tries_above, then_fails, then_goes_on, names_list}
 use Rattle.hp_eval.proofs.MatchingLemmas.{matches_variable, matches_symbol, matches_number, matches_list, matches_call, parts_missing, parts_step, parts_end}
 use Rattle.std.proofs.lemmas.Grind.{common_steps}
@@ -71,15 +76,21 @@ match_pattern-returns-in-Sym t c =
     let e = bindings_of c.args.cells.now c.args.slots.now in
     tries_here c.is_symbol.result _ c.args.cells.now c.args.slots.now c.requires.slots
     (matches_symbol (pattern_of p) p.span c.in-Sym.name _ e (pattern_of-sym p c.in-Sym.name c.in-Sym.is)
-    ∙ ap (λ does. extended does e) (sym c.is_symbol.ensures))
+    ∙ ap (λ does. extended does e) (sym (c.is_symbol.ensures (term_at c.args.cells.now c.args.cell) (named_at c.args.cells.now c.args.cell c.requires.cell))))
 
 pub match_pattern-returns-in-Num : goal.match_pattern-returns-in-Num
 match_pattern-returns-in-Num t c =
     let p = c.args.pat.now in
-    let e = bindings_of c.args.cells.now c.args.slots.now in
-    tries_here c.is_number.result _ c.args.cells.now c.args.slots.now c.requires.slots
+    let terms = c.args.cells.now in
+    let e = bindings_of terms c.args.slots.now in
+    let t = term_at terms c.args.cell in
+    let fits : FitsSigned w64 c.in-Num.n = search rules in
+    let same =
+    c.is_number.ensures t (named_at terms c.args.cell c.requires.cell)
+    ∙ ap (λ n. is_number n t) (to_z-of_z w64 c.in-Num.n fits) in
+    tries_here c.is_number.result _ terms c.args.slots.now c.requires.slots
     (matches_number (pattern_of p) p.span c.in-Num.n _ e (pattern_of-num p c.in-Num.n c.in-Num.is)
-    ∙ ap (λ does. extended does e) (sym c.is_number.ensures))
+    ∙ ap (λ does. extended does e) (sym same))
 
 pub match_pattern-returns-then-is_listed : goal.match_pattern-returns-then-is_listed
 match_pattern-returns-then-is_listed t c =

@@ -14,7 +14,7 @@ returns-in-Nil c =
     let key = c.args.key.now in
     let cell = c.in-Some.cell in
     let t = term_at terms cell in
-    let is = sym c.cell_of.ensures ∙ c.in-Some.is in
+    let is = sym c.value_of.ensures ∙ c.in-Some.is in
     let within = bound_below _ slots key.var cell c.requires.below is in
     let seen : Err (fault_at NotNumber key.span) ≡ number_seen key.span c.get.result =
     elim c.in-Nil.is [
