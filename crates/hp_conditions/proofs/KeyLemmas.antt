@@ -1,17 +1,36 @@
--- What a list is that begins with a name other than `nil`: the line of the grammar that the name chooses.
-use Rattle.std.proofs.Common.{◌≡◌, refl, ap, ◌∙◌, ℕ, List, Result, Ok, true, false, bytes_eq, codes}
+-- What a list is that is empty, or begins with a name other than `nil`: the line of the grammar that it chooses.
+use Rattle.std.proofs.Common.{◌≡◌, refl, ap, sym, ◌∙◌, arith, ℕ, List, [], ◌∷◌, length, Result, Ok, true, false, bytes_eq, codes}
+use Rattle.std.specs.Global.{Global}
+use Rattle.std.specs.Prelude.{Vec}
+use Rattle.hp_syntax.specs.declared.expression.Expr.{Expr}
+use Rattle.hp_syntax.specs.declared.expression.ExprKind.TheVariants as exprs
 use Rattle.hp_syntax.specs.declared.pattern.Span.{Span}
 use Rattle.hp_syntax.specs.declared.form.What.TheVariants as wants
 use Rattle.hp_syntax.specs.Forest.{Forest, Grow, Word}
+use Rattle.hp_text.specs.declared.forest.Node.{Node}
+use Rattle.hp_text.specs.Nodes.{nodes_of}
 use Rattle.hp_syntax.specs.Names.{is_plain}
 use Rattle.hp_syntax.specs.Steps.{Misform, Names, and_then, pure, ◌<$>◌, closing, expected}
 use Rattle.hp_syntax.specs.Syntax.{And, Or, Not, Test, Holds}
+use Rattle.hp_syntax.specs.ViewLaws.{expression_of-and}
+use Rattle.hp_syntax.specs.Views.{expression_of, expressions_of}
 use Rattle.hp_syntax.specs.Grammar.{InRule, is_nil, list_expression, expressions, one_expression, two_expressions, quantified, assigned, implied, called, named_atom}
 
 -- what a step gives, seen through a function
 pub seen_as : {A B : Type 0} (f : A → B) (r : Result (A × Names) Misform) (x : A) (y : B) (names : Names)
     → r ≡ Ok (x, names) → f x ≡ y → and_then r (λ a. pure (f a)) ≡ Ok (y, names)
 seen_as f r x y names h e = ap (λ o. and_then o (λ a. pure (f a))) h ∙ ap (λ b. Ok (b, names)) e
+
+-- an empty list is an empty conjunction
+pub by_nothing : (s : Span) (nodes : List Node) (parts : Vec Expr Global) (names : Names) → length nodes ≡ 0
+    → parts.items ≡ []
+    → list_expression s (nodes_of nodes) names
+    ≡ Ok (expression_of (record { span = s; kind = exprs.And parts }), names)
+unfolding list_expression
+by_nothing s [] parts names none h =
+    ap (λ e. Ok (e, names)) (sym (expression_of-and (record { span = s; kind = exprs.And parts }) parts refl
+    ∙ ap (λ es. And s (expressions_of es)) h))
+by_nothing s (n ∷ ns) parts names none h = absurd (omega arith)
 
 module _ (s t : Span) (key : List ℕ) (rest : Forest) (names : Names) (no_nil : is_nil key ≡ false) where
   pub by_and : bytes_eq key (codes "and") ≡ true

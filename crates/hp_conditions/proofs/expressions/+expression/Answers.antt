@@ -1,4 +1,4 @@
-use Rattle.std.proofs.Common.{◌<◌, ◌≤◌, ap, arith, length, refl, rules, sym, ◌∙◌}
+use Rattle.std.proofs.Common.{◌≡◌, ◌<◌, ◌≤◌, ap, arith, length, refl, rules, sym, ◌∙◌}
 use Rattle.std.proofs.lemmas.Result.{err_from_is_err_and}
 use Rattle.hp_syntax.specs.declared.expression.ExprKind.TheVariants as exprs
 use Rattle.hp_syntax.specs.Grammar as grammar
@@ -10,7 +10,7 @@ use Rattle.hp_text.specs.Nodes.{nodes_of}
 use Rattle.hp_terms.proofs.Turns.{one_viewed, refused_next, refused_same}
 use Rattle.hp_terms.proofs.PartLemmas.{expressions_read, expressions_refused, reads_same, conjunction-list}
 use Rattle.hp_terms.proofs.Sizes.{item-smaller}
-use Rattle.hp_conditions.proofs.KeyLemmas.{seen_as, by_and, by_or, by_not, by_imply, by_forall, by_assign, by_call, by_name, by_no_name}
+use Rattle.hp_conditions.proofs.KeyLemmas.{seen_as, by_nothing, by_and, by_or, by_not, by_imply, by_forall, by_assign, by_call, by_name, by_no_name}
 use Rattle.hp_conditions.proofs.expressions.+expression.Goals as goal
 
 pub expressions-expression-requires : goal.expressions-expression-requires
@@ -158,3 +158,8 @@ one_expression-expression-requires-in-len2-up t c =
     let some : 0 < length c.args.nodes.now = omega arith in
     let smaller = item-smaller c.args.nodes.now 0 c.first-item.result some c.first-item.is in
     search rules
+
+pub list_kind-returns-in_default : goal.list_kind-returns-in_default
+list_kind-returns-in_default t c =
+    let none : length c.args.nodes.now ≡ 0 = search rules in
+    by_nothing c.args.span c.args.nodes.now c.new.result c.args.scope.now.names.keys none c.new.ensures.items
