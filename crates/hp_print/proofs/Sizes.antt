@@ -1,5 +1,6 @@
 -- The size of a term counts it and all terms in it. Recursion goes to smaller terms.
-use Rattle.std.proofs.Common.{◌≡◌, ap, ℕ, zero, suc, ◌+◌, ◌<◌, List, [], ◌∷◌, length, get_or, arith}
+use Rattle.std.proofs.Common.{◌≡◌, ap, ℕ, zero, suc, ◌+◌, ◌-◌, ◌<◌, ◌≤◌, List, [], ◌∷◌, length, get_or, take, drop, arith}
+use Rattle.std.proofs.lemmas.Grind.{common_steps}
 use Rattle.hp_syntax.specs.declared.pattern.Ground.{Ground}
 use Rattle.hp_syntax.specs.declared.pattern.Pat.{Pat}
 use Rattle.hp_syntax.specs.GroundViews.{ground_of, grounds_of}
@@ -27,6 +28,16 @@ ground-smaller (x ∷ gs) (suc i) g h at =
     let below : i < length gs = omega arith in
     let smaller = ground-smaller gs i g below at in omega arith
 
+-- the terms behind the first are smaller than the list
+pub grounds-smaller : (gs : List Ground) → 1 ≤ length gs
+    → terms_size (grounds_of (take (length gs - 1) (drop 1 gs))) < terms_size (grounds_of gs)
+grounds-smaller [] h = absurd (omega arith)
+grounds-smaller (x ∷ gs) h =
+    let same : take (length (x ∷ gs) - 1) (drop 1 (x ∷ gs)) ≡ gs = grind (arith, common_steps) in
+    let size : terms_size (grounds_of (take (length (x ∷ gs) - 1) (drop 1 (x ∷ gs)))) ≡ terms_size (grounds_of gs) =
+    ap (λ ys. terms_size (grounds_of ys)) same in
+    omega arith
+
 abbrev mutual
   pub pattern_size : Pattern → ℕ
   pattern_size (Variable s v) = 1
@@ -47,3 +58,13 @@ pattern-smaller (x ∷ ps) zero p h at = let same = ap (λ y. pattern_size (patt
 pattern-smaller (x ∷ ps) (suc i) p h at =
     let below : i < length ps = omega arith in
     let smaller = pattern-smaller ps i p below at in omega arith
+
+-- the patterns behind the first are smaller than the list
+pub patterns-smaller : (ps : List Pat) → 1 ≤ length ps
+    → patterns_size (patterns_of (take (length ps - 1) (drop 1 ps))) < patterns_size (patterns_of ps)
+patterns-smaller [] h = absurd (omega arith)
+patterns-smaller (x ∷ ps) h =
+    let same : take (length (x ∷ ps) - 1) (drop 1 (x ∷ ps)) ≡ ps = grind (arith, common_steps) in
+    let size : patterns_size (patterns_of (take (length (x ∷ ps) - 1) (drop 1 (x ∷ ps)))) ≡ patterns_size (patterns_of ps) =
+    ap (λ ys. patterns_size (patterns_of ys)) same in
+    omega arith

@@ -1,13 +1,16 @@
-use Rattle.std.proofs.Common.{ap, refl, rules}
+use Rattle.std.proofs.Common.{◌≡◌, ◌<◌, ◌≤◌, ap, arith, length, refl, rules, sym, ◌∙◌}
 use Rattle.std.proofs.lemmas.Result.{err_from_is_err_and}
 use Rattle.hp_syntax.specs.declared.expression.ExprKind.TheVariants as exprs
 use Rattle.hp_syntax.specs.Grammar as grammar
 use Rattle.hp_syntax.specs.Steps.{and_then, pure}
-use Rattle.hp_syntax.specs.ViewLaws.{expression_of-not, expression_of-or}
-use Rattle.hp_syntax.specs.Views.{expression_of}
-use Rattle.hp_terms.proofs.Turns.{one_viewed}
+use Rattle.hp_syntax.specs.Syntax.{Or, Not, Test, Holds}
+use Rattle.hp_syntax.specs.ViewLaws.{expression_of-atom, expression_of-call, expression_of-not, expression_of-or}
+use Rattle.hp_syntax.specs.Views.{expression_of, pattern_of, atom_of}
+use Rattle.hp_text.specs.Nodes.{nodes_of}
+use Rattle.hp_terms.proofs.Turns.{one_viewed, refused_next, refused_same}
 use Rattle.hp_terms.proofs.PartLemmas.{expressions_read, expressions_refused, reads_same, conjunction-list}
 use Rattle.hp_terms.proofs.Sizes.{item-smaller}
+use Rattle.hp_conditions.proofs.KeyLemmas.{seen_as, by_nothing, by_and, by_or, by_not, by_imply, by_forall, by_assign, by_call, by_name, by_no_name}
 use Rattle.hp_conditions.proofs.expressions.+expression.Goals as goal
 
 pub expressions-expression-requires : goal.expressions-expression-requires
@@ -57,3 +60,106 @@ implied-returns t c =
       c.in_ok-new.ensures.ok,
     )
     (ap (λ r. and_then r (λ both. pure (grammar.implied span both))) both)
+
+pub keyed-returns-then-is : goal.keyed-returns-then-is
+keyed-returns-then-is t c = λ s.
+    reads_same _ c.conjunction.result _ _ _ _
+    (by_and c.args.span s c.args.key.now (nodes_of c.args.rest.now) c.args.scope.now.names.keys c.requires
+    (sym c.is.ensures ∙ c.if-is.true))
+    c.conjunction.ensures
+
+pub keyed-returns-then-is-4 : goal.keyed-returns-then-is-4
+keyed-returns-then-is-4 t c = λ s.
+    reads_same _ c.implied.result _ _ _ _
+    (by_imply c.args.span s c.args.key.now (nodes_of c.args.rest.now) c.args.scope.now.names.keys c.requires
+    (sym c.is.ensures ∙ c.if-is.false) (sym c.is-else-is.ensures ∙ c.if-is-2.false) (sym c.is-else-is-2.ensures ∙ c.if-is-3.false) (sym c.is-else-is-3.ensures ∙ c.if-is-4.true))
+    c.implied.ensures
+
+pub keyed-returns-then-is-5 : goal.keyed-returns-then-is-5
+keyed-returns-then-is-5 t c = λ s.
+    reads_same _ c.quantified.result _ _ _ _
+    (by_forall c.args.span s c.args.key.now (nodes_of c.args.rest.now) c.args.scope.now.names.keys c.requires
+    (sym c.is.ensures ∙ c.if-is.false) (sym c.is-else-is.ensures ∙ c.if-is-2.false) (sym c.is-else-is-2.ensures ∙ c.if-is-3.false) (sym c.is-else-is-3.ensures ∙ c.if-is-4.false) (sym c.is-else-is-4.ensures ∙ c.if-is-5.true))
+    c.quantified.ensures
+
+pub keyed-returns-then-is-6 : goal.keyed-returns-then-is-6
+keyed-returns-then-is-6 t c = λ s.
+    reads_same _ c.assigned.result _ _ _ _
+    (by_assign c.args.span s c.args.key.now (nodes_of c.args.rest.now) c.args.scope.now.names.keys c.requires
+    (sym c.is.ensures ∙ c.if-is.false) (sym c.is-else-is.ensures ∙ c.if-is-2.false) (sym c.is-else-is-2.ensures ∙ c.if-is-3.false) (sym c.is-else-is-3.ensures ∙ c.if-is-4.false) (sym c.is-else-is-4.ensures ∙ c.if-is-5.false) (sym c.is-else-is-5.ensures ∙ c.if-is-6.true))
+    c.assigned.ensures
+
+pub keyed-returns-in_ok-expressions : goal.keyed-returns-in_ok-expressions
+keyed-returns-in_ok-expressions t c = λ s.
+    let es = c.in_ok-expressions.field-0 in
+    by_or c.args.span s c.args.key.now (nodes_of c.args.rest.now) c.args.scope.now.names.keys c.requires
+    (sym c.is.ensures ∙ c.if-is.false) (sym c.is-else-is.ensures ∙ c.if-is-2.true)
+    ∙ seen_as (Or c.args.span) _ _ _ _ c.in_ok-expressions.ensures
+    (sym (expression_of-or (record { span = c.args.span; kind = exprs.Or es }) es refl))
+
+pub keyed-returns-in_ok-new : goal.keyed-returns-in_ok-new
+keyed-returns-in_ok-new t c = λ s.
+    let not = c.in_ok-new.field-0 in
+    by_not c.args.span s c.args.key.now (nodes_of c.args.rest.now) c.args.scope.now.names.keys c.requires
+    (sym c.is.ensures ∙ c.if-is.false) (sym c.is-else-is.ensures ∙ c.if-is-2.false) (sym c.is-else-is-2.ensures ∙ c.if-is-3.true)
+    ∙ seen_as (Not c.args.span) _ _ _ _ (rw c.closing.ensures at c.in_ok-part.ensures)
+    (sym (expression_of-not (record { span = c.args.span; kind = exprs.Not not }) not refl
+    ∙ ap (λ e. Not c.args.span (expression_of e)) c.in_ok-new.ensures.ok))
+
+pub keyed-returns-in_ok-called : goal.keyed-returns-in_ok-called
+keyed-returns-in_ok-called t c = λ s.
+    let call = c.in_ok-called.field-0 in
+    by_call c.args.span s c.args.key.now (nodes_of c.args.rest.now) c.args.scope.now.names.keys c.requires
+    (sym c.is.ensures ∙ c.if-is.false) (sym c.is-else-is.ensures ∙ c.if-is-2.false) (sym c.is-else-is-2.ensures ∙ c.if-is-3.false) (sym c.is-else-is-3.ensures ∙ c.if-is-4.false) (sym c.is-else-is-4.ensures ∙ c.if-is-5.false) (sym c.is-else-is-5.ensures ∙ c.if-is-6.false) (sym c.is-else-is-6.ensures ∙ c.if-is-7.true)
+    ∙ seen_as (Test c.args.span) _ _ _ _ c.in_ok-called.ensures
+    (sym (expression_of-call (record { span = c.args.span; kind = exprs.Call call }) call refl))
+
+pub keyed-returns-in_err-called : goal.keyed-returns-in_err-called
+keyed-returns-in_err-called t c = λ s.
+    let why = c.in_err-called.field-0.0 in
+    let p = err_from_is_err_and c.from_residual-in_err-called.result c.from_residual-in_err-called.ensures.1 in
+    rw (p.1, p.2) (refused_same why _ _
+    (by_call c.args.span s c.args.key.now (nodes_of c.args.rest.now) c.args.scope.now.names.keys c.requires
+    (sym c.is.ensures ∙ c.if-is.false) (sym c.is-else-is.ensures ∙ c.if-is-2.false) (sym c.is-else-is-2.ensures ∙ c.if-is-3.false) (sym c.is-else-is-3.ensures ∙ c.if-is-4.false) (sym c.is-else-is-4.ensures ∙ c.if-is-5.false) (sym c.is-else-is-5.ensures ∙ c.if-is-6.false) (sym c.is-else-is-6.ensures ∙ c.if-is-7.true))
+    (refused_next why _ _ c.in_err-called.ensures))
+
+pub keyed-returns-in_ok-named_atom : goal.keyed-returns-in_ok-named_atom
+keyed-returns-in_ok-named_atom t c = λ s.
+    let atom = c.in_ok-named_atom.field-0 in
+    by_name c.args.span s c.args.key.now (nodes_of c.args.rest.now) c.args.scope.now.names.keys c.requires
+    (sym c.is.ensures ∙ c.if-is.false) (sym c.is-else-is.ensures ∙ c.if-is-2.false) (sym c.is-else-is-2.ensures ∙ c.if-is-3.false) (sym c.is-else-is-3.ensures ∙ c.if-is-4.false) (sym c.is-else-is-4.ensures ∙ c.if-is-5.false) (sym c.is-else-is-5.ensures ∙ c.if-is-6.false) (sym c.is-else-is-6.ensures ∙ c.if-is-7.false) (sym c.is_plain.ensures ∙ c.if-is_plain.true)
+    ∙ seen_as (Holds c.args.span) _ _ _ _ c.in_ok-named_atom.ensures
+    (sym (expression_of-atom (record { span = c.args.span; kind = exprs.Atom atom }) atom refl))
+
+pub keyed-returns-in_err-named_atom : goal.keyed-returns-in_err-named_atom
+keyed-returns-in_err-named_atom t c = λ s.
+    let why = c.in_err-named_atom.field-0.0 in
+    let p = err_from_is_err_and c.from_residual-in_err-named_atom.result c.from_residual-in_err-named_atom.ensures.1 in
+    rw (p.1, p.2) (refused_same why _ _
+    (by_name c.args.span s c.args.key.now (nodes_of c.args.rest.now) c.args.scope.now.names.keys c.requires
+    (sym c.is.ensures ∙ c.if-is.false) (sym c.is-else-is.ensures ∙ c.if-is-2.false) (sym c.is-else-is-2.ensures ∙ c.if-is-3.false) (sym c.is-else-is-3.ensures ∙ c.if-is-4.false) (sym c.is-else-is-4.ensures ∙ c.if-is-5.false) (sym c.is-else-is-5.ensures ∙ c.if-is-6.false) (sym c.is-else-is-6.ensures ∙ c.if-is-7.false) (sym c.is_plain.ensures ∙ c.if-is_plain.true))
+    (refused_next why _ _ c.in_err-named_atom.ensures))
+
+pub keyed-returns-else-is_plain : goal.keyed-returns-else-is_plain
+keyed-returns-else-is_plain t c = λ s. rw c.expected.ensures (by_no_name c.args.span s c.args.key.now (nodes_of c.args.rest.now) c.args.scope.now.names.keys c.requires
+    (sym c.is.ensures ∙ c.if-is.false) (sym c.is-else-is.ensures ∙ c.if-is-2.false) (sym c.is-else-is-2.ensures ∙ c.if-is-3.false) (sym c.is-else-is-3.ensures ∙ c.if-is-4.false) (sym c.is-else-is-4.ensures ∙ c.if-is-5.false) (sym c.is-else-is-5.ensures ∙ c.if-is-6.false) (sym c.is-else-is-6.ensures ∙ c.if-is-7.false) (sym c.is_plain.ensures ∙ c.if-is_plain.false))
+
+-- the first of some nodes is smaller than all of them
+pub one_expression-expression-requires : goal.one_expression-expression-requires
+one_expression-expression-requires t c =
+    let least : 1 ≤ length c.args.nodes.now = c.in-len1.len_at_least in
+    let some : 0 < length c.args.nodes.now = omega arith in
+    let smaller = item-smaller c.args.nodes.now 0 c.only-item.result some c.only-item.is in
+    search rules
+
+pub one_expression-expression-requires-in-len2-up : goal.one_expression-expression-requires-in-len2-up
+one_expression-expression-requires-in-len2-up t c =
+    let least : 2 ≤ length c.args.nodes.now = c.in-len2-up.len_at_least in
+    let some : 0 < length c.args.nodes.now = omega arith in
+    let smaller = item-smaller c.args.nodes.now 0 c.first-item.result some c.first-item.is in
+    search rules
+
+pub list_kind-returns-in_default : goal.list_kind-returns-in_default
+list_kind-returns-in_default t c =
+    let none : length c.args.nodes.now ≡ 0 = search rules in
+    by_nothing c.args.span c.args.nodes.now c.new.result c.args.scope.now.names.keys none c.new.ensures.items

@@ -1,9 +1,14 @@
 use Rattle.std.proofs.Common.{rules, refl}
 use Rattle.hp_syntax.specs.GroundViews.{ground_of, grounds_of}
 use Rattle.hp_syntax.specs.TermTexts.{term_text, terms_text}
-use Rattle.hp_print.proofs.Sizes.{ground-smaller}
+use Rattle.hp_print.proofs.Sizes.{ground-smaller, grounds-smaller}
 use Rattle.hp_print.proofs.WrittenLists.{spaced_on, written_to_its_end}
 use Rattle.hp_print.proofs.grounds.+ground.Goals as goal
+
+pub push_list-push_more-requires : goal.push_list-push_more-requires
+push_list-push_more-requires t c =
+    let smaller = grounds-smaller c.args.parts.now c.in-len1-up.len_at_least in
+    search rules
 
 pub push_more-push_ground-requires : goal.push_more-push_ground-requires
 push_more-push_ground-requires t c =

@@ -4,7 +4,7 @@ use Rattle.hp_syntax.specs.ViewLaws.{pattern_of-var, pattern_of-sym, pattern_of-
 use Rattle.hp_syntax.specs.Views.{pattern_of, patterns_of}
 use Rattle.hp_syntax.specs.Written as written
 use Rattle.hp_syntax.specs.Written.{pattern, node_text, rest_text}
-use Rattle.hp_print.proofs.Sizes.{pattern-smaller}
+use Rattle.hp_print.proofs.Sizes.{pattern-smaller, patterns-smaller}
 use Rattle.hp_print.proofs.WrittenLists.{spaced_on}
 use Rattle.hp_print.proofs.terms.+pattern.Goals as goal
 
@@ -12,6 +12,11 @@ pub push_items-push_pattern-requires : goal.push_items-push_pattern-requires
 push_items-push_pattern-requires t c =
     let smaller = pattern-smaller c.args.parts.now c.loop-part.part-index c.part-item.result
     c.loop-part-test.true c.part-item.is in
+    search rules
+
+pub push_list-push_items-requires : goal.push_list-push_items-requires
+push_list-push_items-requires t c =
+    let smaller = patterns-smaller c.args.parts.now c.in-len1-up-default.len_at_least in
     search rules
 
 pub push_pattern-returns-in-Var : goal.push_pattern-returns-in-Var

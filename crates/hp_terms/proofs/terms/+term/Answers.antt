@@ -1,4 +1,4 @@
-use Rattle.std.proofs.Common.{◌≡◌, ◌∙◌, ap, sym, refl, length, codes, option_map, Some, None, Ok, ◌++◌, rules}
+use Rattle.std.proofs.Common.{◌≡◌, ◌<◌, ◌≤◌, arith, ◌∙◌, ap, sym, refl, length, codes, option_map, Some, None, Ok, ◌++◌, rules}
 use Rattle.std.proofs.lemmas.Result.{err_from_is_err_and}
 use Rattle.hp_syntax.specs.Grammar as grammar
 use Rattle.hp_syntax.specs.Steps.{and_then, pure}
@@ -13,7 +13,7 @@ use Rattle.hp_terms.proofs.Turns.{refused_same, refused_next, one_viewed}
 use Rattle.hp_terms.proofs.WordLemmas.{term-by_word, listing}
 use Rattle.hp_terms.specs.FormReads.{setting_of}
 use Rattle.hp_terms.proofs.Items.{item_read, tail_added, none_added, terms_read, terms_refused}
-use Rattle.hp_terms.proofs.Sizes.{item-smaller}
+use Rattle.hp_terms.proofs.Sizes.{item-smaller, rest-smaller}
 use Rattle.hp_terms.proofs.terms.+term.Goals as goal
 
 pub term-returns-in-Name : goal.term-returns-in-Name
@@ -105,3 +105,24 @@ terms-returns t c =
 pub called-returns-in-Problem : goal.called-returns-in-Problem
 unfolding grammar.called
 called-returns-in-Problem t c = search rules
+
+-- the item behind a dot is smaller than what stands there
+pub dotted-tail-requires : goal.dotted-tail-requires
+dotted-tail-requires t c =
+    let least : 1 ≤ length c.args.nodes.now = c.in-len1.len_at_least in
+    let some : 0 < length c.args.nodes.now = omega arith in
+    let smaller = item-smaller c.args.nodes.now 0 c.only-item.result some c.only-item.is in
+    search rules
+
+pub dotted-tail-requires-in-len2-up : goal.dotted-tail-requires-in-len2-up
+dotted-tail-requires-in-len2-up t c =
+    let least : 2 ≤ length c.args.nodes.now = c.in-len2-up.len_at_least in
+    let some : 0 < length c.args.nodes.now = omega arith in
+    let smaller = item-smaller c.args.nodes.now 0 c.first-item.result some c.first-item.is in
+    search rules
+
+-- what stands behind the first item of a list is smaller than the list
+pub list_tail-items-requires : goal.list_tail-items-requires
+list_tail-items-requires t c =
+    let smaller = rest-smaller c.args.nodes.now c.in-len1-up.len_at_least in
+    search rules

@@ -1,4 +1,4 @@
-use Rattle.std.proofs.Common.{◌≡◌, ◌<◌, ◌≤◌, sym, ◌∙◌, ap, length, arith}
+use Rattle.std.proofs.Common.{rules, ◌≡◌, ◌<◌, ◌≤◌, sym, ◌∙◌, ap, length, arith}
 use Rattle.hp_syntax.specs.declared.limits.TheConstants.{LARGEST_TEXT}
 use Rattle.hp_syntax.specs.declared.text.TextKind.TheVariants.{TooLarge}
 use Rattle.hp_syntax.specs.Refusal.{refused, refusal_at}
@@ -11,6 +11,10 @@ pub loop-state-init : goal.loop-state-init
 loop-state-init c =
     scan_begins c.args.bytes.now c.min-end.result c.new-state.result c.new-state.ensures.at
     c.new-state.ensures.brackets
+
+-- what a step passes is scanned
+pub loop-state-preserved : goal.loop-state-preserved
+loop-state-preserved c = search rules
 
 -- the text is too large
 pub returns-then-end-bytes-clause-refused : goal.returns-then-end-bytes-clause-refused

@@ -1,4 +1,4 @@
-use Rattle.std.proofs.Common.{arith}
+use Rattle.std.proofs.Common.{arith, rules}
 use Rattle.hp_io.proofs.FileLemmas.{first_found}
 use Rattle.hp_io.proofs.mem_folder.MemFolderFolder.begin.Goals as goal
 
@@ -13,3 +13,6 @@ returns-clause-rest c =
     let found = first_found _ _ _ c.in-Some.ensures.found in
     let same = c.as_slice.ensures.value in
     grind (arith, found)
+
+pub returns-in_default-clause-fails : goal.returns-in_default-clause-fails
+returns-in_default-clause-fails c = search rules

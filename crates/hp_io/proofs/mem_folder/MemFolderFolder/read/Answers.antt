@@ -1,4 +1,4 @@
-use Rattle.std.proofs.Common.{◌≡◌, List, Some, slice_get, ap, sym, ◌∙◌}
+use Rattle.std.proofs.Common.{rules, ◌≡◌, List, Some, slice_get, ap, sym, ◌∙◌}
 use Rattle.hp_io.specs.declared.mem_folder.File.{File}
 use Rattle.hp_io.specs.Files.{bytes_at, input_of, rest_of, rest_from}
 use Rattle.hp_io.proofs.RuleLemmas.{taken_at}
@@ -21,3 +21,10 @@ returns-clause-taken c =
     ∙ ap (λ i. rest_from files i.place) c.set_input.ensures.set in
     taken_at files place _ _ _ c.rest_at.result.now _ _ before (c.rest_at.ensures.rest ∙ here)
     c.copy_front-count.ensures.count c.copy_front-count.ensures.front after
+
+-- a read that fails takes nothing
+pub returns-then-next_fails-clause-begun : goal.returns-then-next_fails-clause-begun
+returns-then-next_fails-clause-begun c = search rules
+
+pub returns-then-next_fails-clause-err : goal.returns-then-next_fails-clause-err
+returns-then-next_fails-clause-err c = search rules
