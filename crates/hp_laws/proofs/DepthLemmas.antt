@@ -126,7 +126,7 @@ contained_child i j c (x ∷ cs) h =
     (contains_cases (i, x) (j, c) (numbered_children (number_after i x) cs) h)
 
 -- a child has this depth, where it is a node
-abbrev HasDepth : ℕ → Child → Type 0
+abbrev pub HasDepth : ℕ → Child → Type 0
 HasDepth k (DidChild m) = m.depth ≡ k
 HasDepth k CutChild = Unit {0}
 HasDepth k (FaultChild f) = Unit {0}
@@ -136,15 +136,20 @@ has_depth k (DidChild m) = refl
 has_depth k CutChild = tt
 has_depth k (FaultChild f) = tt
 
+-- each child of a node has one decomposition less
+pub children_have_depth : (rules : List Rule) (nest : ℕ) (n : Node)
+    → All (HasDepth (n.depth - 1)) (children rules nest n)
+children_have_depth rules nest n =
+    subst (All (HasDepth (n.depth - 1))) (sym (children_at_depth n.depth n rules nest))
+    (All-map (HasDepth (n.depth - 1)) (child_at_depth (n.depth - 1)) (children rules nest n)
+    (all_from (λ x. HasDepth (n.depth - 1) (child_at_depth (n.depth - 1) x)) (has_depth (n.depth - 1))
+    (children rules nest n)))
+
 -- a child of a node that has a decomposition left has one less
 pub child_depth : (rules : List Rule) (nest : ℕ) (n m : Node) (d i : ℕ) → n.depth ≡ suc d
     → Contains (numbered_children 0 (children rules nest n)) (i, DidChild m) → m.depth ≡ d
 child_depth rules nest n m d i e c =
     let k = contained_child 0 i (DidChild m) (children rules nest n) c in
-    let a : All (HasDepth (n.depth - 1)) (map (child_at_depth (n.depth - 1)) (children rules nest n)) =
-    All-map (HasDepth (n.depth - 1)) (child_at_depth (n.depth - 1)) (children rules nest n)
-    (all_from (λ x. HasDepth (n.depth - 1) (child_at_depth (n.depth - 1) x)) (has_depth (n.depth - 1))
-    (children rules nest n)) in
     let b = All-contains (HasDepth (n.depth - 1)) (children rules nest n) (DidChild m)
-    (subst (All (HasDepth (n.depth - 1))) (sym (children_at_depth n.depth n rules nest)) a) k in
+    (children_have_depth rules nest n) k in
     omega arith

@@ -1,5 +1,5 @@
 -- Events extend the bindings that they begin with.
-use Rattle.std.proofs.Common.{◌≡◌, ℕ, zero, suc, Bool, cond, List, [], ◌∷◌, map, Option, Some, None, Result, Ok, Err, refl, ◌&&◌, length}
+use Rattle.std.proofs.Common.{◌≡◌, ℕ, zero, suc, Bool, cond, List, [], ◌∷◌, ◌++◌, map, Option, Some, None, Result, Ok, Err, refl, ◌&&◌, length}
 use Rattle.std.specs.Prelude.{ℤ, bytes_eq, flat_map}
 use Rattle.std.specs.List.{All}
 use Rattle.std.proofs.lemmas.Bool.{cond_both}
@@ -223,11 +223,11 @@ module _ (P : ℤ × Bindings → Type 0) (before : ℤ → ℤ → Bool) where
 
 module _ (e : Bindings) where
   -- a satisfier with its number extends the bindings
-  abbrev KeyExtends : ℤ × Bindings → Type 0
+  abbrev pub KeyExtends : ℤ × Bindings → Type 0
   KeyExtends x = Extends e x.1
 
   -- each satisfier that is to be sorted extends the bindings
-  abbrev KeysExtend : Keyed → Type 0
+  abbrev pub KeysExtend : Keyed → Type 0
   KeysExtend (NoKey f) = Unit {0}
   KeysExtend (Keys xs cut) = All KeyExtends xs
 
@@ -250,7 +250,7 @@ module _ (e : Bindings) where
   cut_with_extends (Keys xs cut) a = a
 
   -- the satisfiers with their keys extend the bindings where the events do
-  keyed_extends : (key : Key) (xs : List Event) → AllExtend e xs → KeysExtend (keyed key xs)
+  pub keyed_extends : (key : Key) (xs : List Event) → AllExtend e xs → KeysExtend (keyed key xs)
   keyed_extends key [] a = All-nil KeyExtends
   keyed_extends key (Sat b ∷ xs) a =
       keyed_by_extends key.span (bound b key.var) b (keyed key xs) (All-head (EventExtends e) (Sat b) xs a)
@@ -259,14 +259,19 @@ module _ (e : Bindings) where
       cut_with_extends (keyed key xs) (keyed_extends key xs (All-tail (EventExtends e) Cut xs a))
   keyed_extends key (Fault f ∷ xs) a = tt
 
+  -- satisfiers that extend the bindings are events that do, also with a cut behind them
+  pub sats_extend : (xs : List (ℤ × Bindings)) (cut : Bool) → All KeyExtends xs
+      → AllExtend e (map (λ x. Sat x.1) xs ++ cond cut (Cut ∷ []) [])
+  sats_extend xs cut a =
+      All-append (EventExtends e) (map (λ x. Sat x.1) xs) (cond cut (Cut ∷ []) [])
+      (All-map (EventExtends e) (λ x. Sat x.1) xs a)
+      (cond_both cut (Cut ∷ []) [] (AllExtend e) (λ k. cut_extends e) (λ k. All-nil (EventExtends e)))
+
   -- the events of satisfiers that are sorted extend the bindings
-  sorted_events_extend : (order : Order) (k : Keyed) → KeysExtend k → AllExtend e (sorted_events order k)
+  pub sorted_events_extend : (order : Order) (k : Keyed) → KeysExtend k → AllExtend e (sorted_events order k)
   sorted_events_extend order (NoKey f) a = fault_extends e f
   sorted_events_extend order (Keys xs cut) a =
-      All-append (EventExtends e) (map (λ x. Sat x.1) (sorted (sorts_before order) xs)) (cond cut (Cut ∷ []) [])
-      (All-map (EventExtends e) (λ x. Sat x.1) (sorted (sorts_before order) xs)
-      (all_sorted KeyExtends (sorts_before order) xs a))
-      (cond_both cut (Cut ∷ []) [] (AllExtend e) (λ k. cut_extends e) (λ k. All-nil (EventExtends e)))
+      sats_extend (sorted (sorts_before order) xs) cut (all_sorted KeyExtends (sorts_before order) xs a)
 
 -- the events of a precondition extend the bindings
 pub precondition_extends : (axioms : List Axiom) (nest : ℕ) (s : State) (p : Precondition) (e : Bindings)
