@@ -11,12 +11,12 @@ use Rattle.hp_syntax.specs.Applying.{ChangesOf}
 use Rattle.hp_syntax.specs.Events as plain
 use Rattle.hp_syntax.specs.Changes.{Changes, Going, Went, CutShort, Failed, and_go, go_on, Gathered, both_gathered, of_atoms, of_protection, atom_values, values_for_each}
 use Rattle.hp_eval.specs.declared.event.Event.TheVariants as events
-use Rattle.hp_eval.specs.Events.{Happening, event_of, left_after, AreOfFirst}
+use Rattle.hp_eval.specs.Events.{PlainEvent, event_of, left_after, AreOfFirst}
 use Rattle.hp_eval.specs.GoalViews.{term_at}
 use Rattle.hp_eval.specs.Growth.{Grows}
 use Rattle.hp_eval.specs.Slotted.{Slotted, Binds, undone}
 use Rattle.hp_eval.proofs.CellViews.{at_named}
-use Rattle.hp_eval.proofs.GrowthLemmas.{all_below, terms_stay, front}
+use Rattle.hp_eval.proofs.GrowthLemmas.{all_below, terms_stay, prefix}
 use Rattle.hp_eval.proofs.Loops.{left_more}
 use Rattle.hp_world.specs.Stages.{terms_at, changes_of, ChangesBelow}
 use Rattle.hp_effect.specs.declared.changes.Part.{Part}
@@ -237,7 +237,7 @@ sats_step (Went ts) (Failed f) = refl
 sats_step CutShort w = refl
 sats_step (Failed f) w = refl
 
-each_step : (as' : List Atom) (x : Happening) (xs : List Happening)
+each_step : (as' : List Atom) (x : PlainEvent) (xs : List PlainEvent)
     → only_atoms (values_for_each as' (x ∷ xs)) ≡ both (values_at as' x) (only_atoms (values_for_each as' xs))
 each_step as' (plain.Sat e) xs = sats_step (atom_values as' e) (values_for_each as' xs)
 each_step as' plain.Cut xs = refl
@@ -280,7 +280,7 @@ nothing_put side terms c below =
 
 module _ (as' : List Atom) (b : Bindings) where
   -- under a Sat the values of the atoms come before what is left
-  pub sat_first : (side : Side) (terms : List Term) (old : Changes) (new : ChangesOf ℕ) (xs : List Happening)
+  pub sat_first : (side : Side) (terms : List Term) (old : Changes) (new : ChangesOf ℕ) (xs : List PlainEvent)
       → events.Sat ≡ event_of xs → AreOfFirst xs b → HasPut side (only_atoms (atom_values as' b)) terms old new
       → PutsFirst side (each_going as' xs) (each_going as' (left_after xs)) terms old new
   sat_first side terms old new [] h k p = absurd cc
@@ -293,7 +293,7 @@ module _ (as' : List Atom) (b : Bindings) where
   sat_first side terms old new (plain.Fault f ∷ xs) h k p = absurd cc
 
   -- where the values under a Sat stop the whole does
-  pub sat_stops : (obstacle : Obstacle) (xs : List Happening) → events.Sat ≡ event_of xs → AreOfFirst xs b
+  pub sat_stops : (obstacle : Obstacle) (xs : List PlainEvent) → events.Sat ≡ event_of xs → AreOfFirst xs b
       → StopsHere obstacle (only_atoms (atom_values as' b)) → StopsHere obstacle (each_going as' xs)
   sat_stops obstacle [] h k s = absurd cc
   sat_stops obstacle (plain.Sat e ∷ xs) h k s =
@@ -304,14 +304,14 @@ module _ (as' : List Atom) (b : Bindings) where
   sat_stops obstacle (plain.Fault f ∷ xs) h k s = absurd cc
 
 -- at a Cut the whole is cut short
-pub cut_next : (as' : List Atom) (xs : List Happening) → events.Cut ≡ event_of xs → each_going as' xs ≡ CutShort
+pub cut_next : (as' : List Atom) (xs : List PlainEvent) → events.Cut ≡ event_of xs → each_going as' xs ≡ CutShort
 cut_next as' [] h = absurd cc
 cut_next as' (plain.Sat e ∷ xs) h = absurd cc
 cut_next as' (plain.Cut ∷ xs) h = refl
 cut_next as' (plain.Fault f ∷ xs) h = absurd cc
 
 -- at a fault the whole fails
-pub fault_next : (as' : List Atom) (f : RunFault) (xs : List Happening) → events.Fault f ≡ event_of xs
+pub fault_next : (as' : List Atom) (f : RunFault) (xs : List PlainEvent) → events.Fault f ≡ event_of xs
     → each_going as' xs ≡ Failed f
 fault_next as' f [] h = absurd cc
 fault_next as' f (plain.Sat e ∷ xs) h = absurd cc
@@ -319,7 +319,7 @@ fault_next as' f (plain.Cut ∷ xs) h = absurd cc
 fault_next as' f (plain.Fault g ∷ xs) h = let e : g ≡ f = cc in ap Failed e
 
 -- at the end the whole is nothing
-pub end_next : (as' : List Atom) (xs : List Happening) → events.End ≡ event_of xs
+pub end_next : (as' : List Atom) (xs : List PlainEvent) → events.End ≡ event_of xs
     → each_going as' xs ≡ Went (of_atoms [])
 end_next as' [] h = refl
 end_next as' (plain.Sat e ∷ xs) h = absurd cc
@@ -327,7 +327,7 @@ end_next as' (plain.Cut ∷ xs) h = absurd cc
 end_next as' (plain.Fault f ∷ xs) h = absurd cc
 
 -- behind a Sat fewer events are left
-pub fewer_behind : (xs : List Happening) → events.Sat ≡ event_of xs → length (left_after xs) < length xs
+pub fewer_behind : (xs : List PlainEvent) → events.Sat ≡ event_of xs → length (left_after xs) < length xs
 fewer_behind [] h = absurd cc
 fewer_behind (plain.Sat e ∷ xs) h = omega arith
 fewer_behind (plain.Cut ∷ xs) h = absurd cc
@@ -336,7 +336,7 @@ fewer_behind (plain.Fault f ∷ xs) h = absurd cc
 -- grown terms agree with those before below the kept number
 pub kept_agree : (k : ℕ) (old new : List Term) → Grows old new → k ≤ length old → take k old ≡ take k new
 kept_agree k old new g h =
-    sym (ap (take k) (front old new g) ∙ take-append-le k old (drop (length old) new) h)
+    sym (ap (take k) (prefix old new g) ∙ take-append-le k old (drop (length old) new) h)
 
 -- bindings above those of a mark are undone to these
 pub undone_above : (n : ℕ) (e f : Slotted) → n ≤ length e.trail → Binds (undone n e) f → undone n f ≡ undone n e

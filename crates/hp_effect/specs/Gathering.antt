@@ -8,7 +8,7 @@ use Rattle.hp_syntax.specs.Changes.{Changes, Going, Went, CutShort, Failed, and_
 use Rattle.hp_syntax.specs.Events as plain
 use Rattle.hp_eval.specs.declared.event.EvalStop.{EvalStop}
 use Rattle.hp_eval.specs.declared.event.EvalStop.TheVariants as stops
-use Rattle.hp_eval.specs.Events.{Happening}
+use Rattle.hp_eval.specs.Events.{PlainEvent}
 use Rattle.hp_world.specs.Stages.{changes_of, ChangesBelow}
 use Rattle.hp_effect.specs.declared.changes.Part.{Part}
 use Rattle.hp_effect.specs.declared.changes.Part.TheVariants.{Unguard, Delete, Add, Guard}
@@ -83,7 +83,7 @@ PutsAll side (Err obstacle) going terms old new = StopsHere obstacle going
 -- ---- what is put for each satisfier
 
 -- what the values of atoms come to under each Sat in turn
-abbrev pub each_going : List Atom → List Happening → Going Gathered
+abbrev pub each_going : List Atom → List PlainEvent → Going Gathered
 each_going as' xs = only_atoms (values_for_each as' xs)
 
 -- the effects of one event went and are put before what is left

@@ -3,7 +3,7 @@ ghost use Rattle.std.specs.Prelude.{◌≡◌, ◌<◌, ◌≤◌, List, Ok, OnO
 ghost use Rattle.hp_syntax.specs.Changes.{atom_values, values_for_each};
 ghost use Rattle.hp_syntax.specs.Values.{atom_value};
 ghost use Rattle.hp_syntax.specs.Views.{atom_of, atoms_of};
-ghost use Rattle.hp_eval.specs.Events.{Happening, event_of, left_after, AreOfFirst};
+ghost use Rattle.hp_eval.specs.Events.{PlainEvent, event_of, left_after, AreOfFirst};
 ghost use Rattle.hp_eval.specs.Growth.{Grows};
 ghost use Rattle.hp_eval.specs.Slotted.{AreBelow, bindings_of, undone};
 ghost use Rattle.hp_world.specs.Stages.{ChangesBelow, changes_of};
@@ -85,10 +85,10 @@ fn put_event(
 ) -> Result<bool, Obstacle>
     requires slots { AreBelow (length cells.old) slots.now }
     requires below { ChangesBelow (length cells.old) changes.old }
-    ensures puts { (xs : List Happening) → event ≡ event_of xs → AreOfFirst xs (bindings_of cells.old slots.now)
+    ensures puts { (xs : List PlainEvent) → event ≡ event_of xs → AreOfFirst xs (bindings_of cells.old slots.now)
         → PutsNext side result (each_going (atoms_of atoms.now) xs) (each_going (atoms_of atoms.now) (left_after xs))
         cells.new (changes_of cells.old changes.old) changes.new }
-    ensures fewer { (xs : List Happening) → event ≡ event_of xs → result ≡ Ok true
+    ensures fewer { (xs : List PlainEvent) → event ≡ event_of xs → result ≡ Ok true
         → length (left_after xs) < length xs }
     ensures cells { Grows cells.old cells.new }
 {

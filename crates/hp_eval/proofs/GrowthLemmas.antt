@@ -24,20 +24,20 @@ pub grows_behind : (old more : List Term) → Grows old (old ++ more)
 grows_behind old more = take-append_seam old more
 
 module _ (old new : List Term) (g : Grows old new) where
-  -- the terms before are the front of the new terms
-  pub front : new ≡ old ++ drop (length old) new
-  front = sym (take-append-drop (length old) new) ∙ ap (λ ts. ts ++ drop (length old) new) g
+  -- the terms before are the prefix of the new terms
+  pub prefix : new ≡ old ++ drop (length old) new
+  prefix = sym (take-append-drop (length old) new) ∙ ap (λ ts. ts ++ drop (length old) new) g
 
   -- terms become no fewer
   pub grows_length : length old ≤ length new
   grows_length =
-      let e = ap length front in
+      let e = ap length prefix in
       let l = length-append old (drop (length old) new) in
       omega (arith, e, l)
 
   -- the terms before stand at their places
   pub stays : (i : ℕ) → i < length old → slice_get new i ≡ slice_get old i
-  stays i h = ap (λ ts. slice_get ts i) front ∙ same_in_longer old (drop (length old) new) i h
+  stays i h = ap (λ ts. slice_get ts i) prefix ∙ same_in_longer old (drop (length old) new) i h
 
   -- a cell goes on naming its term
   pub still_names : (i : ℕ) (t : Term) → slice_get old i ≡ Some t → slice_get new i ≡ Some t
@@ -76,7 +76,7 @@ module _ (old new : List Term) (g : Grows old new) where
 pub grows_on : (a b c : List Term) → Grows a b → Grows b c → Grows a c
 grows_on a b c g h =
     let whole : c ≡ a ++ (drop (length a) b ++ drop (length b) c) =
-    front b c h
-    ∙ (ap (λ ts. ts ++ drop (length b) c) (front a b g)
+    prefix b c h
+    ∙ (ap (λ ts. ts ++ drop (length b) c) (prefix a b g)
     ∙ append_assoc a (drop (length a) b) (drop (length b) c)) in
     ap (take (length a)) whole ∙ take-append_seam a (drop (length a) b ++ drop (length b) c)

@@ -6,25 +6,25 @@ use Rattle.hp_eval.specs.declared.event.Event.{Event}
 use Rattle.hp_eval.specs.declared.event.Event.TheVariants as events
 
 -- what is met while one looks for satisfiers
-abbrev pub Happening : Type 0
-Happening = plain.Event
+abbrev pub PlainEvent : Type 0
+PlainEvent = plain.Event
 
 -- what is told of the first of the events that are left
-abbrev pub event_of : List Happening → Event
+abbrev pub event_of : List PlainEvent → Event
 event_of [] = events.End
 event_of (plain.Sat e ∷ xs) = events.Sat
 event_of (plain.Cut ∷ xs) = events.Cut
 event_of (plain.Fault f ∷ xs) = events.Fault f
 
 -- what is left behind the first; after a fault nothing is
-abbrev pub left_after : List Happening → List Happening
+abbrev pub left_after : List PlainEvent → List PlainEvent
 left_after [] = []
 left_after (plain.Sat e ∷ xs) = xs
 left_after (plain.Cut ∷ xs) = xs
 left_after (plain.Fault f ∷ xs) = []
 
 -- where the first event is a Sat, these are its bindings
-abbrev pub AreOfFirst : List Happening → Bindings → Type 0
+abbrev pub AreOfFirst : List PlainEvent → Bindings → Type 0
 AreOfFirst [] b = Unit {0}
 AreOfFirst (plain.Sat e ∷ xs) b = b ≡ e
 AreOfFirst (plain.Cut ∷ xs) b = Unit {0}

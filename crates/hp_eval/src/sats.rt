@@ -14,10 +14,10 @@ pub trait Sats<B> {
     ghost use Rattle.hp_syntax.specs.Events.{EventExtends};
     ghost use Rattle.hp_eval.specs.Slotted.{Slotted, AreBelow, Binds, undone, bindings_of};
     ghost use Rattle.hp_eval.specs.Growth.{Grows};
-    ghost use Rattle.hp_eval.specs.Events.{Happening, event_of, left_after, AreOfFirst};
+    ghost use Rattle.hp_eval.specs.Events.{PlainEvent, event_of, left_after, AreOfFirst};
 
     /// The events that are left.
-    ghost rest: { Self → B → List Term → Slotted → List Happening };
+    ghost rest: { Self → B → List Term → Slotted → List PlainEvent };
 
     /// The base is one that these satisfiers were started over.
     ghost suits: { Self → B → Type 0 };

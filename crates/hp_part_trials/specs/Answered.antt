@@ -13,13 +13,13 @@ use Rattle.hp_eval.specs.declared.event.Event.{Event}
 use Rattle.hp_eval.specs.declared.event.Event.TheVariants as events
 use Rattle.hp_eval.specs.Slotted.{Slotted, AreBelow, with_bound, undone, named, bindings_of}
 use Rattle.hp_eval.specs.SlotLaws.{bindings_agree}
-use Rattle.hp_eval.specs.Events.{Happening}
+use Rattle.hp_eval.specs.Events.{PlainEvent}
 use Rattle.hp_eval.proofs.SlotLemmas.{below_bound}
 use Rattle.hp_part_trials.specs.declared.answers.Reply.{Reply}
 use Rattle.hp_part_trials.specs.declared.answers.Reply.TheVariants.{Sat, Cut, Fault}
 
 -- the events of answers: a Sat binds the variable to its cell above the start's bindings
-abbrev pub answered : List Term → Slotted → ℕ → List Reply → List Happening
+abbrev pub answered : List Term → Slotted → ℕ → List Reply → List PlainEvent
 answered c s v [] = []
 answered c s v (Sat cell ∷ xs) = plain.Sat (bindings_of c (with_bound v cell s)) ∷ answered c s v xs
 answered c s v (Cut ∷ xs) = plain.Cut ∷ answered c s v xs

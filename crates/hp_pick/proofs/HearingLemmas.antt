@@ -16,7 +16,7 @@ use Rattle.hp_eval.proofs.SlotLemmas.{below_undone}
 use Rattle.hp_eval.proofs.GrowthLemmas.{bindings_stay, below_grows}
 use Rattle.hp_pick.specs.declared.noted.Noted.{Noted}
 use Rattle.hp_pick.specs.declared.noted.NotedSats.{NotedSats}
-use Rattle.hp_eval.specs.Events.{Happening}
+use Rattle.hp_eval.specs.Events.{PlainEvent}
 use Rattle.hp_pick.specs.Noted.{IsNoted, entry_of, noted_events, with_notes, HearsOn, Hears, HearsInOrder}
 
 -- bindings that stand above those of a mark are undone to these
@@ -81,7 +81,7 @@ pub heard_in_order : (c : List Term) (order : Order) (notes : NotedSats) (k : Ke
     → map (entry_of c) ns ≡ sorted (sorts_before order) (map (entry_of c) notes.sats.items)
     → sorted_events order k ≡ noted_events c ns notes.cut
 heard_in_order c order notes k ns h q =
-    let events : List (ℤ × Bindings) → Bool → List Happening =
+    let events : List (ℤ × Bindings) → Bool → List PlainEvent =
     λ es cut. map (λ x. Sat x.1) es ++ cond cut (Cut ∷ []) [] in
     ap (sorted_events order) h
     ∙ (ap₂ (λ es cut. events (sorted (sorts_before order) es) cut) (append-nil (map (entry_of c) notes.sats.items))

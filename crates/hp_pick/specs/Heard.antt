@@ -5,12 +5,12 @@ use Rattle.hp_syntax.specs.Syntax.{Key}
 use Rattle.hp_syntax.specs.Terms.{Term}
 use Rattle.hp_syntax.specs.Preconditions.{keyed, sorted_events}
 use Rattle.hp_eval.specs.Slotted.{Slotted, AreBelow, undone}
-use Rattle.hp_eval.specs.Events.{Happening}
+use Rattle.hp_eval.specs.Events.{PlainEvent}
 use Rattle.hp_pick.specs.declared.heard.Heard.{Heard}
 use Rattle.hp_pick.specs.Noted.{IsNoted, noted_events}
 
 -- the events that are left to be given
-abbrev pub left_of : List Term → Heard → List Happening
+abbrev pub left_of : List Term → Heard → List PlainEvent
 left_of c h = noted_events c (drop h.given h.notes.sats.items) h.notes.cut
 
 -- what was heard can be given above the bindings of a mark, and all cells are below the kept number
@@ -22,7 +22,7 @@ pub record FitsHeard (mark : ℕ) (h : Heard) (e : Slotted) : Type 0 where
 -- ---- before a list is heard and behind that
 
 -- all of the list in its order, or what is left of it
-abbrev pub rest_in_order : Key → List Happening → List Term → Option Heard → List Happening
+abbrev pub rest_in_order : Key → List PlainEvent → List Term → Option Heard → List PlainEvent
 rest_in_order k xs c None = sorted_events k.order (keyed k xs)
 rest_in_order k xs c (Some h) = left_of c h
 

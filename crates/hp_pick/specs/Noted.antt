@@ -13,7 +13,7 @@ use Rattle.hp_eval.specs.declared.event.EvalStop.{EvalStop}
 use Rattle.hp_eval.specs.declared.event.EvalStop.TheVariants as stops
 use Rattle.hp_eval.specs.CallRows.{number_of}
 use Rattle.hp_eval.specs.Slotted.{Slotted, slotted, AreBelow, named}
-use Rattle.hp_eval.specs.Events.{Happening}
+use Rattle.hp_eval.specs.Events.{PlainEvent}
 use Rattle.hp_pick.specs.declared.noted.Noted.{Noted}
 use Rattle.hp_pick.specs.declared.noted.NotedSats.{NotedSats}
 
@@ -27,7 +27,7 @@ abbrev pub entry_of : List Term → Noted → ℤ × Bindings
 entry_of c n = (n.number, map (named c) n.values.items)
 
 -- satisfiers in their order, and a Cut behind them where there was one
-abbrev pub noted_events : List Term → List Noted → Bool → List Happening
+abbrev pub noted_events : List Term → List Noted → Bool → List PlainEvent
 noted_events c ns cut = map (λ x. Sat x.1) (map (entry_of c) ns) ++ cond cut (Cut ∷ []) []
 
 -- as many values, which keep the cells that variables stood for before
@@ -67,7 +67,7 @@ Hears c (Err (stops.Fault f)) whole = whole ≡ NoKey f
 Hears c (Err stops.NoMemory) whole = Unit {0}
 
 -- a whole list is heard and put in order: its events are the satisfiers and a Cut behind them, or the fault
-abbrev pub HearsInOrder : List Term → Result NotedSats EvalStop → List Happening → Type 0
+abbrev pub HearsInOrder : List Term → Result NotedSats EvalStop → List PlainEvent → Type 0
 HearsInOrder c (Ok notes) whole = whole ≡ noted_events c notes.sats.items notes.cut
 HearsInOrder c (Err (stops.Fault f)) whole = whole ≡ Fault f ∷ []
 HearsInOrder c (Err stops.NoMemory) whole = Unit {0}

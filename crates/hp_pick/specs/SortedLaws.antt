@@ -12,7 +12,7 @@ use Rattle.hp_syntax.specs.Values.{Bindings, bound, flat_option}
 use Rattle.hp_syntax.specs.Events.{Sat, Cut, Fault, EventExtends}
 use Rattle.hp_syntax.specs.Preconditions.{Keyed, Keys, NoKey, keyed_with, keyed_by, cut_with, keyed, put_in, sorted, sorts_before, sorted_events}
 use Rattle.hp_eval.specs.Slotted.{Slotted, slotted, AreBelow, undone, flat, named, bindings_of}
-use Rattle.hp_eval.specs.Events.{Happening}
+use Rattle.hp_eval.specs.Events.{PlainEvent}
 use Rattle.hp_eval.specs.SlotLaws.{bindings_agree}
 use Rattle.hp_eval.proofs.AttemptLemmas.{place_bound}
 use Rattle.hp_eval.proofs.SlotLemmas.{bindings_some}
@@ -53,7 +53,7 @@ module _ (e : Bindings) where
   by_keeps s (Some (Listed ts)) b k h all = tt
 
   -- the satisfiers of a list keep what each event of it keeps
-  keyed_keeps : (k : Key) (xs : List Happening) → All (EventExtends e) xs → KeysKeep (keyed k xs)
+  keyed_keeps : (k : Key) (xs : List PlainEvent) → All (EventExtends e) xs → KeysKeep (keyed k xs)
   keyed_keeps k [] all = All-nil EntryExtends
   keyed_keeps k (Sat b ∷ xs) all =
       by_keeps k.span (bound b k.var) b (keyed k xs) (All-head (EventExtends e) (Sat b) xs all)
@@ -148,7 +148,7 @@ either_hold fits start mark kept (Some x) e h f = (f.above, f.below)
 
 -- what is left is the same over terms that agree below the kept number
 pub either_same : (k : Key) (suits fits : Type 0) (start mark kept : ℕ) (o : Option Heard) (e : Slotted)
-    (c d : List Term) (xs ys : List Happening) → (suits → fits → take kept c ≡ take kept d → xs ≡ ys)
+    (c d : List Term) (xs ys : List PlainEvent) → (suits → fits → take kept c ≡ take kept d → xs ≡ ys)
     → SuitsEither suits o → FitsEither fits start mark o e → take (kept_of kept o) c ≡ take (kept_of kept o) d
     → rest_in_order k xs c o ≡ rest_in_order k ys d o
 either_same k suits fits start mark kept None e c d xs ys h s f q =
@@ -160,7 +160,7 @@ either_same k suits fits start mark kept (Some x) e c d xs ys h s f q =
 
 -- each Sat that is left keeps the bindings of the mark
 pub either_extend : (k : Key) (suits fits : Type 0) (start mark : ℕ) (o : Option Heard) (e : Slotted)
-    (c : List Term) (xs : List Happening) → (suits → fits → All (EventExtends (bindings_of c (undone start e))) xs)
+    (c : List Term) (xs : List PlainEvent) → (suits → fits → All (EventExtends (bindings_of c (undone start e))) xs)
     → SuitsEither suits o → FitsEither fits start mark o e
     → All (EventExtends (bindings_of c (undone mark e))) (rest_in_order k xs c o)
 either_extend k suits fits start mark None e c xs h s f =

@@ -7,7 +7,7 @@ use Rattle.hp_syntax.specs.Events as plain
 use Rattle.hp_syntax.specs.Preconditions.{up_to_sat}
 use Rattle.hp_eval.specs.declared.event.Event.{Event}
 use Rattle.hp_eval.specs.declared.event.Event.TheVariants as events
-use Rattle.hp_eval.specs.Events.{Happening}
+use Rattle.hp_eval.specs.Events.{PlainEvent}
 
 -- an event is a Sat
 abbrev pub is_sat : Event → Bool
@@ -17,13 +17,13 @@ is_sat (events.Fault f) = false
 is_sat events.End = false
 
 -- equal lists are equal up to the first Sat
-pub first_same : {xs ys : List Happening} (ended : Bool) → xs ≡ ys
+pub first_same : {xs ys : List PlainEvent} (ended : Bool) → xs ≡ ys
     → cond ended [] (up_to_sat xs) ≡ cond ended [] (up_to_sat ys)
 first_same ended h = ap (λ zs. cond ended [] (up_to_sat zs)) h
 
-module _ (P : Happening → Type 0) where
+module _ (P : PlainEvent → Type 0) where
   -- what holds of each event holds of each up to the first Sat
-  All-up_to_sat : (xs : List Happening) → All P xs → All P (up_to_sat xs)
+  All-up_to_sat : (xs : List PlainEvent) → All P xs → All P (up_to_sat xs)
   All-up_to_sat [] h = All-nil P
   All-up_to_sat (plain.Sat e ∷ xs) h = All-cons P (plain.Sat e) [] (All-head P (plain.Sat e) xs h) (All-nil P)
   All-up_to_sat (plain.Cut ∷ xs) h =
@@ -34,6 +34,6 @@ module _ (P : Happening → Type 0) where
       (All-up_to_sat xs (All-tail P (plain.Fault f) xs h))
 
   -- what holds of each event holds of each up to the first Sat, and of none once it was given
-  pub first_extend : (ended : Bool) (xs : List Happening) → All P xs → All P (cond ended [] (up_to_sat xs))
+  pub first_extend : (ended : Bool) (xs : List PlainEvent) → All P xs → All P (cond ended [] (up_to_sat xs))
   first_extend true xs h = All-nil P
   first_extend false xs h = All-up_to_sat xs h

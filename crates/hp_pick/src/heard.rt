@@ -3,7 +3,7 @@ ghost use Rattle.std.specs.Prelude.{◌≡◌, ◌<◌, ◌^◌, true, false, No
 ghost use Rattle.std.specs.List.{All};
 ghost use Rattle.hp_syntax.specs.Terms.{Term};
 ghost use Rattle.hp_eval.specs.Slotted.{AreBelow, Binds, undone, bindings_of};
-ghost use Rattle.hp_eval.specs.Events.{Happening, event_of, left_after, AreOfFirst};
+ghost use Rattle.hp_eval.specs.Events.{PlainEvent, event_of, left_after, AreOfFirst};
 ghost use Rattle.hp_pick.specs.Noted.{KeepsCells, IsNoted, HearsInOrder};
 ghost use Rattle.hp_pick.specs.Heard.{left_of, FitsHeard};
 
@@ -75,11 +75,11 @@ impl Heard {
     ) -> (Heard, Result<Event, AllocError>)
         requires below { AreBelow kept slots.old }
         requires noted { IfOk found (λ notes. All (IsNoted kept slots.old) notes.sats.items) }
-        ensures event { (c : List Term) (xs : List Happening) → HearsInOrder c found xs
+        ensures event { (c : List Term) (xs : List PlainEvent) → HearsInOrder c found xs
             → IfOk result.1 (λ x. x ≡ event_of xs) }
-        ensures rest { (c : List Term) (xs : List Happening) → HearsInOrder c found xs
+        ensures rest { (c : List Term) (xs : List PlainEvent) → HearsInOrder c found xs
             → OnOk result.1 (left_of c result.0 ≡ left_after xs) }
-        ensures sat { (c : List Term) (xs : List Happening) → HearsInOrder c found xs
+        ensures sat { (c : List Term) (xs : List PlainEvent) → HearsInOrder c found xs
             → OnOk result.1 (AreOfFirst xs (bindings_of c slots.new)) }
         ensures above { Binds slots.old slots.new }
         ensures undone { OnErr result.1 (slots.new ≡ slots.old) }

@@ -5,7 +5,7 @@ ghost use Rattle.hp_syntax.specs.Views.{key_of};
 ghost use Rattle.hp_syntax.specs.Values.{bound};
 ghost use Rattle.hp_syntax.specs.Preconditions.{keyed};
 ghost use Rattle.hp_eval.specs.Slotted.{Slotted, Binds, AreBelow, bindings_of};
-ghost use Rattle.hp_eval.specs.Events.{Happening, event_of, left_after, AreOfFirst};
+ghost use Rattle.hp_eval.specs.Events.{PlainEvent, event_of, left_after, AreOfFirst};
 ghost use Rattle.hp_pick.specs.Noted.{IsNoted, number_at, with_notes, AddsSat, HearsOn};
 
 use hp_cells::{Cell, Cells, View};
@@ -118,11 +118,11 @@ pub(crate) fn note(
     notes: &mut NotedSats,
 ) -> Result<bool, EvalStop>
     requires below { AreBelow (length cells.now) slots.now }
-    ensures step { (xs : List Happening) → event ≡ event_of xs → AreOfFirst xs (bindings_of cells.now slots.now)
+    ensures step { (xs : List PlainEvent) → event ≡ event_of xs → AreOfFirst xs (bindings_of cells.now slots.now)
         → HearsOn result (with_notes cells.now notes.old (keyed (key_of key.now) xs))
         (with_notes cells.now notes.new (keyed (key_of key.now) (left_after xs)))
         (with_notes cells.now notes.new (keyed (key_of key.now) [])) }
-    ensures fewer { (xs : List Happening) → event ≡ event_of xs → result ≡ Ok true
+    ensures fewer { (xs : List PlainEvent) → event ≡ event_of xs → result ≡ Ok true
         → length (left_after xs) < length xs }
     ensures noted { (start : Slotted) → Binds start slots.now
         → All (IsNoted (length cells.now) start) notes.old.sats.items

@@ -3,7 +3,7 @@ ghost use Rattle.std.specs.Prelude.{◌≡◌, ◌<◌, ◌≤◌, true, List, O
 ghost use Rattle.hp_syntax.specs.Preconditions.{heard, up_to_sat, keyed, sorted_events, precondition_events};
 ghost use Rattle.hp_syntax.specs.Terms.{Term};
 ghost use Rattle.hp_syntax.specs.Views.{key_of, precondition_of};
-ghost use Rattle.hp_eval.specs.Events.{Happening, event_of, left_after, AreOfFirst};
+ghost use Rattle.hp_eval.specs.Events.{PlainEvent, event_of, left_after, AreOfFirst};
 ghost use Rattle.hp_eval.specs.Growth.{Grows};
 ghost use Rattle.hp_eval.specs.Slotted.{AreBelow, bindings_of};
 ghost use Rattle.hp_world.specs.Stages.{StageBelow};
@@ -34,7 +34,7 @@ fn heard_len(found: &[Found]) -> usize
 
 /// What is heard of a list.
 pub fn heard(mut found: Vec<Found>) -> Vec<Found>
-    ensures { (terms : List Term) (vars : _) (events : List Happening) → Hears terms vars found.items events
+    ensures { (terms : List Term) (vars : _) (events : List PlainEvent) → Hears terms vars found.items events
         → Finds terms vars result.items (heard events) }
 {
     let end = heard_len(found.as_slice());
@@ -49,11 +49,11 @@ fn take_event(
     slots: &Slots,
     found: &mut Vec<Found>,
 ) -> Result<bool, AllocError>
-    ensures takes { IfOk result (λ more. (terms : List Term) (whole left : List Happening)
+    ensures takes { IfOk result (λ more. (terms : List Term) (whole left : List PlainEvent)
         → event ≡ event_of left → AreOfFirst left (bindings_of terms slots.now) → AreBelow (length terms) slots.now
         → FindsUpTo terms (length slots.now.values) found.old.items whole (heard left)
         → FindsMore terms (length slots.now.values) found.new.items whole more (left_after left)) }
-    ensures fewer { (left : List Happening) → event ≡ event_of left → result ≡ Ok true
+    ensures fewer { (left : List PlainEvent) → event ≡ event_of left → result ≡ Ok true
         → length (left_after left) < length left }
 {
     match event {
@@ -87,7 +87,7 @@ fn take_next<S: Sats<()>>(
     requires suits { S.suits sats.old tt }
     requires fits { S.fits sats.old slots.old }
     requires kept { S.kept sats.old ≤ length cells.old }
-    ensures takes { IfOk result (λ more. (whole : List Happening)
+    ensures takes { IfOk result (λ more. (whole : List PlainEvent)
         → FindsUpTo cells.old (length slots.old.values) found.old.items whole
         (heard (S.rest sats.old tt cells.old slots.old))
         → FindsMore cells.new (length slots.old.values) found.new.items whole more
