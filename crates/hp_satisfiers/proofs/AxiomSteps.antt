@@ -12,14 +12,16 @@ use Rattle.hp_syntax.specs.Events.{Event, State, Below, through, state_events, b
 use Rattle.hp_syntax.specs.Views.{axiom_of}
 use Rattle.hp_syntax.specs.declared.domain.Axiom as public_axiom
 use Rattle.hp_eval.specs.Slotted.{Slotted, no_bindings, bindings_of}
-use Rattle.hp_satisfiers.specs.Rulebooks.{concluding, axiom_at, AreFew}
+use Rattle.hp_laws.specs.RulesByName.{concluding}
+use Rattle.hp_satisfiers.specs.Rulebooks.{axiom_at, AreFew}
 use Rattle.hp_satisfiers.specs.Scenes.{placed_events}
 use Rattle.hp_laws.proofs.JoinLemmas.{contains_first, contains_later}
 use Rattle.hp_satisfiers.proofs.MatchSteps.{left_at}
 use Rattle.hp_syntax.specs.Preconditions.{heard}
 use Rattle.hp_satisfiers.specs.declared.found.Found.{Found}
-use Rattle.hp_satisfiers.specs.Founds.{found_event, found_events, AreHeardAlike}
-use Rattle.hp_satisfiers.proofs.HeardLemmas.{alike_empty}
+use Rattle.hp_satisfiers.specs.Founds.{found_event, found_events}
+use Rattle.hp_laws.specs.HeardAlike.{AreHeardAlike}
+use Rattle.hp_laws.proofs.HeardAlikeLemmas.{alike_empty}
 
 -- ---- axioms
 

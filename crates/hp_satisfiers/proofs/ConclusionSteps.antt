@@ -1,108 +1,23 @@
 -- What an axiom concludes of a goal.
-use Rattle.std.proofs.Common.{◌≡◌, ℕ, ◌+◌, ◌<◌, ◌≤◌, Bool, true, false, ◌&&◌, cond, List, [], ◌∷◌, length, drop, get_or, Option, Ok, ℤ, Vec, refl, sym, ◌∙◌, ap, ap₂}
-use Rattle.std.specs.Global.{Global}
-use Rattle.std.proofs.lemmas.List.{drop_all}
-use Rattle.hp_syntax.specs.declared.name.Name.{Name}
-use Rattle.hp_syntax.specs.declared.pattern.Tail.{Tail}
-use Rattle.hp_syntax.specs.declared.pattern.Pat.{Pat}
-use Rattle.hp_syntax.specs.declared.pattern.PatKind.TheVariants as pats
-use Rattle.hp_syntax.specs.declared.fault.FaultKind.TheVariants.{NotGround}
+use Rattle.std.proofs.Common.{◌≡◌, ℕ, Bool, true, false, List, [], ◌∷◌, length, Ok, Err, sym, ◌∙◌, ap, ap₂}
 use Rattle.hp_syntax.specs.Syntax.{Atom}
 use Rattle.hp_syntax.specs.Terms.{Term}
-use Rattle.hp_syntax.specs.Calls.{fault_at}
-use Rattle.hp_syntax.specs.Values.{Bindings, atom_value}
-use Rattle.hp_syntax.specs.Goals.{Goal, match_goal}
-use Rattle.hp_syntax.specs.Events.{Fault, in_place, is_bound, tail_is_bound, all_bound, parts_bound, sat_if, concluded, concluded_value}
-use Rattle.hp_syntax.specs.Views.{pattern_of, patterns_of}
-use Rattle.hp_syntax.specs.ViewLaws.{pattern_of-var, pattern_of-sym, pattern_of-num, pattern_of-list, pattern_of-call}
-use Rattle.hp_eval.specs.Growth.{Gives, Grows}
-use Rattle.hp_eval.specs.GoalViews.{term_at, goal_of, GoalBelow}
+use Rattle.hp_syntax.specs.Events.{Event, in_place, concluded}
+use Rattle.hp_eval.specs.declared.event.EvalStop.{EvalStop}
+use Rattle.hp_eval.specs.declared.event.EvalStop.TheVariants as stops
+use Rattle.hp_eval.specs.Concluding.{Concluded}
+use Rattle.hp_eval.specs.Growth.{Grows}
+use Rattle.hp_eval.specs.GoalViews.{goal_of, GoalBelow}
 use Rattle.hp_eval.specs.Slotted.{Slotted, AreBelow, bindings_of}
 use Rattle.hp_eval.specs.declared.goals.Goal as open_goal
+use Rattle.hp_eval.proofs.GoalViewLemmas.{goal_stays}
 use Rattle.hp_eval.proofs.GrowthLemmas.{bindings_stay}
-use Rattle.hp_eval.proofs.CellViews.{at_named}
-use Rattle.hp_eval.proofs.Loops.{left_more}
 use Rattle.hp_satisfiers.specs.declared.found.Found.{Found}
-use Rattle.hp_satisfiers.specs.Founds.{found_event, BindsBelow, Hears, Finds, head_bound}
-use Rattle.hp_satisfiers.proofs.FoundLemmas.{finds_same, event_stays, goal_stays}
+use Rattle.hp_satisfiers.specs.declared.found.Found.TheVariants.{Sat, Fault}
+use Rattle.hp_satisfiers.specs.Founds.{found_event, BindsBelow, Hears, Finds, FindsStop}
+use Rattle.hp_satisfiers.proofs.FoundLemmas.{finds_none, finds_one, finds_same, event_stays}
 use Rattle.hp_satisfiers.proofs.HeardLemmas.{hears_found}
-
--- ---- bound variables
-
-module _ (p : Pat) (e : Bindings) where
-  -- a pattern that is a variable is bound where the variable is
-  pub all_bound-var : (v : ℕ) → p.kind ≡ pats.Var v → all_bound (pattern_of p) e ≡ is_bound e v
-  unfolding all_bound parts_bound
-  all_bound-var v h = ap (λ q. all_bound q e) (pattern_of-var p v h)
-
-  -- a symbol has no variable
-  pub all_bound-sym : (name : Name) → p.kind ≡ pats.Sym name → all_bound (pattern_of p) e ≡ true
-  unfolding all_bound parts_bound
-  all_bound-sym name h = ap (λ q. all_bound q e) (pattern_of-sym p name h)
-
-  -- a number has no variable
-  pub all_bound-num : (n : ℤ) → p.kind ≡ pats.Num n → all_bound (pattern_of p) e ≡ true
-  unfolding all_bound parts_bound
-  all_bound-num n h = ap (λ q. all_bound q e) (pattern_of-num p n h)
-
-  -- a list is bound where its parts and its tail are
-  pub all_bound-list : (parts : Vec Pat Global) (tail : Option Tail) → p.kind ≡ pats.List parts tail
-      → all_bound (pattern_of p) e ≡ (parts_bound (patterns_of parts.items) e && tail_is_bound tail e)
-  unfolding all_bound parts_bound
-  all_bound-list parts tail h = ap (λ q. all_bound q e) (pattern_of-list p parts tail h)
-
-  -- a call is bound where its arguments are
-  pub all_bound-call : (name : Name) (args : Vec Pat Global) → p.kind ≡ pats.Call name args
-      → all_bound (pattern_of p) e ≡ parts_bound (patterns_of args.items) e
-  unfolding all_bound parts_bound
-  all_bound-call name args h = ap (λ q. all_bound q e) (pattern_of-call p name args h)
-
--- patterns are bound where the first and the others are
-parts_step : (e : Bindings) (p : Pat) (ps : List Pat)
-    → parts_bound (patterns_of (p ∷ ps)) e ≡ (all_bound (pattern_of p) e && parts_bound (patterns_of ps) e)
-unfolding all_bound parts_bound
-parts_step e p ps = refl
-
--- no pattern has a variable
-parts_none : (e : Bindings) → parts_bound (patterns_of []) e ≡ true
-unfolding all_bound parts_bound
-parts_none e = refl
-
-module _ (ps : List Pat) (i : ℕ) (e : Bindings) (whole : Bool)
-    (so_far : whole ≡ parts_bound (patterns_of (drop i ps)) e) where
-  -- what is left is bound where its first and the others are
-  first_left : (p : Pat) → i < length ps → p ≡ get_or ps i p
-      → whole ≡ (all_bound (pattern_of p) e && parts_bound (patterns_of (drop (i + 1) ps)) e)
-  first_left p l is =
-      so_far ∙ (ap (λ qs. parts_bound (patterns_of qs) e) (left_more ps i p l is) ∙ parts_step e p (drop (i + 1) ps))
-
-  -- patterns aren't bound where one of them isn't
-  pub bound_fails : (p : Pat) → i < length ps → p ≡ get_or ps i p → all_bound (pattern_of p) e ≡ false → false ≡ whole
-  bound_fails p l is h = sym (first_left p l is ∙ ap (λ b. b && parts_bound (patterns_of (drop (i + 1) ps)) e) h)
-
-  -- behind a bound pattern they are bound where the others are
-  pub bound_goes_on : (p : Pat) → i < length ps → p ≡ get_or ps i p → all_bound (pattern_of p) e ≡ true
-      → whole ≡ parts_bound (patterns_of (drop (i + 1) ps)) e
-  bound_goes_on p l is h = first_left p l is ∙ ap (λ b. b && parts_bound (patterns_of (drop (i + 1) ps)) e) h
-
-  -- where none is left they are bound
-  pub bound_to_the_end : length ps ≤ i → true ≡ whole
-  bound_to_the_end l =
-      sym (so_far ∙ (ap (λ qs. parts_bound (patterns_of qs) e) (drop_all i ps l) ∙ parts_none e))
-
--- ---- conclusions
-
-module _ (h : Atom) (q : Goal) (e b : Bindings) where
-  -- a head whose variables stand for terms concludes its value
-  concluded_bound : head_bound h b ≡ true → concluded_value (atom_value h b) q e ≡ concluded h b q e
-  concluded_bound k =
-      ap (λ does. cond does (concluded_value (atom_value h b) q e) (Fault (fault_at NotGround h.span) ∷ [])) (sym k)
-
-  -- the goal meets the value of such a head
-  pub concluded_term : head_bound h b ≡ true → (terms : List Term) (cell : ℕ) → Gives (Ok cell) (atom_value h b) terms
-      → sat_if (match_goal q (term_at terms cell) e) ≡ concluded h b q e
-  concluded_term k terms cell g =
-      ap (λ r. concluded_value r q e) (ap Ok (at_named terms cell g.0 g.2) ∙ sym g.1) ∙ concluded_bound k
+use Rattle.hp_satisfiers.proofs.MatchSteps.{bound_copy}
 
 -- what takes the place of something met does so as well for terms before others were added
 pub conclusion_heard : (old mid new : List Term) (g : Grows old mid) (h : Atom) (q : open_goal.Goal) (s : Slotted)
@@ -117,3 +32,24 @@ conclusion_heard old mid new g h q s x found there below binds f =
     (ap₂ (λ p e. in_place (λ b. concluded h b p e) (found_event mid x)) (goal_stays old mid g q there)
     (bindings_stay old mid g s below)
     ∙ ap (in_place (λ b. concluded h b (goal_of old q) (bindings_of old s))) (event_stays old mid g x binds)) f)
+
+module _ (events : List Event) (terms : List Term) (s copy made : Slotted) (found : List Found) where
+  -- what is concluded in a copy of slots is met
+  pub concluded_met : (does : Bool) → does ≡ true → copy.values ≡ s.values → Concluded (Ok does) events terms copy made
+      → AreBelow (length terms) made → found ≡ Sat made ∷ [] → Finds terms (length s.values) found events
+  concluded_met true e values h below is =
+      finds_same terms (length s.values) found _ _ (sym h.0) (bound_copy terms s copy made found values h.1 below is)
+  concluded_met false e values h below is = absurd cc
+
+  -- where nothing is concluded, nothing is met
+  pub concluded_none : (does : Bool) → does ≡ false → Concluded (Ok does) events terms copy made → found ≡ []
+      → Finds terms (length s.values) found events
+  concluded_none true e h is = absurd cc
+  concluded_none false e h is = finds_none terms (length s.values) found events is h.0
+
+  -- the fault at which concluding stops is met
+  pub concluded_stopped : (stop : EvalStop) → Concluded (Err stop) events terms copy made → FindsStop stop found
+      → Finds terms (length s.values) found events
+  concluded_stopped (stops.Fault f) h is =
+      finds_same terms (length s.values) found _ _ (sym h.0) (finds_one terms (length s.values) (Fault f) found is tt)
+  concluded_stopped stops.NoMemory h is = absurd is

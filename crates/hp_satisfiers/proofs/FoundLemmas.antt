@@ -5,7 +5,7 @@ use Rattle.std.specs.List.{All}
 use Rattle.std.proofs.lemmas.List.{ext_get_or, map-append, append-nil, length-set, drop_all}
 use Rattle.std.proofs.lemmas.Option.{unwrap_or-slice_get}
 use Rattle.hp_laws.proofs.BindingLemmas.{slice_get-set_same, slice_get-set_other}
-use Rattle.hp_eval.proofs.AttemptLemmas.{place_free, place_bound}
+use Rattle.hp_eval.proofs.CopyLemmas.{same_below}
 use Rattle.hp_eval.proofs.Loops.{left_more}
 use Rattle.std.proofs.lemmas.List.Elements.{All-get_or, All-nil, All-cons, All-append, All-head, All-tail, All-weaker, All-same}
 use Rattle.hp_syntax.specs.Terms.{Term}
@@ -15,10 +15,6 @@ use Rattle.hp_syntax.specs.Events.{Event, State}
 use Rattle.hp_syntax.specs.declared.fault.RunFault.{RunFault}
 use Rattle.hp_eval.specs.Slotted.{Slotted, AreBelow, named, bindings_of, with_bound, flat}
 use Rattle.hp_eval.specs.Growth.{Grows}
-use Rattle.hp_eval.specs.GoalViews.{goal_of, GoalBelow}
-use Rattle.hp_eval.specs.declared.goals.Goal.{Goal}
-use Rattle.hp_syntax.specs.Goals as plain_goals
-use Rattle.hp_eval.proofs.GoalViewLemmas.{all_below_grow, fillings_grow}
 use Rattle.hp_eval.proofs.GrowthLemmas.{bindings_stay, below_grows, terms_stay, all_below, grows_length}
 use Rattle.hp_world.specs.Stages.{Stage, StageBelow, live_atoms, state_of}
 use Rattle.hp_satisfiers.specs.declared.found.Found.{Found}
@@ -45,10 +41,6 @@ finds_one terms vars x found is h = record {
       (All-cons (Fits vars (length terms)) x [] h (All-nil (Fits vars (length terms))));
 }
 
--- slots with equal values bind the same, to cells below the same count
-pub same_below : (n : ℕ) (a b : Slotted) → a.values ≡ b.values → AreBelow n b → AreBelow n a
-same_below n a b e h v cell k = h v cell (sym (ap (λ vs. slice_get vs v) e) ∙ k)
-
 -- a Sat with equal values stands for the same bindings
 pub finds_copy : (terms : List Term) (copy slots : Slotted) (found : List Found) → copy.values ≡ slots.values
     → found ≡ Sat copy ∷ [] → AreBelow (length terms) slots
@@ -60,47 +52,6 @@ finds_copy terms copy slots found e is below =
       stand = one.stand ∙ ap (λ vs. plain.Sat (map (named terms) vs) ∷ []) e;
       fit = one.fit;
     }
-
--- ---- slots that are copied
-
--- slots are copied up to a variable: those before stand for the same, and the others for nothing
-pub record IsCopiedTo (v : ℕ) (copy slots : Slotted) : Type 0 where
-  pub vars : length copy.values ≡ length slots.values
-  pub before : (w : ℕ) → w < v → slice_get copy.values w ≡ slice_get slots.values w
-  pub beyond : (w : ℕ) → v ≤ w → w < length slots.values → slice_get copy.values w ≡ Some None
-
--- a variable that stands for nothing is copied as it is
-pub copied_free : (v : ℕ) (copy slots : Slotted) → IsCopiedTo v copy slots → v < length slots.values
-    → flat (slice_get slots.values v) ≡ None → IsCopiedTo (v + 1) copy slots
-copied_free v copy slots h l free = record {
-  vars = h.vars;
-  before =
-      below_more (λ w. slice_get copy.values w ≡ slice_get slots.values w) v h.before
-      (h.beyond v (omega arith) l ∙ sym (place_free slots v l free));
-  beyond = λ w k m. h.beyond w (omega arith) m;
-}
-
--- a variable is copied where it is bound to the same cell
-pub copied_bound : (v cell : ℕ) (copy slots : Slotted) → IsCopiedTo v copy slots → v < length slots.values
-    → flat (slice_get slots.values v) ≡ Some cell → IsCopiedTo (v + 1) (with_bound v cell copy) slots
-copied_bound v cell copy slots h l bound = record {
-  vars = length-set copy.values v (Some cell) ∙ h.vars;
-  before =
-      below_more (λ w. slice_get (slice_set copy.values v (Some cell)) w ≡ slice_get slots.values w) v
-      (λ w k. slice_get-set_other copy.values v w (Some cell) (omega arith) ∙ h.before w k)
-      (slice_get-set_same copy.values v (Some cell) (omega (arith, h.vars))
-      ∙ sym (place_bound slots v cell bound));
-  beyond =
-      λ w k m. slice_get-set_other copy.values v w (Some cell) (omega arith) ∙ h.beyond w (omega arith) m;
-}
-
--- slots that are copied to the end have equal values
-pub copied_all : (v : ℕ) (copy slots : Slotted) → IsCopiedTo v copy slots → length slots.values ≤ v
-    → copy.values ≡ slots.values
-copied_all v copy slots h l =
-    ext_get_or None copy.values slots.values h.vars
-    (λ i k. sym (unwrap_or-slice_get copy.values i None)
-    ∙ (ap (λ o. unwrap_or o None) (h.before i (omega (arith, h.vars))) ∙ unwrap_or-slice_get slots.values i None))
 
 -- ---- negation
 
@@ -244,9 +195,6 @@ left_replaced terms f found i x l is = ap (λ xs. plain.through (found_events te
 
 -- ---- terms that are added
 
-abbrev goal_with : List ℕ → plain_goals.Fillings → Option ℕ → plain_goals.Goal
-goal_with name parts tail = record { name = name; parts = parts; tail = tail }
-
 -- what fits binds to cells below the count
 pub fits_below : (vars n : ℕ) (x : Found) → Fits vars n x → BindsBelow n x
 fits_below vars n (Sat slots) h = h.1
@@ -292,15 +240,6 @@ module _ (old new : List Term) (g : Grows old new) where
     so_far = h.so_far ∙ ap (λ xs. xs ++ left) (sym (events_stay vars found h.fit));
     fit = all_fit_grow vars found h.fit;
   }
-
-  -- a goal stays below the number of terms
-  pub goal_below_grows : (q : Goal) → GoalBelow (length old) q → GoalBelow (length new) q
-  goal_below_grows q h = all_below_grow (length old) (length new) q.args.items (grows_length old new g) h
-
-  -- a goal below the number of terms stands for the same
-  pub goal_stays : (q : Goal) → GoalBelow (length old) q → goal_of new q ≡ goal_of old q
-  goal_stays q h =
-      ap (λ fs. goal_with q.name fs q.tail) (fillings_grow old new q.args.items g h)
 
   -- a stage stays below the number of terms
   pub stage_below_grows : (s : Stage) → StageBelow (length old) s → StageBelow (length new) s

@@ -13,8 +13,10 @@ use Rattle.hp_eval.specs.Slotted.{Slotted, AreBelow, bindings_of}
 use Rattle.hp_eval.specs.declared.goals.Goal as open_goal
 use Rattle.hp_world.specs.Stages.{Stage, StageBelow, state_of}
 use Rattle.hp_satisfiers.specs.declared.found.Found.{Found}
-use Rattle.hp_satisfiers.specs.Founds.{found_event, found_events, Fits, AllFit, AreHeardAlike, Hears, HearsUpTo}
-use Rattle.hp_satisfiers.specs.Rulebooks.{concluding, axiom_at}
+use Rattle.hp_satisfiers.specs.Founds.{found_event, found_events, Fits, AllFit, Hears, HearsUpTo}
+use Rattle.hp_laws.specs.HeardAlike.{AreHeardAlike}
+use Rattle.hp_laws.specs.RulesByName.{concluding}
+use Rattle.hp_satisfiers.specs.Rulebooks.{axiom_at}
 use Rattle.hp_satisfiers.specs.Scenes.{below_at, placed_events}
 use Rattle.hp_satisfiers.proofs.FoundLemmas.{fits_below, event_stays}
 use Rattle.hp_satisfiers.proofs.HeardLemmas.{hears_same, hears_left, hears_next, hears_replaced}

@@ -1,6 +1,6 @@
 -- What single values and atoms meet.
 use Rattle.std.specs.Prelude.{slice_set}
-use Rattle.std.proofs.Common.{◌≡◌, ℕ, zero, suc, ◌+◌, ◌<◌, Bool, true, false, List, [], ◌∷◌, ◌++◌, length, drop, slice_get, Option, Some, None, Result, Ok, refl, sym, ◌∙◌, ap, subst}
+use Rattle.std.proofs.Common.{◌≡◌, ℕ, zero, suc, ◌+◌, ◌<◌, Bool, true, false, List, [], ◌∷◌, ◌++◌, length, map, drop, slice_get, Option, Some, None, Result, Ok, refl, sym, ◌∙◌, ap, subst}
 use Rattle.std.specs.List.{All}
 use Rattle.std.proofs.lemmas.List.{length-set}
 use Rattle.std.proofs.lemmas.List.Elements.{All-head, All-tail}
@@ -17,10 +17,10 @@ use Rattle.hp_syntax.specs.Events as plain
 use Rattle.hp_syntax.specs.Events.{Event, Sat, Fault, sat_if, assigned, tested}
 use Rattle.hp_eval.specs.Growth.{Grows, Gives}
 use Rattle.hp_eval.specs.GoalViews.{term_at}
-use Rattle.hp_eval.specs.Slotted.{Slotted, AreBelow, Binds, Matched, with_bound, without, bindings_of}
-use Rattle.hp_eval.proofs.AttemptLemmas.{meet_free}
+use Rattle.hp_eval.specs.Attempts.{extended, Tries}
+use Rattle.hp_eval.specs.Slotted.{Slotted, AreBelow, Binds, Matched, named, without, bindings_of}
 use Rattle.hp_satisfiers.specs.declared.found.Found.TheVariants as plain_found
-use Rattle.hp_satisfiers.proofs.FoundLemmas.{finds_same, finds_copy}
+use Rattle.hp_satisfiers.proofs.FoundLemmas.{finds_none, finds_one, finds_same}
 use Rattle.hp_eval.proofs.CellViews.{at_named}
 use Rattle.hp_eval.proofs.GrowthLemmas.{bindings_stay}
 use Rattle.hp_eval.proofs.Loops.{left_more}
@@ -110,16 +110,30 @@ places_step terms q e (Some a) places = refl
 
 -- ---- variables that meet a term
 
--- a copy in which a free variable is bound is what the variable meets
-pub met_free : (terms : List Term) (s : Slotted) (v cell : ℕ) → AreBelow (length terms) s → cell < length terms
-    → slice_get s.values v ≡ Some None → (copy made : Slotted) (found : List Found) → copy.values ≡ s.values
-    → made ≡ with_bound v cell copy → found ≡ plain_found.Sat made ∷ []
-    → Finds terms (length s.values) found (sat_if (meet v (term_at terms cell) (bindings_of terms s)))
-met_free terms s v cell below l free copy made found e m is =
-    let met = meet_free v cell terms s below l free in
-    let values : made.values ≡ slice_set s.values v (Some cell) =
-    ap (λ x. x.values) m ∙ ap (λ vs. slice_set vs v (Some cell)) e in
-    subst (λ n. Finds terms n found (sat_if (meet v (term_at terms cell) (bindings_of terms s))))
-    (length-set s.values v (Some cell))
-    (finds_same terms (length (slice_set s.values v (Some cell))) found _ _ (ap sat_if (sym met.answers))
-    (finds_copy terms made (with_bound v cell s) found values is met.below))
+-- a Sat of slots that bind above a copy stands for their bindings
+pub bound_copy : (terms : List Term) (s copy made : Slotted) (found : List Found) → copy.values ≡ s.values
+    → Binds copy made → AreBelow (length terms) made → found ≡ plain_found.Sat made ∷ []
+    → Finds terms (length s.values) found (Sat (bindings_of terms made) ∷ [])
+bound_copy terms s copy made found e b below is =
+    finds_one terms (length s.values) (plain_found.Sat made) found is (binds_vars copy made b ∙ ap length e, below)
+
+module _ (terms : List Term) (s copy made : Slotted) (values : copy.values ≡ s.values)
+    (find : Bindings → Option Bindings) (does : Bool)
+    (tried : Tries does (find (bindings_of terms copy)) terms copy made) where
+  found_alike : find (bindings_of terms s) ≡ extended does (bindings_of terms made)
+  found_alike = ap (λ vs. find (map (named terms) vs)) (sym values) ∙ tried.answers
+
+  -- what is met in a copy of slots is met in them
+  pub met_in_copy : (found : List Found) → does ≡ true → found ≡ plain_found.Sat made ∷ []
+      → Finds terms (length s.values) found (sat_if (find (bindings_of terms s)))
+  met_in_copy found h is =
+      finds_same terms (length s.values) found _ _
+      (sym (ap sat_if (found_alike ∙ ap (λ b. extended b (bindings_of terms made)) h)))
+      (bound_copy terms s copy made found values tried.binds tried.below is)
+
+  -- where nothing is met in a copy of slots, nothing is met in them
+  pub none_in_copy : (found : List Found) → does ≡ false → found ≡ []
+      → Finds terms (length s.values) found (sat_if (find (bindings_of terms s)))
+  none_in_copy found h is =
+      finds_none terms (length s.values) found _ is
+      (ap sat_if (found_alike ∙ ap (λ b. extended b (bindings_of terms made)) h))

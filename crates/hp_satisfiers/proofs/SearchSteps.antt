@@ -15,8 +15,8 @@ use Rattle.hp_syntax.specs.Views.{pattern_of, atom_of, expression_of, expression
 use Rattle.hp_syntax.specs.ViewLaws.{expression_of-atom, expression_of-and, expression_of-or, expression_of-not, expression_of-forall, expression_of-assign, expression_of-call}
 use Rattle.hp_eval.proofs.Loops.{left_more}
 use Rattle.hp_syntax.specs.Preconditions.{heard}
-use Rattle.hp_satisfiers.specs.Founds.{AreHeardAlike, turned}
-use Rattle.hp_satisfiers.proofs.HeardLemmas.{alike_through}
+use Rattle.hp_laws.specs.HeardAlike.{AreHeardAlike, turned}
+use Rattle.hp_laws.proofs.HeardAlikeLemmas.{alike_through}
 use Rattle.hp_satisfiers.specs.Scenes.{atoms_at}
 
 -- ---- kinds of expressions

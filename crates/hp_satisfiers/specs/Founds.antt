@@ -1,12 +1,11 @@
 -- What is met while one looks for satisfiers, in memory.
-use Rattle.std.specs.Prelude.{◌≡◌, ℕ, ◌-◌, Bool, true, false, ◌&&◌, List, [], ◌∷◌, ◌++◌, map, length, slice_get, Option, None, Some}
+use Rattle.std.specs.Prelude.{◌≡◌, ℕ, ◌-◌, Bool, true, false, List, [], ◌∷◌, ◌++◌, map, length, slice_get, Option, None, Some}
 use Rattle.std.specs.List.{All}
 use Rattle.hp_syntax.specs.Terms.{Term}
 use Rattle.hp_syntax.specs.Values.{Bindings}
-use Rattle.hp_syntax.specs.Syntax.{Atom}
 use Rattle.hp_syntax.specs.Events as plain
 use Rattle.hp_syntax.specs.Events.{Event}
-use Rattle.hp_syntax.specs.Preconditions.{heard}
+use Rattle.hp_laws.specs.HeardAlike.{AreHeardAlike}
 use Rattle.hp_eval.specs.declared.event.EvalStop.{EvalStop}
 use Rattle.hp_eval.specs.declared.event.EvalStop.TheVariants as stops
 use Rattle.hp_eval.specs.Slotted.{Slotted, AreBelow, bindings_of}
@@ -42,10 +41,6 @@ pub record FindsUpTo (terms : List Term) (vars : ℕ) (found : List Found) (whol
   pub so_far : whole ≡ found_events terms found ++ left
   pub fit : AllFit vars (length terms) found
 
--- the same is heard of two lists of events
-abbrev pub AreHeardAlike : List Event → List Event → Type 0
-AreHeardAlike xs ys = heard xs ≡ heard ys
-
 -- what is found is heard as these events are, and each Sat fits
 pub record Hears (terms : List Term) (vars : ℕ) (found : List Found) (events : List Event) : Type 0 where
   pub stand : AreHeardAlike (found_events terms found) events
@@ -79,20 +74,11 @@ finding_of (findings.Faulty f) = plain.Faulty f
 finding_of findings.Undecided = plain.Undecided
 finding_of findings.Nothing = plain.Nothing
 
--- the events of a part under bindings, or those of its negation
-abbrev pub turned : Bool → List Event → Bindings → List Event
-turned false xs b = xs
-turned true xs b = plain.negated (plain.finding xs) b
-
 -- a Sat binds to cells below a count
 abbrev pub BindsBelow : ℕ → Found → Type 0
 BindsBelow n (Sat slots) = AreBelow n slots
 BindsBelow n Cut = Unit {0}
 BindsBelow n (Fault f) = Unit {0}
-
--- each variable of a head stands for a term
-abbrev pub head_bound : Atom → Bindings → Bool
-head_bound h b = plain.parts_bound h.args b && plain.tail_is_bound h.tail b
 
 -- the slots are of so many variables, and bind what was found to match, if anything was
 abbrev pub MeetsHead : List Term → ℕ → Option Slotted → Option Bindings → Type 0

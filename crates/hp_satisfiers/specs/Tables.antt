@@ -4,23 +4,15 @@ use Rattle.std.specs.Global.{Global}
 use Rattle.std.specs.declared.hash.FoldHasher.{FoldHasher}
 use Rattle.std.specs.declared.hash.BuildHasherDefault.{BuildHasherDefault}
 use Rattle.indexmap.specs.IndexMap.{IndexMap, get}
-use Rattle.hp_syntax.specs.Syntax.{Rule, Does, Refines, Concludes}
+use Rattle.hp_syntax.specs.Syntax.{Rule}
+use Rattle.hp_laws.specs.RulesByName.{task_head, axiom_head, is_name}
 use Rattle.hp_satisfiers.specs.declared.tables.Kind.{Kind}
 use Rattle.hp_satisfiers.specs.declared.tables.Kind.TheVariants.{Task, Axiom}
 
 -- the name of a rule's head, where the rule is of a kind
 abbrev pub name_as : Kind → Rule → Option (List ℕ)
-name_as Task (Does o) = Some o.head.name
-name_as Task (Refines m) = Some m.head.name
-name_as Task (Concludes x) = None
-name_as Axiom (Does o) = None
-name_as Axiom (Refines m) = None
-name_as Axiom (Concludes x) = Some x.head.name
-
--- a name, if there is one, is this one
-abbrev pub is_name : List ℕ → Option (List ℕ) → Bool
-is_name name None = false
-is_name name (Some own) = bytes_eq own name
+name_as Task = task_head
+name_as Axiom = axiom_head
 
 -- the places of the rules of a kind that have a name, where the first of these rules has this place
 abbrev pub places_from : Kind → List ℕ → ℕ → List Rule → List ℕ

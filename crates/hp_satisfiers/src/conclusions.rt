@@ -1,86 +1,20 @@
 //! What an axiom concludes of a goal, once its branches have satisfiers.
-ghost use Rattle.std.specs.Prelude.{◌≡◌, ◌≤◌, IfOk, List, length};
-ghost use Rattle.hp_syntax.specs.Events as plain;
-ghost use Rattle.hp_syntax.specs.Events.{all_bound, parts_bound, tail_is_bound};
-ghost use Rattle.hp_syntax.specs.Terms.{Term};
-ghost use Rattle.hp_syntax.specs.Views.{pattern_of, patterns_of, atom_of, axiom_of};
-ghost use Rattle.std.specs.Prelude.{◌<◌};
+ghost use Rattle.std.specs.Prelude.{◌≡◌, ◌≤◌, IfOk, length};
 ghost use Rattle.std.specs.List.{All};
-ghost use Rattle.hp_syntax.specs.Goals.{match_goal, start_goal};
+ghost use Rattle.hp_syntax.specs.Events as plain;
+ghost use Rattle.hp_syntax.specs.Goals.{start_goal};
 ghost use Rattle.hp_syntax.specs.Values.{unbound};
-ghost use Rattle.hp_eval.specs.GoalViews.{term_at, goal_of, GoalBelow};
+ghost use Rattle.hp_syntax.specs.Views.{atom_of, axiom_of};
+ghost use Rattle.hp_eval.specs.GoalViews.{goal_of, GoalBelow};
 ghost use Rattle.hp_eval.specs.Growth.{Grows};
 ghost use Rattle.hp_eval.specs.Slotted.{AreBelow, bindings_of};
-ghost use Rattle.hp_satisfiers.specs.Founds.{Finds, Hears, found_event, found_events, BindsBelow, head_bound, MeetsHead};
+ghost use Rattle.hp_satisfiers.specs.Founds.{Finds, Hears, found_event, found_events, BindsBelow, MeetsHead};
 
-use crate::found::{Found, add, copy_slots, only, stopped};
-use crate::matches::matched;
-use hp_cells::{Cell, Cells};
-use hp_eval::{Goal, Slots, atom_value, start_goal};
-use hp_syntax::{AtomPat, Axiom, FaultKind, Pat, PatKind, RunFault, Tail};
+use crate::found::{Found, add, only, stopped};
+use hp_cells::Cells;
+use hp_eval::{Goal, Slots, conclude, start_goal};
+use hp_syntax::{AtomPat, Axiom};
 use std::alloc::{AllocError, Global};
-
-// Whether a variable stands for a term.
-fn is_bound(v: u32, slots: &Slots) -> bool
-    ensures { (terms : List Term) → AreBelow (length terms) slots.now
-        → result ≡ plain.is_bound (bindings_of terms slots.now) v }
-{
-    if (v as usize) < slots.vars() {
-        slots.get(v).is_some()
-    } else {
-        false
-    }
-}
-
-// Whether a tail's variable stands for a term, where there is a tail.
-fn is_tail_bound(tail: &Option<Tail>, slots: &Slots) -> bool
-    ensures { (terms : List Term) → AreBelow (length terms) slots.now
-        → result ≡ tail_is_bound tail.now (bindings_of terms slots.now) }
-{
-    match tail {
-        Some(tail) => is_bound(tail.var, slots),
-        None => true,
-    }
-}
-
-// Whether each variable of a pattern stands for a term.
-#[cycle(bound)]
-fn is_all_bound(pat: &Pat, slots: &Slots) -> bool
-    ensures { (terms : List Term) → AreBelow (length terms) slots.now
-        → result ≡ all_bound (pattern_of pat.now) (bindings_of terms slots.now) }
-{
-    match &pat.kind {
-        PatKind::Var(v) => is_bound(*v, slots),
-        PatKind::Sym(_) => true,
-        PatKind::Num(_) => true,
-        PatKind::List(parts, tail) => {
-            are_bound(parts.as_slice(), slots) && is_tail_bound(tail, slots)
-        }
-        PatKind::Call(_, args) => are_bound(args.as_slice(), slots),
-    }
-}
-
-// Whether each variable of some patterns stands for a term.
-#[cycle(bound)]
-fn are_bound(pats: &[Pat], slots: &Slots) -> bool
-    ensures { (terms : List Term) → AreBelow (length terms) slots.now
-        → result ≡ parts_bound (patterns_of pats.now) (bindings_of terms slots.now) }
-{
-    for pat in pats {
-        if !is_all_bound(pat, slots) {
-            return false;
-        }
-    }
-    true
-}
-
-// Whether each variable of a head stands for a term.
-fn is_head_bound(head: &AtomPat, slots: &Slots) -> bool
-    ensures { (terms : List Term) → AreBelow (length terms) slots.now
-        → result ≡ head_bound (atom_of head.now) (bindings_of terms slots.now) }
-{
-    are_bound(head.args.as_slice(), slots) && is_tail_bound(&head.tail, slots)
-}
 
 /// An axiom's slots with what its head takes from a goal, where it starts.
 pub fn own_slots(
@@ -100,26 +34,7 @@ pub fn own_slots(
     if starts { Ok(Some(own)) } else { Ok(None) }
 }
 
-// What a goal meets by the value of a head.
-fn value_matched(
-    alloc: Global,
-    goal: &Goal,
-    atom: Cell,
-    slots: &Slots,
-    cells: &Cells,
-) -> Result<Vec<Found>, AllocError>
-    requires slots { AreBelow (length cells.now) slots.now }
-    requires goal { GoalBelow (length cells.now) goal.now }
-    requires atom { atom < length cells.now }
-    ensures { IfOk result (λ found. Finds cells.now (length slots.now.values) found.items
-        (plain.sat_if (match_goal (goal_of cells.now goal.now) (term_at cells.now atom)
-        (bindings_of cells.now slots.now)))) }
-{
-    let mut copy = copy_slots(alloc, slots)?;
-    matched(alloc, goal, atom, cells, &mut copy)
-}
-
-// What an axiom's bindings conclude of a goal.
+// Events of a goal by what an axiom's bindings conclude.
 fn concluded(
     alloc: Global,
     head: &AtomPat,
@@ -136,15 +51,15 @@ fn concluded(
         (bindings_of cells.old slots.now))) }
     ensures cells { Grows cells.old cells.new }
 {
-    if !is_head_bound(head, own) {
-        let fault = RunFault {
-            kind: FaultKind::NotGround,
-            span: head.span,
-        };
-        return only(alloc, Found::Fault(fault));
-    }
-    match atom_value(alloc, head, own, cells) {
-        Ok(atom) => value_matched(alloc, goal, atom, slots, cells),
+    let mut copy = slots.copy(alloc)?;
+    match conclude(alloc, head, own, goal, &mut copy, cells) {
+        Ok(matches) => {
+            if matches {
+                only(alloc, Found::Sat(copy))
+            } else {
+                Ok(Vec::new(alloc))
+            }
+        }
         Err(stop) => stopped(alloc, stop),
     }
 }

@@ -7,7 +7,8 @@ ghost use Rattle.hp_eval.specs.GoalViews.{goal_of, GoalBelow};
 ghost use Rattle.hp_eval.specs.Growth.{Grows};
 ghost use Rattle.hp_eval.specs.Slotted.{AreBelow, bindings_of};
 ghost use Rattle.hp_world.specs.Stages.{StageBelow, state_of};
-ghost use Rattle.hp_satisfiers.specs.Founds.{found_event, found_events, Fits, AllFit, AreHeardAlike, Finds, Hears, turned};
+ghost use Rattle.hp_satisfiers.specs.Founds.{found_event, found_events, Fits, AllFit, Finds, Hears};
+ghost use Rattle.hp_laws.specs.HeardAlike.{AreHeardAlike, turned};
 ghost use Rattle.hp_satisfiers.specs.Rulebooks.{axiom_at};
 ghost use Rattle.hp_satisfiers.specs.Scenes.{rules_in, axioms_in, stage_in, state_in, atoms_at, below_at, placed_events};
 

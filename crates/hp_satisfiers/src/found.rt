@@ -3,7 +3,8 @@ ghost use Rattle.std.specs.Prelude.{◌≡◌, ◌≤◌, [], ◌∷◌, ◌++�
 ghost use Rattle.hp_syntax.specs.Terms.{Term};
 ghost use Rattle.hp_syntax.specs.Events as plain;
 ghost use Rattle.hp_eval.specs.Slotted.{AreBelow, bindings_of};
-ghost use Rattle.hp_satisfiers.specs.Founds.{found_events, AllFit, Finds, FindsStop, finding_of, turned, ends_in_fault};
+ghost use Rattle.hp_satisfiers.specs.Founds.{found_events, AllFit, Finds, FindsStop, finding_of, ends_in_fault};
+ghost use Rattle.hp_laws.specs.HeardAlike.{turned};
 
 use hp_eval::{EvalStop, Slots};
 use hp_syntax::RunFault;
@@ -34,19 +35,6 @@ enum Finding {
     Nothing,
 }
 
-/// The same bindings in slots of their own, where the order in which they were bound is another.
-pub fn copy_slots(alloc: Global, slots: &Slots) -> Result<Slots, AllocError>
-    ensures { IfOk result (λ copy. copy.values ≡ slots.now.values) }
-{
-    let mut copy = Slots::new(alloc, slots.vars())?;
-    for v in 0..slots.vars() as u32 {
-        if let Some(cell) = slots.get(v) {
-            copy.bind(v, cell);
-        }
-    }
-    Ok(copy)
-}
-
 /// A list of one.
 pub fn only(alloc: Global, found: Found) -> Result<Vec<Found>, AllocError>
     ensures { IfOk result (λ v. v.items ≡ found ∷ []) }
@@ -60,7 +48,7 @@ pub fn satisfied(alloc: Global, slots: &Slots) -> Result<Vec<Found>, AllocError>
     ensures { IfOk result (λ v. (terms : List Term) → AreBelow (length terms) slots.now
         → Finds terms (length slots.now.values) v.items (plain.Sat (bindings_of terms slots.now) ∷ [])) }
 {
-    let copy = copy_slots(alloc, slots)?;
+    let copy = slots.copy(alloc)?;
     only(alloc, Found::Sat(copy))
 }
 

@@ -10,18 +10,16 @@ ghost use Rattle.hp_eval.specs.Growth.{Grows};
 ghost use Rattle.hp_eval.specs.Slotted.{AreBelow, bindings_of};
 ghost use Rattle.hp_world.specs.Stages.{StageBelow, state_of};
 ghost use Rattle.hp_satisfiers.specs.Founds.{Finds};
-ghost use Rattle.hp_eval.specs.Attempts.{extended};
-ghost use Rattle.hp_syntax.specs.Terms.{same_term};
 ghost use Rattle.hp_satisfiers.specs.Places.{place_events, IsAtomBelow};
 
-use crate::found::{Found, copy_slots, only, satisfied, stopped};
+use crate::found::{Found, only, satisfied, stopped};
 use hp_cells::{Cell, Cells, View};
-use hp_eval::{Goal, Slots, match_goal, value};
+use hp_eval::{Goal, Slots, match_goal, meet, value};
 use hp_syntax::Pat;
 use hp_world::World;
 use std::alloc::{AllocError, Global};
 
-// What a variable meets that must stand for a term: it is bound to it, or must stand for an equal one.
+// Events of a variable that must stand for a term: it is bound to it, or must stand for an equal one.
 fn met(
     alloc: Global,
     v: u32,
@@ -34,37 +32,9 @@ fn met(
     ensures { IfOk result (λ found. Finds cells.now (length slots.now.values) found.items
         (plain.sat_if (meet v (term_at cells.now cell) (bindings_of cells.now slots.now)))) }
 {
-    if v as usize >= slots.vars() {
-        return Ok(Vec::new(alloc));
-    }
-    match slots.get(v) {
-        Some(old) => equal(alloc, old, cell, slots, cells),
-        None => {
-            let mut copy = copy_slots(alloc, slots)?;
-            copy.bind(v, cell);
-            only(alloc, Found::Sat(copy))
-        }
-    }
-}
-
-// What is met where two terms must be equal.
-fn equal(
-    alloc: Global,
-    old: Cell,
-    cell: Cell,
-    slots: &Slots,
-    cells: &Cells,
-) -> Result<Vec<Found>, AllocError>
-    requires slots { AreBelow (length cells.now) slots.now }
-    requires old { old < length cells.now }
-    requires cell { cell < length cells.now }
-    ensures { IfOk result (λ found. Finds cells.now (length slots.now.values) found.items
-        (plain.sat_if (extended (same_term (term_at cells.now old) (term_at cells.now cell))
-        (bindings_of cells.now slots.now)))) }
-{
-    prove!(cells.len() > 0);
-    if old == cell {
-        satisfied(alloc, slots)
+    let mut copy = slots.copy(alloc)?;
+    if meet(v, cell, cells, &mut copy) {
+        only(alloc, Found::Sat(copy))
     } else {
         Ok(Vec::new(alloc))
     }
@@ -183,7 +153,7 @@ pub fn state_events(
         (plain.state_events (state_of cells.now world.now.now) (goal_of cells.now goal.now)
         (bindings_of cells.now slots.now))) }
 {
-    let mut own = copy_slots(alloc, slots)?;
+    let mut own = slots.copy(alloc)?;
     let mut found = Vec::new(alloc);
     for place in 0..world.places() {
         let mut more = at_place(alloc, goal, world.at(place), cells, &mut own)?;

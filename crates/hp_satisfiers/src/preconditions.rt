@@ -12,7 +12,7 @@ ghost use Rattle.hp_satisfiers.specs.Scenes.{axioms_in, stage_in, state_in};
 ghost use Rattle.hp_satisfiers.specs.Listed.{FindsMore};
 
 use crate::expressions::Scene;
-use crate::found::{Found, copy_slots};
+use crate::found::Found;
 use crate::listed::Listed;
 use hp_cells::Cells;
 use hp_eval::{Event, Sats, Slots};
@@ -58,7 +58,7 @@ fn take_event(
 {
     match event {
         Event::Sat => {
-            let copy = copy_slots(alloc, slots)?;
+            let copy = slots.copy(alloc)?;
             found.push(Found::Sat(copy))?;
             Ok(true)
         }

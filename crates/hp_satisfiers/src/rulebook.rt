@@ -5,7 +5,8 @@ ghost use Rattle.hp_syntax.specs.Events.{axioms_of};
 ghost use Rattle.hp_syntax.specs.Views.{axiom_of, domain_of};
 ghost use Rattle.hp_eval.specs.GoalViews.{term_at};
 ghost use Rattle.hp_satisfiers.specs.declared.tables.Kind.TheVariants as kinds;
-ghost use Rattle.hp_satisfiers.specs.Rulebooks.{concluding, axiom_at, AreFew, symbol_name, task_name, relevant};
+ghost use Rattle.hp_laws.specs.RulesByName.{concluding, symbol_name, task_name, relevant};
+ghost use Rattle.hp_satisfiers.specs.Rulebooks.{axiom_at, AreFew};
 ghost use Rattle.hp_satisfiers.specs.Tables.{IsTableOf};
 
 use crate::tables::{Kind, table_of};

@@ -2,7 +2,8 @@
 ghost use Rattle.std.specs.Prelude.{◌≡◌, List, ℕ, map, IfOk, OnOk};
 ghost use Rattle.std.specs.Option.{option_copied};
 ghost use Rattle.hp_syntax.specs.Views.{rule_of};
-ghost use Rattle.hp_satisfiers.specs.Tables.{name_as, is_name, places_in, IsTableOf, with_place};
+ghost use Rattle.hp_satisfiers.specs.Tables.{name_as, places_in, IsTableOf, with_place};
+ghost use Rattle.hp_laws.specs.RulesByName.{is_name};
 
 use hp_syntax::{Name, Rule};
 use indexmap::IndexMap;

@@ -1,52 +1,71 @@
-use Rattle.std.proofs.Common.{◌≡◌, true, ap₂, sym, ◌∙◌, rules}
-use Rattle.std.proofs.lemmas.Option.{slice_get_within}
+use Rattle.std.proofs.Common.{length, map, ap}
 use Rattle.std.proofs.lemmas.Result.{IfOk-weaker}
-use Rattle.hp_syntax.specs.Goals.{match_goal}
-use Rattle.hp_syntax.specs.Events.{sat_if}
+use Rattle.hp_syntax.specs.Events.{concluded}
 use Rattle.hp_syntax.specs.Views.{atom_of}
-use Rattle.hp_eval.specs.GoalViews.{term_at, goal_of}
-use Rattle.hp_eval.specs.Slotted.{bindings_of}
-use Rattle.hp_eval.proofs.GrowthLemmas.{bindings_stay, grows_self, below_grows}
-use Rattle.hp_satisfiers.proofs.FoundLemmas.{finds_same, goal_below_grows, goal_stays}
-use Rattle.hp_satisfiers.proofs.ConclusionSteps.{concluded_term}
+use Rattle.hp_eval.specs.GoalViews.{goal_of}
+use Rattle.hp_eval.specs.Slotted.{named, bindings_of}
+use Rattle.hp_eval.proofs.CopyLemmas.{same_below}
+use Rattle.hp_eval.proofs.GrowthLemmas.{grows_self}
+use Rattle.hp_satisfiers.proofs.ConclusionSteps.{concluded_met, concluded_none, concluded_stopped}
+use Rattle.hp_satisfiers.proofs.FoundLemmas.{finds_same}
 use Rattle.hp_satisfiers.proofs.conclusions.concluded.Goals as goal
 
-pub value_matched-requires-clause-goal : goal.value_matched-requires-clause-goal
-value_matched-requires-clause-goal c =
-    goal_below_grows c.args.cells.now c.atom_value.new.cells c.atom_value.ensures.cells c.args.goal.now
-    c.requires.goal
+pub conclude-requires-clause-slots : goal.conclude-requires-clause-slots
+conclude-requires-clause-slots c =
+    same_below (length c.args.cells.now) c.in_ok-copy.copy c.args.slots.now c.in_ok-copy.ensures c.requires.slots
 
-pub value_matched-requires-clause-atom : goal.value_matched-requires-clause-atom
-value_matched-requires-clause-atom c =
-    let g = c.in-Ok.ensures.gives in slice_get_within c.atom_value.new.cells c.in-Ok.atom g.0 g.2
-
-pub returns-in-Ok-clause-found : goal.returns-in-Ok-clause-found
-returns-in-Ok-clause-found c =
+pub returns-then-matches-clause-found : goal.returns-then-matches-clause-found
+returns-then-matches-clause-found c =
     let old = c.args.cells.now in
-    let new = c.atom_value.new.cells in
-    let grown = c.atom_value.ensures.cells in
-    let q = c.args.goal.now in
+    let new = c.conclude.new.cells in
     let s = c.args.slots.now in
-    let own = c.args.own.now in
-    let t = term_at new c.in-Ok.atom in
-    let bound : c.is_head_bound.result ≡ true = search rules in
-    IfOk-weaker c.value_matched.result _ _
-    (λ v h. finds_same new _ v.items _ _
-    (ap₂ (λ g e. sat_if (match_goal g t e)) (goal_stays old new grown q c.requires.goal)
-    (bindings_stay old new grown s c.requires.slots)
-    ∙ concluded_term (atom_of c.args.head.now) (goal_of old q) (bindings_of old s) (bindings_of old own)
-    (sym (c.is_head_bound.ensures old c.requires.own) ∙ bound) new c.in-Ok.atom c.in-Ok.ensures.gives) h)
-    c.value_matched.ensures
+    let copy = c.in_ok-copy.copy in
+    let head = atom_of c.args.head.now in
+    let own = bindings_of old c.args.own.now in
+    IfOk-weaker c.only.result _ _
+    (λ v is.
+    finds_same new (length s.values) v.items _ _
+    (ap (λ vs. concluded head own (goal_of old c.args.goal.now) (map (named old) vs)) c.in_ok-copy.ensures)
+    (concluded_met _ new s copy c.conclude.new.slots v.items c.in-Ok.matches c.if-matches.true c.in_ok-copy.ensures
+    c.in-Ok.ensures.concluded c.in-Ok.ensures.below is))
+    c.only.ensures
 
-pub returns-then-not-is_head_bound-clause-cells : goal.returns-then-not-is_head_bound-clause-cells
-returns-then-not-is_head_bound-clause-cells c = grows_self c.args.cells.now
+pub returns-else-matches-clause-found : goal.returns-else-matches-clause-found
+returns-else-matches-clause-found c =
+    let old = c.args.cells.now in
+    let new = c.conclude.new.cells in
+    let s = c.args.slots.now in
+    let copy = c.in_ok-copy.copy in
+    let head = atom_of c.args.head.now in
+    let own = bindings_of old c.args.own.now in
+    finds_same new (length s.values) c.new.result.items _ _
+    (ap (λ vs. concluded head own (goal_of old c.args.goal.now) (map (named old) vs)) c.in_ok-copy.ensures)
+    (concluded_none _ new s copy c.conclude.new.slots c.new.result.items c.in-Ok.matches c.if-matches.false
+    c.in-Ok.ensures.concluded c.new.ensures.items)
 
-pub value_matched-requires-clause-slots : goal.value_matched-requires-clause-slots
-value_matched-requires-clause-slots c =
-    below_grows c.args.cells.now c.atom_value.new.cells c.atom_value.ensures.cells c.args.slots.now c.requires.slots
+pub returns-in-Err-clause-found : goal.returns-in-Err-clause-found
+returns-in-Err-clause-found c =
+    let old = c.args.cells.now in
+    let new = c.conclude.new.cells in
+    let s = c.args.slots.now in
+    let copy = c.in_ok-copy.copy in
+    let head = atom_of c.args.head.now in
+    let own = bindings_of old c.args.own.now in
+    IfOk-weaker c.stopped.result _ _
+    (λ v is.
+    finds_same new (length s.values) v.items _ _
+    (ap (λ vs. concluded head own (goal_of old c.args.goal.now) (map (named old) vs)) c.in_ok-copy.ensures)
+    (concluded_stopped _ new s copy c.conclude.new.slots v.items c.in-Err.stop c.in-Err.ensures.concluded is))
+    c.stopped.ensures
 
-pub returns-in-Ok-clause-cells : goal.returns-in-Ok-clause-cells
-returns-in-Ok-clause-cells c = c.atom_value.ensures.cells
+pub returns-in_err-copy-clause-cells : goal.returns-in_err-copy-clause-cells
+returns-in_err-copy-clause-cells c = grows_self c.args.cells.now
+
+pub returns-then-matches-clause-cells : goal.returns-then-matches-clause-cells
+returns-then-matches-clause-cells c = c.conclude.ensures.cells
+
+pub returns-else-matches-clause-cells : goal.returns-else-matches-clause-cells
+returns-else-matches-clause-cells c = c.conclude.ensures.cells
 
 pub returns-in-Err-clause-cells : goal.returns-in-Err-clause-cells
-returns-in-Err-clause-cells c = c.atom_value.ensures.cells
+returns-in-Err-clause-cells c = c.conclude.ensures.cells

@@ -2,7 +2,8 @@ use Rattle.std.proofs.Common.{length, ◌∙◌, sym, ap, subst}
 use Rattle.std.proofs.lemmas.Result.{IfOk-weaker}
 use Rattle.hp_syntax.specs.Events.{negated, finding}
 use Rattle.hp_eval.specs.Slotted.{bindings_of}
-use Rattle.hp_satisfiers.specs.Founds.{Finds, found_events, turned}
+use Rattle.hp_satisfiers.specs.Founds.{Finds, found_events}
+use Rattle.hp_laws.specs.HeardAlike.{turned}
 use Rattle.hp_satisfiers.proofs.found.turn.Goals as goal
 
 pub returns-then-negate : goal.returns-then-negate

@@ -1,16 +1,27 @@
-use Rattle.std.proofs.Common.{sym, ◌∙◌, arith}
 use Rattle.std.proofs.lemmas.Result.{IfOk-weaker}
-use Rattle.hp_eval.proofs.AttemptLemmas.{place_free}
-use Rattle.hp_satisfiers.proofs.MatchSteps.{met_free}
+use Rattle.hp_syntax.specs.Matching.{meet}
+use Rattle.hp_eval.proofs.CopyLemmas.{same_below}
+use Rattle.hp_eval.specs.GoalViews.{term_at}
+use Rattle.std.proofs.Common.{length}
+use Rattle.hp_satisfiers.proofs.MatchSteps.{met_in_copy, none_in_copy}
 use Rattle.hp_satisfiers.proofs.matches.met.Goals as goal
 
-pub returns-in_ok-copy-in-None : goal.returns-in_ok-copy-in-None
-returns-in_ok-copy-in-None c =
+pub meet-requires-clause-slots : goal.meet-requires-clause-slots
+meet-requires-clause-slots c =
+    same_below (length c.args.cells.now) c.in_ok-copy.copy c.args.slots.now c.in_ok-copy.ensures c.requires.slots
+
+pub returns-then-meet : goal.returns-then-meet
+returns-then-meet c =
     let terms = c.args.cells.now in
-    let s = c.args.slots.now in
-    let v = c.args.v in
-    let free = place_free s v (omega arith) (sym c.get.ensures ∙ c.in-None.is) in
     IfOk-weaker c.only.result _ _
-    (λ found is. met_free terms s v c.args.cell c.requires.slots c.requires.cell free c.in_ok-copy-in-None.copy
-    c.bind.new.self found.items c.in_ok-copy-in-None.ensures c.bind.ensures is)
+    (λ found is.
+    met_in_copy terms c.args.slots.now c.in_ok-copy.copy c.meet.new.slots c.in_ok-copy.ensures
+    (meet c.args.v (term_at terms c.args.cell)) c.meet.result c.meet.ensures found.items c.if-meet.true is)
     c.only.ensures
+
+pub returns-else-meet : goal.returns-else-meet
+returns-else-meet c =
+    let terms = c.args.cells.now in
+    none_in_copy terms c.args.slots.now c.in_ok-copy.copy c.meet.new.slots c.in_ok-copy.ensures
+    (meet c.args.v (term_at terms c.args.cell)) c.meet.result c.meet.ensures c.new.result.items c.if-meet.false
+    c.new.ensures.items

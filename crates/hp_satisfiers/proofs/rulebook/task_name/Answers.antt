@@ -3,7 +3,7 @@ use Rattle.std.proofs.lemmas.Option.{slice_get_within}
 use Rattle.hp_eval.specs.GoalViews.{term_at}
 use Rattle.hp_eval.proofs.CellViews.{named_at}
 use Rattle.hp_eval.proofs.AttemptLemmas.{view_nil, view_symbol, view_number, cons_at, whole_at}
-use Rattle.hp_satisfiers.specs.Rulebooks.{task_name}
+use Rattle.hp_laws.specs.RulesByName.{task_name}
 use Rattle.hp_satisfiers.proofs.rulebook.task_name.Goals as goal
 
 pub symbol_name-requires : goal.symbol_name-requires

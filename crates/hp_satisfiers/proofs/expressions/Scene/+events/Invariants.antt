@@ -6,8 +6,9 @@ use Rattle.hp_syntax.specs.Views.{axiom_of, clause_of, expression_of, expression
 use Rattle.hp_eval.specs.GoalViews.{goal_of}
 use Rattle.hp_eval.specs.Growth.{Grows}
 use Rattle.hp_eval.specs.Slotted.{bindings_of}
-use Rattle.hp_satisfiers.specs.Founds.{found_events, AllFit, AreHeardAlike, HearsUpTo, turned}
-use Rattle.hp_satisfiers.specs.Rulebooks.{concluding}
+use Rattle.hp_satisfiers.specs.Founds.{found_events, AllFit, HearsUpTo}
+use Rattle.hp_laws.specs.HeardAlike.{AreHeardAlike, turned}
+use Rattle.hp_laws.specs.RulesByName.{concluding}
 use Rattle.hp_satisfiers.specs.Scenes.{rules_in, axioms_in, state_in, atoms_at, below_at}
 use Rattle.hp_satisfiers.proofs.Sizes.{size, sizes, left_to_do}
 use Rattle.hp_satisfiers.proofs.expressions.Scene.+events.Given as goal

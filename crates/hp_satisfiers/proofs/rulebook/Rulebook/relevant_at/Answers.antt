@@ -2,7 +2,7 @@ use Rattle.std.proofs.Common.{slice_get, Some, option_map, sym, ◌∙◌, ap}
 use Rattle.std.specs.Option.{option_copied}
 use Rattle.std.proofs.lemmas.Option.{slice_get-map}
 use Rattle.hp_syntax.specs.Views.{domain_of}
-use Rattle.hp_satisfiers.specs.Rulebooks.{relevant}
+use Rattle.hp_laws.specs.RulesByName.{relevant}
 use Rattle.hp_satisfiers.proofs.RulebookLemmas.{looked_up}
 use Rattle.hp_satisfiers.proofs.rulebook.Rulebook.relevant_at.Goals as goal
 
