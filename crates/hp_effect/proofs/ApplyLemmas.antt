@@ -9,14 +9,14 @@ use Rattle.hp_cells.specs.Cells.{AreCells}
 use Rattle.hp_eval.specs.GoalViews.{term_at}
 use Rattle.hp_world.specs.declared.store.Applied.{Applied}
 use Rattle.hp_world.specs.declared.store.Applied.TheVariants as answers
-use Rattle.hp_world.specs.Stages.{terms_at, live_atoms, same_cell, state_of, guards_of, changes_of, StageBelow, ChangesBelow}
+use Rattle.hp_world.specs.Stages.{Stage, terms_at, live_atoms, same_cell, state_of, guards_of, changes_of, StageBelow, ChangesBelow}
 use Rattle.hp_world.specs.Histories.{History}
 use Rattle.hp_world.specs.Answers.{Gives, Applies, of_terms}
 use Rattle.hp_world.proofs.AnswerLemmas.{applied_to_terms}
 use Rattle.hp_effect.specs.Puts.{IsApplied}
 
 -- what applying gives on cells it comes to on the terms that they name
-pub gives_terms : (terms : List Term) (a : Applied) (x : AppliedOf ℕ) (old new : History) → Gives a x old new
+pub gives_terms : (terms : List Term) (a : Applied) (x : AppliedOf ℕ) (old new : History Stage) → Gives a x old new
     → IsApplied a terms new.now (of_terms terms x)
 gives_terms terms answers.Done (Now atoms guards) old new h = (ap (terms_at terms) h.0, ap (terms_at terms) h.1)
 gives_terms terms (answers.Guarded a) (Guarded d) old new h = ap (term_at terms) h.0
@@ -25,7 +25,7 @@ gives_terms terms (answers.Guarded a) (Now atoms guards) old new h = absurd h
 
 -- where an application answers what applying the changes to the cells gives, it comes to what applying them to the
 -- terms gives
-pub comes_to_terms : (r : Result Applied AllocError) (c : ChangesOf ℕ) (old new : History)
+pub comes_to_terms : (r : Result Applied AllocError) (c : ChangesOf ℕ) (old new : History Stage)
     → IfOk r (λ a. Applies a c old new)
     → IfOk r (λ a. (terms : List Term) → AreCells terms → StageBelow (length terms) old.now
     → ChangesBelow (length terms) c

@@ -8,7 +8,7 @@ ghost use Rattle.hp_cells.specs.Cells.{AreCells};
 ghost use Rattle.hp_eval.specs.Growth.{Grows};
 ghost use Rattle.hp_eval.specs.Slotted.{AreBelow, bindings_of};
 ghost use Rattle.hp_world.specs.Answers.{Applies};
-ghost use Rattle.hp_world.specs.Stages.{state_of, guards_of, changes_of, StageBelow, ChangesBelow};
+ghost use Rattle.hp_world.specs.Stages.{PlacesKept, state_of, guards_of, changes_of, StageBelow, ChangesBelow};
 ghost use Rattle.hp_effect.specs.Puts.{Puts, Pushes, list_of, IsApplied};
 
 use hp_cells::{Cell, Cells};
@@ -140,6 +140,7 @@ impl Changes {
             → IsApplied a terms world.new.now (apply (state_of terms world.old.now) (guards_of terms world.old.now)
             (changes_of terms self.now))) }
         ensures below { (n : ℕ) → StageBelow n world.old.now → ChangesBelow n self.now → StageBelow n world.new.now }
+        ensures kept { PlacesKept world.old.now.places world.new.now.places }
         ensures err { OnErr result (world.new ≡ world.old) }
     {
         world.apply(

@@ -19,12 +19,11 @@ use Rattle.hp_net.specs.declared.entry.Order.{Order}
 use Rattle.hp_net.specs.declared.entry.Entry.{Entry}
 use Rattle.hp_net.specs.declared.entry.Entry.TheVariants.{Task, List as Parts}
 use Rattle.hp_net.specs.Edits.{HasTask, IsPart, IsAlone, IsTakenOut, fewer_by, replaced, without_part}
-use Rattle.hp_net.specs.Outlines.{forest, listed, first_network, network_in, AreFull, behind_task, behind_list, spot, below_root, place_of, Outline, IsOutline, NamesTask, EntryBelow}
+use Rattle.hp_net.specs.FlatNetworks.{forest, listed, first_network, network_in, AreFull, behind_task, behind_list, entry_path, below_root, place_of, FlatNetwork, IsFlatNetwork, NamesTask, EntryBelow}
 use Rattle.hp_net.specs.Pushed.{shown, kept, Adds}
-use Rattle.hp_net.proofs.FormLemmas.{forest_in_form, taken_in_form, normal-with_part, with_part_below, normal_parts-without, removed_in_form, some_as_list}
-use Rattle.hp_net.proofs.OutlineLemmas.{length-forest, full_behind}
-use Rattle.hp_net.proofs.PushLemmas.{below_closed, below_removed, closed_behind, normal-listed}
-use Rattle.hp_net.proofs.SpotLemmas.{IsSpot, is_spot, behind_list-within, drop-from, entry_within, forest-replaced, full-replaced, length-put_at, part_of, part_of-spot, put, put_at, spot-below, spot-replaced, spot_from_place, spot_within, with_part-listed}
+use Rattle.hp_net.proofs.FlatNetworkLemmas.{forest_in_form, taken_in_form, normal-with_part, with_part_below, normal_parts-without, removed_in_form, some_as_list, length-forest, full_behind}
+use Rattle.hp_net.proofs.PushedLemmas.{below_closed, below_removed, closed_behind, normal-listed}
+use Rattle.hp_net.proofs.EntryPathLemmas.{IsEntryPath, is_entry_path, behind_list-within, drop-from, entry_within, forest-replaced, full-replaced, length-put_at, part_of, part_of-entry_path, put, put_at, entry_path-below, entry_path-replaced, entry_path_from_place, entry_path_within, with_part-listed}
 
 -- ---- a task that is a part of no list
 
@@ -50,7 +49,7 @@ drop-remove (m ∷ ns) (suc n) (suc k) l =
     let e : suc k - suc n ≡ k - n = omega arith in
     rw e (drop-remove ns n k (omega arith))
 
--- a spot that is a number, behind an entry
+-- a path of one number, behind an entry
 abbrev Number : Option (List ℕ) → ℕ → Type 0
 Number s k = s ≡ Some (k ∷ [])
 
@@ -80,7 +79,7 @@ behind_list_parts n (Some (j ∷ p)) k h =
     (cases_Bool (nat_lt j n))
 
 -- where a task that is a part of no list goes, its network goes
-pub forest-remove : (terms : List Term) (es : List Entry) (i k : ℕ) → HasTask es i → spot i es ≡ Some (k ∷ [])
+pub forest-remove : (terms : List Term) (es : List Entry) (i k : ℕ) → HasTask es i → entry_path i es ≡ Some (k ∷ [])
     → forest terms (remove es i) ≡ remove (forest terms es) k
 forest-remove terms [] i k t h = absurd cc
 forest-remove terms (Task cell immediate ∷ es) zero k t h =
@@ -88,29 +87,29 @@ forest-remove terms (Task cell immediate ∷ es) zero k t h =
     subst (λ j. forest terms es ≡ remove (plain.Task (term_at terms cell) immediate ∷ forest terms es) j) e refl
 forest-remove terms (Parts order n ∷ es) zero k t h = absurd (let e = t.2 in cc)
 forest-remove terms (Task cell immediate ∷ es) (suc i) k t h =
-    let p = behind_task_parts (spot i es) k h in
+    let p = behind_task_parts (entry_path i es) k h in
     ap (λ ns. plain.Task (term_at terms cell) immediate ∷ ns) (forest-remove terms es i p.0 t p.2)
     ∙ ap (remove (plain.Task (term_at terms cell) immediate ∷ forest terms es)) (sym p.1)
 forest-remove terms (Parts order n ∷ es) (suc i) k t h =
-    let p = behind_list_parts n (spot i es) k h in
+    let p = behind_list_parts n (entry_path i es) k h in
     let ns = forest terms es in
     ap (λ fs. listed order (as_networks (take n fs)) ∷ drop n fs) (forest-remove terms es i p.0 t p.3)
     ∙ (ap₂ (λ f g. listed order (as_networks f) ∷ g) (take-remove ns n p.0 p.1) (drop-remove ns n p.0 p.1)
     ∙ ap (remove (listed order (as_networks (take n ns)) ∷ drop n ns)) (sym p.2))
 
 -- the lists that are left are full
-pub full-remove : (es : List Entry) (i k : ℕ) → HasTask es i → spot i es ≡ Some (k ∷ []) → AreFull es
+pub full-remove : (es : List Entry) (i k : ℕ) → HasTask es i → entry_path i es ≡ Some (k ∷ []) → AreFull es
     → AreFull (remove es i)
 full-remove [] i k t h f = absurd cc
 full-remove (Task cell immediate ∷ es) zero k t h f = f
 full-remove (Parts order n ∷ es) zero k t h f = absurd (let e = t.2 in cc)
 full-remove (Task cell immediate ∷ es) (suc i) k t h f =
-    let p = behind_task_parts (spot i es) k h in
+    let p = behind_task_parts (entry_path i es) k h in
     full-remove es i p.0 t p.2 f
 full-remove (Parts order n ∷ es) (suc i) k t h f =
-    let p = behind_list_parts n (spot i es) k h in
+    let p = behind_list_parts n (entry_path i es) k h in
     let e = ap length (forest-remove [] es i p.0 t p.3) in
-    let w = spot_within [] i es p.0 [] p.3 in
+    let w = entry_path_within [] i es p.0 [] p.3 in
     let l = length-remove (forest [] es) p.0 w in
     let m = p.1 in
     (f.0, omega arith, full-remove es i p.0 t p.3 f.2)
@@ -125,7 +124,7 @@ tail_without order n es i = cond (nat_lt (n - 1) 2) (remove es i) (Parts order (
 abbrev pub list_without : List Term → Order → ℕ → List Entry → ℕ → Network
 list_without terms order n es k = as_list (listed order) (as_networks (remove (take n (forest terms es)) k))
 
-module _ (order : Order) (n : ℕ) (es : List Entry) (i k : ℕ) (t : HasTask es i) (s : spot i es ≡ Some (k ∷ []))
+module _ (order : Order) (n : ℕ) (es : List Entry) (i k : ℕ) (t : HasTask es i) (s : entry_path i es ≡ Some (k ∷ []))
     (w : k < n) (f : AreFull (Parts order n ∷ es)) where
   -- the list has all its parts
   enough : (terms : List Term) → n ≤ length (forest terms es)
@@ -253,19 +252,19 @@ first_in_form [] l h = absurd (omega arith)
 first_in_form (n ∷ ns) l h = h.1
 
 -- the part at an entry's place is the first network that it begins
-pub part_at-place : (terms : List Term) (es : List Entry) (i : ℕ) (p : Place) → spot i es ≡ Some (zero ∷ p)
+pub part_at-place : (terms : List Term) (es : List Entry) (i : ℕ) (p : Place) → entry_path i es ≡ Some (zero ∷ p)
     → part_at (network_in terms es) p ≡ Some (first_network (forest terms (drop i es)))
 unfolding network_in
 part_at-place terms es i p h =
-    sym (first_part p (forest terms es) (spot_within terms i es zero p h))
-    ∙ (ap (part_of (forest terms es)) (sym h) ∙ part_of-spot terms i es (entry_within i es (zero ∷ p) h))
+    sym (first_part p (forest terms es) (entry_path_within terms i es zero p h))
+    ∙ (ap (part_of (forest terms es)) (sym h) ∙ part_of-entry_path terms i es (entry_within i es (zero ∷ p) h))
 
 -- at a task's place stands the task
 pub task_at-place : (terms : List Term) (es : List Entry) (i cell : ℕ) (immediate : Bool) (p : Place)
     → slice_get es i ≡ Some (Task cell immediate) → place_of es i ≡ Some p
     → part_at (network_in terms es) p ≡ Some (plain.Task (term_at terms cell) immediate)
 task_at-place terms es i cell immediate p is h =
-    part_at-place terms es i p (spot_from_place es i p h)
+    part_at-place terms es i p (entry_path_from_place es i p h)
     ∙ ap (λ xs. Some (first_network (forest terms xs))) (drop-from es i (Task cell immediate) is)
 
 -- a task's cell is below what all cells are below
@@ -278,22 +277,22 @@ cell_below k es i cell immediate is h =
 
 -- entries whose first network from an entry on is another are the network with that one at the entry's place
 pub network-replaced : (terms : List Term) (es tail : List Entry) (i : ℕ) (p : Place) (x : Network)
-    → spot i es ≡ Some (zero ∷ p) → forest terms tail ≡ x ∷ drop 1 (forest terms (drop i es))
+    → entry_path i es ≡ Some (zero ∷ p) → forest terms tail ≡ x ∷ drop 1 (forest terms (drop i es))
     → network_in terms (take i es ++ tail) ≡ with_part (network_in terms es) p x
 unfolding network_in
 network-replaced terms es tail i p x h e =
     ap first_network
     (forest-replaced terms i es tail x (entry_within i es (zero ∷ p) h) e
     ∙ ap (λ s. put_at s x (forest terms es)) h)
-    ∙ first-put p x (forest terms es) (spot_within terms i es zero p h)
+    ∙ first-put p x (forest terms es) (entry_path_within terms i es zero p h)
 
--- a spot that is a longer one without its last number is in the same network
-spot_parts : (s : Option (List ℕ)) (k : ℕ) (q : Place) → IsSpot s
+-- a longer path without its last number is in the same network
+entry_path_parts : (s : Option (List ℕ)) (k : ℕ) (q : Place) → IsEntryPath s
     → Some (zero ∷ q) ≡ option_map (λ p. p ++ k ∷ []) s
     → (p : Place) × (s ≡ Some (zero ∷ p)) × (q ≡ p ++ k ∷ [])
-spot_parts None k q h e = absurd cc
-spot_parts (Some []) k q h e = absurd h
-spot_parts (Some (j ∷ p)) k q h e =
+entry_path_parts None k q h e = absurd cc
+entry_path_parts (Some []) k q h e = absurd h
+entry_path_parts (Some (j ∷ p)) k q h e =
     let a : zero ≡ j = cc in
     let b : q ≡ p ++ k ∷ [] = cc in
     (p, ap (λ m. Some (m ∷ p)) (sym a), b)
@@ -362,14 +361,14 @@ module _ (es : List Entry) (task list : ℕ) (f : AreFull es) (t : HasTask es ta
   left_networks =
       ap length
       (forest-replaced [] list es tail (list_without [] p.order p.parts others p.before) in_list (forest_there []))
-      ∙ length-put_at (spot list es) (list_without [] p.order p.parts others p.before) (forest [] es)
+      ∙ length-put_at (entry_path list es) (list_without [] p.order p.parts others p.before) (forest [] es)
 
-  -- the task's spot is below that of its list
-  spot_there : spot task es ≡ option_map (λ q. q ++ p.before ∷ []) (spot list es)
-  spot_there =
-      ap (λ i. spot i es) (let e = place_is in let g : task ≡ list + suc number = omega arith in g)
-      ∙ spot-below list (suc number) es (p.before ∷ [])
-      (ap (spot (suc number)) from_list
+  -- the task's path is below that of its list
+  entry_path_there : entry_path task es ≡ option_map (λ q. q ++ p.before ∷ []) (entry_path list es)
+  entry_path_there =
+      ap (λ i. entry_path i es) (let e = place_is in let g : task ≡ list + suc number = omega arith in g)
+      ∙ entry_path-below list (suc number) es (p.before ∷ [])
+      (ap (entry_path (suc number)) from_list
       ∙ (ap (option_map (behind_list p.parts)) p.there
       ∙ ap Some (behind_list-within p.parts p.before [] p.within)))
 
@@ -412,7 +411,7 @@ module _ (es : List Entry) (task list : ℕ) (f : AreFull es) (t : HasTask es ta
         → network_in terms (take list es ++ tail) ≡ normal (with_part (network_in terms es) q Empty)
     left_network q h =
         let s =
-        spot_parts (spot list es) p.before q (is_spot list es) (sym (spot_from_place es task q h) ∙ spot_there) in
+        entry_path_parts (entry_path list es) p.before q (is_entry_path list es) (sym (entry_path_from_place es task q h) ∙ entry_path_there) in
         let net = network_in terms es in
         let m = listed p.order (as_networks parts) in
         let y = with_part m (p.before ∷ []) Empty in
@@ -422,29 +421,29 @@ module _ (es : List Entry) (task list : ℕ) (f : AreFull es) (t : HasTask es ta
         (forest_there terms)
         ∙ (ap (with_part net s.0) (sym normal-list)
         ∙ (sym
-        (normal-with_part net s.0 y (whole_in_form terms es f (spot_within terms list es zero s.0 s.1))
+        (normal-with_part net s.0 y (whole_in_form terms es f (entry_path_within terms list es zero s.0 s.1))
         (ap is_empty normal-list ∙ list_stays))
         ∙ (ap normal (sym (with_part_below net s.0 (p.before ∷ []) m Empty there))
         ∙ ap (λ r. normal (with_part net r Empty)) (sym s.2))))
 
 -- ---- ids
 
--- an id names a task in equal outlines
-pub task_named : (o b : Outline) (i id : ℕ) → o ≡ b → i ≡ id → NamesTask b id → HasTask o.entries i
+-- an id names a task in equal flat networks
+pub task_named : (o b : FlatNetwork) (i id : ℕ) → o ≡ b → i ≡ id → NamesTask b id → HasTask o.entries i
 task_named o b i id e f t = subst (HasTask o.entries) (sym f) (subst (λ a. NamesTask a id) (sym e) t)
 
 -- the task has the same place in them
-pub place_named : (o b : Outline) (i id : ℕ) (p : Place) → o ≡ b → i ≡ id → place_of b.entries id ≡ Some p
+pub place_named : (o b : FlatNetwork) (i id : ℕ) (p : Place) → o ≡ b → i ≡ id → place_of b.entries id ≡ Some p
     → place_of o.entries i ≡ Some p
 place_named o b i id p e f h = ap (place_of o.entries) f ∙ (ap (λ a. place_of a.entries id) e ∙ h)
 
 -- ---- a task goes
 
 -- no entries are nothing
-pub no_outline : IsOutline (record { entries = []; focus = None })
-no_outline = record { full = tt; one = omega arith; focus = tt }
+pub nothing_is_flat : IsFlatNetwork (record { entries = []; focus = None })
+nothing_is_flat = record { full = tt; one = omega arith; focus = tt }
 
-module _ (es new : List Entry) (focus : Option ℕ) (task : ℕ) (o : IsOutline (record { entries = es; focus = focus }))
+module _ (es new : List Entry) (focus : Option ℕ) (task : ℕ) (o : IsFlatNetwork (record { entries = es; focus = focus }))
     (t : HasTask es task) (taken : IsTakenOut task es new) where
   -- what is left are the entries before the list, and what is left of those from it on
   left_is : (list : ℕ) (p : IsPart es task list) → new ≡ without_part task list es
@@ -454,12 +453,12 @@ module _ (es new : List Entry) (focus : Option ℕ) (task : ℕ) (o : IsOutline 
       ∙ (ap (λ i. without_part i list es) (place_is es task list o.full t p)
       ∙ without_part-is es list (task - suc list) p.order p.parts p.is)
 
-  -- what is left is an outline
-  pub outline_left : IsOutline (record { entries = new; focus = None })
-  outline_left =
-      ⊎_elim (λ a. subst (λ xs. IsOutline (record { entries = xs; focus = None })) (sym a.1) no_outline)
+  -- what is left is a flat network
+  pub flat_network_left : IsFlatNetwork (record { entries = new; focus = None })
+  flat_network_left =
+      ⊎_elim (λ a. subst (λ xs. IsFlatNetwork (record { entries = xs; focus = None })) (sym a.1) nothing_is_flat)
       (λ a.
-      subst (λ xs. IsOutline (record { entries = xs; focus = None })) (sym (left_is a.0 a.1 a.2))
+      subst (λ xs. IsFlatNetwork (record { entries = xs; focus = None })) (sym (left_is a.0 a.1 a.2))
       (record {
         full = left_full es task a.0 o.full t a.1;
         one = (let e = left_networks es task a.0 o.full t a.1 in let l = o.one in omega arith);
@@ -471,7 +470,7 @@ module _ (es new : List Entry) (focus : Option ℕ) (task : ℕ) (o : IsOutline 
       → network_in terms new ≡ normal (with_part (network_in terms es) q Empty)
   unfolding network_in with_part normal
   alone_left terms q h a e =
-      let s = spot_from_place es task q h in
+      let s = entry_path_from_place es task q h in
       let b = a.1 in
       let r : q ≡ [] = cc in
       ap (network_in terms) e ∙ ap (λ p. normal (with_part (network_in terms es) p Empty)) (sym r)
@@ -505,7 +504,7 @@ module _ (es new : List Entry) (focus : Option ℕ) (task : ℕ) (o : IsOutline 
 -- ---- subtasks in place of a task
 
 module _ (es sub : List Entry) (focus : Option ℕ) (task : ℕ) (tree : TaskTree) (count : ℕ)
-    (o : IsOutline (record { entries = es; focus = focus })) (t : HasTask es task) (some : 0 < count)
+    (o : IsFlatNetwork (record { entries = es; focus = focus })) (t : HasTask es task) (some : 0 < count)
     (a : Adds (kept tree) count [] sub) where
   -- the network of the subtasks
   abbrev subtasks : List Term → Network
@@ -547,23 +546,23 @@ module _ (es sub : List Entry) (focus : Option ℕ) (task : ℕ) (tree : TaskTre
       subst (λ xs. AreFull (xs ++ drop (suc task) es)) (sym a.is)
       (a.reads.full (drop (suc task) es) (full_behind (suc task) es o.full))
 
-  -- what stands in place of the task has its spot
-  same_spot : (tail : List Entry) (n : Network) (ns : List Network) → forest [] tail ≡ n ∷ ns
-      → (0 < length tail) × (spot task (take task es ++ tail) ≡ spot task es)
-  same_spot [] n ns h = absurd cc
-  same_spot (e ∷ tail) n ns h = (omega arith, spot-replaced task es e tail within)
+  -- what stands in place of the task has its path
+  same_entry_path : (tail : List Entry) (n : Network) (ns : List Network) → forest [] tail ≡ n ∷ ns
+      → (0 < length tail) × (entry_path task (take task es ++ tail) ≡ entry_path task es)
+  same_entry_path [] n ns h = absurd cc
+  same_entry_path (e ∷ tail) n ns h = (omega arith, entry_path-replaced task es e tail within)
 
-  -- subtasks in place of a task are an outline
-  pub outline_expanded : IsOutline (record { entries = replaced task sub es; focus = Some task })
-  outline_expanded = record {
+  -- subtasks in place of a task are a flat network
+  pub flat_network_expanded : IsFlatNetwork (record { entries = replaced task sub es; focus = Some task })
+  flat_network_expanded = record {
     full = full-replaced task es behind_it (subtasks []) within (forest_behind []) o.full full_behind_it;
     one =
         let e = ap length (forest-replaced [] task es behind_it (subtasks []) within (forest_behind [])) in
-        let c = length-put_at (spot task es) (subtasks []) (forest [] es) in
+        let c = length-put_at (entry_path task es) (subtasks []) (forest [] es) in
         let l = o.one in
         omega arith;
     focus =
-        let s = same_spot behind_it _ _ (forest_behind []) in
+        let s = same_entry_path behind_it _ _ (forest_behind []) in
         let n = s.0 in
         let l = length-append (take task es) behind_it in
         let m = length-take-le task es (let w = within in omega arith) in
@@ -577,9 +576,9 @@ module _ (es sub : List Entry) (focus : Option ℕ) (task : ℕ) (tree : TaskTre
   unfolding expand place_of
   expand_expanded terms p h =
       ap₂ (λ n f. (n, f))
-      (network-replaced terms es behind_it task p (subtasks terms) (spot_from_place es task p h)
+      (network-replaced terms es behind_it task p (subtasks terms) (entry_path_from_place es task p h)
       (forest_behind terms))
-      (ap (option_and_then below_root) (same_spot behind_it _ _ (forest_behind [])).1 ∙ h)
+      (ap (option_and_then below_root) (same_entry_path behind_it _ _ (forest_behind [])).1 ∙ h)
       ∙ ap
       (λ b. cond b (finish (network_in terms es) p) (with_part (network_in terms es) p (subtasks terms), Some p))
       (sym (subtasks_some terms).0)

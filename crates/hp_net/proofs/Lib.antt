@@ -1,10 +1,9 @@
 pub mod EditLemmas
-pub mod FirstLemmas
-pub mod FormLemmas
-pub mod OutlineLemmas
-pub mod OwnerLemmas
-pub mod PushLemmas
+pub mod EditSteps
+pub mod EntryPathLemmas
+pub mod FlatNetworkLemmas
+pub mod PushedLemmas
 pub mod ReadingLemmas
-pub mod SpotLemmas
+pub mod ReadingSteps
 pub mod RunLemmas
 pub mod StandingLemmas

@@ -1,290 +1,328 @@
--- Networks that are read from left to right, or passed over.
-use Rattle.std.proofs.Common.{◌≡◌, ℕ, ◌+◌, ◌-◌, ◌<◌, ◌≤◌, zero, suc, Bool, true, false, List, [], ◌∷◌, ◌++◌, length, drop, refl, sym, ap, ap₂, subst, ◌∙◌, arith, append_assoc, length-drop}
-use Rattle.std.specs.Prelude.{Some, slice_get}
-use Rattle.std.specs.List.{All}
-use Rattle.std.proofs.lemmas.List.{append-nil, length_push, nil_from_length}
-use Rattle.std.proofs.lemmas.List.Elements.{All-push}
-use Rattle.std.proofs.lemmas.Option.{slice_get_within}
+-- The tasks that are found are the first ones of a network.
+use Rattle.std.proofs.Common.{◌≡◌, ℕ, ◌+◌, ◌-◌, ◌<◌, ◌≤◌, zero, suc, Bool, true, false, ◌||◌, cond, unwrap_or, List, [], ◌∷◌, ◌++◌, length, take, drop, map, Option, Some, None, option_map, refl, sym, ap, ap₂, ◌∙◌, arith, ⊎_elim}
+use Rattle.std.specs.Prelude.{filter, slice_get}
+use Rattle.std.specs.List.{All, list_any}
+use Rattle.std.specs.Option.{option_and_then}
+use Rattle.std.proofs.lemmas.Bool.{cases_Bool, cond_both}
+use Rattle.std.proofs.lemmas.List.{append-nil, append_assoc, length-take-le, map-append}
+use Rattle.std.proofs.lemmas.List.Elements.{All-filter, All-head, All-tail}
+use Rattle.std.proofs.lemmas.Simd.{map-map}
+use Rattle.hp_syntax.specs.Networks.{Network, Place, firsts, firsts_from, part_at, is_immediate, immediate_first, firsts_below, candidates}
+use Rattle.hp_syntax.specs.Terms.{Term}
+use Rattle.hp_eval.specs.GoalViews.{as_networks}
 use Rattle.hp_net.specs.declared.entry.Order.{Order}
 use Rattle.hp_net.specs.declared.entry.Order.TheVariants.{Ordered, Unordered}
 use Rattle.hp_net.specs.declared.entry.Entry.{Entry}
 use Rattle.hp_net.specs.declared.entry.Entry.TheVariants.{Task, List as Parts}
-use Rattle.hp_net.specs.declared.reading.Level.{Level}
 use Rattle.hp_net.specs.Edits.{HasTask}
-use Rattle.hp_net.specs.Outlines.{forest, AreFull}
-use Rattle.hp_net.specs.Reading.{so_many, parts_read, marks, level_read, read_onto, are_read, left_of, Passes, Visits, IsFullEntry, read_behind, task_found, Enters}
-use Rattle.hp_net.proofs.OutlineLemmas.{few_networks, full_behind}
-use Rattle.hp_net.proofs.SpotLemmas.{drop-from}
+use Rattle.hp_net.specs.FlatNetworks.{forest, listed, first_network, network_in, AreFull, behind_task, behind_list, entry_path, below_root, place_of, IsFlatNetwork}
+use Rattle.hp_net.specs.Reading.{so_many, parts_read, marks, entry_immediate, immediate_ids}
+use Rattle.hp_net.proofs.EditLemmas.{part_at-place, task_at-place}
+use Rattle.hp_net.proofs.FlatNetworkLemmas.{length-forest, full_behind}
+use Rattle.hp_net.proofs.EntryPathLemmas.{behind_list-within, behind_list-past, part_of, part_of-entry_path, place_from_entry_path, entry_path-below, entry_path_within}
 
--- ---- which networks are read
+-- ---- paths of the first tasks
 
--- so many are so many more
-length-so_many : (n : ℕ) (b : Bool) (bs : List Bool) → length (so_many n b bs) ≡ n + length bs
-length-so_many zero b bs = omega arith
-length-so_many (suc n) b bs = let h = length-so_many n b bs in omega arith
+-- the paths of the first tasks of the networks that are read, of which the first has this number
+abbrev places : List Bool → ℕ → List Network → List (List ℕ)
+places [] k ns = []
+places (read ∷ bs) k [] = []
+places (read ∷ bs) k (n ∷ ns) = cond read (map (λ p. k ∷ p) (firsts n)) [] ++ places bs (suc k) ns
 
--- so many before so many are as many as both
-so_many-add : (n m : ℕ) (b : Bool) (bs : List Bool) → so_many n b (so_many m b bs) ≡ so_many (n + m) b bs
-so_many-add zero m b bs = ap (λ k. so_many k b bs) (let e : m ≡ 0 + m = omega arith in e)
-so_many-add (suc n) m b bs =
-    let e : suc n + m ≡ suc (n + m) = omega arith in
-    rw e (ap (λ cs. b ∷ cs) (so_many-add n m b bs))
+-- the first entry may have another number
+marks-suc : (es : List Entry) (bs : List Bool) (b : ℕ) → marks es bs (suc b) ≡ map suc (marks es bs b)
+marks-suc [] bs b = refl
+marks-suc (e ∷ es) [] b = refl
+marks-suc (Task cell immediate ∷ es) (true ∷ bs) b = ap (λ xs. suc b ∷ xs) (marks-suc es bs (suc b))
+marks-suc (Task cell immediate ∷ es) (false ∷ bs) b = marks-suc es bs (suc b)
+marks-suc (Parts order n ∷ es) (read ∷ bs) b = marks-suc es (parts_read read order n bs) (suc b)
 
--- the last level comes first, before any others
-read_onto-push : (ls : List Level) (l : Level) (bs : List Bool)
-    → read_onto (ls ++ l ∷ []) bs ≡ level_read l (read_onto ls bs)
-read_onto-push [] l bs = refl
-read_onto-push (k ∷ ls) l bs = read_onto-push ls l (level_read k bs)
+-- a function of what is there is there
+map-Some : {A B : Type 0} (f : A → B) (xs : List A) → map (option_map f) (map Some xs) ≡ map Some (map f xs)
+map-Some f [] = refl
+map-Some f (x ∷ xs) = ap (λ ys. Some (f x) ∷ ys) (map-Some f xs)
 
--- what the last level says comes first
-pub are_read-push : (ls : List Level) (l : Level) → are_read (ls ++ l ∷ []) ≡ level_read l (are_read ls)
-unfolding are_read
-are_read-push ls l = read_onto-push ls l []
+-- behind a task each network has the next number
+places-task : (bs : List Bool) (k : ℕ) (ns : List Network)
+    → map behind_task (places bs k ns) ≡ places bs (suc k) ns
+places-task [] k ns = refl
+places-task (read ∷ bs) k [] = refl
+places-task (true ∷ bs) k (n ∷ ns) =
+    map-append behind_task (map (λ p. k ∷ p) (firsts n)) (places bs (suc k) ns)
+    ∙ ap₂ ◌++◌ (map-map behind_task (λ p. k ∷ p) (firsts n)) (places-task bs (suc k) ns)
+places-task (false ∷ bs) k (n ∷ ns) = places-task bs (suc k) ns
 
--- the first level reads one network
-pub read_first : (old new : List Level) → old ≡ [] → new ≡ old ++ record { read = 1; pass = 0 } ∷ []
-    → are_read new ≡ true ∷ []
-unfolding are_read
-read_first old new e h =
-    ap are_read (h ∙ ap (λ ls. ls ++ record { read = 1; pass = 0 } ∷ []) e)
+-- paths that begin with a number are behind a list those below it, or of the networks behind it
+each_past : (n k : ℕ) (ps : List Place) → map (behind_list n) (map (λ p. (n + k) ∷ p) ps) ≡ map (λ p. suc k ∷ p) ps
+each_past n k [] = refl
+each_past n k (p ∷ ps) =
+    ap₂ ◌∷◌
+    (behind_list-past n (n + k) p (omega arith)
+    ∙ ap (λ j. suc j ∷ p) (let e : n + k - n ≡ k = omega arith in e))
+    (each_past n k ps)
 
--- where no level is left nothing is read
-pub read_none : (ls : List Level) → length ls ≡ 0 → are_read ls ≡ []
-unfolding are_read
-read_none ls h = ap are_read (nil_from_length ls h)
+-- paths that begin with the number of a part are below its list
+each_within : (n k : ℕ) (ps : List Place) → k < n
+    → map (behind_list n) (map (λ p. k ∷ p) ps) ≡ map (λ p. zero ∷ p) (map (λ p. k ∷ p) ps)
+each_within n k [] l = refl
+each_within n k (p ∷ ps) l = ap₂ ◌∷◌ (behind_list-within n k p l) (each_within n k ps l)
 
--- a level is told of so many networks
-pub length-level_read : (l : Level) (bs : List Bool) → length (level_read l bs) ≡ l.read + (l.pass + length bs)
-length-level_read l bs =
-    let h = length-so_many l.read true (so_many l.pass false bs) in
-    let k = length-so_many l.pass false bs in
-    omega arith
+-- behind a list the networks that are no parts of it have numbers less by those
+places-past : (n k : ℕ) (bs : List Bool) (ns : List Network)
+    → map (behind_list n) (places bs (n + k) ns) ≡ places bs (suc k) ns
+places-past n k [] ns = refl
+places-past n k (read ∷ bs) [] = refl
+places-past n k (true ∷ bs) (m ∷ ns) =
+    let e : suc (n + k) ≡ n + suc k = omega arith in
+    map-append (behind_list n) (map (λ p. (n + k) ∷ p) (firsts m)) (places bs (suc (n + k)) ns)
+    ∙ ap₂ ◌++◌ (each_past n k (firsts m))
+    (ap (λ j. map (behind_list n) (places bs j ns)) e ∙ places-past n (suc k) bs ns)
+places-past n k (false ∷ bs) (m ∷ ns) =
+    let e : suc (n + k) ≡ n + suc k = omega arith in
+    ap (λ j. map (behind_list n) (places bs j ns)) e ∙ places-past n (suc k) bs ns
 
--- of each part of a list that is read it is told whether it is read
-length-parts_read : (order : Order) (n : ℕ) (bs : List Bool) → 2 ≤ n
-    → length (parts_read true order n bs) ≡ n + length bs
-length-parts_read Ordered n bs l = let h = length-so_many (n - 1) false bs in omega arith
-length-parts_read Unordered n bs l = length-so_many n true bs
+-- the first tasks of parts are below their list
+firsts-within : (n k : ℕ) (ns : List Network) → k + length ns ≤ n
+    → map (behind_list n) (firsts_from k (as_networks ns)) ≡ map (λ p. zero ∷ p) (firsts_from k (as_networks ns))
+unfolding firsts
+firsts-within n k [] l = refl
+firsts-within n k (m ∷ ns) l =
+    map-append (behind_list n) (map (λ p. k ∷ p) (firsts m)) (firsts_from (suc k) (as_networks ns))
+    ∙ (ap₂ ◌++◌ (each_within n k (firsts m) (omega arith)) (firsts-within n (suc k) ns (omega arith))
+    ∙ sym (map-append (λ p. zero ∷ p) (map (λ p. k ∷ p) (firsts m)) (firsts_from (suc k) (as_networks ns))))
 
--- a level with a network to read begins with it
-pub level_read-more : (l k : Level) (bs : List Bool) → 0 < l.read → k.read ≡ l.read - 1 → k.pass ≡ l.pass
-    → level_read l bs ≡ true ∷ level_read k bs
-level_read-more l k bs some r p =
-    let e : l.read ≡ suc k.read = omega arith in
-    ap₂ (λ n m. so_many n true (so_many m false bs)) e (sym p)
+-- of networks that are read the first tasks are those of each
+places-read : (n k : ℕ) (bs : List Bool) (ns : List Network) → n ≤ length ns
+    → places (so_many n true bs) k ns ≡ firsts_from k (as_networks (take n ns)) ++ places bs (n + k) (drop n ns)
+unfolding firsts
+places-read zero k bs ns l = ap (λ j. places bs j ns) (let e : k ≡ 0 + k = omega arith in e)
+places-read (suc n) k bs [] l = absurd (omega arith)
+places-read (suc n) k bs (m ∷ ns) l =
+    let e : n + suc k ≡ suc n + k = omega arith in
+    ap (λ xs. map (λ p. k ∷ p) (firsts m) ++ xs)
+    (places-read n (suc k) bs ns (omega arith)
+    ∙ ap (λ j. firsts_from (suc k) (as_networks (take n ns)) ++ places bs j (drop n ns)) e)
+    ∙ sym
+    (append_assoc (map (λ p. k ∷ p) (firsts m)) (firsts_from (suc k) (as_networks (take n ns)))
+    (places bs (suc n + k) (drop n ns)))
 
--- of a level without one some networks are passed over
-pub level_read-none : (l : Level) (bs : List Bool) → l.read ≡ 0 → level_read l bs ≡ so_many l.pass false bs
-level_read-none l bs e = ap (λ n. so_many n true (so_many l.pass false bs)) e
+-- of networks that are passed over there is none
+places-passed : (n k : ℕ) (bs : List Bool) (ns : List Network) → n ≤ length ns
+    → places (so_many n false bs) k ns ≡ places bs (n + k) (drop n ns)
+places-passed zero k bs ns l = ap (λ j. places bs j ns) (let e : k ≡ 0 + k = omega arith in e)
+places-passed (suc n) k bs [] l = absurd (omega arith)
+places-passed (suc n) k bs (m ∷ ns) l =
+    let e : n + suc k ≡ suc n + k = omega arith in
+    places-passed n (suc k) bs ns (omega arith) ∙ ap (λ j. places bs j (drop n ns)) e
 
--- nothing is found where nothing is read
-pub marks-none : (es : List Entry) (b : ℕ) → marks es [] b ≡ []
-marks-none [] b = refl
-marks-none (e ∷ es) b = refl
+-- the paths of a list's first tasks, and of those behind it
+places-list : (read : Bool) (order : Order) (n : ℕ) (bs : List Bool) (ns : List Network) → 2 ≤ n → n ≤ length ns
+    → map (behind_list n) (places (parts_read read order n bs) 0 ns)
+    ≡ cond read (map (λ p. zero ∷ p) (firsts (listed order (as_networks (take n ns))))) [] ++ places bs 1 (drop n ns)
+unfolding firsts
+places-list false order n bs ns two l =
+    ap (map (behind_list n)) (places-passed n 0 bs ns l) ∙ places-past n 0 bs (drop n ns)
+places-list true Unordered n bs ns two l =
+    let e = length-take-le n ns l in
+    ap (map (behind_list n)) (places-read n 0 bs ns l)
+    ∙ (map-append (behind_list n) (firsts_from 0 (as_networks (take n ns))) (places bs (n + 0) (drop n ns))
+    ∙ ap₂ ◌++◌ (firsts-within n 0 (take n ns) (omega arith)) (places-past n 0 bs (drop n ns)))
+places-list true Ordered zero bs ns two l = absurd (omega arith)
+places-list true Ordered (suc n) bs [] two l = absurd (omega arith)
+places-list true Ordered (suc n) bs (m ∷ ns) two l =
+    let e : suc n - 1 ≡ n = omega arith in
+    let f : n + 1 ≡ suc n + 0 = omega arith in
+    ap
+    (λ j. map (behind_list (suc n)) (map (λ p. zero ∷ p) (firsts m) ++ places (so_many j false bs) 1 ns)) e
+    ∙ (ap (λ xs. map (behind_list (suc n)) (map (λ p. zero ∷ p) (firsts m) ++ xs))
+    (places-passed n 1 bs ns (omega arith) ∙ ap (λ j. places bs j (drop n ns)) f)
+    ∙ (map-append (behind_list (suc n)) (map (λ p. zero ∷ p) (firsts m)) (places bs (suc n + 0) (drop n ns))
+    ∙ ap₂ ◌++◌ (each_within (suc n) 0 (firsts m) (omega arith)) (places-past (suc n) 0 bs (drop n ns))))
 
--- ---- one entry
+-- the tasks that are found stand at the paths of the first tasks
+entry_paths-marks : (terms : List Term) (es : List Entry) (bs : List Bool) → AreFull es
+    → map (λ i. entry_path i es) (marks es bs 0) ≡ map Some (places bs 0 (forest terms es))
+unfolding firsts
+entry_paths-marks terms [] [] f = refl
+entry_paths-marks terms [] (read ∷ bs) f = refl
+entry_paths-marks terms (e ∷ es) [] f = refl
+entry_paths-marks terms (Task cell immediate ∷ es) (true ∷ bs) f =
+    ap (λ xs. Some (zero ∷ []) ∷ xs)
+    (ap (map (λ i. entry_path i (Task cell immediate ∷ es))) (marks-suc es bs 0)
+    ∙ (map-map (λ i. entry_path i (Task cell immediate ∷ es)) suc (marks es bs 0)
+    ∙ (sym (map-map (option_map behind_task) (λ i. entry_path i es) (marks es bs 0))
+    ∙ (ap (map (option_map behind_task)) (entry_paths-marks terms es bs f)
+    ∙ (map-Some behind_task (places bs 0 (forest terms es))
+    ∙ ap (map Some) (places-task bs 0 (forest terms es)))))))
+entry_paths-marks terms (Task cell immediate ∷ es) (false ∷ bs) f =
+    ap (map (λ i. entry_path i (Task cell immediate ∷ es))) (marks-suc es bs 0)
+    ∙ (map-map (λ i. entry_path i (Task cell immediate ∷ es)) suc (marks es bs 0)
+    ∙ (sym (map-map (option_map behind_task) (λ i. entry_path i es) (marks es bs 0))
+    ∙ (ap (map (option_map behind_task)) (entry_paths-marks terms es bs f)
+    ∙ (map-Some behind_task (places bs 0 (forest terms es))
+    ∙ ap (map Some) (places-task bs 0 (forest terms es))))))
+entry_paths-marks terms (Parts order n ∷ es) (read ∷ bs) f =
+    let cs = parts_read read order n bs in
+    let enough : n ≤ length (forest terms es)
+    = (let l = length-forest terms [] es in let g = f.1 in omega arith) in
+    ap (map (λ i. entry_path i (Parts order n ∷ es))) (marks-suc es cs 0)
+    ∙ (map-map (λ i. entry_path i (Parts order n ∷ es)) suc (marks es cs 0)
+    ∙ (sym (map-map (option_map (behind_list n)) (λ i. entry_path i es) (marks es cs 0))
+    ∙ (ap (map (option_map (behind_list n))) (entry_paths-marks terms es cs f.2)
+    ∙ (map-Some (behind_list n) (places cs 0 (forest terms es))
+    ∙ ap (map Some) (places-list read order n bs (forest terms es) f.0 enough)))))
 
--- a list of full ones has two parts or more
-pub full_entry : (es : List Entry) (i : ℕ) (e : Entry) → slice_get es i ≡ Some e → AreFull es → IsFullEntry e
-full_entry es i (Task cell immediate) h f = tt
-full_entry es i (Parts order n) h f =
-    let g : AreFull (Parts order n ∷ drop (suc i) es)
-    = subst AreFull (drop-from es i (Parts order n) h) (full_behind i es f) in
-    g.0
-
--- an entry before networks, and how many there are
-abbrev CountsTo : Entry → List Entry → Type 0
-CountsTo (Task cell immediate) es = length (forest [] (Task cell immediate ∷ es)) ≡ length (forest [] es) + 1
-CountsTo (Parts order n) es = length (forest [] (Parts order n ∷ es)) + n ≡ length (forest [] es) + 1
-
--- an entry of full lists before networks is one more, without its parts
-counts_to : (e : Entry) (es : List Entry) → AreFull (e ∷ es) → CountsTo e es
-counts_to (Task cell immediate) es f = omega arith
-counts_to (Parts order n) es f =
-    let l = length-drop n (forest [] es) in
-    let enough = f.1 in
-    omega arith
-
--- where an entry is passed over its parts are, too
-passed_over : (e : Entry) (es : List Entry) (left : ℕ) (bs : List Bool) (b : ℕ)
-    → marks (e ∷ es) (so_many (suc left) false bs) b ≡ marks es (so_many (left_of e (suc left)) false bs) (suc b)
-passed_over (Task cell immediate) es left bs b =
-    ap (λ n. marks es (so_many n false bs) (suc b)) (let e : left ≡ suc left - 1 = omega arith in e)
-passed_over (Parts order n) es left bs b =
-    ap (λ cs. marks es cs (suc b))
-    (so_many-add n left false bs
-    ∙ ap (λ m. so_many m false bs) (let e : n + left ≡ suc left - 1 + n = omega arith in e))
-
--- an entry was passed over
-pub record StepsOver (es : List Entry) (place left : ℕ) (e : Entry) : Type 0 where
-  pub marks : (bs : List Bool) → marks (drop place es) (so_many left false bs) place
-      ≡ marks (drop (place + 1) es) (so_many (left_of e left) false bs) (place + 1)
-  pub count : left + length (forest [] (drop (place + 1) es)) ≡ left_of e left + length (forest [] (drop place es))
-  pub enough : left_of e left ≤ length (forest [] (drop (place + 1) es))
-  pub few : left_of e left ≤ length es
-
-module _ (es : List Entry) (place : ℕ) (e : Entry) (is : slice_get es place ≡ Some e) (f : AreFull es) where
-  -- from the place on stand this entry and those behind it
-  from_here : drop place es ≡ e ∷ drop (suc place) es
-  from_here = drop-from es place e is
-
-  -- the lists from the place on are full
-  full_here : AreFull (e ∷ drop (suc place) es)
-  full_here = subst AreFull from_here (full_behind place es f)
-
-  -- this entry is one network more, without its parts
-  counted : (d : Entry) → e ≡ d → CountsTo d (drop (suc place) es)
-  counted d h = counts_to d (drop (suc place) es) (subst (λ x. AreFull (x ∷ drop (suc place) es)) h full_here)
-
-  -- by the kind of the entry so many networks are left to be passed over, and as many are there
-  steps_for : (left : ℕ) (d : Entry) → e ≡ d → suc left ≤ length (forest [] (e ∷ drop (suc place) es))
-      → (suc left + length (forest [] (drop (suc place) es))
-      ≡ left_of d (suc left) + length (forest [] (e ∷ drop (suc place) es)))
-      × (left_of d (suc left) ≤ length (forest [] (drop (suc place) es)))
-  steps_for left (Task cell immediate) h l =
-      let c = counted (Task cell immediate) h in
-      let n = ap (λ d. length (forest [] (d ∷ drop (suc place) es))) h in
-      (omega arith, omega arith)
-  steps_for left (Parts order m) h l =
-      let c = counted (Parts order m) h in
-      let n = ap (λ d. length (forest [] (d ∷ drop (suc place) es))) h in
-      (omega arith, omega arith)
-
-  -- an entry is passed over
-  pub steps_over : (left : ℕ) → left ≤ length (forest [] (drop place es)) → 0 < left → StepsOver es place left e
-  steps_over zero l some = absurd (omega arith)
-  steps_over (suc left) l some =
-      let k : suc left ≤ length (forest [] (e ∷ drop (suc place) es))
-      = subst (λ xs. suc left ≤ length (forest [] xs)) from_here l in
-      let s = steps_for left e refl k in
-      let m : place + 1 ≡ suc place = omega arith in
-      let c = ap (λ n. length (forest [] (drop n es))) m in
-      let d = ap (λ xs. length (forest [] xs)) from_here in
-      let s0 = s.0 in
-      let s1 = s.1 in
-      let g = few_networks [] (drop (suc place) es) in
-      let h = length-drop (suc place) es in
-      record {
-        marks = λ bs.
-            ap (λ xs. marks xs (so_many (suc left) false bs) place) from_here
-            ∙ (passed_over e (drop (suc place) es) left bs place
-            ∙ ap (λ n. marks (drop n es) (so_many (left_of e (suc left)) false bs) n) (sym m));
-        count = omega arith;
-        enough = omega arith;
-        few = omega arith;
-      }
-
-  -- of an entry that is read come its own task, and then what is found behind it
-  read_here : (d : Entry) (xs : List Entry) (bs : List Bool) (b : ℕ)
-      → marks (d ∷ xs) (true ∷ bs) b ≡ task_found d b ++ marks xs (read_behind d bs) (suc b)
-  read_here (Task cell immediate) xs bs b = refl
-  read_here (Parts order n) xs bs b = refl
-
-  -- as many networks as are read or passed over are there
-  counts_for : (d : Entry) → e ≡ d → (bs : List Bool)
-      → suc (length bs) ≤ length (forest [] (e ∷ drop (suc place) es))
-      → length (read_behind d bs) ≤ length (forest [] (drop (suc place) es))
-  counts_for (Task cell immediate) h bs l =
-      let c = counted (Task cell immediate) h in
-      let n = ap (λ d. length (forest [] (d ∷ drop (suc place) es))) h in
-      omega arith
-  counts_for (Parts order m) h bs l =
-      let c = counted (Parts order m) h in
-      let n = ap (λ d. length (forest [] (d ∷ drop (suc place) es))) h in
-      let two = full_entry es place (Parts order m) (is ∙ ap Some h) f in
-      let r = length-parts_read order m bs two in
-      omega arith
-
-  -- what is found are tasks
-  found_for : (d : Entry) → e ≡ d → (found : List ℕ) → All (HasTask es) found
-      → All (HasTask es) (found ++ task_found d place)
-  found_for (Task cell immediate) h found a =
-      All-push (HasTask es) found place a (cell, immediate, is ∙ ap Some h)
-  found_for (Parts order m) h found a = subst (All (HasTask es)) (sym (append-nil found)) a
-
-  -- an entry is read
-  pub visits_entry : (level next : Level) (old middle new : List Level) (found more : List ℕ) → 0 < level.read
-      → next.read ≡ level.read - 1 → next.pass ≡ level.pass → middle ≡ old ++ next ∷ []
-      → length (level_read level (are_read old)) ≤ length (forest [] (drop place es))
-      → Enters e place middle new found more
-      → Visits es place (place + 1) level old new found more
-  visits_entry level next old middle new found more some r p pushed enough n =
-      let bs = level_read next (are_read old) in
-      let rest = drop (suc place) es in
-      let m : place + 1 ≡ suc place = omega arith in
-      let was : level_read level (are_read old) ≡ true ∷ bs = level_read-more level next (are_read old) some r p in
-      let now : are_read new ≡ read_behind e bs
-      = n.read ∙ ap (read_behind e) (ap are_read pushed ∙ are_read-push old next) in
-      let few : suc (length bs) ≤ length (forest [] (e ∷ rest))
-      = subst (λ xs. suc (length bs) ≤ length (forest [] xs)) from_here
-      (subst (λ cs. length cs ≤ length (forest [] (drop place es))) was enough) in
-      let within = inside few in
-      record {
-        marks =
-            ap₂ (λ xs ys. xs ++ ys) n.finds
-            (ap (λ k. marks (drop k es) (are_read new) k) m ∙ ap (λ cs. marks rest cs (suc place)) now)
-            ∙ (append_assoc found (task_found e place) (marks rest (read_behind e bs) (suc place))
-            ∙ ap (λ xs. found ++ xs)
-            (sym (read_here e rest bs place)
-            ∙ ap₂ (λ xs cs. marks xs cs place) (sym from_here) (sym was)));
-        enough =
-            let a = counts_for e refl bs few in
-            let b = ap length now in
-            let c = ap (λ k. length (forest [] (drop k es))) m in
-            omega arith;
-        tasks = λ a. subst (All (HasTask es)) (sym n.finds) (found_for e refl found a);
-        later =
-            let a = n.levels in
-            let b = ap length pushed ∙ length_push old next in
-            omega arith;
-        within = omega arith;
-      }
-    where
-      inside : {k : ℕ} → suc k ≤ length (forest [] (e ∷ drop (suc place) es)) → place < length es
-      inside l = slice_get_within es place e is
-
--- a list that is read puts a level for its parts behind the others
-pub enters_list : (e : Entry) (order : Order) (n place : ℕ) (old new : List Level) (found : List ℕ) (l : Level)
-    → e ≡ Parts order n → new ≡ old ++ l ∷ [] → ((bs : List Bool) → level_read l bs ≡ parts_read true order n bs)
-    → Enters e place old new found found
-enters_list e order n place old new found l is pushed says =
-    subst (λ d. Enters d place old new found found) (sym is)
-    (record {
-      read = ap are_read pushed ∙ (are_read-push old l ∙ says (are_read old));
-      finds = sym (append-nil found);
-      levels = (let p = ap length pushed ∙ length_push old l in omega arith);
-    })
-
--- networks are passed over
-pub visits_passing : (es : List Entry) (place next : ℕ) (level : Level) (levels : List Level) (found : List ℕ)
-    → level.read ≡ 0 → length (level_read level (are_read levels)) ≤ length (forest [] (drop place es))
-    → Passes es place level.pass next → Visits es place next level levels levels found found
-visits_passing es place next level levels found none enough p =
-    let was = level_read-none level (are_read levels) none in record {
-      marks =
-          ap (λ xs. found ++ xs)
-          (sym (p.marks (are_read levels)) ∙ ap (λ cs. marks (drop place es) cs place) (sym was));
-      enough =
-          let a = p.count in
-          let b = length-level_read level (are_read levels) in
-          omega arith;
-      tasks = λ a. a;
-      later = (let l = p.later in omega arith);
-      within = p.within;
-    }
-
--- where networks stand there is an entry
-pub place_within : (es : List Entry) (place : ℕ) → 0 < length (forest [] (drop place es)) → place < length es
-place_within es place l =
-    let f = few_networks [] (drop place es) in
-    let n = length-drop place es in
-    omega arith
-
--- where there is an entry a network stands
-pub some_network : (es : List Entry) (place : ℕ) → place < length es → 1 ≤ length (forest [] (drop place es))
-some_network es place l = some (drop place es) (let n = length-drop place es in omega arith)
+-- the tasks that are found from one entry on stand at the paths of the first tasks of its network
+first_entry_paths : (terms : List Term) (es : List Entry) → AreFull es
+    → map (λ i. entry_path i es) (marks es (true ∷ []) 0)
+    ≡ map Some (map (λ p. zero ∷ p) (firsts (first_network (forest terms es))))
+unfolding firsts
+first_entry_paths terms es f = entry_paths-marks terms es (true ∷ []) f ∙ ap (map Some) (one (forest terms es))
   where
-    some : (xs : List Entry) → 0 < length xs → 1 ≤ length (forest [] xs)
-    some [] l = absurd (omega arith)
-    some (Task cell immediate ∷ xs) l = omega arith
-    some (Parts order n ∷ xs) l = omega arith
+    one : (ns : List Network) → places (true ∷ []) 0 ns ≡ map (λ p. zero ∷ p) (firsts (first_network ns))
+    one [] = refl
+    one (n ∷ ns) = append-nil (map (λ p. zero ∷ p) (firsts n))
+
+-- ---- places of the first tasks
+
+-- numbers from an entry on are those from the first on, and its own
+marks-from : (es : List Entry) (bs : List Bool) (j : ℕ) → marks es bs j ≡ map (λ i. j + i) (marks es bs 0)
+marks-from es bs zero = same (marks es bs 0)
+  where
+    same : (xs : List ℕ) → xs ≡ map (λ i. 0 + i) xs
+    same [] = refl
+    same (x ∷ xs) = ap₂ ◌∷◌ (let e : x ≡ 0 + x = omega arith in e) (same xs)
+marks-from es bs (suc j) =
+    marks-suc es bs j
+    ∙ (ap (map suc) (marks-from es bs j) ∙ (map-map suc (λ i. j + i) (marks es bs 0) ∙ next (marks es bs 0)))
+  where
+    next : (xs : List ℕ) → map (λ i. suc (j + i)) xs ≡ map (λ i. suc j + i) xs
+    next [] = refl
+    next (x ∷ xs) = ap₂ ◌∷◌ (let e : suc (j + x) ≡ suc j + x = omega arith in e) (next xs)
+
+-- below an entry's place stands what stands in its network
+place_below : (es : List Entry) (j i : ℕ) (p q : Place) → entry_path j es ≡ Some (zero ∷ p)
+    → entry_path i (drop j es) ≡ Some (zero ∷ q) → place_of es (j + i) ≡ Some (p ++ q)
+unfolding place_of
+place_below es j i p q h a =
+    ap (option_and_then below_root) (entry_path-below j i es q a ∙ ap (option_map (λ r. r ++ q)) h)
+
+-- below an entry's place stand those of its network
+places-below : (es : List Entry) (j : ℕ) (p : Place) → entry_path j es ≡ Some (zero ∷ p) → (is : List ℕ) (qs : List Place)
+    → map (λ i. entry_path i (drop j es)) is ≡ map Some (map (λ q. zero ∷ q) qs)
+    → map (place_of es) (map (λ i. j + i) is) ≡ map Some (map (λ q. p ++ q) qs)
+places-below es j p h [] [] e = refl
+places-below es j p h [] (q ∷ qs) e = absurd cc
+places-below es j p h (i ∷ is) [] e = absurd cc
+places-below es j p h (i ∷ is) (q ∷ qs) e =
+    let a : entry_path i (drop j es) ≡ Some (zero ∷ q) = cc in
+    let b : map (λ i. entry_path i (drop j es)) is ≡ map Some (map (λ q. zero ∷ q) qs) = cc in
+    ap₂ ◌∷◌ (place_below es j i p q h a) (places-below es j p h is qs b)
+
+-- paths in the first network are places
+places-whole : (es : List Entry) (is : List ℕ) (qs : List Place)
+    → map (λ i. entry_path i es) is ≡ map Some (map (λ q. zero ∷ q) qs) → map (place_of es) is ≡ map Some qs
+unfolding place_of
+places-whole es [] [] e = refl
+places-whole es [] (q ∷ qs) e = absurd cc
+places-whole es (i ∷ is) [] e = absurd cc
+places-whole es (i ∷ is) (q ∷ qs) e =
+    let a : entry_path i es ≡ Some (zero ∷ q) = cc in
+    let b : map (λ i. entry_path i es) is ≡ map Some (map (λ q. zero ∷ q) qs) = cc in
+    ap₂ ◌∷◌ (ap (option_and_then below_root) a) (places-whole es is qs b)
+
+-- where the entries are one network each has a place
+place_there : (es : List Entry) (i : ℕ) → length (forest [] es) ≤ 1 → i < length es
+    → (p : Place) × (entry_path i es ≡ Some (zero ∷ p))
+place_there es i one l = cases (entry_path i es) refl
+  where
+    cases : (s : Option (List ℕ)) → entry_path i es ≡ s → (p : Place) × (entry_path i es ≡ Some (zero ∷ p))
+    cases None e = absurd (let h = ap (part_of (forest [] es)) (sym e) ∙ part_of-entry_path [] i es l in cc)
+    cases (Some []) e = absurd (let h = ap (part_of (forest [] es)) (sym e) ∙ part_of-entry_path [] i es l in cc)
+    cases (Some (zero ∷ p)) e = (p, e)
+    cases (Some (suc k ∷ p)) e = absurd (let h = entry_path_within [] i es (suc k) p e in omega arith)
+
+-- ---- immediate tasks
+
+module _ (terms : List Term) (es : List Entry) where
+  -- whether an entry is an immediate task
+  abbrev entry_is : ℕ → Bool
+  entry_is i = entry_immediate (slice_get es i)
+
+  -- whether an immediate task stands at a place
+  abbrev place_is : Place → Bool
+  place_is p = is_immediate (part_at (network_in terms es) p)
+
+  -- a task is immediate where its entry says so
+  immediate_there : (i : ℕ) (p : Place) → HasTask es i → place_of es i ≡ Some p → entry_is i ≡ place_is p
+  immediate_there i p t h =
+      ap entry_immediate t.2 ∙ sym (ap is_immediate (task_at-place terms es i t.0 t.1 p t.2 h))
+
+  -- immediate tasks are those at whose places immediate tasks stand
+  immediate_same : (is : List ℕ) (ps : List Place) → All (HasTask es) is → map (place_of es) is ≡ map Some ps
+      → (list_any entry_is is ≡ list_any place_is ps)
+      × (map (place_of es) (filter entry_is is) ≡ map Some (filter place_is ps))
+  immediate_same [] [] a e = (refl, refl)
+  immediate_same [] (p ∷ ps) a e = absurd cc
+  immediate_same (i ∷ is) [] a e = absurd cc
+  immediate_same (i ∷ is) (p ∷ ps) a e =
+      let h : place_of es i ≡ Some p = cc in
+      let r : map (place_of es) is ≡ map Some ps = cc in
+      let b = immediate_there i p (All-head (HasTask es) i is a) h in
+      let s = immediate_same is ps (All-tail (HasTask es) i is a) r in
+      (ap₂ ◌||◌ b s.0, kept b s.1 h)
+    where
+      both : (k : Bool) → place_of es i ≡ Some p
+          → map (place_of es) (filter entry_is is) ≡ map Some (filter place_is ps)
+          → map (place_of es) (cond k (i ∷ filter entry_is is) (filter entry_is is))
+          ≡ map Some (cond k (p ∷ filter place_is ps) (filter place_is ps))
+      both true h s = ap₂ ◌∷◌ h s
+      both false h s = s
+
+      kept : entry_is i ≡ place_is p → map (place_of es) (filter entry_is is) ≡ map Some (filter place_is ps)
+          → place_of es i ≡ Some p
+          → map (place_of es) (filter entry_is (i ∷ is)) ≡ map Some (filter place_is (p ∷ ps))
+      kept b s h =
+          ap (λ k. map (place_of es) (cond k (i ∷ filter entry_is is) (filter entry_is is))) b
+          ∙ both (place_is p) h s
+
+  -- the tasks that are left are those that stand at the places that are left
+  places_left : (is : List ℕ) (ps : List Place) → All (HasTask es) is → map (place_of es) is ≡ map Some ps
+      → map (place_of es) (immediate_ids es is) ≡ map Some (immediate_first (network_in terms es) ps)
+  places_left is ps a e =
+      let s = immediate_same is ps a e in
+      ⊎_elim (λ t. let u : list_any place_is ps ≡ true = sym s.0 ∙ t in rw (t, u) s.1)
+      (λ t. let u : list_any place_is ps ≡ false = sym s.0 ∙ t in rw (t, u) e) (cases_Bool (list_any entry_is is))
+
+  -- the first tasks from the entry that has the focus on
+  first_below : (i : ℕ) (p : Place) → AreFull es → entry_path i es ≡ Some (zero ∷ p)
+      → map (place_of es) (marks (drop i es) (true ∷ []) i)
+      ≡ map Some (firsts_below p (part_at (network_in terms es) p))
+  first_below i p f h =
+      ap (map (place_of es)) (marks-from (drop i es) (true ∷ []) i)
+      ∙ (places-below es i p h (marks (drop i es) (true ∷ []) 0) (firsts (first_network (forest terms (drop i es))))
+      (first_entry_paths terms (drop i es) (full_behind i es f))
+      ∙ ap (λ n. map Some (firsts_below p n)) (sym (part_at-place terms es i p h)))
+
+  -- the tasks that are found are the candidates
+  pub places_found : (focus : Option ℕ) (found : List ℕ) → IsFlatNetwork (record { entries = es; focus = focus })
+      → found ≡ marks (drop (unwrap_or focus 0) es) (true ∷ []) (unwrap_or focus 0) → All (HasTask es) found
+      → map (place_of es) (immediate_ids es found)
+      ≡ map Some (candidates (network_in terms es) (option_and_then (place_of es) focus))
+  unfolding candidates network_in
+  places_found None found o e a =
+      places_left found (firsts (network_in terms es)) a
+      (ap (map (place_of es)) e
+      ∙ places-whole es (marks es (true ∷ []) 0) (firsts (network_in terms es)) (first_entry_paths terms es o.full))
+  places_found (Some i) found o e a =
+      let t = place_there es i o.one o.focus in
+      let p = t.0 in
+      places_left found (firsts_below p (part_at (network_in terms es) p)) a
+      (ap (map (place_of es)) e ∙ first_below i p o.full t.1)
+      ∙ ap (λ q. map Some (candidates (network_in terms es) q)) (sym (place_from_entry_path es i p t.1))
+
+-- what is left of tasks are tasks
+pub tasks_left : (es : List Entry) (is : List ℕ) → All (HasTask es) is → All (HasTask es) (immediate_ids es is)
+tasks_left es is a =
+    cond_both (list_any (λ i. entry_immediate (slice_get es i)) is) _ _ (All (HasTask es))
+    (λ h. All-filter (λ i. entry_immediate (slice_get es i)) (HasTask es) is a) (λ h. a)

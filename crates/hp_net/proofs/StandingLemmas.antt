@@ -1,7 +1,11 @@
 -- Where a walk stands.
-use Rattle.std.proofs.Common.{◌≡◌, ◌≢◌, ℕ, ◌<◌, List, [], ◌∷◌, length, arith, refl, ap, Option, Some, None, option_map, map, true, false, ◌==◌, ◌∙◌}
-use Rattle.hp_syntax.specs.Walk.{Visit}
+use Rattle.std.proofs.Common.{◌≡◌, ◌≢◌, ℕ, ◌<◌, List, [], ◌∷◌, length, arith, refl, ap, sym, Option, Some, None, option_map, map, true, false, ◌==◌, ◌∙◌}
+use Rattle.std.proofs.lemmas.Option.{same_Some}
+use Rattle.hp_syntax.specs.Walk.{Node, Sight, Visit, visit, Did, Plan, CutHere, FaultHere}
+use Rattle.hp_net.specs.declared.walk.Step.{Step}
+use Rattle.hp_net.specs.declared.walk.Step.TheVariants as steps
 use Rattle.hp_net.specs.Standings.{parent, step_of}
+use Rattle.hp_net.proofs.FlatNetworkLemmas.{no_zero}
 
 -- the way to a parent is shorter
 pub parent_shorter : (p : List ℕ) → p ≢ [] → length (parent p) < length p
@@ -18,3 +22,21 @@ nothing (Some v) e = cc
 pub not_empty : (f : ℕ → ℕ) (p q : List ℕ) → q ≡ map f p → false ≡ (length q == 0) → p ≢ []
 not_empty f [] q e h = let h' : false ≡ true = h ∙ ap (λ r. length r == 0) e in λ _. cc
 not_empty f (i ∷ p) q e h = λ k. cc
+
+-- a path that is told with no numbers is empty
+pub told_empty : (f : ℕ → ℕ) (p q : List ℕ) → q ≡ map f p → true ≡ (length q == 0) → p ≡ []
+told_empty f [] q e h = refl
+told_empty f (i ∷ p) q e h =
+    let h' : true ≡ false = h ∙ (ap (λ r. length r == 0) e ∙ no_zero (length (map f p))) in absurd (cc)
+
+-- no visit is told as the end
+visit_is_no_end : (p : List ℕ) (n : Node) (x : Sight) → step_of (visit p n x) ≢ steps.End
+visit_is_no_end p n Did = λ e. cc
+visit_is_no_end p n Plan = λ e. cc
+visit_is_no_end p n CutHere = λ e. cc
+visit_is_no_end p n (FaultHere f) = λ e. cc
+
+-- a step that tells a visit is not the end
+pub some_step_is_no_end : (s : Step) (o : Option Visit) → Some s ≡ option_map step_of o → s ≢ steps.End
+some_step_is_no_end s None e = λ _. cc
+some_step_is_no_end s (Some v) e = λ h. visit_is_no_end v.path v.node v.sight (sym (same_Some s (step_of v) e) ∙ h)

@@ -4,7 +4,7 @@ use Rattle.std.specs.List.{remove}
 use Rattle.hp_net.specs.declared.entry.Order.{Order}
 use Rattle.hp_net.specs.declared.entry.Entry.{Entry}
 use Rattle.hp_net.specs.declared.entry.Entry.TheVariants.{Task, List as Parts}
-use Rattle.hp_net.specs.Outlines.{spot}
+use Rattle.hp_net.specs.FlatNetworks.{entry_path}
 use Rattle.hp_net.specs.Pushed.{closed}
 
 -- the entry of this number is a task
@@ -28,11 +28,11 @@ pub record IsPart (es : List Entry) (task list : ℕ) : Type 0 where
   pub is : slice_get es list ≡ Some (Parts order parts)
   pub within : before < parts
   pub earlier : list < task
-  pub there : spot (task - suc list) (drop (suc list) es) ≡ Some (before ∷ [])
+  pub there : entry_path (task - suc list) (drop (suc list) es) ≡ Some (before ∷ [])
 
 -- a task is a part of no list
 abbrev pub IsAlone : List Entry → ℕ → Type 0
-IsAlone es task = (k : ℕ) × (spot task es ≡ Some (k ∷ []))
+IsAlone es task = (k : ℕ) × (entry_path task es ≡ Some (k ∷ []))
 
 -- the entries with one part of a list less
 abbrev pub fewer_by : Option Entry → ℕ → List Entry → List Entry

@@ -1,5 +1,5 @@
 pub mod Edits
-pub mod Outlines
+pub mod FlatNetworks
 pub mod Pushed
 pub mod Reading
 pub mod Runs

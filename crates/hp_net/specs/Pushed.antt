@@ -9,7 +9,7 @@ use Rattle.hp_eval.specs.GoalViews.{network_of, networks_of}
 use Rattle.hp_net.specs.declared.entry.Order.{Order}
 use Rattle.hp_net.specs.declared.entry.Entry.{Entry}
 use Rattle.hp_net.specs.declared.entry.Entry.TheVariants.{List as Parts}
-use Rattle.hp_net.specs.Outlines.{forest, listed, AreFull}
+use Rattle.hp_net.specs.FlatNetworks.{forest, listed, AreFull}
 
 -- a network, or nothing where it is empty
 abbrev pub shown : Network → List Network

@@ -7,7 +7,7 @@ use Rattle.hp_net.specs.declared.entry.Entry.{Entry}
 use Rattle.hp_net.specs.declared.entry.Entry.TheVariants.{Task, List as Parts}
 use Rattle.hp_net.specs.declared.reading.Level.{Level}
 use Rattle.hp_net.specs.Edits.{HasTask}
-use Rattle.hp_net.specs.Outlines.{forest}
+use Rattle.hp_net.specs.FlatNetworks.{forest}
 
 -- so many times the same before others
 abbrev pub so_many : ℕ → Bool → List Bool → List Bool

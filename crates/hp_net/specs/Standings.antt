@@ -1,5 +1,6 @@
 -- Where a walk of a tree stands, and where each call takes it.
-use Rattle.std.specs.Prelude.{ℕ, ◌-◌, ◌^◌, min, Bool, false, cond, List, [], ◌∷◌, map, Option, Some, None}
+use Rattle.std.specs.Prelude.{◌≡◌, ℕ, ◌-◌, ◌^◌, min, Bool, false, cond, List, [], ◌∷◌, length, map, Option, Some, None}
+use Rattle.hp_syntax.specs.Terms.{Term}
 use Rattle.hp_syntax.specs.Syntax.{Rule}
 use Rattle.hp_syntax.specs.Walk.{Node, Visit, Did, Plan, CutHere, FaultHere, is_did, is_fault_here, node_at, begins, skip}
 use Rattle.hp_net.specs.declared.walk.Step.{Step}
@@ -22,6 +23,11 @@ standing p vs did = record { path = p; rest = vs; at_did = did }
 
 abbrev pub node_reached : Tree → Standing → Option Node
 node_reached t s = node_at t.rules t.nest t.root s.path
+
+-- where a number of cells is promised, there are so many
+abbrev pub HasCells : Option ℕ → List Term → Type 0
+HasCells None terms = Unit {0}
+HasCells (Some n) terms = length terms ≡ n
 
 -- ---- answers
 

@@ -1,11 +1,11 @@
 //! A task network with its focus.
-ghost use Rattle.std.specs.Prelude.{◌≡◌, ℕ, ◌<◌, Bool, List, map, None, Some, IfOk, OnOk, OnErr};
+ghost use Rattle.std.specs.Prelude.{◌≡◌, ℕ, ◌<◌, Bool, List, [], map, None, Some, IfOk, OnOk, OnErr};
 ghost use Rattle.std.specs.List.{All};
 ghost use Rattle.hp_syntax.specs.Terms.{Term};
 ghost use Rattle.hp_syntax.specs.Networks as plain;
 ghost use Rattle.hp_syntax.specs.Networks.{Place};
 ghost use Rattle.hp_eval.specs.GoalViews.{term_at, network_of, TreeBelow};
-ghost use Rattle.hp_net.specs.Outlines.{focused, place_of, NamesTask, EntryBelow};
+ghost use Rattle.hp_net.specs.FlatNetworks.{focused, place_of, NamesTask, EntryBelow};
 
 use crate::edits::{take_out, task_at, with_subtasks};
 use crate::entry::Entry;
@@ -69,21 +69,24 @@ impl Drop for Net {
 }
 
 impl Model for Net {
-    ghost use Rattle.hp_net.specs.Outlines.{Outline, IsOutline};
+    ghost use Rattle.std.specs.Prelude.{[]};
+    ghost use Rattle.hp_world.specs.Histories.{History};
+    ghost use Rattle.hp_net.specs.FlatNetworks.{FlatNetwork, IsFlatNetwork};
 
-    ghost Value = { Outline };
+    ghost Value = { History FlatNetwork };
 
-    ghost view = { λ n. record { entries = n.entries.items; focus = n.focus } };
+    ghost view = { λ n. record { past = []; now = record { entries = n.entries.items; focus = n.focus } } };
 
-    ghost invariant = { λ n. IsOutline (record { entries = n.entries.items; focus = n.focus }) };
+    ghost invariant = { λ n. IsFlatNetwork (record { entries = n.entries.items; focus = n.focus }) };
 }
 
 impl Net {
     /// The normal form of a tree, without a focus.
     pub fn new(alloc: Global, tree: &TaskTree) -> Result<Net, AllocError>
         ensures net { IfOk result (λ n. (terms : List Term)
-            → focused terms n ≡ (plain.normal (network_of terms tree.now), None)) }
-        ensures below { IfOk result (λ n. (k : ℕ) → TreeBelow k tree.now → All (EntryBelow k) n.entries) }
+            → focused terms n.now ≡ (plain.normal (network_of terms tree.now), None)) }
+        ensures below { IfOk result (λ n. (k : ℕ) → TreeBelow k tree.now → All (EntryBelow k) n.now.entries) }
+        ensures past { IfOk result (λ n. n.past ≡ []) }
     {
         let mut entries = Vec::new(alloc);
         push_tree(&mut entries, tree)?;
@@ -96,7 +99,7 @@ impl Net {
 
     /// Whether nothing is left to do.
     pub fn is_empty(&self) -> bool
-        ensures { (terms : List Term) → result ≡ plain.is_empty (focused terms self.now).0 }
+        ensures { (terms : List Term) → result ≡ plain.is_empty (focused terms self.now.now).0 }
     {
         self.entries.is_empty()
     }
@@ -104,9 +107,9 @@ impl Net {
     /// The tasks that may be done next, from left to right: the first ones of the subtasks that have the focus, or of
     /// the whole network where there is no focus; where one of them is immediate, the immediate ones alone.
     pub fn candidates(&self, alloc: Global) -> Result<Vec<TaskId>, AllocError>
-        ensures tasks { IfOk result (λ v. All (NamesTask self.now) v.items) }
-        ensures places { IfOk result (λ v. (terms : List Term) → map (place_of self.now.entries) v.items
-            ≡ map Some (plain.candidates (focused terms self.now).0 (focused terms self.now).1)) }
+        ensures tasks { IfOk result (λ v. All (NamesTask self.now.now) v.items) }
+        ensures places { IfOk result (λ v. (terms : List Term) → map (place_of self.now.now.entries) v.items
+            ≡ map Some (plain.candidates (focused terms self.now.now).0 (focused terms self.now.now).1)) }
     {
         let start = self.focus.unwrap_or(0);
         let mut found = first_tasks(alloc, self.entries.as_slice(), start)?;
@@ -116,21 +119,21 @@ impl Net {
 
     /// The task that an id names.
     pub fn task(&self, id: TaskId) -> Cell
-        requires { NamesTask self.now id }
-        ensures task { (terms : List Term) (p : Place) → place_of self.now.entries id ≡ Some p
-            → (immediate : Bool) × (plain.part_at (focused terms self.now).0 p
+        requires { NamesTask self.now.now id }
+        ensures task { (terms : List Term) (p : Place) → place_of self.now.now.entries id ≡ Some p
+            → (immediate : Bool) × (plain.part_at (focused terms self.now.now).0 p
             ≡ Some (plain.Task (term_at terms result) immediate)) }
-        ensures below { (k : ℕ) → All (EntryBelow k) self.now.entries → result < k }
+        ensures below { (k : ℕ) → All (EntryBelow k) self.now.now.entries → result < k }
     {
         task_at(self.entries.as_slice(), id.entry)
     }
 
     /// Takes a task out, and the focus away. An error leaves the network as it was.
     pub fn finish(&mut self, id: TaskId) -> Result<(), AllocError>
-        requires { NamesTask self.old id }
-        ensures net { OnOk result ((terms : List Term) (p : Place) → place_of self.old.entries id ≡ Some p
-            → focused terms self.new ≡ plain.finish (focused terms self.old).0 p) }
-        ensures below { (k : ℕ) → All (EntryBelow k) self.old.entries → All (EntryBelow k) self.new.entries }
+        requires { NamesTask self.old.now id }
+        ensures net { OnOk result ((terms : List Term) (p : Place) → place_of self.old.now.entries id ≡ Some p
+            → focused terms self.new.now ≡ plain.finish (focused terms self.old.now).0 p) }
+        ensures below { (k : ℕ) → All (EntryBelow k) self.old.now.entries → All (EntryBelow k) self.new.now.entries }
         ensures err { OnErr result (self.new ≡ self.old) }
     {
         take_out(&mut self.entries, id.entry);
@@ -141,12 +144,12 @@ impl Net {
     /// Puts subtasks in the place of a task, with the focus on them; without subtasks the task is done. An error leaves
     /// the network as it was.
     pub fn expand(&mut self, id: TaskId, tree: &TaskTree) -> Result<(), AllocError>
-        requires { NamesTask self.old id }
-        ensures net { OnOk result ((terms : List Term) (p : Place) → place_of self.old.entries id ≡ Some p
-            → focused terms self.new
-            ≡ plain.expand (focused terms self.old).0 p (plain.normal (network_of terms tree.now))) }
-        ensures below { (k : ℕ) → All (EntryBelow k) self.old.entries → TreeBelow k tree.now
-            → All (EntryBelow k) self.new.entries }
+        requires { NamesTask self.old.now id }
+        ensures net { OnOk result ((terms : List Term) (p : Place) → place_of self.old.now.entries id ≡ Some p
+            → focused terms self.new.now
+            ≡ plain.expand (focused terms self.old.now).0 p (plain.normal (network_of terms tree.now))) }
+        ensures below { (k : ℕ) → All (EntryBelow k) self.old.now.entries → TreeBelow k tree.now
+            → All (EntryBelow k) self.new.now.entries }
         ensures err { OnErr result (self.new ≡ self.old) }
     {
         let mut subtasks = Vec::new(self.alloc);
@@ -164,9 +167,9 @@ impl Net {
         Ok(())
     }
 
-    /// An equal network with the same focus.
+    /// An equal network with the same focus, without a past.
     pub fn copy(&self) -> Result<Net, AllocError>
-        ensures { IfOk result (λ n. n ≡ self.now) }
+        ensures { IfOk result (λ n. n ≡ record { past = []; now = self.now.now }) }
     {
         let entries = Vec::from_slice(self.alloc, self.entries.as_slice())?;
         Ok(Net {

@@ -2,7 +2,7 @@
 ghost use Rattle.std.specs.Prelude.{◌≡◌, ℕ, ◌<◌, cond, nat_lt, IfOk, OnOk, vec_len, length};
 ghost use Rattle.std.specs.List.{All};
 ghost use Rattle.hp_eval.specs.GoalViews.{TreeBelow, TreesBelow};
-ghost use Rattle.hp_net.specs.Outlines.{EntryBelow};
+ghost use Rattle.hp_net.specs.FlatNetworks.{EntryBelow};
 ghost use Rattle.hp_net.specs.Pushed.{kept, kept_list, Adds, closed};
 
 use crate::entry::{Entry, Order};

@@ -2,7 +2,7 @@
 ghost use Rattle.std.specs.Prelude.{◌≡◌, ◌+◌, ◌<◌, ◌≤◌, ◌^◌, ◌∷◌, [], Bool, List, true, IfOk, OnOk, length, drop, slice_get};
 ghost use Rattle.std.specs.List.{All};
 ghost use Rattle.hp_net.specs.Edits.{HasTask};
-ghost use Rattle.hp_net.specs.Outlines.{AreFull, forest};
+ghost use Rattle.hp_net.specs.FlatNetworks.{AreFull, forest};
 ghost use Rattle.hp_net.specs.Reading.{are_read, level_read, parts_read, marks, left_of, IsFullEntry, Enters, Passes, Visits, entry_immediate, immediate_ids};
 
 use crate::entry::{Entry, Order};

@@ -22,11 +22,11 @@ pub enum Step {
 /// world can be read, and it goes on from there: `next` makes the next visit wherever it is; `step` and `back` do the
 /// same with each way back as a call of its own; `prune` leaves out what lies below the decomposition just visited.
 pub trait Walk {
-    ghost use Rattle.std.specs.Prelude.{◌≡◌, ◌≢◌, ◌<◌, ℕ, Bool, true, false, List, [], None, OnOk, OnErr, IfOk, MatchOption, option_map, length};
+    ghost use Rattle.std.specs.Prelude.{◌≡◌, ◌≢◌, ◌<◌, ℕ, Bool, true, false, List, [], Option, None, OnOk, OnErr, IfOk, MatchOption, option_map, length};
     ghost use Rattle.std.specs.List.{All};
     ghost use Rattle.hp_syntax.specs.Terms.{Term};
     ghost use Rattle.hp_world.specs.Stages.{AllBelow, StageBelow, terms_at, state_of, guards_of};
-    ghost use Rattle.hp_net.specs.Standings.{Tree, Standing, node_reached, next_below, next_of, step_of, step_or_end, stepped, gone_on, gone_back, pruned, told};
+    ghost use Rattle.hp_net.specs.Standings.{Tree, Standing, HasCells, node_reached, next_below, next_of, step_of, step_or_end, stepped, gone_on, gone_back, pruned, told};
 
     /// The tree that is walked.
     ghost tree: { Self → Tree };
@@ -40,6 +40,9 @@ pub trait Walk {
     /// No call has failed.
     ghost is_live: { Self → Bool };
 
+    /// How many cells there are while the walk stands at its root and nothing is left, where the engine promises that.
+    ghost root_cells: { Self → Option ℕ };
+
     /// The next visit, where it is at or below the node reached: its plan, a cut or a fault of its list of children, or
     /// the next child. None where nothing more comes there.
     fn step(&mut self) -> Result<Option<Step>, AllocError>
@@ -48,6 +51,9 @@ pub trait Walk {
             ≡ option_map step_of (next_below (stands self.old).path (stands self.old).rest)) }
         ensures stands { OnOk result (stands self.new ≡ stepped (stands self.old)) }
         ensures tree { tree self.new ≡ tree self.old }
+        ensures root_cells { root_cells self.new ≡ root_cells self.old }
+        ensures given_back { IfOk result (λ s. s ≡ None → (stands self.old).path ≡ []
+            → HasCells (root_cells self.new) (terms self.new)) }
         ensures live { OnOk result (is_live self.new ≡ true) }
         ensures dead { OnErr result (is_live self.new ≡ false) };
 
@@ -58,6 +64,7 @@ pub trait Walk {
         requires done { next_below (stands self.old).path (stands self.old).rest ≡ None }
         ensures stands { stands self.new ≡ gone_back (stands self.old) }
         ensures tree { tree self.new ≡ tree self.old }
+        ensures root_cells { root_cells self.new ≡ root_cells self.old }
         ensures live { is_live self.new ≡ true };
 
     /// Leaves out all that lies below the child that was just answered. It takes no memory.
@@ -66,6 +73,7 @@ pub trait Walk {
         requires did { (stands self.old).at_did ≡ true }
         ensures stands { stands self.new ≡ pruned (stands self.old) }
         ensures tree { tree self.new ≡ tree self.old }
+        ensures root_cells { root_cells self.new ≡ root_cells self.old }
         ensures live { is_live self.new ≡ true };
 
     /// The steps of the node reached, from the first on.
@@ -110,6 +118,8 @@ pub trait Walk {
         ensures answer { IfOk result (λ s. s ≡ step_or_end (next_of (stands self.old).rest)) }
         ensures stands { OnOk result (stands self.new ≡ gone_on (stands self.old)) }
         ensures tree { tree self.new ≡ tree self.old }
+        ensures root_cells { root_cells self.new ≡ root_cells self.old }
+        ensures given_back { IfOk result (λ s. s ≡ Step.End → HasCells (root_cells self.new) (terms self.new)) }
         ensures live { OnOk result (is_live self.new ≡ true) }
         ensures dead { OnErr result (is_live self.new ≡ false) }
     {

@@ -41,20 +41,20 @@ deleted_is atoms [] = deleted_none atoms
 deleted_is atoms (d ∷ ds) = deleted_is (without d atoms) ds ∙ deleted_twice d ds atoms
 
 -- what applying the changes gives where this is the first protected atom to delete, if there is one
-abbrev outcome : ChangesOf ℕ → History → Option ℕ → AppliedOf ℕ
+abbrev outcome : ChangesOf ℕ → History Stage → Option ℕ → AppliedOf ℕ
 outcome c old o =
     unless_guarded o (changed same_cell (live_atoms old.now.places) c)
     (cancelled same_cell old.now.guards c.unguard ++ c.guard)
 
 -- where an atom to delete is protected, it is the answer, and nothing is changed
-pub gives_guarded : (a : ℕ) (c : ChangesOf ℕ) (old new : History)
+pub gives_guarded : (a : ℕ) (c : ChangesOf ℕ) (old new : History Stage)
     → first_guarded same_cell (cancelled same_cell old.now.guards c.unguard) c.delete ≡ Some a → new ≡ old
     → Applies (Guarded a) c old new
 gives_guarded a c old new e h =
     subst (λ (o : Option ℕ). Gives (Guarded a) (outcome c old o) old new) (sym e) (refl, h)
 
 -- where no atom to delete is protected, the changes are made
-pub gives_done : (c : ChangesOf ℕ) (old new : History)
+pub gives_done : (c : ChangesOf ℕ) (old new : History Stage)
     → first_guarded same_cell (cancelled same_cell old.now.guards c.unguard) c.delete ≡ None
     → live_atoms new.now.places ≡ changed same_cell (live_atoms old.now.places) c
     → new.now.guards ≡ cancelled same_cell old.now.guards c.unguard ++ c.guard → KeepsPasts old new
@@ -63,7 +63,7 @@ gives_done c old new e atoms guards keeps =
     subst (λ (o : Option ℕ). Gives Done (outcome c old o) old new) (sym e) (atoms, guards, keeps)
 
 -- what was answered leaves what stands below a count, where the old world and the changes were below it
-gives_below : (n : ℕ) (a : Applied) (o : Option ℕ) (c : ChangesOf ℕ) (old new : History)
+gives_below : (n : ℕ) (a : Applied) (o : Option ℕ) (c : ChangesOf ℕ) (old new : History Stage)
     → Gives a (outcome c old o) old new → StageBelow n old.now → ChangesBelow n c → StageBelow n new.now
 gives_below n Done None c old new g s b =
     let below : ℕ → Type 0 = λ x. x < n in
@@ -75,17 +75,17 @@ gives_below n Done None c old new g s b =
           subst (λ (xs : List ℕ). All below xs) (sym g.1)
           (All-append below _ _ (cancelled_all same_cell below old.now.guards c.unguard s.guards) b.guard);
     }
-gives_below n (Guarded a) (Some d) c old new g s b = subst (λ (h : History). StageBelow n h.now) (sym g.1) s
+gives_below n (Guarded a) (Some d) c old new g s b = subst (λ (h : History Stage). StageBelow n h.now) (sym g.1) s
 gives_below n Done (Some d) c old new g s b = absurd g
 gives_below n (Guarded a) None c old new g s b = absurd g
 
 -- whatever the result, what stands is below a count where the old world and the changes were below it
-pub applied_below : {E : Type 0} (r : Result Applied E) (c : ChangesOf ℕ) (old new : History)
+pub applied_below : {E : Type 0} (r : Result Applied E) (c : ChangesOf ℕ) (old new : History Stage)
     → IfOk r (λ a. Applies a c old new) → OnErr r (new ≡ old)
     → (n : ℕ) → StageBelow n old.now → ChangesBelow n c → StageBelow n new.now
 applied_below (Ok a) c old new h e n s b =
     gives_below n a (first_guarded same_cell (cancelled same_cell old.now.guards c.unguard) c.delete) c old new h s b
-applied_below (Err x) c old new h e n s b = subst (λ (g : History). StageBelow n g.now) (sym e) s
+applied_below (Err x) c old new h e n s b = subst (λ (g : History Stage). StageBelow n g.now) (sym e) s
 
 -- ---- the terms that cells name
 

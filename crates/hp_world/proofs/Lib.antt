@@ -1,4 +1,5 @@
 pub mod TrailLemmas
+pub mod HistoryLemmas
 pub mod IndexLemmas
 pub mod AtomLemmas
 pub mod GuardLemmas

@@ -1,18 +1,19 @@
 -- One change made, or undone.
-use Rattle.std.proofs.Common.{◌≡◌, ℕ, ◌+◌, ◌<◌, ◌≤◌, List, [], ◌∷◌, ◌++◌, inl, inr, Option, None, length, get_or, set, take, sym, ap, ap₂, ◌∙◌, subst, arith, vec_len, vec_capacity}
-use Rattle.std.proofs.lemmas.List.{take_at, take_all, length_push, length-set, get_or-set_same, get_or-set_other, get_or_past, same_lists, get_or_default, get_or-take, length-take-le}
+use Rattle.std.proofs.Common.{◌≡◌, ℕ, ◌+◌, ◌<◌, ◌≤◌, List, [], ◌∷◌, ◌++◌, inl, inr, Option, None, length, get_or, set, sym, ap, ap₂, ◌∙◌, subst, arith, vec_len, vec_capacity}
+use Rattle.std.proofs.lemmas.List.{take_at, length_push, length-set, get_or-set_same, get_or-set_other}
 use Rattle.std.proofs.lemmas.Bool.{cases_eq}
 use Rattle.std.proofs.lemmas.Option.{none-some}
 use Rattle.hp_world.specs.declared.store.Change.{Change}
 use Rattle.hp_world.specs.declared.store.Change.TheVariants.{Deleted, Added, Cancelled, Protected}
 use Rattle.hp_world.specs.declared.store.Store.{Store}
-use Rattle.hp_world.specs.Histories.{History, mark_of, past_at, undone_to, KeepsPasts}
+use Rattle.hp_world.specs.Histories.{history, undone_to, KeepsPasts}
 use Rattle.hp_world.specs.Indexed.{IsOnlyAt}
 use Rattle.hp_world.specs.Stages.{Stage, PlacesKept}
-use Rattle.hp_world.specs.Trails.{pasts, IsUndoable}
-use Rattle.hp_world.specs.Undoing.{front, undone, Fits, IsVacant, IsAny, history, stage_of, history_of, IsSound, Moves, Undoes}
+use Rattle.hp_world.specs.Trails.{IsUndoable}
+use Rattle.hp_world.specs.Undoing.{front, undone, Fits, IsVacant, IsAny, stage_of, history_of, IsSound, Moves, Undoes}
 use Rattle.hp_world.proofs.AtomLemmas.{kept_more}
-use Rattle.hp_world.proofs.TrailLemmas.{length_pasts, past_before, pasts_before, keeps_pushed, undoable_pushed, undoable_popped, undoable_weaker}
+use Rattle.hp_world.proofs.HistoryLemmas.{undone_pushed}
+use Rattle.hp_world.proofs.TrailLemmas.{keeps_pushed, undoable_pushed, undoable_popped, undoable_weaker}
 
 -- all but what comes last are those before it
 pub front_pushed : {A : Type 0} (xs : List A) (x : A) → front (xs ++ x ∷ []) ≡ xs
@@ -38,23 +39,6 @@ pub same_stage : (ps qs : List (Option ℕ)) (gs hs : List ℕ) → ps ≡ qs �
     → (λ (s : Stage). s) (record { places = ps; guards = gs }) ≡ record { places = qs; guards = hs }
 same_stage ps qs gs hs e f =
     let stage : List (Option ℕ) → List ℕ → Stage = λ xs ys. record { places = xs; guards = ys } in ap₂ stage e f
-
--- equal pasts and an equal present make equal histories
-same_history : (p q : List Stage) (s t : Stage) → p ≡ q → s ≡ t
-    → (λ (h : History). h) (record { past = p; now = s }) ≡ record { past = q; now = t }
-same_history p q s t e f = cc
-
--- undoing to an earlier time is the same before and after one more change
-undone_pushed : (m : ℕ) (ts : List Change) (t : Change) (s : Stage) → m ≤ length ts
-    → undone_to m (history (ts ++ t ∷ []) s) ≡ undone_to m (history ts (undone t s))
-undone_pushed m ts t s h =
-    same_history _ _ _ _ (pasts_before undone m ts t s h) (past_before undone ts t s m h)
-
--- undoing to the present changes nothing
-pub undone_end : (m : ℕ) (ts : List Change) (s : Stage) → length ts ≤ m → undone_to m (history ts s) ≡ history ts s
-undone_end m ts s h =
-    let n : length (pasts undone ts s) ≤ m = omega (arith, length_pasts undone ts s) in
-    same_history _ _ _ _ (take_all m (pasts undone ts s) n) (get_or_past (pasts undone ts s) m s n)
 
 -- an atom that was taken off its only place can be put back
 pub vacated : (width : ℕ) (ps : List (Option ℕ)) (i a : ℕ) → IsOnlyAt a ps i → a < width
@@ -82,13 +66,13 @@ moved old new t sound trail back kept fits count trail_room guards_room places_r
     let fit = Fits new.places.width (vec_capacity new.guards) in
     let before : IsUndoable undone fit IsAny old.trail.items (undone t (stage_of new)) =
     rw (back, guards_room, width) sound in
-    let keeps : KeepsPasts (history old.trail.items (undone t (stage_of new)))
-    (history (old.trail.items ++ t ∷ []) (stage_of new)) = keeps_pushed undone old.trail.items t (stage_of new) in
+    let keeps : KeepsPasts (history undone old.trail.items (undone t (stage_of new)))
+    (history undone (old.trail.items ++ t ∷ []) (stage_of new)) = keeps_pushed undone old.trail.items t (stage_of new) in
     record {
       keeps =
-          subst (λ (ts : List Change). KeepsPasts (history_of old) (history ts (stage_of new))) (sym trail)
+          subst (λ (ts : List Change). KeepsPasts (history_of old) (history undone ts (stage_of new))) (sym trail)
           (subst
-          (λ (s : Stage). KeepsPasts (history old.trail.items s) (history (old.trail.items ++ t ∷ []) (stage_of new)))
+          (λ (s : Stage). KeepsPasts (history undone old.trail.items s) (history undone (old.trail.items ++ t ∷ []) (stage_of new)))
           back keeps);
       kept = kept;
       sound =
@@ -126,9 +110,9 @@ taken_back old new t sound trail fewer back width room =
       fewer = fewer;
       back = λ m l.
           let n : m ≤ length rest = omega (arith, l, ap length trail, length_push rest t, old.trail.ok.0) in
-          ap (λ (q : Stage). undone_to m (history rest q)) back
-          ∙ sym (ap (λ (us : List Change). undone_to m (history us (stage_of old))) trail
-          ∙ undone_pushed m rest t (stage_of old) n);
+          ap (λ (q : Stage). undone_to m (history undone rest q)) back
+          ∙ sym (ap (λ (us : List Change). undone_to m (history undone us (stage_of old))) trail
+          ∙ undone_pushed undone m rest t (stage_of old) n);
     }
 
 -- changes after others keep what stood before those
@@ -146,14 +130,3 @@ moves_more n k a b c f g = record {
   places_room = g.places_room ∙ f.places_room;
   width = g.width ∙ f.width;
 }
-
--- undoing to the old mark gives the old history, where that was kept
-pub rewound : (h g : History) → KeepsPasts h g → undone_to (mark_of h) g ≡ h
-rewound h g k =
-    let n : length (take (mark_of h) g.past) ≡ mark_of h = length-take-le (mark_of h) g.past k.mark in
-    let past : take (mark_of h) g.past ≡ h.past = same_lists _ _ n (λ i d l.
-    get_or-take (mark_of h) g.past i d (omega arith) ∙ get_or_default g.past i d g.now (omega (arith, k.mark))
-    ∙ k.past i (omega arith) ∙ get_or_default h.past i h.now d (omega arith)) in
-    let now : past_at g (mark_of h) ≡ h.now =
-    k.past (mark_of h) (omega arith) ∙ get_or_past h.past (mark_of h) h.now (omega arith) in
-    same_history _ _ _ _ past now

@@ -25,7 +25,7 @@ module _ {C S : Type 0} (undone : C → S → S) where
       ap (λ p. p ∷ pasts undone (ts ++ t ∷ []) s) (ap (undone u) (unwound_pushed ts t s))
       ∙ ap (λ ps. unwound undone (u ∷ ts) (undone t s) ∷ ps) (pasts_pushed ts t s)
 
-  -- the past has a stage for each change
+  -- the past has what stood before each change
   pub length_pasts : (ts : List C) (s : S) → length (pasts undone ts s) ≡ length ts
   length_pasts [] s = refl
   length_pasts (t ∷ ts) s = ap suc (length_pasts ts s)

@@ -4,10 +4,10 @@ use Rattle.std.specs.List.{insert}
 use Rattle.hp_world.specs.declared.store.Change.{Change}
 use Rattle.hp_world.specs.declared.store.Change.TheVariants.{Deleted, Added, Cancelled, Protected}
 use Rattle.hp_world.specs.declared.store.Store.{Store}
-use Rattle.hp_world.specs.Histories.{History, KeepsPasts, undone_to}
+use Rattle.hp_world.specs.Histories.{History, history, KeepsPasts, undone_to}
 use Rattle.hp_world.specs.Indexed.{IsAbsent}
 use Rattle.hp_world.specs.Stages.{Stage, AllBelow, PlacesKept}
-use Rattle.hp_world.specs.Trails.{pasts, IsUndoable}
+use Rattle.hp_world.specs.Trails.{IsUndoable}
 
 -- all but the last
 abbrev pub front : {A : Type 0} → List A → List A
@@ -38,17 +38,13 @@ Fits width room Protected s = Unit {0}
 abbrev pub IsAny : Stage → Type 0
 IsAny s = Unit {0}
 
--- the history that a trail makes of what stands
-abbrev pub history : List Change → Stage → History
-history trail s = record { past = pasts undone trail s; now = s }
-
 -- what stands in a store
 abbrev pub stage_of : Store → Stage
 stage_of s = record { places = s.places.places; guards = s.guards.items }
 
 -- what stood before in a store, and what stands
-abbrev pub history_of : Store → History
-history_of s = history s.trail.items (stage_of s)
+abbrev pub history_of : Store → History Stage
+history_of s = history undone s.trail.items (stage_of s)
 
 -- each change on the trail can be undone where it is, in the table and the room that there are
 abbrev pub IsSound : Store → Type 0

@@ -24,8 +24,9 @@ impl Drop for World {
 
 impl Model for World {
     ghost use Rattle.hp_world.specs.Histories.{History};
+    ghost use Rattle.hp_world.specs.Stages.{Stage};
 
-    ghost Value = { History };
+    ghost Value = { History Stage };
 
     ghost use Rattle.hp_world.specs.Undoing.{history_of, IsSound};
 

@@ -1,22 +1,22 @@
 use Rattle.std.proofs.Common.{◌≡◌, ℕ, suc, ◌-◌, ◌<◌, length, drop, List, [], ◌∷◌, Some, refl, ap, subst, sym, ◌∙◌, arith}
 use Rattle.std.proofs.lemmas.Option.{slice_get_read}
 use Rattle.hp_net.specs.declared.entry.Entry.{Entry}
-use Rattle.hp_net.specs.Outlines.{spot}
-use Rattle.hp_net.proofs.OwnerLemmas.{past, found}
-use Rattle.hp_net.proofs.SpotLemmas.{spot_first}
+use Rattle.hp_net.specs.FlatNetworks.{entry_path}
+use Rattle.hp_net.proofs.EditSteps.{past, found}
+use Rattle.hp_net.proofs.EntryPathLemmas.{entry_path_first}
 use Rattle.hp_net.proofs.edits.list_of.Goals as goal
 
 -- what stands behind the entry before a place is what stands at the place
 before_place : (es : List Entry) (task place before : ℕ) → 0 < place
-    → spot (task - place) (drop place es) ≡ Some (before ∷ [])
-    → spot (task - suc (place - 1)) (drop (suc (place - 1)) es) ≡ Some (before ∷ [])
+    → entry_path (task - place) (drop place es) ≡ Some (before ∷ [])
+    → entry_path (task - suc (place - 1)) (drop (suc (place - 1)) es) ≡ Some (before ∷ [])
 before_place es task place before l h =
     let n : place ≡ suc (place - 1) = omega arith in
-    subst (λ k. spot (task - k) (drop k es) ≡ Some (before ∷ [])) n h
+    subst (λ k. entry_path (task - k) (drop k es) ≡ Some (before ∷ [])) n h
 
 pub loop-place-init : goal.loop-place-init
 loop-place-init c = record {
-  there = spot_first c.args.task c.args.entries.now c.requires;
+  there = entry_path_first c.args.task c.args.entries.now c.requires;
   few = omega arith;
 }
 
@@ -55,7 +55,7 @@ returns c =
     let start : c.loop-place.place ≡ 0 = omega arith in
     let all : c.args.task ≡ c.args.task - 0 = omega arith in (
       c.loop-place.before,
-      ap (λ k. spot k es) all
-          ∙ subst (λ k. spot (c.args.task - k) (drop k es) ≡ Some (c.loop-place.before ∷ [])) start
+      ap (λ k. entry_path k es) all
+          ∙ subst (λ k. entry_path (c.args.task - k) (drop k es) ≡ Some (c.loop-place.before ∷ [])) start
           c.loop-place.invariant.there,
     )

@@ -1,4 +1,4 @@
-use Rattle.hp_net.proofs.SpotLemmas.{task_has_place, places_apart}
+use Rattle.hp_net.proofs.EntryPathLemmas.{task_has_place, places_apart}
 use Rattle.hp_net.proofs.laws.tasks_have_places.Goals as goal
 
 pub returns-clause-places : goal.returns-clause-places

@@ -7,9 +7,9 @@ use Rattle.hp_eval.specs.GoalViews.{TreeBelow, TreesBelow}
 use Rattle.hp_syntax.specs.Terms.{Term}
 use Rattle.hp_net.specs.declared.entry.Order.TheVariants.{Ordered, Unordered}
 use Rattle.hp_net.specs.declared.entry.Entry.TheVariants.{List as Parts}
-use Rattle.hp_net.specs.Outlines.{EntryBelow}
+use Rattle.hp_net.specs.FlatNetworks.{EntryBelow}
 use Rattle.hp_net.specs.Pushed.{kept, kept_list, closed, Adds}
-use Rattle.hp_net.proofs.PushLemmas.{kept-ordered, kept-unordered, one_or_none, adds_none, adds_same, adds_task, adds_tree, adds_list, below_closed, task_below, ordered_below, unordered_below, part_below}
+use Rattle.hp_net.proofs.PushedLemmas.{kept-ordered, kept-unordered, one_or_none, adds_none, adds_same, adds_task, adds_tree, adds_list, below_closed, task_below, ordered_below, unordered_below, part_below}
 use Rattle.hp_net.proofs.push.+push.Goals as goal
 
 pub push_list-loop-part-init : goal.push_list-loop-part-init

@@ -2,7 +2,7 @@ use Rattle.std.proofs.Common.{ℕ, ◌≤◌, ◌++◌, ◌∷◌, [], take}
 use Rattle.std.specs.List.{All}
 use Rattle.hp_eval.specs.GoalViews.{TreesBelow}
 use Rattle.hp_net.specs.declared.entry.Entry.TheVariants.{List as Parts}
-use Rattle.hp_net.specs.Outlines.{EntryBelow}
+use Rattle.hp_net.specs.FlatNetworks.{EntryBelow}
 use Rattle.hp_net.specs.Pushed.{all_kept, Adds}
 use Rattle.hp_net.proofs.push.+push.Given as goal
 

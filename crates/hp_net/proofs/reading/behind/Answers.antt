@@ -1,7 +1,7 @@
 use Rattle.std.proofs.Common.{◌+◌, ap, refl, sym, ◌∙◌, length, drop, false, arith}
 use Rattle.std.proofs.lemmas.Option.{slice_get_read}
 use Rattle.hp_net.specs.Reading.{so_many, marks}
-use Rattle.hp_net.proofs.ReadingLemmas.{place_within, steps_over}
+use Rattle.hp_net.proofs.ReadingSteps.{place_within, steps_over}
 use Rattle.hp_net.proofs.reading.behind.Goals as goal
 
 pub bounds-entries-place : goal.bounds-entries-place

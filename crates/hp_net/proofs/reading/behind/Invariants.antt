@@ -1,5 +1,5 @@
 use Rattle.std.proofs.Common.{◌≡◌, ◌+◌, ◌-◌, ◌≤◌, List, [], Bool, false, drop, length}
-use Rattle.hp_net.specs.Outlines.{forest}
+use Rattle.hp_net.specs.FlatNetworks.{forest}
 use Rattle.hp_net.specs.Reading.{so_many, marks}
 use Rattle.hp_net.proofs.reading.behind.Given as goal
 

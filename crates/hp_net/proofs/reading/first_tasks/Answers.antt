@@ -3,9 +3,9 @@ use Rattle.std.specs.List.{All}
 use Rattle.std.proofs.lemmas.List.{append-nil}
 use Rattle.std.proofs.lemmas.List.Elements.{All-nil}
 use Rattle.hp_net.specs.Edits.{HasTask}
-use Rattle.hp_net.specs.Outlines.{forest}
+use Rattle.hp_net.specs.FlatNetworks.{forest}
 use Rattle.hp_net.specs.Reading.{are_read, marks}
-use Rattle.hp_net.proofs.ReadingLemmas.{are_read-push, marks-none, read_first, read_none, some_network}
+use Rattle.hp_net.proofs.ReadingSteps.{are_read-push, marks-none, read_first, read_none, some_network}
 use Rattle.hp_net.proofs.reading.first_tasks.Goals as goal
 
 pub loop-level-init : goal.loop-level-init

@@ -1,7 +1,7 @@
 use Rattle.std.proofs.Common.{◌≡◌, ◌+◌, ◌-◌, ◌*◌, ◌≤◌, [], ◌∷◌, ◌++◌, true, drop, length}
 use Rattle.std.specs.List.{All}
 use Rattle.hp_net.specs.Edits.{HasTask}
-use Rattle.hp_net.specs.Outlines.{forest}
+use Rattle.hp_net.specs.FlatNetworks.{forest}
 use Rattle.hp_net.specs.Reading.{are_read, marks}
 use Rattle.hp_net.proofs.reading.first_tasks.Given as goal
 

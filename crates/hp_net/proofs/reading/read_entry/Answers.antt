@@ -1,4 +1,4 @@
-use Rattle.hp_net.proofs.ReadingLemmas.{enters_list}
+use Rattle.hp_net.proofs.ReadingSteps.{enters_list}
 use Rattle.hp_net.proofs.reading.read_entry.Goals as goal
 
 pub returns-in_ok-push-in-List : goal.returns-in_ok-push-in-List

@@ -1,7 +1,7 @@
 use Rattle.std.proofs.Common.{◌-◌, ◌<◌, refl, length, arith}
 use Rattle.std.proofs.lemmas.Option.{slice_get_read}
 use Rattle.hp_net.specs.Reading.{are_read}
-use Rattle.hp_net.proofs.ReadingLemmas.{full_entry, length-level_read, place_within, visits_entry, visits_passing}
+use Rattle.hp_net.proofs.ReadingSteps.{full_entry, length-level_read, place_within, visits_entry, visits_passing}
 use Rattle.hp_net.proofs.reading.visit.Goals as goal
 
 pub behind-requires-clause-enough : goal.behind-requires-clause-enough

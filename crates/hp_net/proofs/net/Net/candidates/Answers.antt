@@ -2,10 +2,11 @@ use Rattle.std.proofs.Common.{◌≡◌, [], ◌∷◌, true, ℕ, drop, map, So
 use Rattle.std.specs.List.{All}
 use Rattle.std.specs.Option.{option_and_then, unwrap_or}
 use Rattle.hp_syntax.specs.Networks as plain
+use Rattle.hp_world.specs.Histories.{History}
 use Rattle.hp_net.specs.Edits.{HasTask}
-use Rattle.hp_net.specs.Outlines.{Outline, network_in, place_of}
+use Rattle.hp_net.specs.FlatNetworks.{FlatNetwork, network_in, place_of}
 use Rattle.hp_net.specs.Reading.{immediate_ids, marks}
-use Rattle.hp_net.proofs.FirstLemmas.{places_found, tasks_left}
+use Rattle.hp_net.proofs.ReadingLemmas.{places_found, tasks_left}
 use Rattle.hp_net.proofs.net.Net.candidates.Goals as goal
 
 pub returns-clause-tasks : goal.returns-clause-tasks
@@ -14,7 +15,7 @@ returns-clause-tasks c =
     let found = c.in_ok-found.found.items in
     let a = subst (λ xs. All (HasTask xs) found) c.as_slice.ensures.value c.in_ok-found.ensures.tasks in
     let is = c.keep_immediate.ensures ∙ ap (λ xs. immediate_ids xs found) c.as_slice-2.ensures.value in
-    subst (λ (o : Outline). All (HasTask o.entries) c.keep_immediate.new.found.items) c.self.view_is
+    subst (λ (h : History FlatNetwork). All (HasTask h.now.entries) c.keep_immediate.new.found.items) c.self.view_is
     (subst (All (HasTask es)) (sym is) (tasks_left es found a))
 
 pub returns-clause-places : goal.returns-clause-places
@@ -28,7 +29,7 @@ returns-clause-places c = λ terms.
     ∙ ap₂ (λ xs (n : ℕ). marks (drop n xs) (true ∷ []) n) c.as_slice.ensures.value
     c.unwrap_or-start.ensures in
     subst
-    (λ (o : Outline). map (place_of o.entries) c.keep_immediate.new.found.items
-    ≡ map Some (plain.candidates (network_in terms o.entries) (option_and_then (place_of o.entries) o.focus)))
+    (λ (h : History FlatNetwork). map (place_of h.now.entries) c.keep_immediate.new.found.items
+    ≡ map Some (plain.candidates (network_in terms h.now.entries) (option_and_then (place_of h.now.entries) h.now.focus)))
     c.self.view_is
     (ap (map (place_of es)) is ∙ places_found terms es c.self.inside.focus found c.self.invariant marked a)

@@ -5,6 +5,7 @@ abbrev pub invariant-loop-step : goal.invariant-loop-step
 invariant-loop-step g l = record {
   rest : (g.Self.Walk.stands l.self).rest ≡ (g.Self.Walk.stands l.fn.self).rest;
   tree : g.Self.Walk.tree l.self ≡ g.Self.Walk.tree l.fn.self;
+  root_cells : g.Self.Walk.root_cells l.self ≡ g.Self.Walk.root_cells l.fn.self;
   live : g.Self.Walk.is_live l.self ≡ true;
 }
 

@@ -4,23 +4,24 @@ use Rattle.hp_syntax.specs.Applying.{ChangesOf, cancelled, with_added, first_gua
 use Rattle.hp_world.specs.Deleting.{deleted}
 use Rattle.hp_world.specs.Histories.{History, undone_to, KeepsPasts}
 use Rattle.hp_world.specs.Indexed.{Row}
-use Rattle.hp_world.specs.Stages.{live_atoms, same_cell, PlacesKept}
+use Rattle.hp_world.specs.Stages.{Stage, live_atoms, same_cell, PlacesKept}
 use Rattle.hp_world.specs.Undoing.{history_of}
 use Rattle.hp_world.proofs.AnswerLemmas.{deleted_is, gives_guarded, gives_done}
 use Rattle.hp_world.proofs.AtomLemmas.{kept_same}
-use Rattle.hp_world.proofs.MoveLemmas.{moves_more, rewound}
+use Rattle.hp_world.proofs.HistoryLemmas.{rewound}
+use Rattle.hp_world.proofs.MoveLemmas.{moves_more}
 use Rattle.hp_world.proofs.store.Store.apply.Goals as goal
 
 pub returns-in-Some-clause-ok : goal.returns-in-Some-clause-ok
 returns-in-Some-clause-ok c =
-    let old : History = history_of c.args.self.now in
-    let between : History = history_of c.cancel_all.new.self in
+    let old : History Stage = history_of c.args.self.now in
+    let between : History Stage = history_of c.cancel_all.new.self in
     let same : history_of c.reserve.new.self ≡ old = c.in_ok-reserve.ensures.same in
     let back : history_of c.undo_to.new.self ≡ old =
     c.undo_to.ensures.back ∙ ap (λ m. undone_to m between) c.mark-before.ensures
     ∙ rewound (history_of c.reserve.new.self) between c.cancel_all.ensures.moves.keeps ∙ same in
     let guards : c.cancel_all.new.self.guards.items ≡ cancelled same_cell old.now.guards c.args.unguard.now =
-    c.cancel_all.ensures.guards ∙ ap (λ (h : History). cancelled same_cell h.now.guards c.args.unguard.now) same in
+    c.cancel_all.ensures.guards ∙ ap (λ (h : History Stage). cancelled same_cell h.now.guards c.args.unguard.now) same in
     let changes : ChangesOf ℕ = record {
       unguard = c.args.unguard.now;
       delete = c.args.del.now;
@@ -33,17 +34,17 @@ returns-in-Some-clause-ok c =
 
 pub returns-clause-ok : goal.returns-clause-ok
 returns-clause-ok c =
-    let old : History = history_of c.args.self.now in
+    let old : History Stage = history_of c.args.self.now in
     let same : history_of c.reserve.new.self ≡ old = c.in_ok-reserve.ensures.same in
     let guards : c.cancel_all.new.self.guards.items ≡ cancelled same_cell old.now.guards c.args.unguard.now =
-    c.cancel_all.ensures.guards ∙ ap (λ (h : History). cancelled same_cell h.now.guards c.args.unguard.now) same in
+    c.cancel_all.ensures.guards ∙ ap (λ (h : History Stage). cancelled same_cell h.now.guards c.args.unguard.now) same in
     let then_added : List ℕ → List ℕ = λ xs. with_added same_cell xs c.args.add.now in
     let then_changed : List ℕ → List ℕ = λ xs. then_added (deleted xs c.args.del.now) in
     let atoms : live_atoms c.protect_all.new.self.places.places ≡ then_changed (live_atoms old.now.places) =
     ap (λ (r : Row). live_atoms r.places) c.protect_all.ensures.places
     ∙ c.add_all.ensures.atoms ∙ ap then_added c.delete_all.ensures.atoms
     ∙ ap (λ (r : Row). then_changed (live_atoms r.places)) c.cancel_all.ensures.places
-    ∙ ap (λ (h : History). then_changed (live_atoms h.now.places)) same in
+    ∙ ap (λ (h : History Stage). then_changed (live_atoms h.now.places)) same in
     let kept : c.add_all.new.self.guards ≡ c.cancel_all.new.self.guards =
     c.add_all.ensures.guards ∙ c.delete_all.ensures.guards in
     let then_guarded : List ℕ → List ℕ = λ xs. xs ++ c.args.guard.now in
@@ -63,18 +64,18 @@ returns-clause-ok c =
     gives_done changes old _
     (ap (λ gs. first_guarded same_cell gs c.args.del.now) (sym guards) ∙ sym c.first_guarded.ensures ∙ c.in_default.is)
     (atoms ∙ ap then_added (deleted_is (live_atoms old.now.places) c.args.del.now)) now
-    (subst (λ (h : History). KeepsPasts h (history_of c.protect_all.new.self)) same moves.keeps)
+    (subst (λ (h : History Stage). KeepsPasts h (history_of c.protect_all.new.self)) same moves.keeps)
 
 pub returns-in_err-changes-clause-kept : goal.returns-in_err-changes-clause-kept
 returns-in_err-changes-clause-kept c = kept_same _ _ refl
 
 pub returns-in_err-reserve-clause-kept : goal.returns-in_err-reserve-clause-kept
-returns-in_err-reserve-clause-kept c = kept_same _ _ (ap (λ (h : History). h.now.places) c.reserve.ensures.same)
+returns-in_err-reserve-clause-kept c = kept_same _ _ (ap (λ (h : History Stage). h.now.places) c.reserve.ensures.same)
 
 pub returns-in-Some-clause-kept : goal.returns-in-Some-clause-kept
 returns-in-Some-clause-kept c =
-    let between : History = history_of c.cancel_all.new.self in
-    kept_same _ _ (ap (λ (h : History). h.now.places) (c.undo_to.ensures.back
+    let between : History Stage = history_of c.cancel_all.new.self in
+    kept_same _ _ (ap (λ (h : History Stage). h.now.places) (c.undo_to.ensures.back
     ∙ ap (λ m. undone_to m between) c.mark-before.ensures
     ∙ rewound (history_of c.reserve.new.self) between c.cancel_all.ensures.moves.keeps ∙ c.in_ok-reserve.ensures.same))
 
@@ -84,5 +85,5 @@ returns-clause-kept c =
     moves_more _ _ _ _ _
     (moves_more _ _ _ _ _ (moves_more _ _ _ _ _ c.cancel_all.ensures.moves c.delete_all.ensures.moves)
     c.add_all.ensures.moves) c.protect_all.ensures.moves in
-    subst (λ (h : History). PlacesKept h.now.places c.protect_all.new.self.places.places) c.in_ok-reserve.ensures.same
+    subst (λ (h : History Stage). PlacesKept h.now.places c.protect_all.new.self.places.places) c.in_ok-reserve.ensures.same
     moves.kept

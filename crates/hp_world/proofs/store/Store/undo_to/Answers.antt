@@ -1,7 +1,7 @@
 use Rattle.std.proofs.Common.{◌∙◌, refl, sym, arith}
 use Rattle.hp_world.specs.Undoing.{undone, stage_of}
 use Rattle.hp_world.proofs.TrailLemmas.{length_pasts}
-use Rattle.hp_world.proofs.MoveLemmas.{undone_end}
+use Rattle.hp_world.proofs.HistoryLemmas.{undone_end}
 use Rattle.hp_world.proofs.store.Store.undo_to.Goals as goal
 
 pub loop-self-init : goal.loop-self-init
@@ -23,5 +23,5 @@ loop-self-preserved c =
 pub returns-clause-back : goal.returns-clause-back
 returns-clause-back c =
     let s = c.loop-self.self in
-    sym (undone_end c.args.mark s.trail.items (stage_of s) (omega (arith, s.trail.ok.0, c.len.ensures)))
+    sym (undone_end undone c.args.mark s.trail.items (stage_of s) (omega (arith, s.trail.ok.0, c.len.ensures)))
     ∙ c.loop-self.invariant.back

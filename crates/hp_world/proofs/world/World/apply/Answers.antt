@@ -1,7 +1,7 @@
 use Rattle.std.proofs.Common.{ℕ, subst, sym}
 use Rattle.hp_syntax.specs.Applying.{ChangesOf}
 use Rattle.hp_world.specs.Histories.{History}
-use Rattle.hp_world.specs.Stages.{StageBelow}
+use Rattle.hp_world.specs.Stages.{Stage, StageBelow}
 use Rattle.hp_world.specs.Undoing.{history_of}
 use Rattle.hp_world.proofs.AnswerLemmas.{applied_below}
 use Rattle.hp_world.proofs.world.World.apply.Goals as goal
@@ -15,4 +15,4 @@ returns-clause-below c = λ n s b.
       guard = c.args.guard.now;
     } in
     applied_below c.apply.result changes (history_of c.self.inside.store) (history_of c.apply.new.self)
-    c.apply.ensures.ok c.apply.ensures.err n (subst (λ (h : History). StageBelow n h.now) (sym c.self.view_is) s) b
+    c.apply.ensures.ok c.apply.ensures.err n (subst (λ (h : History Stage). StageBelow n h.now) (sym c.self.view_is) s) b

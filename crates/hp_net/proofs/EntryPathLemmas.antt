@@ -14,47 +14,47 @@ use Rattle.hp_net.specs.declared.entry.Order.{Order}
 use Rattle.hp_net.specs.declared.entry.Order.TheVariants.{Ordered, Unordered}
 use Rattle.hp_net.specs.declared.entry.Entry.{Entry}
 use Rattle.hp_net.specs.declared.entry.Entry.TheVariants.{Task, List as Parts}
-use Rattle.hp_net.specs.Outlines.{Outline, IsOutline, NamesTask, forest, listed, first_network, AreFull, behind_task, behind_list, spot, below_root, place_of}
+use Rattle.hp_net.specs.FlatNetworks.{FlatNetwork, IsFlatNetwork, NamesTask, forest, listed, first_network, AreFull, behind_task, behind_list, entry_path, below_root, place_of}
 
--- ---- spots
+-- ---- paths of entries
 
--- a spot is a path that is not empty
-abbrev pub IsSpot : Option (List ℕ) → Type 0
-IsSpot None = Unit {0}
-IsSpot (Some []) = ⊥
-IsSpot (Some (k ∷ p)) = Unit {0}
+-- an entry path, where there is one, is not empty
+abbrev pub IsEntryPath : Option (List ℕ) → Type 0
+IsEntryPath None = Unit {0}
+IsEntryPath (Some []) = ⊥
+IsEntryPath (Some (k ∷ p)) = Unit {0}
 
--- behind a task a path stays one that is not empty
-spot_behind_task : (s : Option (List ℕ)) → IsSpot s → IsSpot (option_map behind_task s)
-spot_behind_task None h = tt
-spot_behind_task (Some []) h = absurd h
-spot_behind_task (Some (k ∷ p)) h = tt
+-- behind a task it stays so
+entry_path_behind_task : (s : Option (List ℕ)) → IsEntryPath s → IsEntryPath (option_map behind_task s)
+entry_path_behind_task None h = tt
+entry_path_behind_task (Some []) h = absurd h
+entry_path_behind_task (Some (k ∷ p)) h = tt
 
--- behind a list a path stays one that is not empty
-spot_behind_list : (n : ℕ) (s : Option (List ℕ)) → IsSpot s → IsSpot (option_map (behind_list n) s)
-spot_behind_list n None h = tt
-spot_behind_list n (Some []) h = absurd h
-spot_behind_list n (Some (k ∷ p)) h =
+-- behind a list it stays so
+entry_path_behind_list : (n : ℕ) (s : Option (List ℕ)) → IsEntryPath s → IsEntryPath (option_map (behind_list n) s)
+entry_path_behind_list n None h = tt
+entry_path_behind_list n (Some []) h = absurd h
+entry_path_behind_list n (Some (k ∷ p)) h =
     ⊎_elim (λ e. rw e tt) (λ e. rw e tt) (cases_Bool (nat_lt k n))
 
--- the spot of an entry is a path that is not empty
-pub is_spot : (i : ℕ) (es : List Entry) → IsSpot (spot i es)
-is_spot i [] = tt
-is_spot zero (e ∷ es) = tt
-is_spot (suc i) (Task cell immediate ∷ es) = spot_behind_task (spot i es) (is_spot i es)
-is_spot (suc i) (Parts order n ∷ es) = spot_behind_list n (spot i es) (is_spot i es)
+-- the path of an entry is not empty
+pub is_entry_path : (i : ℕ) (es : List Entry) → IsEntryPath (entry_path i es)
+is_entry_path i [] = tt
+is_entry_path zero (e ∷ es) = tt
+is_entry_path (suc i) (Task cell immediate ∷ es) = entry_path_behind_task (entry_path i es) (is_entry_path i es)
+is_entry_path (suc i) (Parts order n ∷ es) = entry_path_behind_list n (entry_path i es) (is_entry_path i es)
 
--- a network that is a part of a list is below it
+-- a part of a list is below it
 pub behind_list-within : (n k : ℕ) (p : List ℕ) → k < n → behind_list n (k ∷ p) ≡ zero ∷ k ∷ p
 behind_list-within n k p l = let e : nat_lt k n ≡ true = grind (arith, nat_tests) in rw e refl
 
--- a network that is no part of a list has a number behind it, less by its parts
+-- a network behind the parts of a list has a number behind it, less by its parts
 pub behind_list-past : (n k : ℕ) (p : List ℕ) → n ≤ k → behind_list n (k ∷ p) ≡ suc (k - n) ∷ p
 behind_list-past n k p l = let e : nat_lt k n ≡ false = grind (arith, nat_tests) in rw e refl
 
--- ---- the part at a spot
+-- ---- the part at a path
 
--- the part of networks at a spot
+-- the part of networks at a path
 abbrev pub part_of : List Network → Option (List ℕ) → Option Network
 part_of ns None = None
 part_of ns (Some []) = None
@@ -109,20 +109,20 @@ part_of_list order n ns (Some (k ∷ p)) x h =
     (λ e. rw e (nth_part_at-drop ns n k p (grind (arith, nat_tests)) ∙ h))
     (cases_Bool (nat_lt k n))
 
--- at an entry's spot stands the first network that it begins
-pub part_of-spot : (terms : List Term) (i : ℕ) (es : List Entry) → i < length es
-    → part_of (forest terms es) (spot i es) ≡ Some (first_network (forest terms (drop i es)))
+-- at an entry's path stands the first network that it begins
+pub part_of-entry_path : (terms : List Term) (i : ℕ) (es : List Entry) → i < length es
+    → part_of (forest terms es) (entry_path i es) ≡ Some (first_network (forest terms (drop i es)))
 unfolding part_at
-part_of-spot terms i [] l = absurd (omega arith)
-part_of-spot terms zero (Task cell immediate ∷ es) l = refl
-part_of-spot terms zero (Parts order n ∷ es) l = refl
-part_of-spot terms (suc i) (Task cell immediate ∷ es) l =
-    part_of_task (plain.Task (term_at terms cell) immediate) (forest terms es) (spot i es) _
-    (part_of-spot terms i es (omega arith))
-part_of-spot terms (suc i) (Parts order n ∷ es) l =
-    part_of_list order n (forest terms es) (spot i es) _ (part_of-spot terms i es (omega arith))
+part_of-entry_path terms i [] l = absurd (omega arith)
+part_of-entry_path terms zero (Task cell immediate ∷ es) l = refl
+part_of-entry_path terms zero (Parts order n ∷ es) l = refl
+part_of-entry_path terms (suc i) (Task cell immediate ∷ es) l =
+    part_of_task (plain.Task (term_at terms cell) immediate) (forest terms es) (entry_path i es) _
+    (part_of-entry_path terms i es (omega arith))
+part_of-entry_path terms (suc i) (Parts order n ∷ es) l =
+    part_of_list order n (forest terms es) (entry_path i es) _ (part_of-entry_path terms i es (omega arith))
 
--- ---- another network at a spot
+-- ---- another network at a path
 
 -- networks with another part of the one of this number, at this place
 abbrev pub put : ℕ → Place → Network → List Network → List Network
@@ -130,7 +130,7 @@ put k p x [] = []
 put zero p x (n ∷ ns) = with_part n p x ∷ ns
 put (suc k) p x (n ∷ ns) = n ∷ put k p x ns
 
--- networks with another part at a spot
+-- networks with another part at a path
 abbrev pub put_at : Option (List ℕ) → Network → List Network → List Network
 put_at None x ns = ns
 put_at (Some []) x ns = ns
@@ -142,7 +142,7 @@ length-put k p x [] = refl
 length-put zero p x (n ∷ ns) = refl
 length-put (suc k) p x (n ∷ ns) = ap suc (length-put k p x ns)
 
--- putting a network at a spot changes no number of networks
+-- putting a network at a path changes no number of networks
 pub length-put_at : (s : Option (List ℕ)) (x : Network) (ns : List Network) → length (put_at s x ns) ≡ length ns
 length-put_at None x ns = refl
 length-put_at (Some []) x ns = refl
@@ -224,20 +224,20 @@ put_list order n ns (Some (k ∷ p)) x =
     before e = unchanged n k ns (grind (arith, nat_tests))
 
 -- other entries from an entry on, whose first network stands in place of the entry's, are those with that network at
--- the entry's spot
+-- the entry's path
 pub forest-replaced : (terms : List Term) (j : ℕ) (es tail : List Entry) (x : Network) → j < length es
     → forest terms tail ≡ x ∷ drop 1 (forest terms (drop j es))
-    → forest terms (take j es ++ tail) ≡ put_at (spot j es) x (forest terms es)
+    → forest terms (take j es ++ tail) ≡ put_at (entry_path j es) x (forest terms es)
 unfolding with_part
 forest-replaced terms j [] tail x l h = absurd (omega arith)
 forest-replaced terms zero (Task cell immediate ∷ es) tail x l h = h
 forest-replaced terms zero (Parts order n ∷ es) tail x l h = h
 forest-replaced terms (suc j) (Task cell immediate ∷ es) tail x l h =
     ap (λ ns. plain.Task (term_at terms cell) immediate ∷ ns) (forest-replaced terms j es tail x (omega arith) h)
-    ∙ put_task (plain.Task (term_at terms cell) immediate) (forest terms es) (spot j es) x
+    ∙ put_task (plain.Task (term_at terms cell) immediate) (forest terms es) (entry_path j es) x
 forest-replaced terms (suc j) (Parts order n ∷ es) tail x l h =
     ap (λ ns. listed order (as_networks (take n ns)) ∷ drop n ns) (forest-replaced terms j es tail x (omega arith) h)
-    ∙ put_list order n (forest terms es) (spot j es) x
+    ∙ put_list order n (forest terms es) (entry_path j es) x
 
 -- the lists of such entries are full
 pub full-replaced : (j : ℕ) (es tail : List Entry) (x : Network) → j < length es
@@ -248,33 +248,33 @@ full-replaced (suc j) (Task cell immediate ∷ es) tail x l h f t = full-replace
 full-replaced (suc j) (Parts order n ∷ es) tail x l h f t = (
   f.0,
   (let e = ap length (forest-replaced [] j es tail x (omega arith) h) in
-      let c = length-put_at (spot j es) x (forest [] es) in
+      let c = length-put_at (entry_path j es) x (forest [] es) in
       let g = f.1 in
       omega arith),
   full-replaced j es tail x (omega arith) h f.2 t,
 )
 
--- an entry keeps its spot as others come in place of it and of those behind it
-pub spot-replaced : (j : ℕ) (es : List Entry) (e : Entry) (tail : List Entry) → j < length es
-    → spot j (take j es ++ e ∷ tail) ≡ spot j es
-spot-replaced j [] e tail l = absurd (omega arith)
-spot-replaced zero (d ∷ es) e tail l = refl
-spot-replaced (suc j) (Task cell immediate ∷ es) e tail l =
-    ap (option_map behind_task) (spot-replaced j es e tail (omega arith))
-spot-replaced (suc j) (Parts order n ∷ es) e tail l =
-    ap (option_map (behind_list n)) (spot-replaced j es e tail (omega arith))
+-- an entry keeps its path as others come in place of it and of the entries behind it
+pub entry_path-replaced : (j : ℕ) (es : List Entry) (e : Entry) (tail : List Entry) → j < length es
+    → entry_path j (take j es ++ e ∷ tail) ≡ entry_path j es
+entry_path-replaced j [] e tail l = absurd (omega arith)
+entry_path-replaced zero (d ∷ es) e tail l = refl
+entry_path-replaced (suc j) (Task cell immediate ∷ es) e tail l =
+    ap (option_map behind_task) (entry_path-replaced j es e tail (omega arith))
+entry_path-replaced (suc j) (Parts order n ∷ es) e tail l =
+    ap (option_map (behind_list n)) (entry_path-replaced j es e tail (omega arith))
 
--- ---- a spot below another
+-- ---- a path below another
 
 -- behind a task a path goes on as it does before it
-below_task : (s : Option (List ℕ)) (q : List ℕ) → IsSpot s
+below_task : (s : Option (List ℕ)) (q : List ℕ) → IsEntryPath s
     → option_map behind_task (option_map (λ p. p ++ q) s) ≡ option_map (λ p. p ++ q) (option_map behind_task s)
 below_task None q h = refl
 below_task (Some []) q h = absurd h
 below_task (Some (k ∷ p)) q h = refl
 
 -- behind a list a path goes on as it does before it
-below_list : (n : ℕ) (s : Option (List ℕ)) (q : List ℕ) → IsSpot s
+below_list : (n : ℕ) (s : Option (List ℕ)) (q : List ℕ) → IsEntryPath s
     → option_map (behind_list n) (option_map (λ p. p ++ q) s)
     ≡ option_map (λ p. p ++ q) (option_map (behind_list n) s)
 below_list n None q h = refl
@@ -282,33 +282,33 @@ below_list n (Some []) q h = absurd h
 below_list n (Some (k ∷ p)) q h =
     ⊎_elim (λ e. rw e refl) (λ e. rw e refl) (cases_Bool (nat_lt k n))
 
--- the spot of an entry of the first network that another begins is below its spot
-pub spot-below : (j i : ℕ) (es : List Entry) (q : List ℕ) → spot i (drop j es) ≡ Some (zero ∷ q)
-    → spot (j + i) es ≡ option_map (λ p. p ++ q) (spot j es)
-spot-below j i [] q h = refl
-spot-below zero i (e ∷ es) q h = let n : 0 + i ≡ i = omega arith in rw n h
-spot-below (suc j) i (Task cell immediate ∷ es) q h =
+-- the path of an entry of the first network that another begins is below its path
+pub entry_path-below : (j i : ℕ) (es : List Entry) (q : List ℕ) → entry_path i (drop j es) ≡ Some (zero ∷ q)
+    → entry_path (j + i) es ≡ option_map (λ p. p ++ q) (entry_path j es)
+entry_path-below j i [] q h = refl
+entry_path-below zero i (e ∷ es) q h = let n : 0 + i ≡ i = omega arith in rw n h
+entry_path-below (suc j) i (Task cell immediate ∷ es) q h =
     let n : suc j + i ≡ suc (j + i) = omega arith in
-    rw n (ap (option_map behind_task) (spot-below j i es q h) ∙ below_task (spot j es) q (is_spot j es))
-spot-below (suc j) i (Parts order n ∷ es) q h =
+    rw n (ap (option_map behind_task) (entry_path-below j i es q h) ∙ below_task (entry_path j es) q (is_entry_path j es))
+entry_path-below (suc j) i (Parts order n ∷ es) q h =
     let m : suc j + i ≡ suc (j + i) = omega arith in
-    rw m (ap (option_map (behind_list n)) (spot-below j i es q h) ∙ below_list n (spot j es) q (is_spot j es))
+    rw m (ap (option_map (behind_list n)) (entry_path-below j i es q h) ∙ below_list n (entry_path j es) q (is_entry_path j es))
 
--- ---- how far spots reach
+-- ---- how far paths reach
 
--- a spot is within so many networks
+-- a path is within so many networks
 abbrev IsWithinFirst : ℕ → Option (List ℕ) → Type 0
 IsWithinFirst m None = Unit {0}
 IsWithinFirst m (Some []) = Unit {0}
 IsWithinFirst m (Some (k ∷ p)) = k < m
 
--- behind a task a spot is within one network more
+-- behind a task a path is within one network more
 within_task : (m : ℕ) (s : Option (List ℕ)) → IsWithinFirst m s → IsWithinFirst (suc m) (option_map behind_task s)
 within_task m None h = tt
 within_task m (Some []) h = tt
 within_task m (Some (k ∷ p)) h = omega arith
 
--- behind a list a spot is within the networks that are no parts of it, and the list
+-- behind a list a path is within the list and the networks behind its parts
 within_list : (n m : ℕ) (s : Option (List ℕ)) → IsWithinFirst m s
     → IsWithinFirst (suc (m - n)) (option_map (behind_list n) s)
 within_list n m None h = tt
@@ -317,34 +317,34 @@ within_list n m (Some (k ∷ p)) h =
     ⊎_elim (λ e. rw e (omega arith))
     (λ e. let l : n ≤ k = grind (arith, nat_tests) in rw e (omega arith)) (cases_Bool (nat_lt k n))
 
--- the spot of an entry is within the networks
-within_first : (terms : List Term) (i : ℕ) (es : List Entry) → IsWithinFirst (length (forest terms es)) (spot i es)
+-- the path of an entry is within the networks
+within_first : (terms : List Term) (i : ℕ) (es : List Entry) → IsWithinFirst (length (forest terms es)) (entry_path i es)
 within_first terms i [] = tt
 within_first terms zero (Task cell immediate ∷ es) = omega arith
 within_first terms zero (Parts order n ∷ es) = omega arith
 within_first terms (suc i) (Task cell immediate ∷ es) =
-    within_task (length (forest terms es)) (spot i es) (within_first terms i es)
+    within_task (length (forest terms es)) (entry_path i es) (within_first terms i es)
 within_first terms (suc i) (Parts order n ∷ es) =
     let e = length-drop n (forest terms es) in
-    subst (λ m. IsWithinFirst (suc m) (option_map (behind_list n) (spot i es))) (sym e)
-    (within_list n (length (forest terms es)) (spot i es) (within_first terms i es))
+    subst (λ m. IsWithinFirst (suc m) (option_map (behind_list n) (entry_path i es))) (sym e)
+    (within_list n (length (forest terms es)) (entry_path i es) (within_first terms i es))
 
--- a spot is of one of the networks
-pub spot_within : (terms : List Term) (i : ℕ) (es : List Entry) (k : ℕ) (p : Place) → spot i es ≡ Some (k ∷ p)
+-- a path is of one of the networks
+pub entry_path_within : (terms : List Term) (i : ℕ) (es : List Entry) (k : ℕ) (p : Place) → entry_path i es ≡ Some (k ∷ p)
     → k < length (forest terms es)
-spot_within terms i es k p h = subst (IsWithinFirst (length (forest terms es))) h (within_first terms i es)
+entry_path_within terms i es k p h = subst (IsWithinFirst (length (forest terms es))) h (within_first terms i es)
 
--- past the entries there is no spot
-spot_past : (i : ℕ) (es : List Entry) → length es ≤ i → spot i es ≡ None
-spot_past i [] l = refl
-spot_past zero (e ∷ es) l = absurd (omega arith)
-spot_past (suc i) (Task cell immediate ∷ es) l = ap (option_map behind_task) (spot_past i es (omega arith))
-spot_past (suc i) (Parts order n ∷ es) l = ap (option_map (behind_list n)) (spot_past i es (omega arith))
+-- past the entries there is no path
+entry_path_past : (i : ℕ) (es : List Entry) → length es ≤ i → entry_path i es ≡ None
+entry_path_past i [] l = refl
+entry_path_past zero (e ∷ es) l = absurd (omega arith)
+entry_path_past (suc i) (Task cell immediate ∷ es) l = ap (option_map behind_task) (entry_path_past i es (omega arith))
+entry_path_past (suc i) (Parts order n ∷ es) l = ap (option_map (behind_list n)) (entry_path_past i es (omega arith))
 
--- an entry that has a spot is one of the entries
-pub entry_within : (i : ℕ) (es : List Entry) (s : List ℕ) → spot i es ≡ Some s → i < length es
+-- an entry with a path is one of the entries
+pub entry_within : (i : ℕ) (es : List Entry) (s : List ℕ) → entry_path i es ≡ Some s → i < length es
 entry_within i es s h =
-    ⊎_elim (λ l. l) (λ l. absurd (let e = spot_past i es l in cc)) (cases_lt i (length es))
+    ⊎_elim (λ l. l) (λ l. absurd (let e = entry_path_past i es l in cc)) (cases_lt i (length es))
 
 -- what stands from an entry on begins with it
 pub drop-from : (es : List Entry) (j : ℕ) (e : Entry) → slice_get es j ≡ Some e → drop j es ≡ e ∷ drop (suc j) es
@@ -353,65 +353,65 @@ drop-from (d ∷ es) zero e h = ap (λ x. x ∷ es) (same_Some d e h)
 drop-from (d ∷ es) (suc j) e h = drop-from es j e h
 
 -- the first entry of those from it on is the first network
-pub spot_first : (i : ℕ) (es : List Entry) → i < length es → spot (i - i) (drop i es) ≡ Some (zero ∷ [])
-spot_first i es l =
+pub entry_path_first : (i : ℕ) (es : List Entry) → i < length es → entry_path (i - i) (drop i es) ≡ Some (zero ∷ [])
+entry_path_first i es l =
     let z : i - i ≡ 0 = omega arith in
     rw z (first (drop i es) (let n = length-drop i es in omega arith))
   where
-    first : (xs : List Entry) → 0 < length xs → spot zero xs ≡ Some (zero ∷ [])
+    first : (xs : List Entry) → 0 < length xs → entry_path zero xs ≡ Some (zero ∷ [])
     first [] l = absurd (omega arith)
     first (x ∷ xs) l = refl
 
 -- ---- places
 
--- a spot that has a place is in the first network
+-- a path with a place is in the first network
 place_parts : (s : Option (List ℕ)) (p : Place) → option_and_then below_root s ≡ Some p → s ≡ Some (zero ∷ p)
 place_parts None p h = absurd cc
 place_parts (Some []) p h = absurd cc
 place_parts (Some (zero ∷ q)) p h = ap (λ r. Some (zero ∷ r)) (same_Some q p h)
 place_parts (Some (suc k ∷ q)) p h = absurd cc
 
--- an entry's place is its spot below the first network
-pub spot_from_place : (es : List Entry) (i : ℕ) (p : Place) → place_of es i ≡ Some p → spot i es ≡ Some (zero ∷ p)
+-- an entry's place is its path below the first network
+pub entry_path_from_place : (es : List Entry) (i : ℕ) (p : Place) → place_of es i ≡ Some p → entry_path i es ≡ Some (zero ∷ p)
 unfolding place_of
-spot_from_place es i p h = place_parts (spot i es) p h
+entry_path_from_place es i p h = place_parts (entry_path i es) p h
 
--- an entry whose spot is in the first network has a place there
-pub place_from_spot : (es : List Entry) (i : ℕ) (p : Place) → spot i es ≡ Some (zero ∷ p) → place_of es i ≡ Some p
+-- an entry with a path in the first network has a place there
+pub place_from_entry_path : (es : List Entry) (i : ℕ) (p : Place) → entry_path i es ≡ Some (zero ∷ p) → place_of es i ≡ Some p
 unfolding place_of
-place_from_spot es i p h = ap (option_and_then below_root) h
+place_from_entry_path es i p h = ap (option_and_then below_root) h
 
--- an entry has a spot
-has_spot : (i : ℕ) (es : List Entry) → i < length es → (s : List ℕ) × (spot i es ≡ Some s)
-has_spot i [] l = absurd (omega arith)
-has_spot zero (e ∷ es) l = (zero ∷ [], refl)
-has_spot (suc i) (Task cell immediate ∷ es) l =
-    let h = has_spot i es (omega arith) in (behind_task h.0, ap (option_map behind_task) h.1)
-has_spot (suc i) (Parts order n ∷ es) l =
-    let h = has_spot i es (omega arith) in (behind_list n h.0, ap (option_map (behind_list n)) h.1)
+-- an entry has a path
+has_entry_path : (i : ℕ) (es : List Entry) → i < length es → (s : List ℕ) × (entry_path i es ≡ Some s)
+has_entry_path i [] l = absurd (omega arith)
+has_entry_path zero (e ∷ es) l = (zero ∷ [], refl)
+has_entry_path (suc i) (Task cell immediate ∷ es) l =
+    let h = has_entry_path i es (omega arith) in (behind_task h.0, ap (option_map behind_task) h.1)
+has_entry_path (suc i) (Parts order n ∷ es) l =
+    let h = has_entry_path i es (omega arith) in (behind_list n h.0, ap (option_map (behind_list n)) h.1)
 
--- where the entries are one network or none, an entry that has a spot has a place
-spot_has_place : (es : List Entry) (i : ℕ) (s : List ℕ) → length (forest [] es) ≤ 1 → spot i es ≡ Some s
+-- where the entries are one network or none, an entry with a path has a place
+entry_path_has_place : (es : List Entry) (i : ℕ) (s : List ℕ) → length (forest [] es) ≤ 1 → entry_path i es ≡ Some s
     → (p : Place) × (place_of es i ≡ Some p)
-spot_has_place es i [] one h = absurd (subst IsSpot h (is_spot i es))
-spot_has_place es i (zero ∷ p) one h = (p, place_from_spot es i p h)
-spot_has_place es i (suc k ∷ p) one h = let l = spot_within [] i es (suc k) p h in absurd (omega arith)
+entry_path_has_place es i [] one h = absurd (subst IsEntryPath h (is_entry_path i es))
+entry_path_has_place es i (zero ∷ p) one h = (p, place_from_entry_path es i p h)
+entry_path_has_place es i (suc k ∷ p) one h = let l = entry_path_within [] i es (suc k) p h in absurd (omega arith)
 
--- a task of an outline has a place
-pub task_has_place : (o : Outline) (i : ℕ) → IsOutline o → NamesTask o i → (p : Place) × (place_of o.entries i ≡ Some p)
+-- a task of a flat network has a place
+pub task_has_place : (o : FlatNetwork) (i : ℕ) → IsFlatNetwork o → NamesTask o i → (p : Place) × (place_of o.entries i ≡ Some p)
 task_has_place o i h t =
-    let s = has_spot i o.entries (slice_get_within o.entries i _ t.2) in
-    spot_has_place o.entries i s.0 h.one s.1
+    let s = has_entry_path i o.entries (slice_get_within o.entries i _ t.2) in
+    entry_path_has_place o.entries i s.0 h.one s.1
 
 -- ---- no two entries at one place
 
--- the path that is this one behind a task
+-- the path from behind a task, by its path before it
 abbrev before_task : List ℕ → List ℕ
 before_task (suc k ∷ p) = k ∷ p
 before_task (zero ∷ p) = []
 before_task [] = []
 
--- the path that is this one behind a list
+-- the path from behind a list, by its path before it
 abbrev before_list : ℕ → List ℕ → List ℕ
 before_list n (suc k ∷ p) = (k + n) ∷ p
 before_list n (zero ∷ p) = p
@@ -433,28 +433,28 @@ from_behind_list n (Some (k ∷ p)) =
     (cases_Bool (nat_lt k n))
 
 -- only the first entry is the whole of the first network
-only_first : (i : ℕ) (es : List Entry) → spot i es ≡ Some (zero ∷ []) → i ≡ 0
+only_first : (i : ℕ) (es : List Entry) → entry_path i es ≡ Some (zero ∷ []) → i ≡ 0
 only_first i [] h = absurd cc
 only_first zero (e ∷ es) h = refl
 only_first (suc i) (Task cell immediate ∷ es) h =
-    absurd (subst IsSpot (sym (from_behind_task (spot i es)) ∙ ap (option_map before_task) h) (is_spot i es))
+    absurd (subst IsEntryPath (sym (from_behind_task (entry_path i es)) ∙ ap (option_map before_task) h) (is_entry_path i es))
 only_first (suc i) (Parts order n ∷ es) h =
-    absurd (subst IsSpot (sym (from_behind_list n (spot i es)) ∙ ap (option_map (before_list n)) h) (is_spot i es))
+    absurd (subst IsEntryPath (sym (from_behind_list n (entry_path i es)) ∙ ap (option_map (before_list n)) h) (is_entry_path i es))
 
--- no two entries have the same spot
-spots_apart : (i j : ℕ) (es : List Entry) (s : List ℕ) → spot i es ≡ Some s → spot j es ≡ Some s → i ≡ j
-spots_apart i j [] s h k = absurd cc
-spots_apart zero j (e ∷ es) s h k = sym (only_first j (e ∷ es) (k ∙ sym h))
-spots_apart (suc i) zero (e ∷ es) s h k = only_first (suc i) (e ∷ es) (h ∙ sym k)
-spots_apart (suc i) (suc j) (Task cell immediate ∷ es) s h k =
+-- no two entries have the same path
+entry_paths_apart : (i j : ℕ) (es : List Entry) (s : List ℕ) → entry_path i es ≡ Some s → entry_path j es ≡ Some s → i ≡ j
+entry_paths_apart i j [] s h k = absurd cc
+entry_paths_apart zero j (e ∷ es) s h k = sym (only_first j (e ∷ es) (k ∙ sym h))
+entry_paths_apart (suc i) zero (e ∷ es) s h k = only_first (suc i) (e ∷ es) (h ∙ sym k)
+entry_paths_apart (suc i) (suc j) (Task cell immediate ∷ es) s h k =
     ap suc
-    (spots_apart i j es (before_task s) (sym (from_behind_task (spot i es)) ∙ ap (option_map before_task) h)
-    (sym (from_behind_task (spot j es)) ∙ ap (option_map before_task) k))
-spots_apart (suc i) (suc j) (Parts order n ∷ es) s h k =
+    (entry_paths_apart i j es (before_task s) (sym (from_behind_task (entry_path i es)) ∙ ap (option_map before_task) h)
+    (sym (from_behind_task (entry_path j es)) ∙ ap (option_map before_task) k))
+entry_paths_apart (suc i) (suc j) (Parts order n ∷ es) s h k =
     ap suc
-    (spots_apart i j es (before_list n s) (sym (from_behind_list n (spot i es)) ∙ ap (option_map (before_list n)) h)
-    (sym (from_behind_list n (spot j es)) ∙ ap (option_map (before_list n)) k))
+    (entry_paths_apart i j es (before_list n s) (sym (from_behind_list n (entry_path i es)) ∙ ap (option_map (before_list n)) h)
+    (sym (from_behind_list n (entry_path j es)) ∙ ap (option_map (before_list n)) k))
 
 -- no two entries have the same place
 pub places_apart : (es : List Entry) (i j : ℕ) (p : Place) → place_of es i ≡ Some p → place_of es j ≡ Some p → i ≡ j
-places_apart es i j p h k = spots_apart i j es (zero ∷ p) (spot_from_place es i p h) (spot_from_place es j p k)
+places_apart es i j p h k = entry_paths_apart i j es (zero ∷ p) (entry_path_from_place es i p h) (entry_path_from_place es j p k)

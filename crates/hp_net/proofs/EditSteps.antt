@@ -7,21 +7,21 @@ use Rattle.std.proofs.lemmas.Option.{same_Some}
 use Rattle.hp_net.specs.declared.entry.Entry.{Entry}
 use Rattle.hp_net.specs.declared.entry.Entry.TheVariants.{Task, List as Parts}
 use Rattle.hp_net.specs.Edits.{IsPart, further_of}
-use Rattle.hp_net.specs.Outlines.{behind_list, behind_task, spot}
-use Rattle.hp_net.proofs.SpotLemmas.{behind_list-past, drop-from}
+use Rattle.hp_net.specs.FlatNetworks.{behind_list, behind_task, entry_path}
+use Rattle.hp_net.proofs.EntryPathLemmas.{behind_list-past, drop-from}
 
 module _ (es : List Entry) (task place before : ℕ) (e : Entry) (earlier : place < task)
     (is : slice_get es place ≡ Some e)
-    (there : spot (task - suc place) (drop (suc place) es) ≡ Some (before ∷ [])) where
-  -- the task's spot from this entry on is that from the next one on, behind this one
-  spot_from : spot (task - place) (drop place es) ≡ spot (suc (task - suc place)) (e ∷ drop (suc place) es)
-  spot_from =
+    (there : entry_path (task - suc place) (drop (suc place) es) ≡ Some (before ∷ [])) where
+  -- the task's path from this entry on is that from the next one on, behind this one
+  entry_path_from : entry_path (task - place) (drop place es) ≡ entry_path (suc (task - suc place)) (e ∷ drop (suc place) es)
+  entry_path_from =
       let n : task - place ≡ suc (task - suc place) = omega arith in
-      ap₂ spot n (drop-from es place e is)
+      ap₂ entry_path n (drop-from es place e is)
 
   -- the networks before the task are those behind this entry that are no parts of it, and its own
   past_one : (f : Entry) → e ≡ f → (count : ℕ) → further_of f before ≡ Some count
-      → (spot (suc (task - suc place)) (f ∷ drop (suc place) es) ≡ Some (count ∷ [])) × (count ≤ before + 1)
+      → (entry_path (suc (task - suc place)) (f ∷ drop (suc place) es) ≡ Some (count ∷ [])) × (count ≤ before + 1)
   past_one (Task cell immediate) s count h =
       let c = same_Some (before + 1) count h in (
         ap (option_map behind_task) there ∙ ap (λ k. Some (k ∷ [])) (omega arith),
@@ -40,8 +40,8 @@ module _ (es : List Entry) (task place before : ℕ) (e : Entry) (earlier : plac
 
   -- so many networks stand before the task from this entry on
   pub past : (count : ℕ) → further_of e before ≡ Some count
-      → (spot (task - place) (drop place es) ≡ Some (count ∷ [])) × (count ≤ before + 1)
-  past count h = let p = past_one e refl count h in (spot_from ∙ p.0, p.1)
+      → (entry_path (task - place) (drop place es) ≡ Some (count ∷ [])) × (count ≤ before + 1)
+  past count h = let p = past_one e refl count h in (entry_path_from ∙ p.0, p.1)
 
   -- an entry that ends the search is a list with the task as a part
   found_one : (f : Entry) → e ≡ f → further_of f before ≡ None → IsPart es task place

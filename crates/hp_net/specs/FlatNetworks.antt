@@ -10,8 +10,8 @@ use Rattle.hp_net.specs.declared.entry.Order.TheVariants.{Ordered, Unordered}
 use Rattle.hp_net.specs.declared.entry.Entry.{Entry}
 use Rattle.hp_net.specs.declared.entry.Entry.TheVariants.{Task, List as Parts}
 
--- the entries of a network, and the number of the one that has the focus
-pub record Outline : Type 0 where
+-- the entries of a network, and the number of the entry with the focus
+pub record FlatNetwork : Type 0 where
   pub entries : List Entry
   pub focus : Option ℕ
 
@@ -22,7 +22,7 @@ abbrev pub listed : Order → Networks → Network
 listed Ordered ns = plain.Ordered ns
 listed Unordered ns = plain.Unordered ns
 
--- the networks that entries are, one behind another; a list takes its parts from those behind it
+-- the networks of entries, one behind another; a list takes its parts from the networks behind it
 abbrev pub forest : List Term → List Entry → List Network
 forest terms [] = []
 forest terms (Task cell immediate ∷ es) = plain.Task (term_at terms cell) immediate ∷ forest terms es
@@ -34,7 +34,7 @@ abbrev pub first_network : List Network → Network
 first_network [] = Empty
 first_network (n ∷ ns) = n
 
--- the network that the entries are, where cells name these terms
+-- the network of the entries, where cells name these terms
 unfoldable pub network_in : List Term → List Entry → Network
 network_in terms es = first_network (forest terms es)
 
@@ -50,12 +50,12 @@ abbrev pub behind_list : ℕ → List ℕ → List ℕ
 behind_list n [] = []
 behind_list n (k ∷ p) = cond (nat_lt k n) (zero ∷ k ∷ p) (suc (k - n) ∷ p)
 
--- where an entry's network stands: the number of its tree among those that the entries are, and its place there
-abbrev pub spot : ℕ → List Entry → Option (List ℕ)
-spot i [] = None
-spot zero (e ∷ es) = Some (zero ∷ [])
-spot (suc i) (Task cell immediate ∷ es) = option_map behind_task (spot i es)
-spot (suc i) (Parts order n ∷ es) = option_map (behind_list n) (spot i es)
+-- the path of an entry's network: the number of its tree among the networks of the entries, and its place there
+abbrev pub entry_path : ℕ → List Entry → Option (List ℕ)
+entry_path i [] = None
+entry_path zero (e ∷ es) = Some (zero ∷ [])
+entry_path (suc i) (Task cell immediate ∷ es) = option_map behind_task (entry_path i es)
+entry_path (suc i) (Parts order n ∷ es) = option_map (behind_list n) (entry_path i es)
 
 -- the place in the first network, if the path leads there
 abbrev pub below_root : List ℕ → Option Place
@@ -65,10 +65,10 @@ below_root [] = None
 
 -- the place of an entry's network in the whole network
 unfoldable pub place_of : List Entry → ℕ → Option Place
-place_of es i = option_and_then below_root (spot i es)
+place_of es i = option_and_then below_root (entry_path i es)
 
 -- the network and its focus
-abbrev pub focused : List Term → Outline → Network × Option Place
+abbrev pub focused : List Term → FlatNetwork → Network × Option Place
 focused terms o = (network_in terms o.entries, option_and_then (place_of o.entries) o.focus)
 
 -- ---- what holds of the entries of a network
@@ -85,13 +85,13 @@ IsWithin None n = Unit {0}
 IsWithin (Some i) n = i < n
 
 -- the entries are one network or none, in normal form
-pub record IsOutline (o : Outline) : Type 0 where
+pub record IsFlatNetwork (o : FlatNetwork) : Type 0 where
   pub full : AreFull o.entries
   pub one : length (forest [] o.entries) ≤ 1
   pub focus : IsWithin o.focus (length o.entries)
 
 -- the entry of this number is a task
-abbrev pub NamesTask : Outline → ℕ → Type 0
+abbrev pub NamesTask : FlatNetwork → ℕ → Type 0
 NamesTask o i = (cell : ℕ) × (immediate : Bool) × (slice_get o.entries i ≡ Some (Task cell immediate))
 
 -- each task's cell is below a count

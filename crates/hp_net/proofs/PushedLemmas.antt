@@ -20,7 +20,7 @@ use Rattle.hp_net.specs.declared.entry.Order.{Order}
 use Rattle.hp_net.specs.declared.entry.Order.TheVariants.{Ordered, Unordered}
 use Rattle.hp_net.specs.declared.entry.Entry.{Entry}
 use Rattle.hp_net.specs.declared.entry.Entry.TheVariants as entries
-use Rattle.hp_net.specs.Outlines.{listed, forest, AreFull, EntryBelow}
+use Rattle.hp_net.specs.FlatNetworks.{listed, forest, AreFull, EntryBelow}
 use Rattle.hp_net.specs.Pushed.{shown, kept, kept_list, all_kept, Reads, Adds, closed}
 
 -- ---- what stays of trees
