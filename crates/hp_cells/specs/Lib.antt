@@ -1,4 +1,5 @@
 pub mod Cells
+pub mod Compared
 pub mod Keys
 pub mod Shows
 pub mod TermCode

@@ -2,6 +2,7 @@
 ghost use Rattle.std.specs.Prelude.{◌≡◌, ℕ, ◌+◌, ◌<◌, ◌≤◌, ◌^◌, [], ◌∷◌, ◌++◌, Some, IfOk, OnErr, length, take, slice_get, vec_len, vec_capacity, if◌then◌else◌};
 ghost use Rattle.hp_syntax.specs.Terms.{Term, Terms, Symbol, Number, Listed, NoTerm, More, term_nesting};
 ghost use Rattle.hp_cells.specs.Cells.{AreCells, NamesList, Interns};
+ghost use Rattle.hp_cells.specs.Compared.{is_symbol, is_number};
 ghost use Rattle.hp_cells.specs.Keys.{term_of, Stands};
 ghost use Rattle.hp_cells.specs.Shows.{Shows, LooksBack};
 
@@ -123,6 +124,28 @@ impl Cells {
         ensures cells { AreCells self.now }
     {
         self.keys.as_slice()[cell.place as usize].view()
+    }
+
+    /// Whether the term of a cell is the symbol of this name. No cell is made for the name.
+    pub fn is_symbol(&self, cell: Cell, name: &Name) -> bool
+        requires { cell < length self.now }
+        ensures { (t : Term) → slice_get self.now cell ≡ Some t → result ≡ is_symbol name.now t }
+    {
+        match self.get(cell) {
+            View::Sym(own) => name == own,
+            View::Nil | View::Num(_) | View::Cons(_, _) => false,
+        }
+    }
+
+    /// Whether the term of a cell is this number. No cell is made for the number.
+    pub fn is_number(&self, cell: Cell, n: i64) -> bool
+        requires { cell < length self.now }
+        ensures { (t : Term) → slice_get self.now cell ≡ Some t → result ≡ is_number n t }
+    {
+        match self.get(cell) {
+            View::Num(own) => n == own,
+            View::Nil | View::Sym(_) | View::Cons(_, _) => false,
+        }
     }
 
     /// How deep the term of a cell nests: a symbol or a number 0, and a list one deeper than its deepest part, the

@@ -9,6 +9,7 @@ pub mod Stops
 pub mod ValueSteps
 pub mod TreeViews
 pub mod TaskSteps
+pub mod GroundSteps
 pub mod GoalViewLemmas
 pub mod FillStepLemmas
 pub mod SlotLemmas

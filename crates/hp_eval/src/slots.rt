@@ -1,6 +1,7 @@
 //! What the variables of a rule stand for.
 ghost use Rattle.std.specs.Prelude.{◌≡◌, ◌-◌, ◌≤◌, ◌<◌, None, Some, IfOk, length, slice_get};
 ghost use Rattle.hp_eval.specs.Slotted.{no_bindings, with_bound, undone, flat};
+ghost use Rattle.hp_syntax.specs.declared.limits.TheConstants.{MOST_VARIABLES};
 
 use hp_cells::Cell;
 use std::alloc::{AllocError, Global};
@@ -29,13 +30,15 @@ impl Drop for Slots {
 
 impl Model for Slots {
     ghost use Rattle.std.specs.Prelude.{◌≤◌, length};
+    ghost use Rattle.hp_syntax.specs.declared.limits.TheConstants.{MOST_VARIABLES};
     ghost use Rattle.hp_eval.specs.Slotted.{Slotted, AreSlots, stored};
 
     ghost Value = { Slotted };
 
     ghost view = { λ a. stored a.slots.items a.bound };
 
-    ghost invariant = { λ a. AreSlots (stored a.slots.items a.bound) × (a.bound ≤ length a.slots.items) };
+    ghost invariant = { λ a. AreSlots (stored a.slots.items a.bound) × (a.bound ≤ length a.slots.items)
+        × (length a.slots.items ≤ MOST_VARIABLES) };
 }
 
 impl Slots {
@@ -52,9 +55,10 @@ impl Slots {
         Ok(Slots { slots, bound: 0 })
     }
 
-    /// The number of variables.
+    /// The number of variables, of which a rule has few.
     pub fn vars(&self) -> usize
-        ensures { result ≡ length self.now.values }
+        ensures vars { result ≡ length self.now.values }
+        ensures few { length self.now.values ≤ MOST_VARIABLES }
     {
         self.slots.len()
     }

@@ -22,7 +22,7 @@ invariant_of-self c =
     stored-bound slots bound c.args.v c.args.cell c.index_mut.result.now c.index_mut-2.result.now places.0 places.1
     c.index_mut.ensures.value c.index_mut-2.ensures.value in
     let a = are_slots_bound (stored slots bound) c.args.v c.args.cell c.self.invariant.0 unbound in
-    (subst AreSlots (sym e) a, simp length-set (omega arith))
+    (subst AreSlots (sym e) a, simp length-set (omega arith), simp length-set (omega arith))
 
 pub returns : goal.returns
 returns c =

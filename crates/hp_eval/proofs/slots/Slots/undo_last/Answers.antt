@@ -28,7 +28,7 @@ invariant_of-self c =
     stored-undone slots (bound - 1) bound last c.index_mut.result.now more c.self.invariant.1 within c.index.ensures
     c.index_mut.ensures.value in
     let a = are_slots_undone (bound - 1) (stored slots bound) c.self.invariant.0 in
-    (subst AreSlots (sym e) a, rw length-set (omega arith))
+    (subst AreSlots (sym e) a, rw length-set (omega arith), rw length-set (omega arith))
 
 pub returns : goal.returns
 returns c =
