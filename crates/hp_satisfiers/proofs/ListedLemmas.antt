@@ -25,7 +25,6 @@ module _ (kept : ℕ) (found : List Found) (s : Slotted) (h : FitsListed kept fo
   given_fits new b below =
       let vars = binds_vars (undone 0 s) new b ∙ start_vars in
       record {
-        few = subst (λ n. n ≤ 256) (sym vars) h.few;
         fit = subst (λ n. AllFit n kept found) (sym vars) h.fit;
         blank = undone_above 0 s new (omega arith) b ∙ (h.blank ∙ ap no_bindings (sym vars));
         below = below;

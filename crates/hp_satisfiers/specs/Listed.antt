@@ -24,7 +24,6 @@ left_from terms found place = heard (found_events terms (drop place found))
 
 -- nothing is bound below the bindings of slots, which a list fits whose cells are below a count
 pub record FitsListed (kept : ℕ) (found : List Found) (s : Slotted) : Type 0 where
-  pub few : length s.values ≤ 256
   pub fit : AllFit (length s.values) kept found
   pub blank : undone 0 s ≡ no_bindings (length s.values)
   pub below : AreBelow kept s

@@ -108,7 +108,6 @@ fn value_matched(
     slots: &Slots,
     cells: &Cells,
 ) -> Result<Vec<Found>, AllocError>
-    requires few { length slots.now.values ≤ 256 }
     requires slots { AreBelow (length cells.now) slots.now }
     requires goal { GoalBelow (length cells.now) goal.now }
     requires atom { atom < length cells.now }
@@ -129,7 +128,6 @@ fn concluded(
     own: &Slots,
     cells: &mut Cells,
 ) -> Result<Vec<Found>, AllocError>
-    requires few { length slots.now.values ≤ 256 }
     requires slots { AreBelow (length cells.old) slots.now }
     requires own { AreBelow (length cells.old) own.now }
     requires goal { GoalBelow (length cells.old) goal.now }
@@ -160,7 +158,6 @@ fn conclusion(
     found: &Found,
     cells: &mut Cells,
 ) -> Result<Vec<Found>, AllocError>
-    requires few { length slots.now.values ≤ 256 }
     requires slots { AreBelow (length cells.old) slots.now }
     requires goal { GoalBelow (length cells.old) goal.now }
     requires found { BindsBelow (length cells.old) found.now }
@@ -185,7 +182,6 @@ pub fn conclusions(
     found: &[Found],
     cells: &mut Cells,
 ) -> Result<Vec<Found>, AllocError>
-    requires few { length slots.now.values ≤ 256 }
     requires slots { AreBelow (length cells.old) slots.now }
     requires goal { GoalBelow (length cells.old) goal.now }
     requires found { All (BindsBelow (length cells.old)) found.now }

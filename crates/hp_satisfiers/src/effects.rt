@@ -200,7 +200,6 @@ impl Scene<'_> {
         cells: &mut Cells,
         changes: &mut Changes,
     ) -> Result<(), Obstacle>
-        requires few { length slots.now.values ≤ 256 }
         requires slots { AreBelow (length cells.old) slots.now }
         requires world { StageBelow (length cells.old) (stage_in self.now) }
         requires below { ChangesBelow (length cells.old) changes.old }
@@ -230,7 +229,6 @@ impl Scene<'_> {
         cells: &mut Cells,
         changes: &mut Changes,
     ) -> Result<(), Obstacle>
-        requires few { length slots.now.values ≤ 256 }
         requires slots { AreBelow (length cells.old) slots.now }
         requires world { StageBelow (length cells.old) (stage_in self.now) }
         requires below { ChangesBelow (length cells.old) changes.old }
@@ -255,7 +253,6 @@ impl Scene<'_> {
         cells: &mut Cells,
         changes: &mut Changes,
     ) -> Result<i64, Obstacle>
-        requires few { length slots.now.values ≤ 256 }
         requires slots { AreBelow (length cells.old) slots.now }
         requires world { StageBelow (length cells.old) (stage_in self.now) }
         requires blank { changes.old ≡ record { unguard = []; delete = []; add = []; guard = [] } }
@@ -278,7 +275,6 @@ impl Scene<'_> {
         nest: u32,
         cells: &mut Cells,
     ) -> Result<(Changes, i64), Obstacle>
-        requires few { length slots.now.values ≤ 256 }
         requires slots { AreBelow (length cells.old) slots.now }
         requires world { StageBelow (length cells.old) (stage_in self.now) }
         ensures goes { GoesAll result (effects (axioms_in self.now) nest (state_in cells.old self.now)
@@ -300,7 +296,6 @@ impl Scene<'_> {
         nest: u32,
         cells: &mut Cells,
     ) -> Result<Effected, AllocError>
-        requires few { length slots.now.values ≤ 256 }
         requires slots { AreBelow (length cells.old) slots.now }
         requires world { StageBelow (length cells.old) (stage_in self.now) }
         ensures comes { IfOk result (λ x. ComesTo x (effects (axioms_in self.now) nest (state_in cells.old self.now)

@@ -40,7 +40,6 @@ impl Scene<'_> {
         level: u32,
         cells: &mut Cells,
     ) -> Result<Vec<Found>, AllocError>
-        requires few { length slots.now.values ≤ 256 }
         requires slots { AreBelow (length cells.old) slots.now }
         requires world { StageBelow (length cells.old) self.now.world.now.now }
         ensures found { IfOk result (λ v. AreHeardAlike (found_events cells.new v.items)
@@ -76,7 +75,6 @@ impl Scene<'_> {
         level: u32,
         cells: &mut Cells,
     ) -> Result<Vec<Found>, AllocError>
-        requires few { length slots.now.values ≤ 256 }
         requires slots { AreBelow (length cells.old) slots.now }
         requires world { StageBelow (length cells.old) (stage_in self.now) }
         ensures finds { IfOk result (λ v.
@@ -103,7 +101,6 @@ impl Scene<'_> {
         level: u32,
         cells: &mut Cells,
     ) -> Result<Vec<Found>, AllocError>
-        requires few { length slots.now.values ≤ 256 }
         requires slots { AreBelow (length cells.old) slots.now }
         requires world { StageBelow (length cells.old) (stage_in self.now) }
         ensures finds { IfOk result (λ v. Hears cells.new (length slots.now.values) v.items
@@ -128,7 +125,6 @@ impl Scene<'_> {
         level: u32,
         cells: &mut Cells,
     ) -> Result<Vec<Found>, AllocError>
-        requires few { length slots.now.values ≤ 256 }
         requires slots { AreBelow (length cells.old) slots.now }
         requires world { StageBelow (length cells.old) (stage_in self.now) }
         ensures finds { IfOk result (λ v. Hears cells.new (length slots.now.values) v.items
@@ -158,7 +154,6 @@ impl Scene<'_> {
         level: u32,
         cells: &mut Cells,
     ) -> Result<Vec<Found>, AllocError>
-        requires few { vars ≤ 256 }
         requires found { AllFit vars (length cells.old) found.now }
         requires world { StageBelow (length cells.old) (stage_in self.now) }
         ensures finds { IfOk result (λ v.
@@ -189,7 +184,6 @@ impl Scene<'_> {
         level: u32,
         cells: &mut Cells,
     ) -> Result<Vec<Found>, AllocError>
-        requires few { vars ≤ 256 }
         requires found { Fits vars (length cells.old) found.now }
         requires world { StageBelow (length cells.old) (stage_in self.now) }
         ensures finds { IfOk result (λ v.
@@ -217,7 +211,6 @@ impl Scene<'_> {
         level: u32,
         cells: &mut Cells,
     ) -> Result<Vec<Found>, AllocError>
-        requires few { length slots.now.values ≤ 256 }
         requires slots { AreBelow (length cells.old) slots.now }
         requires world { StageBelow (length cells.old) (stage_in self.now) }
         ensures finds { IfOk result (λ v. Hears cells.new (length slots.now.values) v.items
@@ -240,7 +233,6 @@ impl Scene<'_> {
         level: u32,
         cells: &mut Cells,
     ) -> Result<Vec<Found>, AllocError>
-        requires few { length slots.now.values ≤ 256 }
         requires slots { AreBelow (length cells.old) slots.now }
         requires goal { GoalBelow (length cells.old) goal.now }
         requires world { StageBelow (length cells.old) (stage_in self.now) }
@@ -273,7 +265,6 @@ impl Scene<'_> {
         level: u32,
         cells: &mut Cells,
     ) -> Result<Vec<Found>, AllocError>
-        requires few { length slots.now.values ≤ 256 }
         requires slots { AreBelow (length cells.old) slots.now }
         requires goal { GoalBelow (length cells.old) goal.now }
         requires world { StageBelow (length cells.old) (stage_in self.now) }
@@ -314,7 +305,6 @@ impl Scene<'_> {
         cells: &mut Cells,
     ) -> Result<Vec<Found>, AllocError>
         requires known { Contains (axioms_in self.now) (axiom_of rule.now) }
-        requires few { length slots.now.values ≤ 256 }
         requires slots { AreBelow (length cells.old) slots.now }
         requires world { StageBelow (length cells.old) (stage_in self.now) }
         ensures finds { IfOk result (λ v. Hears cells.new (length slots.now.values) v.items

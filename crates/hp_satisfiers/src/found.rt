@@ -36,7 +36,6 @@ enum Finding {
 
 /// The same bindings in slots of their own, where the order in which they were bound is another.
 pub fn copy_slots(alloc: Global, slots: &Slots) -> Result<Slots, AllocError>
-    requires few { length slots.now.values ≤ 256 }
     ensures { IfOk result (λ copy. copy.values ≡ slots.now.values) }
 {
     let mut copy = Slots::new(alloc, slots.vars())?;
@@ -58,7 +57,6 @@ pub fn only(alloc: Global, found: Found) -> Result<Vec<Found>, AllocError>
 
 /// A Sat with a copy of the slots.
 pub fn satisfied(alloc: Global, slots: &Slots) -> Result<Vec<Found>, AllocError>
-    requires few { length slots.now.values ≤ 256 }
     ensures { IfOk result (λ v. (terms : List Term) → AreBelow (length terms) slots.now
         → Finds terms (length slots.now.values) v.items (plain.Sat (bindings_of terms slots.now) ∷ [])) }
 {
@@ -113,7 +111,6 @@ fn outcome_of(found: &[Found]) -> Finding
 
 // What the negation of an expression meets.
 fn negated(alloc: Global, outcome: Finding, slots: &Slots) -> Result<Vec<Found>, AllocError>
-    requires few { length slots.now.values ≤ 256 }
     ensures { IfOk result (λ v. (terms : List Term) → AreBelow (length terms) slots.now
         → Finds terms (length slots.now.values) v.items
         (plain.negated (finding_of outcome) (bindings_of terms slots.now))) }
@@ -133,7 +130,6 @@ pub fn turn(
     found: Vec<Found>,
     slots: &Slots,
 ) -> Result<Vec<Found>, AllocError>
-    requires few { length slots.now.values ≤ 256 }
     ensures { IfOk result (λ v. (terms : List Term) → AreBelow (length terms) slots.now
         → AllFit (length slots.now.values) (length terms) found.items
         → Finds terms (length slots.now.values) v.items

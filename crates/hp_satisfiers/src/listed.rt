@@ -35,7 +35,6 @@ impl Drop for Listed {
 
 // Binds what other slots bind, where nothing is bound.
 fn fill(own: &Slots, slots: &mut Slots)
-    requires few { length own.now.values ≤ 256 }
     requires blank { slots.old ≡ no_bindings (length own.now.values) }
     ensures values { slots.new.values ≡ own.now.values }
     ensures above { Binds slots.old slots.new }
@@ -49,7 +48,6 @@ fn fill(own: &Slots, slots: &mut Slots)
 
 // Gives what stands at the place, or the end, and goes on to the next. Behind a fault nothing comes.
 fn give(found: &[Found], place: &mut usize, slots: &mut Slots) -> Event
-    requires few { length slots.old.values ≤ 256 }
     requires blank { slots.old ≡ no_bindings (length slots.old.values) }
     requires fit { (kept : ℕ) × AllFit (length slots.old.values) kept found.now }
     ensures event { (terms : List Term) → result ≡ event_of (left_from terms found.now place.old) }
@@ -84,7 +82,6 @@ impl Listed {
 
     /// A list of which nothing was given, to be given in slots in which nothing is bound.
     pub fn new(found: Vec<Found>, slots: &Slots, cells: &Cells) -> Listed
-        requires few { length slots.now.values ≤ 256 }
         requires blank { slots.now ≡ no_bindings (length slots.now.values) }
         requires fit { AllFit (length slots.now.values) (length cells.now) found.items }
         ensures rest { (terms : List Term) (e : Slotted)

@@ -29,7 +29,6 @@ fn met(
     slots: &Slots,
     cells: &Cells,
 ) -> Result<Vec<Found>, AllocError>
-    requires few { length slots.now.values ≤ 256 }
     requires slots { AreBelow (length cells.now) slots.now }
     requires cell { cell < length cells.now }
     ensures { IfOk result (λ found. Finds cells.now (length slots.now.values) found.items
@@ -56,7 +55,6 @@ fn equal(
     slots: &Slots,
     cells: &Cells,
 ) -> Result<Vec<Found>, AllocError>
-    requires few { length slots.now.values ≤ 256 }
     requires slots { AreBelow (length cells.now) slots.now }
     requires old { old < length cells.now }
     requires cell { cell < length cells.now }
@@ -80,7 +78,6 @@ pub fn assigned(
     slots: &Slots,
     cells: &mut Cells,
 ) -> Result<Vec<Found>, AllocError>
-    requires few { length slots.now.values ≤ 256 }
     requires slots { AreBelow (length cells.old) slots.now }
     ensures found { IfOk result (λ found. Finds cells.new (length slots.now.values) found.items
         (plain.assigned (value (pattern_of pat.now) (bindings_of cells.old slots.now)) v
@@ -95,7 +92,6 @@ pub fn assigned(
 
 // What a call meets whose value is this: nothing if it is the empty list.
 fn truth(alloc: Global, cell: Cell, slots: &Slots, cells: &Cells) -> Result<Vec<Found>, AllocError>
-    requires few { length slots.now.values ≤ 256 }
     requires slots { AreBelow (length cells.now) slots.now }
     requires cell { cell < length cells.now }
     ensures { IfOk result (λ found. Finds cells.now (length slots.now.values) found.items
@@ -114,7 +110,6 @@ pub fn tested(
     slots: &Slots,
     cells: &mut Cells,
 ) -> Result<Vec<Found>, AllocError>
-    requires few { length slots.now.values ≤ 256 }
     requires slots { AreBelow (length cells.old) slots.now }
     ensures found { IfOk result (λ found. Finds cells.new (length slots.now.values) found.items
         (plain.tested (value (pattern_of call.now) (bindings_of cells.old slots.now))
@@ -135,7 +130,6 @@ pub fn matched(
     cells: &Cells,
     slots: &mut Slots,
 ) -> Result<Vec<Found>, AllocError>
-    requires few { length slots.old.values ≤ 256 }
     requires slots { AreBelow (length cells.now) slots.old }
     requires goal { GoalBelow (length cells.now) goal.now }
     requires atom { atom < length cells.now }
@@ -161,7 +155,6 @@ fn at_place(
     cells: &Cells,
     slots: &mut Slots,
 ) -> Result<Vec<Found>, AllocError>
-    requires few { length slots.old.values ≤ 256 }
     requires slots { AreBelow (length cells.now) slots.old }
     requires goal { GoalBelow (length cells.now) goal.now }
     requires atom { IsAtomBelow (length cells.now) atom }
@@ -183,7 +176,6 @@ pub fn state_events(
     slots: &Slots,
     cells: &Cells,
 ) -> Result<Vec<Found>, AllocError>
-    requires few { length slots.now.values ≤ 256 }
     requires slots { AreBelow (length cells.now) slots.now }
     requires goal { GoalBelow (length cells.now) goal.now }
     requires world { StageBelow (length cells.now) world.now.now }

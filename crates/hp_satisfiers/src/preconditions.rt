@@ -49,7 +49,6 @@ fn take_event(
     slots: &Slots,
     found: &mut Vec<Found>,
 ) -> Result<bool, AllocError>
-    requires few { length slots.now.values ≤ 256 }
     ensures takes { IfOk result (λ more. (terms : List Term) (whole left : List Happening)
         → event ≡ event_of left → AreOfFirst left (bindings_of terms slots.now) → AreBelow (length terms) slots.now
         → FindsUpTo terms (length slots.now.values) found.old.items whole (heard left)
@@ -83,7 +82,6 @@ fn take_next<S: Sats<()>>(
     slots: &mut Slots,
     found: &mut Vec<Found>,
 ) -> Result<bool, AllocError>
-    requires few { length slots.old.values ≤ 256 }
     requires live { S.is_live sats.old ≡ true }
     requires open { S.is_open sats.old ≡ true }
     requires suits { S.suits sats.old tt }
@@ -115,7 +113,6 @@ fn drained<S: Sats<()>>(
     cells: &mut Cells,
     slots: &mut Slots,
 ) -> Result<Vec<Found>, AllocError>
-    requires few { length slots.old.values ≤ 256 }
     requires live { S.is_live sats.old ≡ true }
     requires open { S.is_open sats.old ≡ true }
     requires suits { S.suits sats.old tt }
@@ -177,7 +174,6 @@ impl Scene<'_> {
         nest: u32,
         cells: &mut Cells,
     ) -> Result<Vec<Found>, AllocError>
-        requires few { length slots.now.values ≤ 256 }
         requires slots { AreBelow (length cells.old) slots.now }
         requires world { StageBelow (length cells.old) (stage_in self.now) }
         ensures finds { IfOk result (λ v. Finds cells.new (length slots.now.values) v.items

@@ -15,14 +15,6 @@ returns-then-not-match_goal-clause-slots c =
     let m = c.match_goal.ensures.matched (term_at terms c.args.atom) (named_at terms c.args.atom c.requires.atom) in
     (match_failed c.match_goal.result _ terms c.args.slots.now c.match_goal.new.slots (search rules) m).1
 
-pub satisfied-requires : goal.satisfied-requires
-satisfied-requires c =
-    let terms = c.args.cells.now in
-    let m = c.match_goal.ensures.matched (term_at terms c.args.atom) (named_at terms c.args.atom c.requires.atom) in
-    let made = match_made c.match_goal.result _ terms c.args.slots.now c.match_goal.new.slots (search rules) m in
-    let vars = binds_vars c.args.slots.now c.match_goal.new.slots made.1 in
-    record { few = omega (arith, vars, c.requires.few) }
-
 pub undo_to-requires : goal.undo_to-requires
 undo_to-requires c =
     let terms = c.args.cells.now in

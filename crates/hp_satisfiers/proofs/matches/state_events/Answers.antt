@@ -42,10 +42,6 @@ loop-place-preserved c =
           c.in_ok-append.ensures.items;
     }
 
-pub at_place-requires-clause-few : goal.at_place-requires-clause-few
-at_place-requires-clause-few c =
-    subst (λ vs. length vs ≤ 256) (sym c.loop-place.invariant.same) c.requires.few
-
 pub at_place-requires-clause-slots : goal.at_place-requires-clause-slots
 at_place-requires-clause-slots c = λ v cell k.
     c.requires.slots v cell (ap (λ vs. slice_get vs v) (sym c.loop-place.invariant.same) ∙ k)

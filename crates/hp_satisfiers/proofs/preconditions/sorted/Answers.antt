@@ -39,20 +39,10 @@ new-listed-requires-clause-fit c =
     let vars = new_vars c.in_ok-slots.slots c.args.vars c.in_ok-slots.ensures in
     subst (λ n. AllFit n (length c.args.cells.now) c.args.found.items) (sym vars) c.requires.fit
 
-pub new-listed-requires-clause-few : goal.new-listed-requires-clause-few
-new-listed-requires-clause-few c =
-    let vars = new_vars c.in_ok-slots.slots c.args.vars c.in_ok-slots.ensures in
-    subst (λ n. n ≤ 256) (sym vars) c.requires.few
-
 pub new-listed-requires-clause-blank : goal.new-listed-requires-clause-blank
 new-listed-requires-clause-blank c =
     let vars = new_vars c.in_ok-slots.slots c.args.vars c.in_ok-slots.ensures in
     c.in_ok-slots.ensures ∙ ap no_bindings (sym vars)
-
-pub drained-requires-clause-few : goal.drained-requires-clause-few
-drained-requires-clause-few c =
-    let vars = new_vars c.in_ok-slots.slots c.args.vars c.in_ok-slots.ensures in
-    subst (λ n. n ≤ 256) (sym vars) c.requires.few
 
 pub returns-clause-cells : goal.returns-clause-cells
 returns-clause-cells c = c.drained.ensures.cells

@@ -13,13 +13,6 @@ returns-in_err-event-clause-vars g c =
     vars_above (g.S.Sats.start c.args.sats.now) c.args.slots.now c.next.new.slots
     (g.met.S.Sats.fits_hold c.args.sats.now c.args.slots.now c.requires.fits).0 c.next.ensures.above
 
-pub take_event-requires : goal.take_event-requires
-take_event-requires g c =
-    let vars =
-    vars_above (g.S.Sats.start c.args.sats.now) c.args.slots.now c.next.new.slots
-    (g.met.S.Sats.fits_hold c.args.sats.now c.args.slots.now c.requires.fits).0 c.next.ensures.above in
-    record { few = subst (λ n. n ≤ 256) (sym vars) c.requires.few }
-
 pub returns-clause-vars : goal.returns-clause-vars
 returns-clause-vars g c =
     vars_above (g.S.Sats.start c.args.sats.now) c.args.slots.now c.next.new.slots

@@ -35,32 +35,32 @@ use Rattle.hp_satisfiers.proofs.expressions.Scene.+events.Goals as goal
 pub events-atom_events-requires : goal.events-atom_events-requires
 events-atom_events-requires t c =
     let one = size_of-atom c.args.expr.now c.in-Atom.atom c.in-Atom.is in
-    (omega (arith, c.decreases, one), (c.requires.few, (c.requires.slots, c.requires.world)))
+    (omega (arith, c.decreases, one), (c.requires.slots, c.requires.world))
 
 pub events-all_events-requires : goal.events-all_events-requires
 events-all_events-requires t c =
     let one = size_of-and c.args.expr.now c.in-And.parts c.in-And.is in
     let same = ap (λ ps. sizes (expressions_of ps)) c.as_slice.ensures.value in
-    (omega (arith, c.decreases, one, same), (c.requires.few, (c.requires.slots, c.requires.world)))
+    (omega (arith, c.decreases, one, same), (c.requires.slots, c.requires.world))
 
 pub events-any_events-requires : goal.events-any_events-requires
 events-any_events-requires t c =
     let one = size_of-or c.args.expr.now c.in-Or.parts c.in-Or.is in
     let same = ap (λ ps. sizes (expressions_of ps)) c.as_slice-in-Or.ensures.value in
-    (omega (arith, c.decreases, one, same), (c.requires.few, (c.requires.slots, c.requires.world)))
+    (omega (arith, c.decreases, one, same), (c.requires.slots, c.requires.world))
 
 pub events-events-requires : goal.events-events-requires
 events-events-requires t c =
     let one = size_of-not c.args.expr.now c.in-Not.part c.in-Not.is in
     let same = ap (λ p. size (expression_of p)) c.deref.ensures in
-    (omega (arith, c.decreases, one, same), (c.requires.few, (c.requires.slots, c.requires.world)))
+    (omega (arith, c.decreases, one, same), (c.requires.slots, c.requires.world))
 
 pub events-forall_events-requires : goal.events-forall_events-requires
 events-forall_events-requires t c =
     let one = size_of-forall c.args.expr.now c.in-Forall.field-0 c.in-Forall.range c.in-Forall.body c.in-Forall.is in
     let range = ap (λ p. size (expression_of p)) c.deref-in-Forall.ensures in
     let body = ap (λ p. size (expression_of p)) c.deref-in-Forall-2.ensures in
-    (omega (arith, c.decreases, one, range, body), (c.requires.few, (c.requires.slots, c.requires.world)))
+    (omega (arith, c.decreases, one, range, body), (c.requires.slots, c.requires.world))
 
 pub events-returns-in-Atom-clause-found : goal.events-returns-in-Atom-clause-found
 events-returns-in-Atom-clause-found t c =
@@ -171,7 +171,7 @@ forall_events-returns-clause-finds t c =
     let got = c.in_ok-refuted.ensures in
     let grown = grows_on old mid new met.cells got.cells in
     let refuted = c.in_ok-refuted.refuted.items in
-    let each = hears_vars new c.vars.result (length s.values) refuted _ c.vars.ensures got.finds in
+    let each = hears_vars new c.vars.result (length s.values) refuted _ c.vars.ensures.vars got.finds in
     let ranged = found_events mid c.as_slice.result.now in
     let range = sat axioms level (state_in old scene) (expression_of c.args.range.now) e in
     let events =
@@ -197,7 +197,7 @@ all_events-loop-part-init t c =
     let one = c.in_ok-found.ensures old c.requires.slots in
     record {
       grows = grows_self old;
-      fit = (finds_vars old (length s.values) c.vars-vars.result found _ (sym c.vars-vars.ensures) one).fit;
+      fit = (finds_vars old (length s.values) c.vars-vars.result found _ (sym c.vars-vars.ensures.vars) one).fit;
       so_far =
           ap heard (all_begin (axioms_in scene) c.args.level (state_in old scene) c.args.parts.now (bindings_of old s)
           (found_events old found) one.stand);
@@ -212,11 +212,8 @@ all_events-each_events-requires t c =
     part_size c.args.parts.now c.loop-part.part-index c.part-item.result c.loop-part-test.true c.part-item.is in (
       omega (arith, c.decreases, part),
       (
-        omega (arith, c.vars-vars.ensures, c.requires.few),
-        (
-          subst (AllFit c.vars-vars.result (length mid)) (sym c.as_slice.ensures.value) held.fit,
-          stage_below_grows old mid held.grows (stage_in c.args.self.now) c.requires.world,
-        ),
+        subst (AllFit c.vars-vars.result (length mid)) (sym c.as_slice.ensures.value) held.fit,
+        stage_below_grows old mid held.grows (stage_in c.args.self.now) c.requires.world,
       ),
     )
 
@@ -256,7 +253,7 @@ all_events-returns-clause-finds t c =
       stand =
           all_end (axioms_in scene) c.args.level (state_in old scene) c.args.parts.now c.loop-part.part-index
           (found_events new found) _ c.loop-part-test.false held.so_far;
-      fit = subst (λ n. AllFit n (length new) found) c.vars-vars.ensures held.fit;
+      fit = subst (λ n. AllFit n (length new) found) c.vars-vars.ensures.vars held.fit;
     }
 
 -- ---- any of some parts
@@ -270,11 +267,8 @@ any_events-events-requires t c =
     part_size c.args.parts.now c.loop-part.part-index c.part-item.result c.loop-part-test.true c.part-item.is in (
       omega (arith, c.decreases, part),
       (
-        c.requires.few,
-        (
-          below_grows old mid grown c.args.slots.now c.requires.slots,
-          stage_below_grows old mid grown (stage_in c.args.self.now) c.requires.world,
-        ),
+        below_grows old mid grown c.args.slots.now c.requires.slots,
+        stage_below_grows old mid grown (stage_in c.args.self.now) c.requires.world,
       ),
     )
 
@@ -335,13 +329,10 @@ each_events-one_events-requires t c =
     let x = c.x-item.result in (
       omega (arith, c.decreases),
       (
-        c.requires.few,
-        (
-          fits_grow old mid grown c.args.vars x
-              (item_holds (Fits c.args.vars (length old)) c.args.found.now c.loop-x.x-index x c.loop-x-test.true
-              c.x-item.is c.requires.found),
-          stage_below_grows old mid grown (stage_in c.args.self.now) c.requires.world,
-        ),
+        fits_grow old mid grown c.args.vars x
+            (item_holds (Fits c.args.vars (length old)) c.args.found.now c.loop-x.x-index x c.loop-x-test.true
+            c.x-item.is c.requires.found),
+        stage_below_grows old mid grown (stage_in c.args.self.now) c.requires.world,
       ),
     )
 
@@ -466,13 +457,10 @@ goal_events-axiom_events-requires t c =
     let grown = c.loop-place.invariant.grows in (
       omega (arith, c.decreases),
       (
-        c.requires.few,
+        below_grows old mid grown c.args.slots.now c.requires.slots,
         (
-          below_grows old mid grown c.args.slots.now c.requires.slots,
-          (
-            goal_below_grows old mid grown c.args.goal.now c.requires.goal,
-            stage_below_grows old mid grown (stage_in c.args.self.now) c.requires.world,
-          ),
+          goal_below_grows old mid grown c.args.goal.now c.requires.goal,
+          stage_below_grows old mid grown (stage_in c.args.self.now) c.requires.world,
         ),
       ),
     )
@@ -575,18 +563,13 @@ axiom_events-branch_events-requires t c =
     placed_axiom (axiom_at rules c.args.place) c.axiom.result c.in-Some.axiom c.axiom.ensures c.in-Some.is in
     let m =
     subst (λ o. MeetsHead new (length x.vars) o (start_goal x.head q (unbound (length x.vars)))) c.in-Some-started.is
-    c.in_ok-started.ensures.starts in
-    let vars = m.1 in
-    let few = few_at rules c.args.place x c.args.self.now.book.now.few there in (
+    c.in_ok-started.ensures.starts in (
       omega (arith, c.decreases),
       (
         axiom_among rules c.args.place x there,
         (
-          omega (arith, vars, few),
-          (
-            m.2,
-            stage_below_grows old new c.in_ok-started.ensures.cells (stage_in c.args.self.now) c.requires.world,
-          ),
+          m.2,
+          stage_below_grows old new c.in_ok-started.ensures.cells (stage_in c.args.self.now) c.requires.world,
         ),
       ),
     )
@@ -675,11 +658,8 @@ branch_events-events-requires t c =
           (less_to_do_below axioms level (size (expression_of clause.body)) 4 some
           (branch_size axioms x (clause_of clause) c.requires.known among)),
       (
-        c.requires.few,
-        (
-          below_grows old mid grown c.args.slots.now c.requires.slots,
-          stage_below_grows old mid grown (stage_in scene) c.requires.world,
-        ),
+        below_grows old mid grown c.args.slots.now c.requires.slots,
+        stage_below_grows old mid grown (stage_in scene) c.requires.world,
       ),
     )
 
@@ -910,7 +890,7 @@ each_events-loop-x-init t c =
 
 pub forall_events-events-requires : goal.forall_events-events-requires
 forall_events-events-requires t c =
-    (omega (arith, c.decreases), (c.requires.few, (c.requires.slots, c.requires.world)))
+    (omega (arith, c.decreases), (c.requires.slots, c.requires.world))
 
 pub forall_events-each_events-requires : goal.forall_events-each_events-requires
 forall_events-each_events-requires t c =
@@ -920,12 +900,9 @@ forall_events-each_events-requires t c =
     let found = c.in_ok-found.found.items in (
       omega (arith, c.decreases),
       (
-        omega (arith, c.vars.ensures, c.requires.few),
-        (
-          subst (AllFit c.vars.result (length mid)) (sym c.as_slice.ensures.value)
-              (subst (λ n. AllFit n (length mid) found) (sym c.vars.ensures) met.fit),
-          stage_below_grows old mid met.cells (stage_in c.args.self.now) c.requires.world,
-        ),
+        subst (AllFit c.vars.result (length mid)) (sym c.as_slice.ensures.value)
+            (subst (λ n. AllFit n (length mid) found) (sym c.vars.ensures.vars) met.fit),
+        stage_below_grows old mid met.cells (stage_in c.args.self.now) c.requires.world,
       ),
     )
 
@@ -996,7 +973,7 @@ pub one_events-events-requires : goal.one_events-events-requires
 one_events-events-requires t c =
     let fits =
     sat_fits c.args.vars (length c.args.cells.now) c.args.found.now c.in-Sat.slots c.in-Sat.is c.requires.found in
-    (omega (arith, c.decreases), (omega (arith, fits.0, c.requires.few), (fits.1, c.requires.world)))
+    (omega (arith, c.decreases), (fits.1, c.requires.world))
 
 pub one_events-returns-in-Cut-clause-finds : goal.one_events-returns-in-Cut-clause-finds
 one_events-returns-in-Cut-clause-finds t c =
@@ -1027,13 +1004,10 @@ atom_events-goal_events-requires t c =
     let filled = c.in-Ok.ensures in (
       omega (arith, c.decreases),
       (
-        c.requires.few,
+        below_grows old mid filled.cells c.args.slots.now c.requires.slots,
         (
-          below_grows old mid filled.cells c.args.slots.now c.requires.slots,
-          (
-            filled.below,
-            stage_below_grows old mid filled.cells (stage_in c.args.self.now) c.requires.world,
-          ),
+          filled.below,
+          stage_below_grows old mid filled.cells (stage_in c.args.self.now) c.requires.world,
         ),
       ),
     )

@@ -37,7 +37,7 @@ returns-in_ok-found-in-First-clause-finds c =
     ap up_to_sat c.in_ok-found-in-First.ensures.found
     ∙ first_events (axioms_in scene) c.args.nest state c.args.pre.now e c.in-First.expr c.in-First.is in
     IfOk-weaker c.first.result _ _
-    (λ v h. finds_same new vars v.items _ _ same (finds_vars new c.vars.result vars v.items _ c.vars.ensures h))
+    (λ v h. finds_same new vars v.items _ _ same (finds_vars new c.vars.result vars v.items _ c.vars.ensures.vars h))
     c.first.ensures.finds
 
 pub returns-in_ok-found-in-Sorted-clause-finds : goal.returns-in_ok-found-in-Sorted-clause-finds
@@ -55,7 +55,7 @@ returns-in_ok-found-in-Sorted-clause-finds c =
     IfOk-weaker c.sorted.result _ _
     (λ v h.
     finds_same new vars v.items _ _ same
-    (finds_vars new c.vars-in-Sorted.result vars v.items _ c.vars-in-Sorted.ensures h))
+    (finds_vars new c.vars-in-Sorted.result vars v.items _ c.vars-in-Sorted.ensures.vars h))
     c.sorted.ensures.finds
 
 pub returns-in_ok-found-in-First-clause-cells : goal.returns-in_ok-found-in-First-clause-cells
@@ -71,10 +71,10 @@ returns-in_ok-found-in-Sorted-clause-cells c =
 pub first-requires-clause-fit : goal.first-requires-clause-fit
 first-requires-clause-fit c =
     let n = length c.events-in-First.new.cells in
-    subst (λ m. AllFit m n c.in_ok-found-in-First.found.items) (sym c.vars.ensures) c.in_ok-found-in-First.ensures.fit
+    subst (λ m. AllFit m n c.in_ok-found-in-First.found.items) (sym c.vars.ensures.vars) c.in_ok-found-in-First.ensures.fit
 
 pub sorted-requires-clause-fit : goal.sorted-requires-clause-fit
 sorted-requires-clause-fit c =
     let n = length c.events-in-Sorted.new.cells in
-    subst (λ m. AllFit m n c.in_ok-found-in-Sorted.found.items) (sym c.vars-in-Sorted.ensures)
+    subst (λ m. AllFit m n c.in_ok-found-in-Sorted.found.items) (sym c.vars-in-Sorted.ensures.vars)
     c.in_ok-found-in-Sorted.ensures.fit

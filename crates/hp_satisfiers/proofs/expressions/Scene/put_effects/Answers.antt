@@ -91,7 +91,6 @@ put_effect-requires c =
     let now = c.loop-effect.cells in
     let grows = c.loop-effect.invariant.grows in
     record {
-      few = c.requires.few;
       slots = below_grows old now grows c.args.slots.now c.requires.slots;
       world = stage_below_grows old now grows (stage_in c.args.self.now) c.requires.world;
       below = c.loop-effect.invariant.along.below;

@@ -121,7 +121,6 @@ put_effects-requires-2 c =
     let now = c.put_effects.new.cells in
     let grows = c.put_effects.ensures.cells in
     record {
-      few = c.requires.few;
       slots = below_grows old now grows c.args.slots.now c.requires.slots;
       world = stage_below_grows old now grows (stage_in c.args.self.now) c.requires.world;
       below = c.in_ok-put_effects.ensures.puts.below;
