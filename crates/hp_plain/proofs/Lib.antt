@@ -1,8 +1,5 @@
-pub mod NodeLemmas
-pub mod SiteSteps
-pub mod RestSteps
-pub mod ComingLemmas
-pub mod StackLemmas
+pub mod CandidateLemmas
+pub mod CandidateSteps
+pub mod AgendaSteps
 pub mod FrameSteps
 pub mod SearchLemmas
-pub mod BeginSteps

@@ -7,60 +7,62 @@ use Rattle.std.proofs.lemmas.List.{append-nil, drop_all, length-append, map-appe
 use Rattle.std.proofs.Math.Seq.{take-append_seam}
 use Rattle.hp_laws.proofs.JoinLemmas.{all_left, all_right}
 use Rattle.std.proofs.lemmas.List.Elements.{All-nil, All-cons, All-append, All-head, All-tail, All-weaker, All-same}
+use Rattle.hp_syntax.specs.Checks.{HasFewVariables}
 use Rattle.hp_syntax.specs.Syntax.{Rule, Does, Refines, Concludes}
 use Rattle.hp_syntax.specs.Terms.{Term}
 use Rattle.hp_syntax.specs.Walk.{Node, DidChild, CutChild, FaultChild, visits, node_at}
 use Rattle.hp_syntax.specs.Events.{axioms_of}
 use Rattle.hp_satisfiers.specs.Rulebooks.{AreFew}
-use Rattle.hp_plain.proofs.ComingLemmas.{visits_split}
 use Rattle.hp_eval.specs.Growth.{Grows}
 use Rattle.hp_net.specs.declared.walk.Step.{Step}
 use Rattle.hp_net.specs.declared.walk.Step.TheVariants as steps
 use Rattle.hp_net.specs.Standings.{gone_back, next_below, pruned, standing, step_of, told}
-use Rattle.hp_plain.specs.declared.frame.Come.{Come}
-use Rattle.hp_plain.specs.declared.frame.Come.TheVariants as comes
+use Rattle.hp_tree.specs.Successors.{Successor, ThePlan, TheChild, successors, visits_of, dids_in}
+use Rattle.hp_tree.specs.Stacks.{Level, Stack, given_at, path_to, root_of, standing_of, told_of, with_left, taken, IsStack}
+use Rattle.hp_tree.proofs.SearchNodeLemmas.{node_stays, node_grows}
+use Rattle.hp_tree.proofs.StackLemmas.{step_next, step_over, step_end, back_to, pruned_to, dids_append, level_new, given_new, given_did, given_other}
+use Rattle.hp_tree.proofs.SuccessorLemmas.{visits_split}
+use Rattle.hp_plain.specs.declared.candidate.Child.TheVariants as children
 use Rattle.hp_plain.specs.declared.frame.Frame.{Frame}
-use Rattle.hp_plain.specs.declared.rest.Run.{Run}
+use Rattle.hp_plain.specs.declared.frame.Successor as made
+use Rattle.hp_plain.specs.declared.frame.Successor.TheVariants as nexts
 use Rattle.hp_plain.specs.declared.search.Search.{Search}
-use Rattle.hp_plain.specs.declared.site.Turn.TheVariants as turns
-use Rattle.hp_plain.specs.declared.spot.Spot.{Spot}
-use Rattle.hp_plain.specs.Comings.{Coming, PlanComes, ChildComes, comings, visits_of, dids_in, Level, Stack, given_at, path_to, root_of, standing_of, told_of, with_left, taken, IsStack}
-use Rattle.hp_plain.specs.Frames.{end_comings, left_of, level_of, IsFrame, Opens, Comes}
-use Rattle.hp_plain.specs.Rests.{by_candidates, IsRest, MaybeRun}
+use Rattle.hp_plain.specs.declared.search_node.SearchNode.{SearchNode}
+use Rattle.hp_plain.specs.Agendas.{IsAgenda}
+use Rattle.hp_plain.specs.Frames.{end_successors, left_of, level_of, IsFrame, Opens, TakesSuccessor}
+use Rattle.hp_plain.specs.SearchNodes.{held, node_in, IsSearchNode}
 use Rattle.hp_plain.specs.Searches.{rules_in_search, levels_of, stack_of, tree_in, stands_in, IsSearch, Moves, Goes, IsTaken, BeginsAt}
-use Rattle.hp_plain.specs.Spots.{node_of, IsSpot, HasFew}
-use Rattle.hp_plain.proofs.NodeLemmas.{node_stays, spot_grows}
-use Rattle.hp_plain.proofs.RestSteps.{maybe_run_stays, queue_stays, run_grows}
-use Rattle.hp_plain.proofs.StackLemmas.{step_next, step_over, step_end, back_to, pruned_to, dids_append, level_new, given_new, given_did, given_other}
+use Rattle.hp_tree.specs.Children.{by_candidates}
+use Rattle.hp_plain.proofs.AgendaSteps.{maybe_choice_stays, maybe_choice_grows, queue_stays}
 
 -- a level by its parts
-abbrev level_by : Node → List Coming → Level
+abbrev level_by : Node → List Successor → Level
 level_by n cs = record { node = n; left = cs }
 
 -- ---- frames where terms are added
 
 module _ (rules : List Rule) (nest : ℕ) (old new : List Term) (g : Grows old new) where
-  maybe_run_grows : (s : Spot) (r : Option Run) → MaybeRun (length old) s r → MaybeRun (length new) s r
-  maybe_run_grows s None h = h
-  maybe_run_grows s (Some r) h = run_grows old new g s r h
-
   -- a frame has the same left
   left_stays : (f : Frame) → IsFrame rules nest old f → left_of rules nest new f ≡ left_of rules nest old f
   left_stays f h =
-      ap₂ (λ xs ys. end_comings f.end ++ map ChildComes (xs ++ ys))
-      (maybe_run_stays old new g rules nest f.spot h.spot f.rest.run h.rest.run)
-      (queue_stays old new g rules nest f.spot h.spot f.rest.queue)
+      ap₂ (λ xs ys. end_successors f.end ++ map TheChild (xs ++ ys))
+      (maybe_choice_stays old new g rules nest f.node h.node f.agenda.open h.agenda.choice)
+      (queue_stays old new g rules nest f.node h.node f.agenda.queue)
 
   -- so it is the same level
   pub level_stays : (f : Frame) → IsFrame rules nest old f → level_of rules nest new f ≡ level_of rules nest old f
   level_stays f h =
-      ap₂ level_by (node_stays old new g f.spot h.spot) (left_stays f h)
+      ap₂ level_by (node_stays old new g (held f.node) h.node) (left_stays f h)
 
   -- a frame stays one
   pub frame_grows : (f : Frame) → IsFrame rules nest old f → IsFrame rules nest new f
   frame_grows f h = record {
-    spot = spot_grows old new g f.spot h.spot;
-    rest = record { run = maybe_run_grows f.spot f.rest.run h.rest.run; queue = h.rest.queue };
+    node = node_grows old new g (held f.node) h.node;
+    agenda =
+        record {
+          choice = maybe_choice_grows old new g f.node f.agenda.open h.agenda.choice;
+          queue = h.agenda.queue;
+        };
     dids = subst (λ l. 0 < dids_in l.left → f.dids ≡ min (given_at rules nest l) (2 ^ 64 - 1)) (sym
         (level_stays f h)) h.dids;
   }
@@ -89,35 +91,35 @@ root_node : (l k : Level) (ls : List Level) → l.node ≡ k.node → root_of l 
 root_node l k [] e = e
 root_node l k (j ∷ ls) e = refl
 
--- the first of what comes, where it is no Did, leaves as many Dids
-dids_other : (x : Coming) (cs : List Coming) → dids_in (x ∷ []) ≡ 0 → dids_in (x ∷ cs) ≡ dids_in cs
+-- a successor that is no Did leaves as many Dids
+dids_other : (x : Successor) (cs : List Successor) → dids_in (x ∷ []) ≡ 0 → dids_in (x ∷ cs) ≡ dids_in cs
 dids_other x cs e = let a = dids_append (x ∷ []) cs in omega (arith, a, e)
 
 -- a stack by its parts
 abbrev stack_by : Level → List Level → Bool → Bool → Stack
 stack_by l ls d o = record { top = l; above = ls; at_did = d; over = o }
 
-module _ (rules : List Rule) (nest : ℕ) (terms : List Term) (m : Spot) (f : Frame) where
+module _ (rules : List Rule) (nest : ℕ) (terms : List Term) (m : SearchNode) (f : Frame) where
   -- a frame that opens is a level where nothing is given
   pub opened_level : Opens rules nest terms m f
-      → level_of rules nest terms f ≡ level_by (node_of terms m) (comings rules nest (node_of terms m))
-  opened_level opens = ap₂ level_by (ap (node_of terms) opens.spot) opens.left
+      → level_of rules nest terms f ≡ level_by (node_in terms m) (successors rules nest (node_in terms m))
+  opened_level opens = ap₂ level_by (ap (node_in terms) opens.node) opens.left
 
   -- it is a frame
-  pub opened_frame : IsSpot (length terms) m → Opens rules nest terms m f → IsFrame rules nest terms f
+  pub opened_frame : IsSearchNode (length terms) m → Opens rules nest terms m f → IsFrame rules nest terms f
   opened_frame fits opens = record {
-    spot = subst (IsSpot (length terms)) (sym opens.spot) fits;
-    rest = subst (λ z. IsRest rules (length terms) z f.rest) (sym opens.spot) opens.rest;
+    node = subst (IsSearchNode (length terms)) (sym opens.node) fits;
+    agenda = subst (λ z. IsAgenda rules (length terms) z f.agenda) (sym opens.node) opens.agenda;
     dids =
         λ l.
-        let none = ap (given_at rules nest) (opened_level opens) ∙ given_new rules nest (node_of terms m) in
+        let none = ap (given_at rules nest) (opened_level opens) ∙ given_new rules nest (node_in terms m) in
         opens.dids ∙ ap (λ k. min k (2 ^ 64 - 1)) (sym none);
   }
 
 module _ (s : Search) (h : IsSearch s) (new : List Term) (g : Grows s.cells new) (t : Frame)
-    (spot : t.spot ≡ s.top.spot) where
-  node_is : node_of new t.spot ≡ node_of s.cells s.top.spot
-  node_is = ap (node_of new) spot ∙ node_stays s.cells new g s.top.spot h.top.spot
+    (node : t.node ≡ s.top.node) where
+  node_is : node_in new t.node ≡ node_in s.cells s.top.node
+  node_is = ap (node_in new) node ∙ node_stays s.cells new g (held s.top.node) h.top.node
 
   above_is : levels_of (rules_in_search s) s.nest new s.above.items ≡ (stack_of s).above
   above_is = levels_stay (rules_in_search s) s.nest s.cells new g s.above.items h.above
@@ -127,10 +129,11 @@ module _ (s : Search) (h : IsSearch s) (new : List Term) (g : Grows s.cells new)
       All-weaker (IsFrame (rules_in_search s) s.nest s.cells) (IsFrame (rules_in_search s) s.nest new)
       (frame_grows (rules_in_search s) s.nest s.cells new g) s.above.items h.above
 
-  spot_is : IsSpot (length new) t.spot
-  spot_is = subst (IsSpot (length new)) (sym spot) (spot_grows s.cells new g s.top.spot h.top.spot)
+  top_fits : IsSearchNode (length new) t.node
+  top_fits =
+      subst (IsSearchNode (length new)) (sym node) (node_grows s.cells new g (held s.top.node) h.top.node)
 
-  -- the tree stays where terms are added and something is taken
+  -- the tree stays where terms are added and a successor is taken
   pub tree_stays : tree_in (record s { top = t; cells = new }) ≡ tree_in s
   tree_stays =
       ap (λ r. record { rules = rules_in_search s; nest = s.nest; root = r })
@@ -138,17 +141,17 @@ module _ (s : Search) (h : IsSearch s) (new : List Term) (g : Grows s.cells new)
       (levels_of (rules_in_search s) s.nest new s.above.items) node_is
       ∙ ap (root_of (stack_of s).top) above_is)
 
-  module _ (same : t.dids ≡ s.top.dids) (rest : IsRest (rules_in_search s) (length new) t.spot t.rest) where
+  module _ (same : t.dids ≡ s.top.dids) (agenda : IsAgenda (rules_in_search s) (length new) t.node t.agenda) where
     top_is : level_of (rules_in_search s) s.nest new t
         ≡ with_left (stack_of s).top (left_of (rules_in_search s) s.nest new t)
     top_is = ap (λ n. level_by n (left_of (rules_in_search s) s.nest new t)) node_is
 
-    module _ (x : Coming)
+    module _ (x : Successor)
         (next : left_of (rules_in_search s) s.nest s.cells s.top ≡ x ∷ left_of (rules_in_search s) s.nest new t) where
       frame_other : dids_in (x ∷ []) ≡ 0 → IsFrame (rules_in_search s) s.nest new t
       frame_other none = record {
-        spot = spot_is;
-        rest = rest;
+        node = top_fits;
+        agenda = agenda;
         dids =
             λ l.
             let cs = left_of (rules_in_search s) s.nest new t in
@@ -160,7 +163,7 @@ module _ (s : Search) (h : IsSearch s) (new : List Term) (g : Grows s.cells new)
             ∙ ap (given_at (rules_in_search s) s.nest) (sym top_is)));
       }
 
-      -- what comes and is no Did is taken
+      -- a successor that is no Did is taken
       pub moves_left : (o : Bool) → s.over ≡ false → dids_in (x ∷ []) ≡ 0
           → taken (rules_in_search s) s.nest (stack_of s) x (left_of (rules_in_search s) s.nest new t)
           ≡ stack_by (with_left (stack_of s).top (left_of (rules_in_search s) s.nest new t)) (stack_of s).above false o
@@ -183,7 +186,7 @@ module _ (s : Search) (h : IsSearch s) (new : List Term) (g : Grows s.cells new)
                 };
           }
 
-    -- where nothing comes the search rests
+    -- where there is no successor the search rests
     pub moves_none : s.over ≡ false
         → left_of (rules_in_search s) s.nest s.cells s.top ≡ left_of (rules_in_search s) s.nest new t
         → left_of (rules_in_search s) s.nest new t ≡ []
@@ -201,8 +204,8 @@ module _ (s : Search) (h : IsSearch s) (new : List Term) (g : Grows s.cells new)
               record {
                 top =
                     record {
-                      spot = spot_is;
-                      rest = rest;
+                      node = top_fits;
+                      agenda = agenda;
                       dids = λ l. absurd (let few = ap dids_in none in omega (arith, few, l));
                     };
                 above = above_grow;
@@ -213,9 +216,9 @@ module _ (s : Search) (h : IsSearch s) (new : List Term) (g : Grows s.cells new)
         }
 
     -- a Did is taken: the search goes down to it
-    module _ (m : Spot) (fits : IsSpot (length new) m)
+    module _ (m : SearchNode) (fits : IsSearchNode (length new) m)
         (next : left_of (rules_in_search s) s.nest s.cells s.top
-        ≡ ChildComes (DidChild (node_of new m)) ∷ left_of (rules_in_search s) s.nest new t)
+        ≡ TheChild (DidChild (node_in new m)) ∷ left_of (rules_in_search s) s.nest new t)
         (f : Frame) (opens : Opens (rules_in_search s) s.nest new m f) (above : Vec Frame Global)
         (pushed : above.items ≡ s.above.items ++ record t { dids = min (t.dids + 1) (2 ^ 64 - 1) } ∷ [])
         (path : Vec ℕ Global) (noted : path.items ≡ s.path.items ++ t.dids ∷ []) where
@@ -226,13 +229,13 @@ module _ (s : Search) (h : IsSearch s) (new : List Term) (g : Grows s.cells new)
           ≡ suc (given_at (rules_in_search s) s.nest (stack_of s).top)
       one_more =
           ap (given_at (rules_in_search s) s.nest) top_is
-          ∙ given_did (rules_in_search s) s.nest (stack_of s).top (node_of new m)
+          ∙ given_did (rules_in_search s) s.nest (stack_of s).top (node_in new m)
           (left_of (rules_in_search s) s.nest new t) next h.stack.top.level
 
       frame_did : IsFrame (rules_in_search s) s.nest new (record t { dids = min (t.dids + 1) (2 ^ 64 - 1) })
       frame_did = record {
-        spot = spot_is;
-        rest = rest;
+        node = top_fits;
+        agenda = agenda;
         dids =
             λ l.
             let n = number_is in
@@ -256,7 +259,7 @@ module _ (s : Search) (h : IsSearch s) (new : List Term) (g : Grows s.cells new)
           let rules = rules_in_search s in
           let j : given_at rules s.nest (with_left (stack_of s).top (left_of rules s.nest new t)) - 1
           ≡ given_at rules s.nest (stack_of s).top =
-          (let e = given_did rules s.nest (stack_of s).top (node_of new m) (left_of rules s.nest new t) next
+          (let e = given_did rules s.nest (stack_of s).top (node_in new m) (left_of rules s.nest new t) next
           h.stack.top.level in omega (arith, e)) in
           noted
           ∙ (ap₂ (λ xs i. xs ++ i ∷ []) h.path (number_is ∙ ap (λ k. min k (2 ^ 64 - 1)) (sym j))
@@ -270,7 +273,7 @@ module _ (s : Search) (h : IsSearch s) (new : List Term) (g : Grows s.cells new)
       moves_did on =
           let rules = rules_in_search s in
           let cs = left_of rules s.nest new t in
-          let step = step_next rules s.nest (stack_of s) (ChildComes (DidChild (node_of new m))) cs h.stack on next in
+          let step = step_next rules s.nest (stack_of s) (TheChild (DidChild (node_in new m))) cs h.stack on next in
           let stack = ap₂ (λ l ls. stack_by l ls true s.over) (opened_level rules s.nest new m f opens) pushed_is in
           record {
             answer = sym step.answer;
@@ -288,28 +291,29 @@ module _ (s : Search) (h : IsSearch s) (new : List Term) (g : Grows s.cells new)
                 };
           }
 
-    -- what comes is taken, whatever it is
-    pub moves_on : s.over ≡ false → (come : Come)
-        → Comes new come (left_of (rules_in_search s) s.nest s.cells s.top) (left_of (rules_in_search s) s.nest new t)
-        → (o : Option Step) (last : Search) → IsTaken (record s { top = t; cells = new }) come o last
+    -- the next successor is taken, whatever it is
+    pub moves_on : s.over ≡ false → (next : Option made.Successor)
+        → TakesSuccessor new next (left_of (rules_in_search s) s.nest s.cells s.top)
+        (left_of (rules_in_search s) s.nest new t)
+        → (o : Option Step) (last : Search) → IsTaken (record s { top = t; cells = new }) next o last
         → Moves s o last
-    moves_on on comes.Plan c o last (e, l) =
+    moves_on on None c o last (e, l) =
         subst (λ z. Moves s o z) (sym l) (subst (λ z. Moves s z (record s { top = t; cells = new; at_did = false }))
         (sym e)
-        (moves_left PlanComes c.next s.over on refl refl))
-    moves_on on (comes.Child turns.Nothing) c o last (e, l) =
+        (moves_none on c.first (c.all refl)))
+    moves_on on (Some nexts.Plan) c o last (e, l) =
         subst (λ z. Moves s o z) (sym l) (subst (λ z. Moves s z (record s { top = t; cells = new; at_did = false }))
         (sym e)
-        (moves_none on c.next (c.all refl)))
-    moves_on on (comes.Child turns.Cut) c o last (e, l) =
+        (moves_left ThePlan c.first s.over on refl refl))
+    moves_on on (Some (nexts.Child children.Cut)) c o last (e, l) =
         subst (λ z. Moves s o z) (sym l) (subst (λ z. Moves s z (record s { top = t; cells = new; at_did = false }))
         (sym e)
-        (moves_left (ChildComes CutChild) c.next s.over on refl refl))
-    moves_on on (comes.Child (turns.Fault f)) c o last (e, l) =
+        (moves_left (TheChild CutChild) c.first s.over on refl refl))
+    moves_on on (Some (nexts.Child (children.Fault f))) c o last (e, l) =
         subst (λ z. Moves s o z) (sym l)
         (subst (λ z. Moves s z (record s { top = t; cells = new; at_did = false; over = true })) (sym e)
-        (moves_left (ChildComes (FaultChild f)) c.next true on refl refl))
-    moves_on on (comes.Child (turns.Did m)) c o last (e, l) =
+        (moves_left (TheChild (FaultChild f)) c.first true on refl refl))
+    moves_on on (Some (nexts.Child (children.Did m))) c o last (e, l) =
         subst (λ z. Moves s o z) (sym l.same)
         (subst (λ z. Moves s z (record s {
           top = last.top;
@@ -320,7 +324,7 @@ module _ (s : Search) (h : IsSearch s) (new : List Term) (g : Grows s.cells new)
               = true;
         }))
         (sym e)
-        (moves_did m c.fits c.next last.top (l.top new c.fits) last.above l.above last.path l.path on))
+        (moves_did m c.fits c.first last.top (l.top new c.fits) last.above l.above last.path l.path on))
 
 -- after a fault the search rests
 pub moves_over : (s : Search) → IsSearch s → s.over ≡ true → Moves s None (record s { at_did = false })
@@ -388,11 +392,11 @@ pub back_at_root : (s : Search) → s.above.items ≡ [] → (stands_in s).path 
 back_at_root s e = ap (λ fs. path_to (rules_in_search s) s.nest (levels_of (rules_in_search s) s.nest s.cells fs)) e
 
 -- pruning leaves nothing at the frame reached
-pub goes_pruned : (s : Search) → IsSearch s → s.at_did ≡ true → (n : ℕ) → n ≡ length s.top.rest.queue.candidates.items
+pub goes_pruned : (s : Search) → IsSearch s → s.at_did ≡ true → (n : ℕ) → n ≡ length s.top.agenda.queue.candidates.items
     → Goes s (pruned (stands_in s)) (record s {
       top = record s.top {
         end = None;
-        rest = record { run = None; queue = record s.top.rest.queue { at = n } };
+        agenda = record { «open» = None; queue = record s.top.agenda.queue { at = n } };
       };
       at_did = false;
     })
@@ -400,11 +404,11 @@ goes_pruned s h did n is =
     let rules = rules_in_search s in
     let t = record s.top {
       end = None;
-      rest = record { run = None; queue = record s.top.rest.queue { at = n } };
+      agenda = record { «open» = None; queue = record s.top.agenda.queue { at = n } };
     } in
     let none : left_of rules s.nest s.cells t ≡ [] =
-    ap (λ ks. map ChildComes (by_candidates rules s.nest (node_of s.cells s.top.spot) s.top.spot.net.entries ks
-    s.top.rest.queue.tried)) (drop_all n s.top.rest.queue.candidates.items (omega (arith, is))) in
+    ap (λ ks. map TheChild (by_candidates rules s.nest (node_in s.cells s.top.node) s.top.node.net.now.entries ks
+    s.top.agenda.queue.tried)) (drop_all n s.top.agenda.queue.candidates.items (omega (arith, is))) in
     let leads = pruned_to rules s.nest (stack_of s) h.stack did in
     let stack = ap (λ cs. stack_by (with_left (stack_of s).top cs) (stack_of s).above false s.over) none in
     record {
@@ -416,14 +420,14 @@ goes_pruned s h did n is =
           record {
             top =
                 record {
-                  spot = h.top.spot;
-                  rest =
+                  node = h.top.node;
+                  agenda =
                       record {
-                        run = tt;
+                        choice = tt;
                         queue =
                             record {
-                              candidates = h.top.rest.queue.candidates;
-                              tried = h.top.rest.queue.tried;
+                              candidates = h.top.agenda.queue.candidates;
+                              tried = h.top.agenda.queue.tried;
                               deep = λ l. absurd (omega (arith, is, l));
                             };
                       };
@@ -444,7 +448,7 @@ none_from_length (x ∷ xs) e = absurd (omega arith)
 -- ---- how a search begins
 
 begin_stack : (rules : List Rule) (nest : ℕ) (n : Node)
-    → IsStack rules nest (stack_by (level_by n (comings rules nest n)) [] false false)
+    → IsStack rules nest (stack_by (level_by n (successors rules nest n)) [] false false)
 unfolding node_at
 begin_stack rules nest n = record {
   top = record { level = level_new rules nest n; there = refl };
@@ -453,34 +457,34 @@ begin_stack rules nest n = record {
 }
 
 begin_stands : (rules : List Rule) (nest : ℕ) (n : Node)
-    → standing_of rules nest (stack_by (level_by n (comings rules nest n)) [] false false)
+    → standing_of rules nest (stack_by (level_by n (successors rules nest n)) [] false false)
     ≡ standing [] (visits rules nest n []) false
 begin_stands rules nest n =
     ap (λ vs. standing [] vs false)
-    (append-nil (visits_of rules nest n [] (given_at rules nest (level_by n (comings rules nest n)))
-    (comings rules nest n))
-    ∙ (ap (λ k. visits_of rules nest n [] k (comings rules nest n)) (given_new rules nest n)
+    (append-nil (visits_of rules nest n [] (given_at rules nest (level_by n (successors rules nest n)))
+    (successors rules nest n))
+    ∙ (ap (λ k. visits_of rules nest n [] k (successors rules nest n)) (given_new rules nest n)
     ∙ sym (visits_split rules nest n [])))
 
 -- a search of one frame that opens begins at the frame's node
-pub search_begins : (s : Search) (spot : Spot) → IsSpot (length s.cells) spot
-    → Opens (rules_in_search s) s.nest s.cells spot s.top → All HasFew (rules_in_search s) → s.above.items ≡ []
+pub search_begins : (s : Search) (node : SearchNode) → IsSearchNode (length s.cells) node
+    → Opens (rules_in_search s) s.nest s.cells node s.top → All HasFewVariables (rules_in_search s) → s.above.items ≡ []
     → s.path.items ≡ [] → s.at_did ≡ false → s.over ≡ false
-    → BeginsAt (rules_in_search s) s.nest (node_of s.cells spot) s
-search_begins s spot fits opens few above path did on =
+    → BeginsAt (rules_in_search s) s.nest (node_in s.cells node) s
+search_begins s node fits opens few above path did on =
     let rules = rules_in_search s in
-    let n = node_of s.cells spot in
-    let level = opened_level rules s.nest s.cells spot s.top opens in
+    let n = node_in s.cells node in
+    let level = opened_level rules s.nest s.cells node s.top opens in
     let levels : levels_of rules s.nest s.cells s.above.items ≡ [] = ap (levels_of rules s.nest s.cells) above in
     let stack = ap₂ (λ l ls. stack_by l ls s.at_did s.over) level levels
-    ∙ ap₂ (λ d o. stack_by (level_by n (comings rules s.nest n)) [] d o) did on in
+    ∙ ap₂ (λ d o. stack_by (level_by n (successors rules s.nest n)) [] d o) did on in
     record {
       tree =
           ap (λ (k : Stack). record { rules = rules; nest = s.nest; root = root_of k.top k.above }) stack;
       stands = ap (standing_of rules s.nest) stack ∙ begin_stands rules s.nest n;
       search =
           record {
-            top = opened_frame rules s.nest s.cells spot s.top fits opens;
+            top = opened_frame rules s.nest s.cells node s.top fits opens;
             above =
                 All-same (IsFrame rules s.nest s.cells) s.above.items [] above (All-nil (IsFrame rules s.nest s.cells));
             stack = subst (IsStack rules s.nest) (sym stack) (begin_stack rules s.nest n);
@@ -490,10 +494,10 @@ search_begins s spot fits opens few above path did on =
     }
 
 -- where rules have few variables, axioms do
-pub few_axioms : (rules : List Rule) → All HasFew rules → AreFew (axioms_of rules)
+pub few_axioms : (rules : List Rule) → All HasFewVariables rules → AreFew (axioms_of rules)
 few_axioms [] h = All-nil (λ x. length x.vars ≤ 256)
-few_axioms (Does o ∷ rs) h = few_axioms rs (All-tail HasFew (Does o) rs h)
-few_axioms (Refines m ∷ rs) h = few_axioms rs (All-tail HasFew (Refines m) rs h)
+few_axioms (Does o ∷ rs) h = few_axioms rs (All-tail HasFewVariables (Does o) rs h)
+few_axioms (Refines m ∷ rs) h = few_axioms rs (All-tail HasFewVariables (Refines m) rs h)
 few_axioms (Concludes x ∷ rs) h =
-    All-cons (λ x. length x.vars ≤ 256) x (axioms_of rs) (All-head HasFew (Concludes x) rs h)
-    (few_axioms rs (All-tail HasFew (Concludes x) rs h))
+    All-cons (λ x. length x.vars ≤ 256) x (axioms_of rs) (All-head HasFewVariables (Concludes x) rs h)
+    (few_axioms rs (All-tail HasFewVariables (Concludes x) rs h))

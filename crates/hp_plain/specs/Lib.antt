@@ -1,9 +1,7 @@
-pub mod Comings
+pub mod SearchNodes
+pub mod Candidates
+pub mod Children
+pub mod Agendas
 pub mod Frames
-pub mod Spots
 pub mod Searches
-pub mod Sites
-pub mod Rests
-pub mod Turns
 pub mod Walked
-pub mod Begins

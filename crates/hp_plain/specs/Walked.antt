@@ -5,9 +5,9 @@ use Rattle.hp_syntax.specs.Terms.{Term}
 use Rattle.hp_syntax.specs.Views.{domain_of}
 use Rattle.hp_syntax.specs.declared.domain.Domain.{Domain}
 use Rattle.hp_net.specs.Standings.{Tree, Standing}
+use Rattle.hp_tree.specs.Stacks.{Stack, tree_of, standing_of}
 use Rattle.hp_plain.specs.declared.frame.Frame.{Frame}
 use Rattle.hp_plain.specs.declared.search.Search.{Search}
-use Rattle.hp_plain.specs.Comings.{Stack, tree_of, standing_of}
 use Rattle.hp_plain.specs.Frames.{level_of}
 use Rattle.hp_plain.specs.Searches.{levels_of, IsSearch}
 
@@ -38,7 +38,7 @@ walked s live = record {
 abbrev pub rules_walked : Walked → List Rule
 rules_walked w = (domain_of w.domain).rules
 
--- where a walk stands, by what is left at each level
+-- where a walk stands, told by the successors that are left at each level
 abbrev pub stack_walked : Walked → Stack
 stack_walked w = record {
   top = level_of (rules_walked w) w.nest w.terms w.top;

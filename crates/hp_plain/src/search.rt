@@ -1,15 +1,15 @@
 //! A walk with all that it holds, apart from whether a call has failed.
 ghost use Rattle.std.specs.Prelude.{◌≡◌, ◌≢◌, ◌-◌, [], true, false, None, IfOk, OnOk, length, take};
 ghost use Rattle.std.specs.List.{All};
+ghost use Rattle.hp_syntax.specs.Checks.{HasFewVariables};
 ghost use Rattle.hp_syntax.specs.Views.{domain_of};
-ghost use Rattle.hp_plain.specs.Spots.{node_of, HasFew, IsSpot};
+ghost use Rattle.hp_plain.specs.SearchNodes.{node_in, IsSearchNode};
 ghost use Rattle.hp_plain.specs.Searches.{BeginsAt, tree_in, stands_in, IsSearch, IsEntered, IsTaken, Moves, Goes};
 ghost use Rattle.hp_net.specs.Standings.{next_below, gone_back, pruned};
 
-use crate::frame::{Come, Frame};
-use crate::rest::Base;
-use crate::site::Turn;
-use crate::spot::Spot;
+use crate::candidate::{Child, Context};
+use crate::frame::{Frame, Successor};
+use crate::search_node::SearchNode;
 use hp_cells::Cells;
 use hp_net::Step;
 use hp_satisfiers::rulebook::Rulebook;
@@ -17,7 +17,7 @@ use hp_syntax::Domain;
 use std::alloc::{AllocError, Global};
 use std::mem;
 
-/// The nodes on the way to the one that is reached, the root first, and what is left of what comes at each.
+/// The nodes on the way to the one that is reached, the root first, and the successors that are left at each.
 pub(crate) struct Search<'a> {
     pub(crate) alloc: Global,
     pub(crate) book: Rulebook<'a>,
@@ -57,20 +57,15 @@ impl<'a> Search<'a> {
         alloc: Global,
         domain: &'a Domain,
         nest: u32,
-        spot: Spot,
+        node: SearchNode,
         cells: Cells,
     ) -> Result<Search<'a>, AllocError>
-        requires few { All HasFew (domain_of domain.now).rules }
-        requires spot { IsSpot (length cells) spot }
-        ensures { IfOk result (λ s. BeginsAt (domain_of domain.now).rules nest (node_of cells spot) s) }
+        requires few { All HasFewVariables (domain_of domain.now).rules }
+        requires node { IsSearchNode (length cells) node }
+        ensures { IfOk result (λ s. BeginsAt (domain_of domain.now).rules nest (node_in cells node) s) }
     {
         let book = Rulebook::new(alloc, domain)?;
-        let base = Base {
-            alloc,
-            book: &book,
-            nest,
-        };
-        let top = Frame::new(&base, spot)?;
+        let top = Frame::new(alloc, node)?;
         Ok(Search {
             alloc,
             book,
@@ -86,17 +81,12 @@ impl<'a> Search<'a> {
 }
 
 impl Search<'_> {
-    // Goes down to a child, which came next at the node reached.
-    fn enter(&mut self, spot: Spot) -> Result<(), AllocError>
-        ensures entered { OnOk result (IsEntered self.old spot self.new) }
+    // Goes down to a child, the next successor of the node reached.
+    fn enter(&mut self, node: SearchNode) -> Result<(), AllocError>
+        ensures entered { OnOk result (IsEntered self.old node self.new) }
         ensures tree { tree_in self.new ≡ tree_in self.old }
     {
-        let base = Base {
-            alloc: self.alloc,
-            book: &self.book,
-            nest: self.nest,
-        };
-        let child = Frame::new(&base, spot)?;
+        let child = Frame::new(self.alloc, node)?;
         self.above.reserve(1)?;
         let number = self.top.dids;
         self.path.push(number)?;
@@ -106,22 +96,22 @@ impl Search<'_> {
         Ok(())
     }
 
-    // Takes what came next at the node reached.
-    fn take(&mut self, come: Come) -> Result<Option<Step>, AllocError>
-        ensures taken { IfOk result (λ o. IsTaken self.old come o self.new) }
+    // Takes the next successor of the node reached, if there is one.
+    fn take(&mut self, next: Option<Successor>) -> Result<Option<Step>, AllocError>
+        ensures taken { IfOk result (λ o. IsTaken self.old next o self.new) }
         ensures tree { tree_in self.new ≡ tree_in self.old }
     {
         self.at_did = false;
-        match come {
-            Come::Plan => Ok(Some(Step::Plan)),
-            Come::Child(Turn::Nothing) => Ok(None),
-            Come::Child(Turn::Cut) => Ok(Some(Step::Cut)),
-            Come::Child(Turn::Fault(fault)) => {
+        match next {
+            None => Ok(None),
+            Some(Successor::Plan) => Ok(Some(Step::Plan)),
+            Some(Successor::Child(Child::Cut)) => Ok(Some(Step::Cut)),
+            Some(Successor::Child(Child::Fault(fault))) => {
                 self.over = true;
                 Ok(Some(Step::Fault(fault)))
             }
-            Come::Child(Turn::Did(spot)) => {
-                self.enter(spot)?;
+            Some(Successor::Child(Child::Did(node))) => {
+                self.enter(node)?;
                 Ok(Some(Step::Did))
             }
         }
@@ -137,13 +127,13 @@ impl Search<'_> {
             self.at_did = false;
             return Ok(None);
         }
-        let base = Base {
+        let context = Context {
             alloc: self.alloc,
             book: &self.book,
             nest: self.nest,
         };
-        let come = self.top.next(&base, &mut self.cells)?;
-        self.take(come)
+        let next = self.top.next(&context, &mut self.cells)?;
+        self.take(next)
     }
 
     // Stands at a node above, whose number is told no more.
@@ -156,7 +146,7 @@ impl Search<'_> {
         self.at_did = false;
     }
 
-    /// Goes to the parent, where nothing more comes at the node reached or below it.
+    /// Goes to the parent, where no visit is left at the node reached or below it.
     pub(crate) fn back(&mut self)
         requires search { IsSearch self.old }
         requires below { (stands_in self.old).path ≢ [] }
@@ -176,8 +166,8 @@ impl Search<'_> {
         ensures { Goes self.old (pruned (stands_in self.old)) self.new }
     {
         self.top.end = None;
-        self.top.rest.run = None;
-        self.top.rest.queue.at = self.top.rest.queue.candidates.len();
+        self.top.agenda.open = None;
+        self.top.agenda.queue.at = self.top.agenda.queue.candidates.len();
         self.at_did = false;
     }
 }

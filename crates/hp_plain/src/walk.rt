@@ -1,9 +1,10 @@
 //! The plain walk.
-use crate::begin::root;
 use crate::search::Search;
+use crate::search_node::SearchNode;
 use hp_cells::{Cell, Cells};
 use hp_net::{Step, Walk};
 use hp_syntax::{Domain, Pair};
+use hp_tree::root::Root;
 use hp_world::World;
 use std::alloc::{AllocError, Global};
 use std::marker::Model;
@@ -35,14 +36,13 @@ impl<'a> Model for PlainWalk<'a> {
 }
 
 impl<'a> PlainWalk<'a> {
-    ghost use Rattle.std.specs.Prelude.{◌≡◌, ◌≤◌, [], true, false, IfOk};
-    ghost use Rattle.std.specs.List.{All};
-    ghost use Rattle.hp_syntax.specs.declared.limits.TheConstants.{DEEPEST_WALK};
+    ghost use Rattle.std.specs.Prelude.{◌≡◌, ◌≤◌, [], true, false, None, IfOk};
+    ghost use Rattle.hp_syntax.specs.declared.limits.TheConstants.{DEEPEST_WALK, MOST_LEVELS};
+    ghost use Rattle.hp_syntax.specs.Checks.{domain_faults, first_of};
+    ghost use Rattle.hp_syntax.specs.GroundPatterns.{IsGroundPair};
     ghost use Rattle.hp_syntax.specs.Views.{domain_of, pair_of};
     ghost use Rattle.hp_syntax.specs.Walk.{root, visits};
     ghost use Rattle.hp_net.specs.Standings.{standing};
-    ghost use Rattle.hp_plain.specs.Begins.{IsGround};
-    ghost use Rattle.hp_plain.specs.Spots.{HasFew};
     ghost use Rattle.hp_plain.specs.Walked.{tree_walked, stands_walked};
 
     /// A walk of the tree of a pair at a depth, where axioms may call one another so deep. It stands at the root, and
@@ -54,9 +54,10 @@ impl<'a> PlainWalk<'a> {
         depth: u32,
         nest: u32,
     ) -> Result<PlainWalk<'a>, AllocError>
-        requires few { All HasFew (domain_of domain.now).rules }
-        requires pair { IsGround (pair_of pair.now) }
+        requires checked { first_of (domain_faults (domain_of domain.now)) ≡ None }
+        requires pair { IsGroundPair (pair_of pair.now) }
         requires depth { depth ≤ DEEPEST_WALK }
+        requires nest { nest ≤ MOST_LEVELS }
         ensures tree { IfOk result (λ w. tree_walked w ≡ record {
           rules = (domain_of domain.now).rules;
           nest = nest;
@@ -67,13 +68,21 @@ impl<'a> PlainWalk<'a> {
         ensures live { IfOk result (λ w. w.live ≡ true) }
     {
         let mut cells = Cells::new(alloc)?;
-        let spot = root(alloc, pair, depth, &mut cells)?;
-        let search = Search::new(alloc, domain, nest, spot, cells)?;
+        let Root { world, net } = Root::new(alloc, pair, &mut cells)?;
+        let node = SearchNode {
+            world,
+            net,
+            steps: Vec::new(alloc),
+            cost: 0,
+            depth,
+        };
+        let search = Search::new(alloc, domain, nest, node, cells)?;
         Ok(PlainWalk { search, live: true })
     }
 }
 
 impl Walk for PlainWalk<'_> {
+    ghost use Rattle.std.specs.Prelude.{None};
     ghost use Rattle.hp_plain.specs.Walked.{tree_walked, stands_walked};
 
     ghost tree = { tree_walked };
@@ -83,6 +92,8 @@ impl Walk for PlainWalk<'_> {
     ghost terms = { λ w. w.terms };
 
     ghost is_live = { λ w. w.live };
+
+    ghost root_cells = { λ w. None };
 
     fn step(&mut self) -> Result<Option<Step>, AllocError> {
         self.live = false;
@@ -100,15 +111,15 @@ impl Walk for PlainWalk<'_> {
     }
 
     fn plan(&self) -> &[Cell] {
-        self.search.top.spot.steps.as_slice()
+        self.search.top.node.steps.as_slice()
     }
 
     fn cost(&self) -> i128 {
-        self.search.top.spot.cost
+        self.search.top.node.cost
     }
 
     fn world(&self) -> &World {
-        &self.search.top.spot.world
+        &self.search.top.node.world
     }
 
     fn cells(&self) -> &Cells {

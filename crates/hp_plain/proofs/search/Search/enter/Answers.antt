@@ -2,7 +2,7 @@ use Rattle.std.proofs.Common.{List, length, ◌∷◌, [], ◌++◌, ap, ap₂, 
 use Rattle.hp_syntax.specs.Terms.{Term}
 use Rattle.hp_plain.specs.Frames.{Opens}
 use Rattle.hp_plain.specs.Searches.{rules_in_search}
-use Rattle.hp_plain.specs.Spots.{IsSpot}
+use Rattle.hp_plain.specs.SearchNodes.{IsSearchNode}
 use Rattle.hp_plain.proofs.search.Search.enter.Goals as goal
 
 pub returns-clause-entered : goal.returns-clause-entered
@@ -10,8 +10,9 @@ returns-clause-entered c =
     let s = c.args.self.now in
     record {
       top =
-          subst (λ f. (terms : List Term) → IsSpot (length terms) c.args.spot
-          → Opens (rules_in_search s) s.nest terms c.args.spot f) (sym c.replace.ensures.after) c.in_ok-child.ensures;
+          subst (λ f. (terms : List Term) → IsSearchNode (length terms) c.args.node
+          → Opens (rules_in_search s) s.nest terms c.args.node f) (sym c.replace.ensures.after)
+          (c.in_ok-child.ensures (rules_in_search s) s.nest);
       above =
           c.push_reserved.ensures.items
           ∙ ap₂ (λ fs f. fs ++ f ∷ []) c.in_ok-reserve.ensures.items

@@ -3,7 +3,8 @@ use Rattle.std.specs.List.{All}
 use Rattle.hp_syntax.specs.Views.{domain_of}
 use Rattle.hp_plain.specs.declared.search.Search.{Search}
 use Rattle.hp_plain.specs.Searches.{BeginsAt}
-use Rattle.hp_plain.specs.Spots.{node_of, HasFew}
+use Rattle.hp_syntax.specs.Checks.{HasFewVariables}
+use Rattle.hp_plain.specs.SearchNodes.{node_in}
 use Rattle.hp_plain.proofs.SearchLemmas.{search_begins, few_axioms}
 use Rattle.hp_plain.proofs.search.Search.new.Goals as goal
 
@@ -25,7 +26,8 @@ returns c =
       at_did = false;
       over = false;
     } in
-    subst (λ d. BeginsAt (domain_of d).rules c.args.nest (node_of c.args.cells c.args.spot) s) same
-    (search_begins s c.args.spot c.requires.spot (c.in_ok-top.ensures c.args.cells c.requires.spot)
-    (subst (λ d. All HasFew (domain_of d).rules) (sym same) c.requires.few) c.new-4.ensures.items c.new-3.ensures.items
-    refl refl)
+    subst (λ d. BeginsAt (domain_of d).rules c.args.nest (node_in c.args.cells c.args.node) s) same
+    (search_begins s c.args.node c.requires.node
+    (c.in_ok-top.ensures (domain_of book.domain.now).rules c.args.nest c.args.cells c.requires.node)
+    (subst (λ d. All HasFewVariables (domain_of d).rules) (sym same) c.requires.few) c.new-4.ensures.items
+    c.new-3.ensures.items refl refl)

@@ -4,5 +4,5 @@ use Rattle.hp_plain.proofs.search.Search.prune.Goals as goal
 
 pub returns : goal.returns
 returns c =
-    let all : c.len-self.result ≡ length c.args.self.now.top.rest.queue.candidates.items = search rules in
+    let all : c.len-self.result ≡ length c.args.self.now.top.agenda.queue.candidates.items = search rules in
     goes_pruned c.args.self.now c.requires.search c.requires.did c.len-self.result all

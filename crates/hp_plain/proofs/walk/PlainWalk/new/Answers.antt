@@ -1,23 +1,22 @@
-use Rattle.std.proofs.Common.{[], false, refl, ◌∙◌, ap}
+use Rattle.std.proofs.Common.{◌<◌, [], length}
+use Rattle.std.proofs.lemmas.List.Elements.{All-same}
 use Rattle.hp_syntax.specs.Views.{domain_of}
-use Rattle.hp_syntax.specs.Walk.{Node, visits}
-use Rattle.hp_net.specs.Standings.{Tree, standing}
+use Rattle.hp_laws.proofs.FaultLemmas.{faultless_has_few, faultless_rules}
 use Rattle.hp_plain.proofs.walk.PlainWalk.new.Goals as goal
 
-pub new-requires-2-clause-spot : goal.new-requires-2-clause-spot
-new-requires-2-clause-spot c = c.in_ok-spot.ensures.spot
+pub new-requires-4-clause-few : goal.new-requires-4-clause-few
+new-requires-4-clause-few c = λ k r l.
+    faultless_has_few _ (faultless_rules (domain_of c.args.domain.now) c.requires.checked k r l)
 
-pub returns-clause-tree : goal.returns-clause-tree
-returns-clause-tree c =
-    let rules = (domain_of c.args.domain.now).rules in
-    let tree : Node → Tree = λ n. record { rules = rules; nest = c.args.nest; root = n } in
-    c.in_ok-search.ensures.tree ∙ ap tree c.in_ok-spot.ensures.node
-
-pub returns-clause-stands : goal.returns-clause-stands
-returns-clause-stands c =
-    let rules = (domain_of c.args.domain.now).rules in
-    c.in_ok-search.ensures.stands
-    ∙ ap (λ n. standing [] (visits rules c.args.nest n []) false) c.in_ok-spot.ensures.node
-
-pub returns-clause-live : goal.returns-clause-live
-returns-clause-live c = refl
+pub new-requires-4-clause-node : goal.new-requires-4-clause-node
+new-requires-4-clause-node c =
+    let n = length c.new-2.new.cells in
+    let root = c.in_ok-world.ensures.below c.args.depth c.requires.depth in
+    record {
+      stage = root.stage;
+      network = root.network;
+      steps = All-same (λ k. k < n) c.new-3.result.items [] c.new-3.ensures.items root.steps;
+      depth = root.depth;
+      low = root.low;
+      high = root.high;
+    }

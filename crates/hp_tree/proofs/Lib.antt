@@ -1,0 +1,5 @@
+pub mod SuccessorLemmas
+pub mod StackLemmas
+pub mod SearchNodeLemmas
+pub mod ChildLemmas
+pub mod RootSteps

@@ -1,0 +1,5 @@
+pub mod Successors
+pub mod Stacks
+pub mod SearchNodes
+pub mod Children
+pub mod Roots

@@ -1,0 +1,42 @@
+-- The nodes of the tree as they stand in memory, whatever engine holds them.
+use Rattle.std.specs.Prelude.{ℕ, ◌-◌, ◌*◌, ◌^◌, ◌≤◌, ℤ, pos, neg_ℤ, ◌≤ℤ◌, List, []}
+use Rattle.std.specs.List.{All}
+use Rattle.hp_syntax.specs.declared.limits.TheConstants.{DEEPEST_WALK}
+use Rattle.hp_syntax.specs.Terms.{Term}
+use Rattle.hp_syntax.specs.Walk.{Node}
+use Rattle.hp_world.specs.Stages.{Stage, AllBelow, StageBelow, terms_at, state_of, guards_of}
+use Rattle.hp_net.specs.FlatNetworks.{FlatNetwork, focused, EntryBelow}
+
+-- a search node as it stands in memory: what stands in its world, its network, the cells of its steps, what these cost,
+-- and how many decompositions may follow
+pub record HeldNode : Type 0 where
+  pub stage : Stage
+  pub network : FlatNetwork
+  pub steps : List ℕ
+  pub cost : ℤ
+  pub depth : ℕ
+
+-- the node of the tree that it is, where cells name these terms
+abbrev pub node_of : List Term → HeldNode → Node
+node_of terms h = record {
+  state = state_of terms h.stage;
+  guards = guards_of terms h.stage;
+  network = (focused terms h.network).0;
+  focus = (focused terms h.network).1;
+  steps = terms_at terms h.steps;
+  cost = h.cost;
+  depth = h.depth;
+}
+
+-- the most that the steps can cost where so many decompositions may follow
+abbrev pub most_cost : ℕ → ℕ
+most_cost depth = (DEEPEST_WALK - depth) * 2 ^ 63
+
+-- each cell of a node is below a count, and its steps cost no more than they can
+pub record IsHeldNode (n : ℕ) (h : HeldNode) : Type 0 where
+  pub stage : StageBelow n h.stage
+  pub network : All (EntryBelow n) h.network.entries
+  pub steps : AllBelow n h.steps
+  pub depth : h.depth ≤ DEEPEST_WALK
+  pub low : neg_ℤ (pos (most_cost h.depth)) ≤ℤ h.cost
+  pub high : h.cost ≤ℤ pos (most_cost h.depth)
