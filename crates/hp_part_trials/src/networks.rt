@@ -1,6 +1,6 @@
 //! Networks whose tasks are done and decomposed.
 ghost use Rattle.std.specs.List.{All};
-ghost use Rattle.hp_net.specs.Outlines.{NamesTask};
+ghost use Rattle.hp_net.specs.FlatNetworks.{NamesTask};
 
 use crate::page::Page;
 use hp_cells::{Cell, Cells};

@@ -4,7 +4,7 @@ ghost use Rattle.std.specs.List.{All};
 ghost use Rattle.hp_syntax.specs.Checks.{HasFewVariables};
 ghost use Rattle.hp_syntax.specs.Networks.{part_at};
 ghost use Rattle.hp_eval.specs.Growth.{Grows};
-ghost use Rattle.hp_satisfiers.specs.Rulebooks.{relevant_to};
+ghost use Rattle.hp_laws.specs.RulesByName.{relevant_to};
 ghost use Rattle.hp_tree.specs.Children.{place_in, one_by, IsCandidate};
 ghost use Rattle.hp_plain.specs.SearchNodes.{node_in, IsSearchNode};
 ghost use Rattle.hp_plain.specs.Agendas.{rules_of, choice_children, if_open, queue_children, agenda_children, work_left, IsChoice, MaybeChoice, IsQueue, IsAgenda, Takes};

@@ -17,8 +17,8 @@ use Rattle.hp_syntax.specs.Walk.{Node, child_of, operated, after_effects, decomp
 use Rattle.hp_eval.proofs.Loops.{left_more}
 use Rattle.hp_net.specs.declared.entry.Entry.{Entry}
 use Rattle.hp_net.specs.FlatNetworks.{FlatNetwork, NamesTask, place_of}
-use Rattle.hp_satisfiers.specs.Rulebooks.{relevant_to}
-use Rattle.hp_satisfiers.proofs.RulebookLemmas.{relevant_give}
+use Rattle.hp_laws.specs.RulesByName.{relevant_to}
+use Rattle.hp_laws.proofs.RuleNameLemmas.{relevant_give}
 use Rattle.hp_tree.specs.Children.{place_or_whole, place_in, IsCandidate, if_matched, branch_done, task_by, one_by, relevant_by, by_candidates}
 
 -- ---- candidates

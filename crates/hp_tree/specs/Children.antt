@@ -10,7 +10,7 @@ use Rattle.hp_syntax.specs.Values.{Bindings}
 use Rattle.hp_syntax.specs.Walk.{Node, Child, after_effects, decomposed, rule_children}
 use Rattle.hp_net.specs.declared.entry.Entry.{Entry}
 use Rattle.hp_net.specs.FlatNetworks.{FlatNetwork, place_of, NamesTask}
-use Rattle.hp_satisfiers.specs.Rulebooks.{relevant_to}
+use Rattle.hp_laws.specs.RulesByName.{relevant_to}
 
 -- ---- candidates
 

@@ -1,6 +1,6 @@
 use Rattle.std.proofs.Common.{◌≡◌, ◌≤◌, ◌∙◌, None, Some, arith, get_or, length}
 use Rattle.std.proofs.lemmas.Option.{get_or_from_slice_get, slice_get_within}
-use Rattle.hp_world.proofs.AtomLemmas.{atom_below}
+use Rattle.hp_world.proofs.StageLemmas.{atom_below}
 use Rattle.hp_out.proofs.PageSteps.{put_more, next_not_put, put_all}
 use Rattle.hp_out.proofs.TermSteps.{places_text, places_joined, one_place}
 use Rattle.hp_out.proofs.terms.push_atoms.Goals as goal

@@ -1,5 +1,5 @@
 use Rattle.std.proofs.Common.{sym, subst}
-use Rattle.hp_net.specs.Outlines.{NamesTask}
+use Rattle.hp_net.specs.FlatNetworks.{NamesTask}
 use Rattle.hp_part_trials.proofs.networks.tasks_of.Goals as goal
 
 pub task-requires : goal.task-requires

@@ -1,5 +1,5 @@
 use Rattle.std.proofs.Common.{length, Some, option_map, slice_get, ap, sym, ◌∙◌}
-use Rattle.hp_satisfiers.specs.Rulebooks.{relevant_to}
+use Rattle.hp_laws.specs.RulesByName.{relevant_to}
 use Rattle.hp_tree.specs.Children.{place_in}
 use Rattle.hp_plain.specs.Agendas.{rules_of}
 use Rattle.hp_plain.proofs.agenda.relevant_rule.Goals as goal
