@@ -12,8 +12,8 @@ use Rattle.hp_laws.proofs.BindingLemmas.{slice_get_some}
 use Rattle.hp_eval.proofs.Loops.{left_more}
 use Rattle.hp_eval.specs.Growth.{Grows}
 use Rattle.hp_eval.proofs.GrowthLemmas.{grows_length}
-use Rattle.hp_satisfiers.specs.declared.found.Found.{Found}
-use Rattle.hp_satisfiers.specs.Founds.{found_event, found_events, BindsBelow}
+use Rattle.hp_satisfiers.specs.declared.answer.Answer.{Answer}
+use Rattle.hp_satisfiers.specs.AnswerViews.{answer_event, answer_events, BindsBelow}
 use Rattle.hp_tree.specs.Children.{place_in, done_by, by_candidates}
 use Rattle.hp_tree.proofs.SearchNodeLemmas.{node_stays, term_stays}
 use Rattle.hp_plain.specs.declared.agenda.Agenda.{Agenda}
@@ -104,18 +104,18 @@ module _ (old new : List Term) (g : Grows old new) where
 
 module _ (rules : List Rule) (nest : ℕ) (terms : List Term) (s : SearchNode) (c : OpenChoice) where
   -- the children by the next event are first
-  choice_next : (x : Found) → c.next < length c.choice.found.items → x ≡ get_or c.choice.found.items c.next x
+  choice_next : (x : Answer) → c.next < length c.choice.found.items → x ≡ get_or c.choice.found.items c.next x
       → choice_children rules nest terms s c
-      ≡ child_of (done_in rules nest terms s c) (found_event terms x)
+      ≡ child_of (done_in rules nest terms s c) (answer_event terms x)
       ++ choice_children rules nest terms s (record c { next = c.next + 1 })
   choice_next x l is =
-      ap (λ xs. flat_map (child_of (done_in rules nest terms s c)) (found_events terms xs))
+      ap (λ xs. flat_map (child_of (done_in rules nest terms s c)) (answer_events terms xs))
       (left_more c.choice.found.items c.next x l is)
 
   -- where no event is left there are none
   pub choice_end : length c.choice.found.items ≤ c.next → choice_children rules nest terms s c ≡ []
   choice_end l =
-      ap (λ xs. flat_map (child_of (done_in rules nest terms s c)) (found_events terms xs))
+      ap (λ xs. flat_map (child_of (done_in rules nest terms s c)) (answer_events terms xs))
       (drop_all c.next c.choice.found.items l)
 
 -- a choice stays one from any event on
@@ -123,18 +123,18 @@ pub choice_from : (n k : ℕ) (s : SearchNode) (c : OpenChoice) → IsChoice n s
 choice_from n k s c h = record { candidate = h.candidate; task = h.task; deep = h.deep; below = h.below }
 
 module _ (old new : List Term) (g : Grows old new) (rules : List Rule) (nest : ℕ) (s : SearchNode)
-    (node : IsSearchNode (length old) s) (c : OpenChoice) (choice : IsChoice (length old) s c) (x : Found)
+    (node : IsSearchNode (length old) s) (c : OpenChoice) (choice : IsChoice (length old) s c) (x : Answer)
     (within : c.next < length c.choice.found.items) (is : x ≡ get_or c.choice.found.items c.next x)
     (child : Option made.Child) (before : List Child) (so_far : before ≡ choice_children rules nest old s c)
-    (makes : Makes new child (child_of (done_in rules nest old s c) (found_event old x))) where
+    (makes : Makes new child (child_of (done_in rules nest old s c) (answer_event old x))) where
   -- the children by the next event are the first of those that are left
   choice_step : before
-      ≡ child_of (done_in rules nest old s c) (found_event old x)
+      ≡ child_of (done_in rules nest old s c) (answer_event old x)
       ++ choice_children rules nest new s (record c { next = c.next + 1 })
   choice_step =
       so_far
       ∙ (choice_next rules nest old s c x within is
-      ∙ ap (λ xs. child_of (done_in rules nest old s c) (found_event old x) ++ xs)
+      ∙ ap (λ xs. child_of (done_in rules nest old s c) (answer_event old x) ++ xs)
       (sym (choice_stays old new g rules nest s node (record c { next = c.next + 1 }) (choice_from (length old)
       (c.next + 1) s c choice))))
 

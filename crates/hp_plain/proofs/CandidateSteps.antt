@@ -14,9 +14,9 @@ use Rattle.hp_syntax.specs.Syntax.{Atom, Branch, Method, Operator, Rule, Does, R
 use Rattle.hp_syntax.specs.Matching.{match_atom}
 use Rattle.hp_eval.specs.Growth.{Grows}
 use Rattle.hp_eval.proofs.GrowthLemmas.{bindings_stay}
-use Rattle.hp_satisfiers.specs.declared.found.Found.{Found}
-use Rattle.hp_satisfiers.specs.declared.found.Found.TheVariants.{Sat, Cut, Fault}
-use Rattle.hp_satisfiers.specs.Founds.{BindsBelow, Fits, Finds, found_events}
+use Rattle.hp_satisfiers.specs.declared.answer.Answer.{Answer}
+use Rattle.hp_satisfiers.specs.declared.answer.Answer.TheVariants.{Sat, Cut, Fault}
+use Rattle.hp_satisfiers.specs.AnswerViews.{BindsBelow, Fits, Finds, answer_events}
 use Rattle.hp_satisfiers.proofs.MatchSteps.{binds_vars, match_failed, match_made}
 use Rattle.hp_satisfiers.proofs.AxiomSteps.{none_bound}
 use Rattle.hp_syntax.specs.declared.expression.Pre.{Pre}
@@ -153,13 +153,13 @@ module _ (terms : List Term) (head : Atom) (cell vars : ℕ) (slots new : Slotte
 
 -- ---- what is found
 
-fits_bind : (vars n : ℕ) (x : Found) → Fits vars n x → BindsBelow n x
+fits_bind : (vars n : ℕ) (x : Answer) → Fits vars n x → BindsBelow n x
 fits_bind vars n (Sat slots) h = h.1
 fits_bind vars n Cut h = tt
 fits_bind vars n (Fault f) h = tt
 
 -- what is found binds to cells below the number of terms
-pub finds_below : (terms : List Term) (vars : ℕ) (found : List Found) (events others : List Event)
+pub finds_below : (terms : List Term) (vars : ℕ) (found : List Answer) (events others : List Event)
     → events ≡ others → Finds terms vars found events → FindsBelow terms found others
 finds_below terms vars found events others e h = record {
   stand = h.stand ∙ e;
@@ -167,10 +167,10 @@ finds_below terms vars found events others e h = record {
 }
 
 -- where there are no events nothing is found
-pub finds_nothing : (terms : List Term) (found : List Found) (events : List Event) → found ≡ [] → events ≡ []
+pub finds_nothing : (terms : List Term) (found : List Answer) (events : List Event) → found ≡ [] → events ≡ []
     → FindsBelow terms found events
 finds_nothing terms found events is e = record {
-  stand = ap (found_events terms) is ∙ sym e;
+  stand = ap (answer_events terms) is ∙ sym e;
   below = All-same (BindsBelow (length terms)) found [] is (All-nil (BindsBelow (length terms)));
 }
 
@@ -218,10 +218,10 @@ module _ (old new : List Term) (g : Grows old new) (s : Candidate) (fits : Candi
     (rule : ℕ) where
   -- the events of a choice give the same children where terms are added
   chosen_stays : (c : Choice) (xs : List Child)
-      → flat_map (child_of (done_at old s rule c.branch)) (found_events new c.found.items) ≡ xs
-      → flat_map (child_of (done_at new s rule c.branch)) (found_events new c.found.items) ≡ xs
+      → flat_map (child_of (done_at old s rule c.branch)) (answer_events new c.found.items) ≡ xs
+      → flat_map (child_of (done_at new s rule c.branch)) (answer_events new c.found.items) ≡ xs
   chosen_stays c xs h =
-      ap (λ f. flat_map (child_of f) (found_events new c.found.items)) (done_stays old new g s fits rule c.branch) ∙ h
+      ap (λ f. flat_map (child_of f) (answer_events new c.found.items)) (done_stays old new g s fits rule c.branch) ∙ h
 
   -- the events of an operator's precondition are its choice
   pub chooses_operator : (o : Operator) (c : Choice) → slice_get (rules_at s) rule ≡ Some (Does o)
@@ -233,7 +233,7 @@ module _ (old new : List Term) (g : Grows old new) (s : Candidate) (fits : Candi
     stand =
         chosen_stays c (children_at old s rule)
         (ap (λ r. flat_map (child_of (done_by (rules_at s) (nest_at s) (own_node old s) (place_at s) (own_task old s)
-        r c.branch)) (found_events new c.found.items)) e
+        r c.branch)) (answer_events new c.found.items)) e
         ∙ (ap (flat_map (child_of (λ b. after_effects (own_node old s) (place_at s) (own_task old s)
         (changes.effects (axioms_of (rules_at s)) (nest_at s) (own_node old s).state o b)))) h.stand
         ∙ (operator_met (rules_at s) (nest_at s) (own_node old s) (place_at s) (own_task old s) o
@@ -252,7 +252,7 @@ module _ (old new : List Term) (g : Grows old new) (s : Candidate) (fits : Candi
     stand =
         chosen_stays c (children_at old s rule)
         (ap (λ r. flat_map (child_of (done_by (rules_at s) (nest_at s) (own_node old s) (place_at s) (own_task old s)
-        r c.branch)) (found_events new c.found.items)) e
+        r c.branch)) (answer_events new c.found.items)) e
         ∙ (h.stand
         ∙ sym (ap (children_by (rules_at s) (nest_at s) (own_node old s) (place_at s) (own_task old s)) e)));
     below = h.below;
@@ -263,6 +263,6 @@ pub chooses_nothing : (terms : List Term) (s : Candidate) (rule : ℕ) (c : Choi
     → children_at terms s rule ≡ [] → Chooses terms s rule c (children_at terms s rule)
 chooses_nothing terms s rule c is e = record {
   stand =
-      ap (λ found. flat_map (child_of (done_at terms s rule c.branch)) (found_events terms found)) is ∙ sym e;
+      ap (λ found. flat_map (child_of (done_at terms s rule c.branch)) (answer_events terms found)) is ∙ sym e;
   below = All-same (BindsBelow (length terms)) c.found.items [] is (All-nil (BindsBelow (length terms)));
 }

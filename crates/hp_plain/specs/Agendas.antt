@@ -7,7 +7,7 @@ use Rattle.hp_syntax.specs.Values.{Bindings}
 use Rattle.hp_syntax.specs.Views.{domain_of}
 use Rattle.hp_syntax.specs.Walk.{Child, child_of}
 use Rattle.hp_eval.specs.GoalViews.{term_at}
-use Rattle.hp_satisfiers.specs.Founds.{found_events, BindsBelow}
+use Rattle.hp_satisfiers.specs.AnswerViews.{answer_events, BindsBelow}
 use Rattle.hp_tree.specs.Children.{place_in, IsCandidate, done_by, by_candidates}
 use Rattle.hp_plain.specs.declared.agenda.Agenda.{Agenda}
 use Rattle.hp_plain.specs.declared.agenda.CandidateQueue.{CandidateQueue}
@@ -33,7 +33,7 @@ module _ (rules : List Rule) (nest : ℕ) where
   -- the children that are left of a choice
   abbrev pub choice_children : List Term → SearchNode → OpenChoice → List Child
   choice_children terms s c =
-      flat_map (child_of (done_in terms s c)) (found_events terms (drop c.next c.choice.found.items))
+      flat_map (child_of (done_in terms s c)) (answer_events terms (drop c.next c.choice.found.items))
 
   -- those of a choice, if one is open
   abbrev pub if_open : List Term → SearchNode → Option OpenChoice → List Child

@@ -6,8 +6,8 @@ use Rattle.hp_syntax.specs.Syntax.{Branch}
 use Rattle.hp_syntax.specs.Events.{Event}
 use Rattle.hp_syntax.specs.Networks.{Place}
 use Rattle.hp_syntax.specs.Walk.{Node, Child, DidChild, CutChild, FaultChild, child_of}
-use Rattle.hp_satisfiers.specs.declared.found.Found.{Found}
-use Rattle.hp_satisfiers.specs.Founds.{found_events, BindsBelow}
+use Rattle.hp_satisfiers.specs.declared.answer.Answer.{Answer}
+use Rattle.hp_satisfiers.specs.AnswerViews.{answer_events, BindsBelow}
 use Rattle.hp_tree.specs.Children.{branch_done}
 use Rattle.hp_plain.specs.declared.candidate.Candidate.{Candidate}
 use Rattle.hp_plain.specs.declared.candidate.Child as made
@@ -45,18 +45,18 @@ pub record Makes (terms : List Term) (child : Option made.Child) (children : Lis
 -- ---- events that are found
 
 -- what is found stands for these events, and each Sat binds to cells below the number of terms
-pub record FindsBelow (terms : List Term) (found : List Found) (events : List Event) : Type 0 where
-  pub stand : found_events terms found ≡ events
+pub record FindsBelow (terms : List Term) (found : List Answer) (events : List Event) : Type 0 where
+  pub stand : answer_events terms found ≡ events
   pub below : All (BindsBelow (length terms)) found
 
 -- the events of a choice among these branches give these children
 pub record ChoosesBranch (terms : List Term) (n : Node) (p : Place) (branches : List Branch) (c : Choice)
     (children : List Child) : Type 0 where
-  pub stand : flat_map (child_of (branch_done n p (slice_get branches c.branch))) (found_events terms c.found.items)
+  pub stand : flat_map (child_of (branch_done n p (slice_get branches c.branch))) (answer_events terms c.found.items)
       ≡ children
   pub below : All (BindsBelow (length terms)) c.found.items
 
 -- the events of a choice for the rule of a number give these children
 pub record Chooses (terms : List Term) (s : Candidate) (rule : ℕ) (c : Choice) (children : List Child) : Type 0 where
-  pub stand : flat_map (child_of (done_at terms s rule c.branch)) (found_events terms c.found.items) ≡ children
+  pub stand : flat_map (child_of (done_at terms s rule c.branch)) (answer_events terms c.found.items) ≡ children
   pub below : All (BindsBelow (length terms)) c.found.items

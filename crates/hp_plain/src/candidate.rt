@@ -13,7 +13,7 @@ ghost use Rattle.hp_eval.specs.GoalViews.{network_of, TreeBelow};
 ghost use Rattle.hp_eval.specs.Growth.{Grows};
 ghost use Rattle.hp_eval.specs.Slotted.{AreBelow, bindings_of};
 ghost use Rattle.hp_world.specs.Stages.{ChangesBelow, StageBelow, changes_of, state_of, guards_of};
-ghost use Rattle.hp_satisfiers.specs.Founds.{found_event, BindsBelow, MeetsHead};
+ghost use Rattle.hp_satisfiers.specs.AnswerViews.{answer_event, BindsBelow, MeetsHead};
 ghost use Rattle.hp_tree.specs.Children.{branch_done, if_matched};
 ghost use Rattle.hp_plain.specs.Candidates.{rules_at, nest_at, own_node, place_at, own_task, done_at, children_at, CandidateFits};
 ghost use Rattle.hp_plain.specs.Children.{Makes, FindsBelow, ChoosesBranch, Chooses};
@@ -23,10 +23,10 @@ use hp_cells::{Cell, Cells};
 use hp_effect::Changes;
 use hp_eval::{EvalStop, Slots, TaskTree, match_atom, tasks_value};
 use hp_net::TaskId;
-use hp_satisfiers::effects::Effected;
+use hp_satisfiers::answer::Answer;
+use hp_satisfiers::effects::EffectsOutcome;
 use hp_satisfiers::expressions::Scene;
-use hp_satisfiers::found::Found;
-use hp_satisfiers::rulebook::Rulebook;
+use hp_satisfiers::rule_index::RuleIndex;
 use hp_syntax::{AtomPat, Branch, Method, NetPat, Operator, Rule, RunFault};
 use hp_world::{Applied, World};
 use std::alloc::{AllocError, Global};
@@ -35,7 +35,7 @@ use std::alloc::{AllocError, Global};
 #[derive(Drop)]
 pub(crate) struct Context<'a> {
     pub(crate) alloc: Global,
-    pub(crate) book: &'a Rulebook<'a>,
+    pub(crate) book: &'a RuleIndex<'a>,
     pub(crate) nest: u32,
 }
 
@@ -52,7 +52,7 @@ pub(crate) struct Candidate<'a> {
 /// The events of a rule's precondition; where the rule is a method, that of the branch of this number.
 pub(crate) struct Choice {
     pub(crate) branch: usize,
-    pub(crate) found: Vec<Found>,
+    pub(crate) found: Vec<Answer>,
 }
 
 impl Drop for Choice {
@@ -132,9 +132,9 @@ impl Candidate<'_> {
             .scene
             .effects(operator, slots, self.context.nest, cells)?
         {
-            Effected::Went(changes, cost) => self.applied(&changes, cost, cells),
-            Effected::Cut => Ok(Some(Child::Cut)),
-            Effected::Fault(fault) => Ok(Some(Child::Fault(fault))),
+            EffectsOutcome::Went(changes, cost) => self.applied(&changes, cost, cells),
+            EffectsOutcome::Cut => Ok(Some(Child::Cut)),
+            EffectsOutcome::Fault(fault) => Ok(Some(Child::Fault(fault))),
         }
     }
 
@@ -226,19 +226,19 @@ impl Candidate<'_> {
         &self,
         rule: usize,
         branch: usize,
-        found: &Found,
+        found: &Answer,
         cells: &mut Cells,
     ) -> Result<Option<Child>, AllocError>
         requires candidate { CandidateFits (length cells.old) self.now }
         requires found { BindsBelow (length cells.old) found.now }
         ensures makes { IfOk result (λ child. Makes cells.new child
-            (child_of (done_at cells.old self.now rule branch) (found_event cells.old found.now))) }
+            (child_of (done_at cells.old self.now rule branch) (answer_event cells.old found.now))) }
         ensures cells { Grows cells.old cells.new }
     {
         match found {
-            Found::Sat(slots) => self.satisfied(rule, branch, slots, cells),
-            Found::Cut => Ok(Some(Child::Cut)),
-            Found::Fault(fault) => Ok(Some(Child::Fault(*fault))),
+            Answer::Sat(slots) => self.satisfied(rule, branch, slots, cells),
+            Answer::Cut => Ok(Some(Child::Cut)),
+            Answer::Fault(fault) => Ok(Some(Child::Fault(*fault))),
         }
     }
 
@@ -263,7 +263,7 @@ impl Candidate<'_> {
     }
 
     // The events of an operator's precondition, where its head matches the task.
-    fn by_operator(&self, operator: &Operator, cells: &mut Cells) -> Result<Vec<Found>, AllocError>
+    fn by_operator(&self, operator: &Operator, cells: &mut Cells) -> Result<Vec<Answer>, AllocError>
         requires candidate { CandidateFits (length cells.old) self.now }
         requires few { length operator.now.vars.items ≤ 256 }
         ensures finds { IfOk result (λ v. FindsBelow cells.new v.items

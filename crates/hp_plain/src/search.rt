@@ -12,7 +12,7 @@ use crate::frame::{Frame, Successor};
 use crate::search_node::SearchNode;
 use hp_cells::Cells;
 use hp_net::Step;
-use hp_satisfiers::rulebook::Rulebook;
+use hp_satisfiers::rule_index::RuleIndex;
 use hp_syntax::Domain;
 use std::alloc::{AllocError, Global};
 use std::mem;
@@ -20,7 +20,7 @@ use std::mem;
 /// The nodes on the way to the one that is reached, the root first, and the successors that are left at each.
 pub(crate) struct Search<'a> {
     pub(crate) alloc: Global,
-    pub(crate) book: Rulebook<'a>,
+    pub(crate) book: RuleIndex<'a>,
     pub(crate) nest: u32,
     pub(crate) cells: Cells,
     pub(crate) path: Vec<u64>,
@@ -64,7 +64,7 @@ impl<'a> Search<'a> {
         requires node { IsSearchNode (length cells) node }
         ensures { IfOk result (λ s. BeginsAt (domain_of domain.now).rules nest (node_in cells node) s) }
     {
-        let book = Rulebook::new(alloc, domain)?;
+        let book = RuleIndex::new(alloc, domain)?;
         let top = Frame::new(alloc, node)?;
         Ok(Search {
             alloc,

@@ -13,13 +13,13 @@ use Rattle.hp_syntax.specs.Views.{axiom_of}
 use Rattle.hp_syntax.specs.declared.domain.Axiom as public_axiom
 use Rattle.hp_eval.specs.Slotted.{Slotted, no_bindings, bindings_of}
 use Rattle.hp_laws.specs.RulesByName.{concluding}
-use Rattle.hp_satisfiers.specs.Rulebooks.{axiom_at, AreFew}
+use Rattle.hp_satisfiers.specs.RuleIndexes.{axiom_at, AreFew}
 use Rattle.hp_satisfiers.specs.Scenes.{placed_events}
 use Rattle.hp_laws.proofs.JoinLemmas.{contains_first, contains_later}
 use Rattle.hp_satisfiers.proofs.MatchSteps.{left_at}
 use Rattle.hp_syntax.specs.Preconditions.{heard}
-use Rattle.hp_satisfiers.specs.declared.found.Found.{Found}
-use Rattle.hp_satisfiers.specs.Founds.{found_event, found_events}
+use Rattle.hp_satisfiers.specs.declared.answer.Answer.{Answer}
+use Rattle.hp_satisfiers.specs.AnswerViews.{answer_event, answer_events}
 use Rattle.hp_laws.specs.HeardAlike.{AreHeardAlike}
 use Rattle.hp_laws.proofs.HeardAlikeLemmas.{alike_empty}
 
@@ -113,17 +113,17 @@ new_bind_none terms own n many is e = ap (bindings_of terms) is ∙ (none_bound 
 
 -- ---- branches
 
-module _ (terms : List Term) (found : List Found) where
+module _ (terms : List Term) (found : List Answer) where
   -- where something is found, something is met
-  pub some_met : (xs : List Event) → AreHeardAlike (found_events terms found) xs → 0 < length found → 0 < length xs
+  pub some_met : (xs : List Event) → AreHeardAlike (answer_events terms found) xs → 0 < length found → 0 < length xs
   some_met (x ∷ xs) h l = omega arith
   some_met [] h l =
-      let none = ap length (alike_empty (found_events terms found) h) in
-      absurd (omega (arith, l, none, length-map found (found_event terms)))
+      let none = ap length (alike_empty (answer_events terms found) h) in
+      absurd (omega (arith, l, none, length-map found (answer_event terms)))
 
   -- where nothing is found, nothing is met
-  pub none_met : (xs : List Event) → AreHeardAlike (found_events terms found) xs → found ≡ [] → length xs ≡ 0
-  none_met xs h is = ap length (alike_empty xs (sym h ∙ ap (λ zs. heard (found_events terms zs)) is))
+  pub none_met : (xs : List Event) → AreHeardAlike (answer_events terms found) xs → found ≡ [] → length xs ≡ 0
+  none_met xs h is = ap length (alike_empty xs (sym h ∙ ap (λ zs. heard (answer_events terms zs)) is))
 
 -- ---- axioms that start
 

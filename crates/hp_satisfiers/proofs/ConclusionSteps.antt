@@ -12,28 +12,28 @@ use Rattle.hp_eval.specs.Slotted.{Slotted, AreBelow, bindings_of}
 use Rattle.hp_eval.specs.declared.goals.Goal as open_goal
 use Rattle.hp_eval.proofs.GoalViewLemmas.{goal_stays}
 use Rattle.hp_eval.proofs.GrowthLemmas.{bindings_stay}
-use Rattle.hp_satisfiers.specs.declared.found.Found.{Found}
-use Rattle.hp_satisfiers.specs.declared.found.Found.TheVariants.{Sat, Fault}
-use Rattle.hp_satisfiers.specs.Founds.{found_event, BindsBelow, Hears, Finds, FindsStop}
-use Rattle.hp_satisfiers.proofs.FoundLemmas.{finds_none, finds_one, finds_same, event_stays}
+use Rattle.hp_satisfiers.specs.declared.answer.Answer.{Answer}
+use Rattle.hp_satisfiers.specs.declared.answer.Answer.TheVariants.{Sat, Fault}
+use Rattle.hp_satisfiers.specs.AnswerViews.{answer_event, BindsBelow, Hears, Finds, FindsStop}
+use Rattle.hp_satisfiers.proofs.AnswerLemmas.{finds_none, finds_one, finds_same, event_stays}
 use Rattle.hp_satisfiers.proofs.HeardLemmas.{hears_found}
 use Rattle.hp_satisfiers.proofs.MatchSteps.{bound_copy}
 
 -- what takes the place of something met does so as well for terms before others were added
 pub conclusion_heard : (old mid new : List Term) (g : Grows old mid) (h : Atom) (q : open_goal.Goal) (s : Slotted)
-    (x : Found) (found : List Found) → GoalBelow (length old) q → AreBelow (length old) s → BindsBelow (length old) x
+    (x : Answer) (found : List Answer) → GoalBelow (length old) q → AreBelow (length old) s → BindsBelow (length old) x
     → Finds new (length s.values) found
-    (in_place (λ b. concluded h b (goal_of mid q) (bindings_of mid s)) (found_event mid x))
+    (in_place (λ b. concluded h b (goal_of mid q) (bindings_of mid s)) (answer_event mid x))
     → Hears new (length s.values) found
-    (in_place (λ b. concluded h b (goal_of old q) (bindings_of old s)) (found_event old x))
+    (in_place (λ b. concluded h b (goal_of old q) (bindings_of old s)) (answer_event old x))
 conclusion_heard old mid new g h q s x found there below binds f =
     hears_found new (length s.values) found _
     (finds_same new (length s.values) found _ _
-    (ap₂ (λ p e. in_place (λ b. concluded h b p e) (found_event mid x)) (goal_stays old mid g q there)
+    (ap₂ (λ p e. in_place (λ b. concluded h b p e) (answer_event mid x)) (goal_stays old mid g q there)
     (bindings_stay old mid g s below)
     ∙ ap (in_place (λ b. concluded h b (goal_of old q) (bindings_of old s))) (event_stays old mid g x binds)) f)
 
-module _ (events : List Event) (terms : List Term) (s copy made : Slotted) (found : List Found) where
+module _ (events : List Event) (terms : List Term) (s copy made : Slotted) (found : List Answer) where
   -- what is concluded in a copy of slots is met
   pub concluded_met : (does : Bool) → does ≡ true → copy.values ≡ s.values → Concluded (Ok does) events terms copy made
       → AreBelow (length terms) made → found ≡ Sat made ∷ [] → Finds terms (length s.values) found events

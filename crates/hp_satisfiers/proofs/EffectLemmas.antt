@@ -30,14 +30,14 @@ use Rattle.hp_effect.specs.declared.changes.Part.{Part}
 use Rattle.hp_effect.specs.Costs.{Costs}
 use Rattle.hp_effect.specs.Puts.{with_last, Puts}
 use Rattle.hp_eval.specs.Slotted.{Slotted, AreBelow, bindings_of}
-use Rattle.hp_satisfiers.specs.declared.found.Found.{Found}
+use Rattle.hp_satisfiers.specs.declared.answer.Answer.{Answer}
 use Rattle.hp_satisfiers.specs.declared.effects.Side.{Side}
 use Rattle.hp_satisfiers.specs.declared.effects.Side.TheVariants.{Deletes, Adds}
 use Rattle.hp_satisfiers.specs.declared.effects.Obstacle.{Obstacle}
 use Rattle.hp_satisfiers.specs.declared.effects.Obstacle.TheVariants.{Cut, Fault, NoMemory}
-use Rattle.hp_satisfiers.specs.Founds.{found_event, found_events}
-use Rattle.hp_satisfiers.proofs.FoundLemmas.{state_stays}
-use Rattle.hp_satisfiers.specs.Effected.{part_of_atoms, part_of_protections, halt_of, with_gathered, of_atom, of_guard, only_atoms, values_at, both, HasPut, StopsHere}
+use Rattle.hp_satisfiers.specs.AnswerViews.{answer_event, answer_events}
+use Rattle.hp_satisfiers.proofs.AnswerLemmas.{state_stays}
+use Rattle.hp_satisfiers.specs.EffectsOutcomes.{part_of_atoms, part_of_protections, halt_of, with_gathered, of_atom, of_guard, only_atoms, values_at, both, HasPut, StopsHere}
 
 -- ---- changes
 
@@ -241,8 +241,8 @@ abbrev pub atoms_going : Bindings → List AtomPat → Going Gathered
 atoms_going e atoms = only_atoms (atom_values (atoms_of atoms) e)
 
 -- what the values of atoms come to under each Sat that was found
-abbrev pub each_going : List Atom → List Term → List Found → Going Gathered
-each_going as' terms found = only_atoms (values_for_each as' (found_events terms found))
+abbrev pub each_going : List Atom → List Term → List Answer → Going Gathered
+each_going as' terms found = only_atoms (values_for_each as' (answer_events terms found))
 
 -- what a list of effects comes to
 abbrev pub list_going : List Axiom → ℕ → State → Bindings → List public_effect.Effect → Going Gathered
@@ -257,13 +257,13 @@ atoms_left atoms i e a l is =
     ∙ atoms_step (atom_value (atom_of a) e) (atom_values (atoms_of (drop (i + 1) atoms)) e)
 
 -- the atoms are valued under the next Sat before the others that are left
-pub each_left : (as' : List Atom) (terms : List Term) (found : List Found) (i : ℕ) (x : Found) → i < length found
+pub each_left : (as' : List Atom) (terms : List Term) (found : List Answer) (i : ℕ) (x : Answer) → i < length found
     → x ≡ get_or found i x
     → each_going as' terms (drop i found)
-    ≡ both (values_at as' (found_event terms x)) (each_going as' terms (drop (i + 1) found))
+    ≡ both (values_at as' (answer_event terms x)) (each_going as' terms (drop (i + 1) found))
 each_left as' terms found i x l is =
     ap (each_going as' terms) (left_more found i x l is)
-    ∙ each_step as' (found_event terms x) (found_events terms (drop (i + 1) found))
+    ∙ each_step as' (answer_event terms x) (answer_events terms (drop (i + 1) found))
 
 -- the next effect is gone through before the others that are left
 pub effects_left : (axioms : List Axiom) (nest : ℕ) (s : State) (e : Bindings) (effects : List public_effect.Effect)

@@ -10,28 +10,28 @@ use Rattle.hp_syntax.specs.Preconditions.{heard}
 use Rattle.hp_laws.specs.HeardAlike.{AreHeardAlike}
 use Rattle.hp_laws.proofs.HeardAlikeLemmas.{alike_behind, alike_before}
 use Rattle.hp_eval.specs.Growth.{Grows}
-use Rattle.hp_satisfiers.specs.declared.found.Found.{Found}
-use Rattle.hp_satisfiers.specs.declared.found.Found.TheVariants.{Sat, Cut, Fault}
-use Rattle.hp_satisfiers.specs.Founds.{found_event, found_events, Fits, Finds, Hears, HearsUpTo, is_found_fault, ends_in_fault}
-use Rattle.hp_satisfiers.proofs.FoundLemmas.{all_fit_grow, events_stay, left_replaced}
+use Rattle.hp_satisfiers.specs.declared.answer.Answer.{Answer}
+use Rattle.hp_satisfiers.specs.declared.answer.Answer.TheVariants.{Sat, Cut, Fault}
+use Rattle.hp_satisfiers.specs.AnswerViews.{answer_event, answer_events, Fits, Finds, Hears, HearsUpTo, is_found_fault, ends_in_fault}
+use Rattle.hp_satisfiers.proofs.AnswerLemmas.{all_fit_grow, events_stay, left_replaced}
 
 -- ---- lists that end in a fault
 
 -- a list with one more in front has the same last
-last_later : (x y : Found) (ys : List Found)
+last_later : (x y : Answer) (ys : List Answer)
     → slice_get (x ∷ y ∷ ys) (length (x ∷ y ∷ ys) - 1) ≡ slice_get (y ∷ ys) (length (y ∷ ys) - 1)
 last_later x y ys =
     let e : length (x ∷ y ∷ ys) - 1 ≡ suc (length (y ∷ ys) - 1) = omega arith in ap (slice_get (x ∷ y ∷ ys)) e
 
 -- behind a list that ends in a fault nothing is heard
-pub over_heard : (terms : List Term) (found : List Found) (more : List Event) → ends_in_fault found ≡ true
-    → AreHeardAlike (found_events terms found ++ more) (found_events terms found)
+pub over_heard : (terms : List Term) (found : List Answer) (more : List Event) → ends_in_fault found ≡ true
+    → AreHeardAlike (answer_events terms found ++ more) (answer_events terms found)
 over_heard terms [] more h = absurd cc
 over_heard terms (Fault f ∷ xs) more h = refl
 over_heard terms (Sat s ∷ []) more h = absurd cc
 over_heard terms (Cut ∷ []) more h = absurd cc
 over_heard terms (Sat s ∷ y ∷ ys) more h =
-    ap (λ us. found_event terms (Sat s) ∷ us)
+    ap (λ us. answer_event terms (Sat s) ∷ us)
     (over_heard terms (y ∷ ys) more (sym (ap is_found_fault (last_later (Sat s) y ys)) ∙ h))
 over_heard terms (Cut ∷ y ∷ ys) more h =
     ap (λ us. plain.Cut ∷ us) (over_heard terms (y ∷ ys) more (sym (ap is_found_fault (last_later Cut y ys)) ∙ h))
@@ -39,48 +39,48 @@ over_heard terms (Cut ∷ y ∷ ys) more h =
 -- ---- what is found
 
 -- what stands for events is heard as they are
-pub hears_found : (terms : List Term) (vars : ℕ) (found : List Found) (events : List Event)
+pub hears_found : (terms : List Term) (vars : ℕ) (found : List Answer) (events : List Event)
     → Finds terms vars found events → Hears terms vars found events
 hears_found terms vars found events h = record { stand = ap heard h.stand; fit = h.fit }
 
 -- what is heard as some events is heard as those that are heard alike
-pub hears_same : (terms : List Term) (vars : ℕ) (found : List Found) (events others : List Event)
+pub hears_same : (terms : List Term) (vars : ℕ) (found : List Answer) (events others : List Event)
     → AreHeardAlike events others → Hears terms vars found events → Hears terms vars found others
 hears_same terms vars found events others e h = record { stand = h.stand ∙ e; fit = h.fit }
 
 -- what fits slots of so many variables fits as many
-pub hears_vars : (terms : List Term) (m n : ℕ) (found : List Found) (events : List Event) → m ≡ n
+pub hears_vars : (terms : List Term) (m n : ℕ) (found : List Answer) (events : List Event) → m ≡ n
     → Hears terms m found events → Hears terms n found events
 hears_vars terms m n found events e h = subst (λ k. Hears terms k found events) e h
 
 -- before anything is found, all is left
-pub hears_begin : (terms : List Term) (vars : ℕ) (found : List Found) (whole : List Event) → found ≡ []
+pub hears_begin : (terms : List Term) (vars : ℕ) (found : List Answer) (whole : List Event) → found ≡ []
     → HearsUpTo terms vars found whole whole
 hears_begin terms vars found whole is = record {
-  so_far = ap (λ xs. heard (found_events terms xs ++ whole)) (sym is);
+  so_far = ap (λ xs. heard (answer_events terms xs ++ whole)) (sym is);
   fit = All-same (Fits vars (length terms)) found [] is (All-nil (Fits vars (length terms)));
 }
 
-module _ (terms : List Term) (vars : ℕ) (found : List Found) (whole : List Event) where
+module _ (terms : List Term) (vars : ℕ) (found : List Answer) (whole : List Event) where
   -- what is left is as well told by equal events
   pub hears_left : (left others : List Event) → left ≡ others → HearsUpTo terms vars found whole left
       → HearsUpTo terms vars found whole others
   hears_left left others e h = subst (HearsUpTo terms vars found whole) e h
 
   -- what is found next goes behind
-  hears_more : (piece left : List Event) (more items : List Found)
+  hears_more : (piece left : List Event) (more items : List Answer)
       → HearsUpTo terms vars found whole (piece ++ left) → Hears terms vars more piece → items ≡ found ++ more
       → HearsUpTo terms vars items whole left
   hears_more piece left more items h m is =
-      let next = found_events terms more in
-      let before = found_events terms found in
+      let next = answer_events terms more in
+      let before = answer_events terms found in
       record {
         so_far =
             h.so_far
             ∙ (alike_behind before (piece ++ left) (next ++ left) (alike_before piece next left (sym m.stand))
             ∙ ap heard (sym (append_assoc before next left)
             ∙ ap (λ xs. xs ++ left)
-            (sym (map-append (found_event terms) found more) ∙ ap (found_events terms) (sym is))));
+            (sym (map-append (answer_event terms) found more) ∙ ap (answer_events terms) (sym is))));
         fit =
             All-same (Fits vars (length terms)) items (found ++ more) is
             (All-append (Fits vars (length terms)) found more h.fit m.fit);
@@ -91,7 +91,7 @@ module _ (terms : List Term) (vars : ℕ) (found : List Found) (whole : List Eve
       → Hears terms vars found whole
   hears_all left e h = record {
     stand =
-        sym (h.so_far ∙ ap heard (ap (λ xs. found_events terms found ++ xs) e ∙ append-nil (found_events terms found)));
+        sym (h.so_far ∙ ap heard (ap (λ xs. answer_events terms found ++ xs) e ∙ append-nil (answer_events terms found)));
     fit = h.fit;
   }
 
@@ -101,7 +101,7 @@ module _ (terms : List Term) (vars : ℕ) (found : List Found) (whole : List Eve
   hears_over left over h = record { stand = sym (h.so_far ∙ over_heard terms found left over); fit = h.fit }
 
 -- what is found so far is heard as before where terms are added
-hears_grow : (old new : List Term) (g : Grows old new) (vars : ℕ) (found : List Found) (whole left : List Event)
+hears_grow : (old new : List Term) (g : Grows old new) (vars : ℕ) (found : List Answer) (whole left : List Event)
     → HearsUpTo old vars found whole left → HearsUpTo new vars found whole left
 hears_grow old new g vars found whole left h = record {
   so_far = h.so_far ∙ ap (λ xs. heard (xs ++ left)) (sym (events_stay old new g vars found h.fit));
@@ -109,7 +109,7 @@ hears_grow old new g vars found whole left h = record {
 }
 
 -- what is found next goes behind, where terms were added while it was looked for
-pub hears_next : (old new : List Term) (g : Grows old new) (vars : ℕ) (found more items : List Found)
+pub hears_next : (old new : List Term) (g : Grows old new) (vars : ℕ) (found more items : List Answer)
     (whole piece left : List Event) → HearsUpTo old vars found whole (piece ++ left) → Hears new vars more piece
     → items ≡ found ++ more → HearsUpTo new vars items whole left
 hears_next old new g vars found more items whole piece left h m is =
@@ -118,22 +118,22 @@ hears_next old new g vars found more items whole piece left h m is =
 
 -- what takes the place of the next goes behind what takes that of those before
 pub hears_replaced : (old mid new : List Term) (g : Grows mid new) (vars : ℕ) (f : Bindings → List Event)
-    (before more items found : List Found) (i : ℕ) (x : Found) → i < length found → x ≡ get_or found i x
-    → HearsUpTo mid vars before (through (found_events old found) f) (through (found_events old (drop i found)) f)
-    → Hears new vars more (in_place f (found_event old x)) → items ≡ before ++ more
-    → HearsUpTo new vars items (through (found_events old found) f)
-    (through (found_events old (drop (i + 1) found)) f)
+    (before more items found : List Answer) (i : ℕ) (x : Answer) → i < length found → x ≡ get_or found i x
+    → HearsUpTo mid vars before (through (answer_events old found) f) (through (answer_events old (drop i found)) f)
+    → Hears new vars more (in_place f (answer_event old x)) → items ≡ before ++ more
+    → HearsUpTo new vars items (through (answer_events old found) f)
+    (through (answer_events old (drop (i + 1) found)) f)
 hears_replaced old mid new g vars f before more items found i x l is h m e =
-    let whole = through (found_events old found) f in
-    let left = through (found_events old (drop (i + 1) found)) f in
-    hears_next mid new g vars before more items whole (in_place f (found_event old x)) left
+    let whole = through (answer_events old found) f in
+    let left = through (answer_events old (drop (i + 1) found)) f in
+    hears_next mid new g vars before more items whole (in_place f (answer_event old x)) left
     (hears_left mid vars before whole _ _ (left_replaced old f found i x l is) h) m e
 
 -- where nothing is left of a list, all is heard that takes the place of each Sat of it
-pub hears_replaced_all : (old new : List Term) (vars : ℕ) (f : Bindings → List Event) (items found : List Found) (i : ℕ)
+pub hears_replaced_all : (old new : List Term) (vars : ℕ) (f : Bindings → List Event) (items found : List Answer) (i : ℕ)
     → length found ≤ i
-    → HearsUpTo new vars items (through (found_events old found) f) (through (found_events old (drop i found)) f)
-    → Hears new vars items (through (found_events old found) f)
+    → HearsUpTo new vars items (through (answer_events old found) f) (through (answer_events old (drop i found)) f)
+    → Hears new vars items (through (answer_events old found) f)
 hears_replaced_all old new vars f items found i l h =
-    hears_all new vars items (through (found_events old found) f) _
-    (ap (λ xs. through (found_events old xs) f) (drop_all i found l)) h
+    hears_all new vars items (through (answer_events old found) f) _
+    (ap (λ xs. through (answer_events old xs) f) (drop_all i found l)) h

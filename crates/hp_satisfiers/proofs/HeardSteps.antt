@@ -12,36 +12,36 @@ use Rattle.hp_eval.specs.Growth.{Grows}
 use Rattle.hp_eval.specs.Slotted.{Slotted, AreBelow, bindings_of}
 use Rattle.hp_eval.specs.declared.goals.Goal as open_goal
 use Rattle.hp_world.specs.Stages.{Stage, StageBelow, state_of}
-use Rattle.hp_satisfiers.specs.declared.found.Found.{Found}
-use Rattle.hp_satisfiers.specs.Founds.{found_event, found_events, Fits, AllFit, Hears, HearsUpTo}
+use Rattle.hp_satisfiers.specs.declared.answer.Answer.{Answer}
+use Rattle.hp_satisfiers.specs.AnswerViews.{answer_event, answer_events, Fits, AllFit, Hears, HearsUpTo}
 use Rattle.hp_laws.specs.HeardAlike.{AreHeardAlike}
 use Rattle.hp_laws.specs.RulesByName.{concluding}
-use Rattle.hp_satisfiers.specs.Rulebooks.{axiom_at}
+use Rattle.hp_satisfiers.specs.RuleIndexes.{axiom_at}
 use Rattle.hp_satisfiers.specs.Scenes.{below_at, placed_events}
-use Rattle.hp_satisfiers.proofs.FoundLemmas.{fits_below, event_stays}
+use Rattle.hp_satisfiers.proofs.AnswerLemmas.{fits_below, event_stays}
 use Rattle.hp_satisfiers.proofs.HeardLemmas.{hears_same, hears_left, hears_next, hears_replaced}
 use Rattle.hp_satisfiers.proofs.SearchSteps.{any_of, any_left}
 use Rattle.hp_satisfiers.proofs.AxiomSteps.{axioms_left}
 use Rattle.hp_satisfiers.proofs.SceneGrowth.{turned_sat, turned_stays, sat_stays, placed_stays}
 
 module _ (old mid new : List Term) (held : Grows old mid) (g : Grows mid new) (stage : Stage)
-    (there : StageBelow (length old) stage) (axioms : List Axiom) (level : ℕ) (before more items : List Found)
+    (there : StageBelow (length old) stage) (axioms : List Axiom) (level : ℕ) (before more items : List Answer)
     (behind : items ≡ before ++ more) where
   -- what a part meets in the place of the next goes behind what it meets in that of those before
-  pub each_next : (vars : ℕ) (part : Expr) (negate : Bool) (found : List Found) (i : ℕ) (x : Found) → i < length found
+  pub each_next : (vars : ℕ) (part : Expr) (negate : Bool) (found : List Answer) (i : ℕ) (x : Answer) → i < length found
       → x ≡ get_or found i x → Fits vars (length old) x
       → HearsUpTo mid vars before
-      (through (found_events old found) (turned_sat axioms level (state_of old stage) part negate))
-      (through (found_events old (drop i found)) (turned_sat axioms level (state_of old stage) part negate))
+      (through (answer_events old found) (turned_sat axioms level (state_of old stage) part negate))
+      (through (answer_events old (drop i found)) (turned_sat axioms level (state_of old stage) part negate))
       → Hears new vars more
-      (in_place (turned_sat axioms level (state_of mid stage) part negate) (found_event mid x))
+      (in_place (turned_sat axioms level (state_of mid stage) part negate) (answer_event mid x))
       → HearsUpTo new vars items
-      (through (found_events old found) (turned_sat axioms level (state_of old stage) part negate))
-      (through (found_events old (drop (i + 1) found)) (turned_sat axioms level (state_of old stage) part negate))
+      (through (answer_events old found) (turned_sat axioms level (state_of old stage) part negate))
+      (through (answer_events old (drop (i + 1) found)) (turned_sat axioms level (state_of old stage) part negate))
   each_next vars part negate found i x l is fits h m =
       let f = turned_sat axioms level (state_of old stage) part negate in
       hears_replaced old mid new g vars f before more items found i x l is h
-      (hears_same new vars more _ (in_place f (found_event old x))
+      (hears_same new vars more _ (in_place f (answer_event old x))
       (ap₂ (λ k y. heard (in_place k y)) (turned_stays old mid held stage there axioms level part negate)
       (event_stays old mid held x (fits_below vars (length old) x fits))) m) behind
 
@@ -50,7 +50,7 @@ module _ (old mid new : List Term) (held : Grows old mid) (g : Grows mid new) (s
     pub any_next : (parts : List Expr) (i : ℕ) (part : Expr) → i < length parts → part ≡ get_or parts i part
         → HearsUpTo mid (length s.values) before (any_of axioms level (state_of old stage) parts (bindings_of old s))
         (any_of axioms level (state_of old stage) (drop i parts) (bindings_of old s))
-        → AreHeardAlike (found_events new more)
+        → AreHeardAlike (answer_events new more)
         (sat axioms level (state_of mid stage) (expression_of part) (bindings_of mid s))
         → AllFit (length s.values) (length new) more
         → HearsUpTo new (length s.values) items

@@ -1,8 +1,8 @@
-pub mod FoundLemmas
+pub mod AnswerLemmas
 pub mod HeardLemmas
 pub mod MatchSteps
 pub mod ConclusionSteps
-pub mod RulebookLemmas
+pub mod RuleIndexLemmas
 pub mod Sizes
 pub mod SearchSteps
 pub mod ChosenLemmas

@@ -3,18 +3,18 @@ use Rattle.std.proofs.Common.{◌≡◌, ℕ, ◌≤◌, Option, None, List, len
 use Rattle.std.proofs.lemmas.List.{length-replicate}
 use Rattle.hp_pick.proofs.HearingLemmas.{undone_above}
 use Rattle.hp_eval.specs.Slotted.{Slotted, AreBelow, Binds, no_bindings, undone}
-use Rattle.hp_satisfiers.specs.declared.found.Found.{Found}
-use Rattle.hp_satisfiers.specs.Founds.{AllFit}
+use Rattle.hp_satisfiers.specs.declared.answer.Answer.{Answer}
+use Rattle.hp_satisfiers.specs.AnswerViews.{AllFit}
 use Rattle.hp_satisfiers.specs.Listed.{FitsListed}
 use Rattle.hp_satisfiers.proofs.MatchSteps.{binds_vars}
 
-module _ (kept : ℕ) (found : List Found) (s : Slotted) (h : FitsListed kept found s) where
+module _ (kept : ℕ) (found : List Answer) (s : Slotted) (h : FitsListed kept found s) where
   -- at the start there are as many variables
   start_vars : length (undone 0 s).values ≡ length s.values
   start_vars = ap (λ e. length e.values) h.blank ∙ length-replicate {A = Option ℕ} (length s.values) None
 
   -- the list fits the slots of the start
-  pub start_fits : (start : Slotted) (xs : List Found) → start ≡ undone 0 s → xs ≡ found
+  pub start_fits : (start : Slotted) (xs : List Answer) → start ≡ undone 0 s → xs ≡ found
       → AllFit (length start.values) kept xs
   start_fits start xs e same =
       subst (λ ys. AllFit (length start.values) kept ys) (sym same)

@@ -19,14 +19,14 @@ use Rattle.hp_eval.specs.Growth.{Grows, Gives}
 use Rattle.hp_eval.specs.GoalViews.{term_at}
 use Rattle.hp_eval.specs.Attempts.{extended, Tries}
 use Rattle.hp_eval.specs.Slotted.{Slotted, AreBelow, Binds, Matched, named, without, bindings_of}
-use Rattle.hp_satisfiers.specs.declared.found.Found.TheVariants as plain_found
-use Rattle.hp_satisfiers.proofs.FoundLemmas.{finds_none, finds_one, finds_same}
+use Rattle.hp_satisfiers.specs.declared.answer.Answer.TheVariants as plain_found
+use Rattle.hp_satisfiers.proofs.AnswerLemmas.{finds_none, finds_one, finds_same}
 use Rattle.hp_eval.proofs.CellViews.{at_named}
 use Rattle.hp_eval.proofs.GrowthLemmas.{bindings_stay}
 use Rattle.hp_eval.proofs.Loops.{left_more}
 use Rattle.hp_world.specs.Stages.{live_atoms, terms_at}
-use Rattle.hp_satisfiers.specs.declared.found.Found.{Found}
-use Rattle.hp_satisfiers.specs.Founds.{Finds}
+use Rattle.hp_satisfiers.specs.declared.answer.Answer.{Answer}
+use Rattle.hp_satisfiers.specs.AnswerViews.{Finds}
 use Rattle.hp_satisfiers.specs.Places.{place_events, IsAtomBelow}
 
 -- ---- values
@@ -111,7 +111,7 @@ places_step terms q e (Some a) places = refl
 -- ---- variables that meet a term
 
 -- a Sat of slots that bind above a copy stands for their bindings
-pub bound_copy : (terms : List Term) (s copy made : Slotted) (found : List Found) → copy.values ≡ s.values
+pub bound_copy : (terms : List Term) (s copy made : Slotted) (found : List Answer) → copy.values ≡ s.values
     → Binds copy made → AreBelow (length terms) made → found ≡ plain_found.Sat made ∷ []
     → Finds terms (length s.values) found (Sat (bindings_of terms made) ∷ [])
 bound_copy terms s copy made found e b below is =
@@ -124,7 +124,7 @@ module _ (terms : List Term) (s copy made : Slotted) (values : copy.values ≡ s
   found_alike = ap (λ vs. find (map (named terms) vs)) (sym values) ∙ tried.answers
 
   -- what is met in a copy of slots is met in them
-  pub met_in_copy : (found : List Found) → does ≡ true → found ≡ plain_found.Sat made ∷ []
+  pub met_in_copy : (found : List Answer) → does ≡ true → found ≡ plain_found.Sat made ∷ []
       → Finds terms (length s.values) found (sat_if (find (bindings_of terms s)))
   met_in_copy found h is =
       finds_same terms (length s.values) found _ _
@@ -132,7 +132,7 @@ module _ (terms : List Term) (s copy made : Slotted) (values : copy.values ≡ s
       (bound_copy terms s copy made found values tried.binds tried.below is)
 
   -- where nothing is met in a copy of slots, nothing is met in them
-  pub none_in_copy : (found : List Found) → does ≡ false → found ≡ []
+  pub none_in_copy : (found : List Answer) → does ≡ false → found ≡ []
       → Finds terms (length s.values) found (sat_if (find (bindings_of terms s)))
   none_in_copy found h is =
       finds_none terms (length s.values) found _ is

@@ -17,71 +17,71 @@ use Rattle.hp_eval.specs.Slotted.{Slotted, AreBelow, Binds, no_bindings, undone,
 use Rattle.hp_eval.specs.declared.event.Event.TheVariants as events
 use Rattle.hp_eval.specs.Events.{event_of, left_after, AreOfFirst}
 use Rattle.hp_satisfiers.specs.Listed.{FindsMore}
-use Rattle.hp_satisfiers.proofs.FoundLemmas.{finds_one, finds_same, finds_copy, upto_more, upto_all}
+use Rattle.hp_satisfiers.proofs.AnswerLemmas.{finds_one, finds_same, finds_copy, upto_more, upto_all}
 use Rattle.hp_satisfiers.proofs.MatchSteps.{binds_vars}
 use Rattle.hp_syntax.specs.declared.fault.RunFault.{RunFault}
 use Rattle.hp_eval.proofs.Loops.{left_more}
-use Rattle.hp_satisfiers.specs.declared.found.Found.{Found}
-use Rattle.hp_satisfiers.specs.declared.found.Found.TheVariants.{Sat, Cut, Fault}
-use Rattle.hp_satisfiers.specs.Founds.{found_event, found_events, Fits, Finds, FindsUpTo, Hears}
+use Rattle.hp_satisfiers.specs.declared.answer.Answer.{Answer}
+use Rattle.hp_satisfiers.specs.declared.answer.Answer.TheVariants.{Sat, Cut, Fault}
+use Rattle.hp_satisfiers.specs.AnswerViews.{answer_event, answer_events, Fits, Finds, FindsUpTo, Hears}
 
-module _ (terms : List Term) (found : List Found) (i : ℕ) where
+module _ (terms : List Term) (found : List Answer) (i : ℕ) where
   -- the front with the next behind it
-  front_more : (x : Found) → i < length found → x ≡ get_or found i x
-      → found_events terms (take (i + 1) found) ≡ found_events terms (take i found) ++ found_event terms x ∷ []
+  front_more : (x : Answer) → i < length found → x ≡ get_or found i x
+      → answer_events terms (take (i + 1) found) ≡ answer_events terms (take i found) ++ answer_event terms x ∷ []
   front_more x l is =
-      ap (found_events terms) (take_more found i x l)
-      ∙ (map-append (found_event terms) (take i found) (get_or found i x ∷ [])
-      ∙ ap (λ y. found_events terms (take i found) ++ found_event terms y ∷ []) (sym is))
+      ap (answer_events terms) (take_more found i x l)
+      ∙ (map-append (answer_event terms) (take i found) (get_or found i x ∷ [])
+      ∙ ap (λ y. answer_events terms (take i found) ++ answer_event terms y ∷ []) (sym is))
 
   module _ (whole : List Event)
-      (so_far : whole ≡ found_events terms (take i found) ++ heard (found_events terms (drop i found))) where
+      (so_far : whole ≡ answer_events terms (take i found) ++ heard (answer_events terms (drop i found))) where
     -- what is left begins with the next
-    next_left : (x : Found) → i < length found → x ≡ get_or found i x
+    next_left : (x : Answer) → i < length found → x ≡ get_or found i x
         → whole
-        ≡ found_events terms (take i found)
-        ++ heard (found_event terms x ∷ found_events terms (drop (i + 1) found))
+        ≡ answer_events terms (take i found)
+        ++ heard (answer_event terms x ∷ answer_events terms (drop (i + 1) found))
     next_left x l is =
         so_far
-        ∙ ap (λ xs. found_events terms (take i found) ++ heard (found_events terms xs)) (left_more found i x l is)
+        ∙ ap (λ xs. answer_events terms (take i found) ++ heard (answer_events terms xs)) (left_more found i x l is)
 
     -- a list is heard up to a fault
-    pub heard_fault : (x : Found) (f : RunFault) → i < length found → x ≡ get_or found i x → x ≡ Fault f
-        → found_events terms (take (i + 1) found) ≡ whole
+    pub heard_fault : (x : Answer) (f : RunFault) → i < length found → x ≡ get_or found i x → x ≡ Fault f
+        → answer_events terms (take (i + 1) found) ≡ whole
     heard_fault x f l is fault =
-        let rest = found_events terms (drop (i + 1) found) in
+        let rest = answer_events terms (drop (i + 1) found) in
         front_more x l is
-        ∙ ap (λ y. found_events terms (take i found) ++ found_event terms y ∷ []) fault
+        ∙ ap (λ y. answer_events terms (take i found) ++ answer_event terms y ∷ []) fault
         ∙ sym (next_left x l is
-        ∙ ap (λ y. found_events terms (take i found) ++ heard (found_event terms y ∷ rest)) fault)
+        ∙ ap (λ y. answer_events terms (take i found) ++ heard (answer_event terms y ∷ rest)) fault)
 
     -- behind what is no fault the list is heard on
-    pub heard_more : (x : Found) → i < length found → x ≡ get_or found i x → ((f : RunFault) → x ≡ Fault f → ⊥)
-        → whole ≡ found_events terms (take (i + 1) found) ++ heard (found_events terms (drop (i + 1) found))
+    pub heard_more : (x : Answer) → i < length found → x ≡ get_or found i x → ((f : RunFault) → x ≡ Fault f → ⊥)
+        → whole ≡ answer_events terms (take (i + 1) found) ++ heard (answer_events terms (drop (i + 1) found))
     heard_more x l is sound =
-        let rest = found_events terms (drop (i + 1) found) in
+        let rest = answer_events terms (drop (i + 1) found) in
         next_left x l is
-        ∙ ap (λ ys. found_events terms (take i found) ++ ys) (first_heard x rest sound)
-        ∙ (sym (append_assoc (found_events terms (take i found)) (found_event terms x ∷ []) (heard rest))
+        ∙ ap (λ ys. answer_events terms (take i found) ++ ys) (first_heard x rest sound)
+        ∙ (sym (append_assoc (answer_events terms (take i found)) (answer_event terms x ∷ []) (heard rest))
         ∙ ap (λ ys. ys ++ heard rest) (sym (front_more x l is)))
       where
-        first_heard : (y : Found) (ys : List Event) → ((f : RunFault) → y ≡ Fault f → ⊥)
-            → heard (found_event terms y ∷ ys) ≡ found_event terms y ∷ heard ys
+        first_heard : (y : Answer) (ys : List Event) → ((f : RunFault) → y ≡ Fault f → ⊥)
+            → heard (answer_event terms y ∷ ys) ≡ answer_event terms y ∷ heard ys
         first_heard (Sat s) ys n = refl
         first_heard Cut ys n = refl
         first_heard (Fault f) ys n = absurd (n f refl)
 
     -- a list without a fault is heard to the end
-    pub heard_all : length found ≤ i → found_events terms (take (length found) found) ≡ whole
+    pub heard_all : length found ≤ i → answer_events terms (take (length found) found) ≡ whole
     heard_all l =
-        ap (found_events terms) (take_all (length found) found (omega arith) ∙ sym (take_all i found l))
+        ap (answer_events terms) (take_all (length found) found (omega arith) ∙ sym (take_all i found l))
         ∙ sym (so_far
-        ∙ (ap (λ xs. found_events terms (take i found) ++ heard (found_events terms xs)) (drop_all i found l)
-        ∙ append-nil (found_events terms (take i found))))
+        ∙ (ap (λ xs. answer_events terms (take i found) ++ heard (answer_events terms xs)) (drop_all i found l)
+        ∙ append-nil (answer_events terms (take i found))))
 
 -- what is heard of a list is a front of it
-pub heard_found : (terms : List Term) (vars n : ℕ) (found : List Found) (events : List Event)
-    → found_events terms (take n found) ≡ heard (found_events terms found) → Hears terms vars found events
+pub heard_found : (terms : List Term) (vars n : ℕ) (found : List Answer) (events : List Event)
+    → answer_events terms (take n found) ≡ heard (answer_events terms found) → Hears terms vars found events
     → Finds terms vars (take n found) (heard events)
 heard_found terms vars n found events e h = record {
   stand = e ∙ h.stand;
@@ -104,7 +104,7 @@ vars_above mark old new l b =
       undoes = ap (λ n. undone n old) (length-take-le mark old.trail l);
     }))
 
-module _ (terms : List Term) (found items : List Found) (whole : List Event) where
+module _ (terms : List Term) (found items : List Answer) (whole : List Event) where
   -- a Sat is taken by its bindings
   pub takes_sat : (s copy : Slotted) (left : List Event) → events.Sat ≡ event_of left
       → AreOfFirst left (bindings_of terms s) → AreBelow (length terms) s → copy.values ≡ s.values
@@ -151,14 +151,14 @@ module _ (terms : List Term) (found items : List Found) (whole : List Event) whe
   takes_end vars (plain.Fault f ∷ xs) e h = absurd cc
 
 -- where more may come, what is found goes up to what is left
-pub more_left : (terms : List Term) (vars : ℕ) (found : List Found) (whole : List Event) (more : Bool)
+pub more_left : (terms : List Term) (vars : ℕ) (found : List Answer) (whole : List Event) (more : Bool)
     (left : List Event) → more ≡ true → FindsMore terms vars found whole more left
     → FindsUpTo terms vars found whole (heard left)
 more_left terms vars found whole more left is h =
     subst (λ b. FindsMore terms vars found whole b left) is h
 
 -- where no more come, what is found is the whole
-pub none_left : (terms : List Term) (vars : ℕ) (found : List Found) (whole : List Event) (more : Bool)
+pub none_left : (terms : List Term) (vars : ℕ) (found : List Answer) (whole : List Event) (more : Bool)
     (left : List Event) → more ≡ false → FindsMore terms vars found whole more left → Finds terms vars found whole
 none_left terms vars found whole more left is h =
     subst (λ b. FindsMore terms vars found whole b left) is h
@@ -209,6 +209,6 @@ module _ (axioms : List Axiom) (nest : ℕ) (s : State) (pre : Pre) (e : Binding
   ordered_events k x h = ap (λ p. precondition_events axioms nest s (precondition_of p) e) (sym h)
 
 -- what fits slots of so many variables fits as many
-pub finds_vars : (terms : List Term) (m n : ℕ) (found : List Found) (events : List Event) → m ≡ n
+pub finds_vars : (terms : List Term) (m n : ℕ) (found : List Answer) (events : List Event) → m ≡ n
     → Finds terms m found events → Finds terms n found events
 finds_vars terms m n found events e h = subst (λ k. Finds terms k found events) e h

@@ -12,12 +12,12 @@ use Rattle.hp_eval.specs.declared.goals.Goal as open_goal
 use Rattle.hp_eval.specs.Slotted.{Slotted, AreBelow, bindings_of}
 use Rattle.hp_eval.proofs.GrowthLemmas.{bindings_stay}
 use Rattle.hp_world.specs.Stages.{Stage, StageBelow, state_of}
-use Rattle.hp_satisfiers.specs.declared.found.Found.{Found}
+use Rattle.hp_satisfiers.specs.declared.answer.Answer.{Answer}
 use Rattle.hp_eval.proofs.GoalViewLemmas.{goal_stays}
-use Rattle.hp_satisfiers.proofs.FoundLemmas.{finds_same, state_stays}
+use Rattle.hp_satisfiers.proofs.AnswerLemmas.{finds_same, state_stays}
 use Rattle.hp_laws.proofs.HeardAlikeLemmas.{alike_turned, alike_decide}
 use Rattle.hp_satisfiers.proofs.HeardLemmas.{hears_found, hears_same}
-use Rattle.hp_satisfiers.specs.Founds.{found_events, Finds, Hears}
+use Rattle.hp_satisfiers.specs.AnswerViews.{answer_events, Finds, Hears}
 use Rattle.hp_laws.specs.HeardAlike.{AreHeardAlike, turned}
 use Rattle.hp_satisfiers.specs.Scenes.{below_at, placed_events}
 
@@ -54,25 +54,25 @@ module _ (old new : List Term) (g : Grows old new) (stage : Stage) (there : Stag
         (bindings_stay old new g s below)
 
 -- what an expression meets under slots, or its negation
-pub turn_gives : (terms : List Term) (vars : ℕ) (found items : List Found) (negate : Bool) (b e : Bindings)
-    (events : List Event) → AreHeardAlike (found_events terms found) events → b ≡ e
-    → Finds terms vars items (turned negate (found_events terms found) b)
+pub turn_gives : (terms : List Term) (vars : ℕ) (found items : List Answer) (negate : Bool) (b e : Bindings)
+    (events : List Event) → AreHeardAlike (answer_events terms found) events → b ≡ e
+    → Finds terms vars items (turned negate (answer_events terms found) b)
     → Hears terms vars items (turned negate events e)
 turn_gives terms vars found items negate b e events h k f =
-    hears_same terms vars items (turned negate (found_events terms found) e) (turned negate events e)
-    (alike_turned negate (found_events terms found) events e h)
-    (hears_found terms vars items (turned negate (found_events terms found) e)
-    (finds_same terms vars items _ _ (ap (turned negate (found_events terms found)) k) f))
+    hears_same terms vars items (turned negate (answer_events terms found) e) (turned negate events e)
+    (alike_turned negate (answer_events terms found) events e h)
+    (hears_found terms vars items (turned negate (answer_events terms found) e)
+    (finds_same terms vars items _ _ (ap (turned negate (answer_events terms found)) k) f))
 
 -- the negation of an expression meets what that of its events does
-pub negation_gives : (terms : List Term) (vars : ℕ) (found items : List Found) (b e : Bindings) (events : List Event)
-    → AreHeardAlike (found_events terms found) events → b ≡ e
-    → Finds terms vars items (turned true (found_events terms found) b)
+pub negation_gives : (terms : List Term) (vars : ℕ) (found items : List Answer) (b e : Bindings) (events : List Event)
+    → AreHeardAlike (answer_events terms found) events → b ≡ e
+    → Finds terms vars items (turned true (answer_events terms found) b)
     → Finds terms vars items (turned true events e)
 negation_gives terms vars found items b e events h k f =
-    finds_same terms vars items _ _ (ap₂ negated (alike_decide (found_events terms found) events h) k) f
+    finds_same terms vars items _ _ (ap₂ negated (alike_decide (answer_events terms found) events h) k) f
 
 -- what fits slots of so many variables, fits as many
-pub finds_vars : (terms : List Term) (m n : ℕ) (found : List Found) (events : List Event) → m ≡ n
+pub finds_vars : (terms : List Term) (m n : ℕ) (found : List Answer) (events : List Event) → m ≡ n
     → Finds terms m found events → Finds terms n found events
 finds_vars terms m n found events e h = subst (λ k. Finds terms k found events) e h

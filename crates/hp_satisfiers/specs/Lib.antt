@@ -1,7 +1,7 @@
-pub mod Founds
+pub mod AnswerViews
 pub mod Places
-pub mod Rulebooks
+pub mod RuleIndexes
 pub mod Scenes
 pub mod Tables
-pub mod Effected
+pub mod EffectsOutcomes
 pub mod Listed

@@ -14,16 +14,16 @@ use Rattle.hp_syntax.specs.Preconditions.{heard}
 use Rattle.hp_eval.specs.Slotted.{Slotted, AreBelow, named, no_bindings, undone, bindings_of}
 use Rattle.hp_eval.specs.SlotLaws.{bindings_agree}
 use Rattle.hp_laws.proofs.HearingLemmas.{all_up_to}
-use Rattle.hp_satisfiers.specs.declared.found.Found.{Found}
-use Rattle.hp_satisfiers.specs.declared.found.Found.TheVariants.{Sat, Cut, Fault}
-use Rattle.hp_satisfiers.specs.Founds.{found_event, found_events, Fits, AllFit, Finds, FindsUpTo}
+use Rattle.hp_satisfiers.specs.declared.answer.Answer.{Answer}
+use Rattle.hp_satisfiers.specs.declared.answer.Answer.TheVariants.{Sat, Cut, Fault}
+use Rattle.hp_satisfiers.specs.AnswerViews.{answer_event, answer_events, Fits, AllFit, Finds, FindsUpTo}
 
 -- what is heard of a list from a place on
-abbrev pub left_from : List Term → List Found → ℕ → List Event
-left_from terms found place = heard (found_events terms (drop place found))
+abbrev pub left_from : List Term → List Answer → ℕ → List Event
+left_from terms found place = heard (answer_events terms (drop place found))
 
 -- nothing is bound below the bindings of slots, which a list fits whose cells are below a count
-pub record FitsListed (kept : ℕ) (found : List Found) (s : Slotted) : Type 0 where
+pub record FitsListed (kept : ℕ) (found : List Answer) (s : Slotted) : Type 0 where
   pub fit : AllFit (length s.values) kept found
   pub blank : undone 0 s ≡ no_bindings (length s.values)
   pub below : AreBelow kept s
@@ -31,27 +31,27 @@ pub record FitsListed (kept : ℕ) (found : List Found) (s : Slotted) : Type 0 w
 -- ---- the laws
 
 -- nothing stands below the start, and all cells are below the count
-pub listed_hold : (kept : ℕ) (found : List Found) (s : Slotted) → FitsListed kept found s
+pub listed_hold : (kept : ℕ) (found : List Answer) (s : Slotted) → FitsListed kept found s
     → (0 ≤ length s.trail) × AreBelow kept s
 listed_hold kept found s h = (zero-le, h.below)
 
 -- what fits stands for the same event over terms that agree below the count
-event_agrees : (vars kept : ℕ) (c d : List Term) (x : Found) → Fits vars kept x → take kept c ≡ take kept d
-    → found_event c x ≡ found_event d x
+event_agrees : (vars kept : ℕ) (c d : List Term) (x : Answer) → Fits vars kept x → take kept c ≡ take kept d
+    → answer_event c x ≡ answer_event d x
 event_agrees vars kept c d (Sat s) h k = ap plain.Sat (bindings_agree kept c d s h.1 k)
 event_agrees vars kept c d Cut h k = refl
 event_agrees vars kept c d (Fault f) h k = refl
 
 -- a list that fits stands for the same events over them
-events_agree : (vars kept : ℕ) (c d : List Term) (found : List Found) → AllFit vars kept found
-    → take kept c ≡ take kept d → found_events c found ≡ found_events d found
+events_agree : (vars kept : ℕ) (c d : List Term) (found : List Answer) → AllFit vars kept found
+    → take kept c ≡ take kept d → answer_events c found ≡ answer_events d found
 events_agree vars kept c d [] h k = refl
 events_agree vars kept c d (x ∷ xs) h k =
     ap₂ ◌∷◌ (event_agrees vars kept c d x (All-head (Fits vars kept) x xs h) k)
     (events_agree vars kept c d xs (All-tail (Fits vars kept) x xs h) k)
 
 -- what is left is the same over terms that agree below the count
-pub left_agrees : (kept : ℕ) (c d : List Term) (found : List Found) (place : ℕ) (s : Slotted) → FitsListed kept found s
+pub left_agrees : (kept : ℕ) (c d : List Term) (found : List Answer) (place : ℕ) (s : Slotted) → FitsListed kept found s
     → take kept c ≡ take kept d → left_from c found place ≡ left_from d found place
 left_agrees kept c d found place s h k =
     ap heard (events_agree (length s.values) kept c d (drop place found)
@@ -64,8 +64,8 @@ none_stands c (suc n) zero t h = none-some t h
 none_stands c (suc n) (suc v) t h = none_stands c n v t h
 
 -- what fits extends the bindings of slots in which nothing is bound
-fitting_extends : (c : List Term) (n kept : ℕ) (x : Found) → Fits n kept x
-    → EventExtends (bindings_of c (no_bindings n)) (found_event c x)
+fitting_extends : (c : List Term) (n kept : ℕ) (x : Answer) → Fits n kept x
+    → EventExtends (bindings_of c (no_bindings n)) (answer_event c x)
 fitting_extends c n kept (Sat s) h = record {
   as_many =
       length-map s.values (named c)
@@ -76,20 +76,20 @@ fitting_extends c n kept Cut h = tt
 fitting_extends c n kept (Fault f) h = tt
 
 -- what is left extends what was bound at the start, which is nothing
-pub left_extends : (kept : ℕ) (c : List Term) (found : List Found) (place : ℕ) (s : Slotted) → FitsListed kept found s
+pub left_extends : (kept : ℕ) (c : List Term) (found : List Answer) (place : ℕ) (s : Slotted) → FitsListed kept found s
     → All (EventExtends (bindings_of c (undone 0 s))) (left_from c found place)
 left_extends kept c found place s h =
     let n = length s.values in
     let P = EventExtends (bindings_of c (no_bindings n)) in
     subst (λ e. All (EventExtends (bindings_of c e)) (left_from c found place)) (sym h.blank)
-    (all_up_to is_fault P (found_events c (drop place found))
-    (All-map P (found_event c) (drop place found)
-    (All-weaker (Fits n kept) (λ x. P (found_event c x)) (fitting_extends c n kept) (drop place found)
+    (all_up_to is_fault P (answer_events c (drop place found))
+    (All-map P (answer_event c) (drop place found)
+    (All-weaker (Fits n kept) (λ x. P (answer_event c x)) (fitting_extends c n kept) (drop place found)
     (All-drop (Fits n kept) place found h.fit))))
 
 -- ---- events that are taken one by one
 
 -- where more may come, what is found goes up to what is left; else it is the whole
-abbrev pub FindsMore : List Term → ℕ → List Found → List Event → Bool → List Event → Type 0
+abbrev pub FindsMore : List Term → ℕ → List Answer → List Event → Bool → List Event → Type 0
 FindsMore terms vars found whole true left = FindsUpTo terms vars found whole (heard left)
 FindsMore terms vars found whole false left = Finds terms vars found whole

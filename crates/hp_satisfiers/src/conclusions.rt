@@ -8,9 +8,9 @@ ghost use Rattle.hp_syntax.specs.Views.{atom_of, axiom_of};
 ghost use Rattle.hp_eval.specs.GoalViews.{goal_of, GoalBelow};
 ghost use Rattle.hp_eval.specs.Growth.{Grows};
 ghost use Rattle.hp_eval.specs.Slotted.{AreBelow, bindings_of};
-ghost use Rattle.hp_satisfiers.specs.Founds.{Finds, Hears, found_event, found_events, BindsBelow, MeetsHead};
+ghost use Rattle.hp_satisfiers.specs.AnswerViews.{Finds, Hears, answer_event, answer_events, BindsBelow, MeetsHead};
 
-use crate::found::{Found, add, only, stopped};
+use crate::answer::{Answer, add, only, stopped};
 use hp_cells::Cells;
 use hp_eval::{Goal, Slots, conclude, start_goal};
 use hp_syntax::{AtomPat, Axiom};
@@ -42,7 +42,7 @@ fn concluded(
     slots: &Slots,
     own: &Slots,
     cells: &mut Cells,
-) -> Result<Vec<Found>, AllocError>
+) -> Result<Vec<Answer>, AllocError>
     requires slots { AreBelow (length cells.old) slots.now }
     requires own { AreBelow (length cells.old) own.now }
     requires goal { GoalBelow (length cells.old) goal.now }
@@ -55,7 +55,7 @@ fn concluded(
     match conclude(alloc, head, own, goal, &mut copy, cells) {
         Ok(matches) => {
             if matches {
-                only(alloc, Found::Sat(copy))
+                only(alloc, Answer::Sat(copy))
             } else {
                 Ok(Vec::new(alloc))
             }
@@ -70,21 +70,21 @@ fn conclusion(
     head: &AtomPat,
     goal: &Goal,
     slots: &Slots,
-    found: &Found,
+    found: &Answer,
     cells: &mut Cells,
-) -> Result<Vec<Found>, AllocError>
+) -> Result<Vec<Answer>, AllocError>
     requires slots { AreBelow (length cells.old) slots.now }
     requires goal { GoalBelow (length cells.old) goal.now }
     requires found { BindsBelow (length cells.old) found.now }
     ensures found { IfOk result (λ v. Finds cells.new (length slots.now.values) v.items
         (plain.in_place (λ b. plain.concluded (atom_of head.now) b (goal_of cells.old goal.now)
-        (bindings_of cells.old slots.now)) (found_event cells.old found.now))) }
+        (bindings_of cells.old slots.now)) (answer_event cells.old found.now))) }
     ensures cells { Grows cells.old cells.new }
 {
     match found {
-        Found::Sat(own) => concluded(alloc, head, goal, slots, own, cells),
-        Found::Cut => only(alloc, Found::Cut),
-        Found::Fault(fault) => only(alloc, Found::Fault(*fault)),
+        Answer::Sat(own) => concluded(alloc, head, goal, slots, own, cells),
+        Answer::Cut => only(alloc, Answer::Cut),
+        Answer::Fault(fault) => only(alloc, Answer::Fault(*fault)),
     }
 }
 
@@ -94,14 +94,14 @@ pub fn conclusions(
     head: &AtomPat,
     goal: &Goal,
     slots: &Slots,
-    found: &[Found],
+    found: &[Answer],
     cells: &mut Cells,
-) -> Result<Vec<Found>, AllocError>
+) -> Result<Vec<Answer>, AllocError>
     requires slots { AreBelow (length cells.old) slots.now }
     requires goal { GoalBelow (length cells.old) goal.now }
     requires found { All (BindsBelow (length cells.old)) found.now }
     ensures found { IfOk result (λ v. Hears cells.new (length slots.now.values) v.items
-        (plain.through (found_events cells.old found.now) (λ b. plain.concluded (atom_of head.now) b
+        (plain.through (answer_events cells.old found.now) (λ b. plain.concluded (atom_of head.now) b
         (goal_of cells.old goal.now) (bindings_of cells.old slots.now)))) }
     ensures cells { Grows cells.old cells.new }
 {

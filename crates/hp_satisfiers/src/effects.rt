@@ -7,12 +7,12 @@ ghost use Rattle.std.specs.List.{All};
 ghost use Rattle.hp_eval.specs.Growth.{Grows};
 ghost use Rattle.hp_eval.specs.Slotted.{AreBelow, bindings_of};
 ghost use Rattle.hp_world.specs.Stages.{StageBelow, ChangesBelow, changes_of};
-ghost use Rattle.hp_satisfiers.specs.Founds.{found_event, found_events, BindsBelow};
+ghost use Rattle.hp_satisfiers.specs.AnswerViews.{answer_event, answer_events, BindsBelow};
 ghost use Rattle.hp_satisfiers.specs.Scenes.{axioms_in, stage_in, state_in};
-ghost use Rattle.hp_satisfiers.specs.Effected.{part_of_atoms, part_of_protections, of_atom, of_guard, only_atoms, values_at, PutsAll, GoesAll, GoesInto, ComesTo};
+ghost use Rattle.hp_satisfiers.specs.EffectsOutcomes.{part_of_atoms, part_of_protections, of_atom, of_guard, only_atoms, values_at, PutsAll, GoesAll, GoesInto, ComesTo};
 
+use crate::answer::Answer;
 use crate::expressions::Scene;
-use crate::found::Found;
 use crate::preconditions::heard;
 use hp_cells::Cells;
 use hp_effect::{Changes, Part, cost};
@@ -22,7 +22,7 @@ use std::alloc::AllocError;
 
 /// What the effects of an operator come to: changes and a cost, or what stops them.
 #[derive(Drop)]
-pub enum Effected {
+pub enum EffectsOutcome {
     Went(Changes, i64),
     Cut,
     Fault(RunFault),
@@ -38,7 +38,7 @@ enum Obstacle {
 
 impl From<EvalStop> for Obstacle {
     ghost use Rattle.std.specs.Prelude.{◌≡◌};
-    ghost use Rattle.hp_satisfiers.specs.Effected.{halt_of};
+    ghost use Rattle.hp_satisfiers.specs.EffectsOutcomes.{halt_of};
 
     ghost from_gives = { λ stop halt. halt ≡ halt_of stop };
 
@@ -151,20 +151,20 @@ fn put_atoms(
 fn put_found(
     side: Side,
     atoms: &[AtomPat],
-    found: &Found,
+    found: &Answer,
     cells: &mut Cells,
     changes: &mut Changes,
 ) -> Result<(), Obstacle>
     requires found { BindsBelow (length cells.old) found.now }
     requires below { ChangesBelow (length cells.old) changes.old }
-    ensures puts { PutsAll side result (values_at (atoms_of atoms.now) (found_event cells.old found.now))
+    ensures puts { PutsAll side result (values_at (atoms_of atoms.now) (answer_event cells.old found.now))
         cells.new (changes_of cells.old changes.old) changes.new }
     ensures cells { Grows cells.old cells.new }
 {
     match found {
-        Found::Sat(slots) => put_atoms(side, atoms, slots, cells, changes),
-        Found::Cut => Err(Obstacle::Cut),
-        Found::Fault(fault) => Err(Obstacle::Fault(*fault)),
+        Answer::Sat(slots) => put_atoms(side, atoms, slots, cells, changes),
+        Answer::Cut => Err(Obstacle::Cut),
+        Answer::Fault(fault) => Err(Obstacle::Fault(*fault)),
     }
 }
 
@@ -172,14 +172,14 @@ fn put_found(
 fn put_each(
     side: Side,
     atoms: &[AtomPat],
-    found: &[Found],
+    found: &[Answer],
     cells: &mut Cells,
     changes: &mut Changes,
 ) -> Result<(), Obstacle>
     requires found { All (BindsBelow (length cells.old)) found.now }
     requires below { ChangesBelow (length cells.old) changes.old }
     ensures puts { PutsAll side result
-        (only_atoms (values_for_each (atoms_of atoms.now) (found_events cells.old found.now)))
+        (only_atoms (values_for_each (atoms_of atoms.now) (answer_events cells.old found.now)))
         cells.new (changes_of cells.old changes.old) changes.new }
     ensures cells { Grows cells.old cells.new }
 {
@@ -295,7 +295,7 @@ impl Scene<'_> {
         slots: &Slots,
         nest: u32,
         cells: &mut Cells,
-    ) -> Result<Effected, AllocError>
+    ) -> Result<EffectsOutcome, AllocError>
         requires slots { AreBelow (length cells.old) slots.now }
         requires world { StageBelow (length cells.old) (stage_in self.now) }
         ensures comes { IfOk result (λ x. ComesTo x (effects (axioms_in self.now) nest (state_in cells.old self.now)
@@ -303,9 +303,9 @@ impl Scene<'_> {
         ensures cells { Grows cells.old cells.new }
     {
         match self.changes_and_cost(operator, slots, nest, cells) {
-            Ok((changes, cost)) => Ok(Effected::Went(changes, cost)),
-            Err(Obstacle::Cut) => Ok(Effected::Cut),
-            Err(Obstacle::Fault(fault)) => Ok(Effected::Fault(fault)),
+            Ok((changes, cost)) => Ok(EffectsOutcome::Went(changes, cost)),
+            Err(Obstacle::Cut) => Ok(EffectsOutcome::Cut),
+            Err(Obstacle::Fault(fault)) => Ok(EffectsOutcome::Fault(fault)),
             Err(Obstacle::NoMemory) => Err(AllocError),
         }
     }

@@ -7,15 +7,15 @@ ghost use Rattle.hp_eval.specs.GoalViews.{goal_of, GoalBelow};
 ghost use Rattle.hp_eval.specs.Growth.{Grows};
 ghost use Rattle.hp_eval.specs.Slotted.{AreBelow, bindings_of};
 ghost use Rattle.hp_world.specs.Stages.{StageBelow, state_of};
-ghost use Rattle.hp_satisfiers.specs.Founds.{found_event, found_events, Fits, AllFit, Finds, Hears};
+ghost use Rattle.hp_satisfiers.specs.AnswerViews.{answer_event, answer_events, Fits, AllFit, Finds, Hears};
 ghost use Rattle.hp_laws.specs.HeardAlike.{AreHeardAlike, turned};
-ghost use Rattle.hp_satisfiers.specs.Rulebooks.{axiom_at};
+ghost use Rattle.hp_satisfiers.specs.RuleIndexes.{axiom_at};
 ghost use Rattle.hp_satisfiers.specs.Scenes.{rules_in, axioms_in, stage_in, state_in, atoms_at, below_at, placed_events};
 
+use crate::answer::{Answer, add, only, satisfied, stopped, turn};
 use crate::conclusions::{conclusions, own_slots};
-use crate::found::{Found, add, only, satisfied, stopped, turn};
 use crate::matches::{assigned, state_events, tested};
-use crate::rulebook::Rulebook;
+use crate::rule_index::RuleIndex;
 use hp_cells::Cells;
 use hp_eval::{Goal, Slots, fill_goal};
 use hp_syntax::{AtomPat, Axiom, Expr, ExprKind};
@@ -26,7 +26,7 @@ use std::alloc::{AllocError, Global};
 #[derive(Drop)]
 pub struct Scene<'a> {
     pub alloc: Global,
-    pub book: &'a Rulebook<'a>,
+    pub book: &'a RuleIndex<'a>,
     pub world: &'a World,
 }
 
@@ -40,10 +40,10 @@ impl Scene<'_> {
         slots: &Slots,
         level: u32,
         cells: &mut Cells,
-    ) -> Result<Vec<Found>, AllocError>
+    ) -> Result<Vec<Answer>, AllocError>
         requires slots { AreBelow (length cells.old) slots.now }
         requires world { StageBelow (length cells.old) self.now.world.now.now }
-        ensures found { IfOk result (λ v. AreHeardAlike (found_events cells.new v.items)
+        ensures found { IfOk result (λ v. AreHeardAlike (answer_events cells.new v.items)
             (sat (axioms_of (domain_of self.now.book.now.domain.now).rules) level
             (state_of cells.old self.now.world.now.now) (expression_of expr.now)
             (bindings_of cells.old slots.now))) }
@@ -75,7 +75,7 @@ impl Scene<'_> {
         slots: &Slots,
         level: u32,
         cells: &mut Cells,
-    ) -> Result<Vec<Found>, AllocError>
+    ) -> Result<Vec<Answer>, AllocError>
         requires slots { AreBelow (length cells.old) slots.now }
         requires world { StageBelow (length cells.old) (stage_in self.now) }
         ensures finds { IfOk result (λ v.
@@ -101,7 +101,7 @@ impl Scene<'_> {
         slots: &Slots,
         level: u32,
         cells: &mut Cells,
-    ) -> Result<Vec<Found>, AllocError>
+    ) -> Result<Vec<Answer>, AllocError>
         requires slots { AreBelow (length cells.old) slots.now }
         requires world { StageBelow (length cells.old) (stage_in self.now) }
         ensures finds { IfOk result (λ v. Hears cells.new (length slots.now.values) v.items
@@ -125,7 +125,7 @@ impl Scene<'_> {
         slots: &Slots,
         level: u32,
         cells: &mut Cells,
-    ) -> Result<Vec<Found>, AllocError>
+    ) -> Result<Vec<Answer>, AllocError>
         requires slots { AreBelow (length cells.old) slots.now }
         requires world { StageBelow (length cells.old) (stage_in self.now) }
         ensures finds { IfOk result (λ v. Hears cells.new (length slots.now.values) v.items
@@ -148,19 +148,19 @@ impl Scene<'_> {
     #[cycle(events)]
     fn each_events(
         &self,
-        found: &[Found],
+        found: &[Answer],
         part: &Expr,
         negate: bool,
         vars: usize,
         level: u32,
         cells: &mut Cells,
-    ) -> Result<Vec<Found>, AllocError>
+    ) -> Result<Vec<Answer>, AllocError>
         requires found { AllFit vars (length cells.old) found.now }
         requires world { StageBelow (length cells.old) (stage_in self.now) }
         ensures finds { IfOk result (λ v.
             let part_events = sat (axioms_in self.now) level (state_in cells.old self.now) (expression_of part.now) in
             Hears cells.new vars v.items
-            (plain.through (found_events cells.old found.now) (λ b. turned negate (part_events b) b))) }
+            (plain.through (answer_events cells.old found.now) (λ b. turned negate (part_events b) b))) }
         ensures cells { Grows cells.old cells.new }
     {
         let mut all = Vec::new(self.alloc);
@@ -178,28 +178,28 @@ impl Scene<'_> {
     #[cycle(events)]
     fn one_events(
         &self,
-        found: &Found,
+        found: &Answer,
         part: &Expr,
         negate: bool,
         vars: usize,
         level: u32,
         cells: &mut Cells,
-    ) -> Result<Vec<Found>, AllocError>
+    ) -> Result<Vec<Answer>, AllocError>
         requires found { Fits vars (length cells.old) found.now }
         requires world { StageBelow (length cells.old) (stage_in self.now) }
         ensures finds { IfOk result (λ v.
             let part_events = sat (axioms_in self.now) level (state_in cells.old self.now) (expression_of part.now) in
             Hears cells.new vars v.items
-            (plain.in_place (λ b. turned negate (part_events b) b) (found_event cells.old found.now))) }
+            (plain.in_place (λ b. turned negate (part_events b) b) (answer_event cells.old found.now))) }
         ensures cells { Grows cells.old cells.new }
     {
         match found {
-            Found::Sat(slots) => {
+            Answer::Sat(slots) => {
                 let more = self.events(part, slots, level, cells)?;
                 turn(self.alloc, negate, more, slots)
             }
-            Found::Cut => only(self.alloc, Found::Cut),
-            Found::Fault(fault) => only(self.alloc, Found::Fault(*fault)),
+            Answer::Cut => only(self.alloc, Answer::Cut),
+            Answer::Fault(fault) => only(self.alloc, Answer::Fault(*fault)),
         }
     }
 
@@ -211,7 +211,7 @@ impl Scene<'_> {
         slots: &Slots,
         level: u32,
         cells: &mut Cells,
-    ) -> Result<Vec<Found>, AllocError>
+    ) -> Result<Vec<Answer>, AllocError>
         requires slots { AreBelow (length cells.old) slots.now }
         requires world { StageBelow (length cells.old) (stage_in self.now) }
         ensures finds { IfOk result (λ v. Hears cells.new (length slots.now.values) v.items
@@ -233,7 +233,7 @@ impl Scene<'_> {
         slots: &Slots,
         level: u32,
         cells: &mut Cells,
-    ) -> Result<Vec<Found>, AllocError>
+    ) -> Result<Vec<Answer>, AllocError>
         requires slots { AreBelow (length cells.old) slots.now }
         requires goal { GoalBelow (length cells.old) goal.now }
         requires world { StageBelow (length cells.old) (stage_in self.now) }
@@ -265,7 +265,7 @@ impl Scene<'_> {
         slots: &Slots,
         level: u32,
         cells: &mut Cells,
-    ) -> Result<Vec<Found>, AllocError>
+    ) -> Result<Vec<Answer>, AllocError>
         requires slots { AreBelow (length cells.old) slots.now }
         requires goal { GoalBelow (length cells.old) goal.now }
         requires world { StageBelow (length cells.old) (stage_in self.now) }
@@ -304,7 +304,7 @@ impl Scene<'_> {
         slots: &Slots,
         level: u32,
         cells: &mut Cells,
-    ) -> Result<Vec<Found>, AllocError>
+    ) -> Result<Vec<Answer>, AllocError>
         requires known { Contains (axioms_in self.now) (axiom_of rule.now) }
         requires slots { AreBelow (length cells.old) slots.now }
         requires world { StageBelow (length cells.old) (stage_in self.now) }
@@ -314,7 +314,7 @@ impl Scene<'_> {
         ensures cells { Grows cells.old cells.new }
     {
         if level == 0 {
-            return only(self.alloc, Found::Cut);
+            return only(self.alloc, Answer::Cut);
         }
         for clause in &rule.clauses {
             let found = self.events(&clause.body, slots, level - 1, cells)?;

@@ -4,17 +4,17 @@ ghost use Rattle.hp_syntax.specs.Terms.{Term};
 ghost use Rattle.hp_eval.specs.Events.{event_of, left_after, AreOfFirst};
 ghost use Rattle.hp_eval.specs.Slotted.{AreBelow, Binds, no_bindings, bindings_of};
 ghost use Rattle.hp_syntax.specs.Preconditions.{heard};
-ghost use Rattle.hp_satisfiers.specs.Founds.{AllFit, found_events};
+ghost use Rattle.hp_satisfiers.specs.AnswerViews.{AllFit, answer_events};
 ghost use Rattle.hp_satisfiers.specs.Listed.{left_from};
 
-use crate::found::Found;
+use crate::answer::Answer;
 use hp_cells::Cells;
 use hp_eval::{Event, Sats, Slots};
 use std::alloc::AllocError;
 
 /// What is heard of a list, from a place on. Nothing is bound at the start.
 pub struct Listed {
-    found: Vec<Found>,
+    found: Vec<Answer>,
     place: usize,
     // How many cells stood when the list was made.
     kept: usize,
@@ -47,7 +47,7 @@ fn fill(own: &Slots, slots: &mut Slots)
 }
 
 // Gives what stands at the place, or the end, and goes on to the next. Behind a fault nothing comes.
-fn give(found: &[Found], place: &mut usize, slots: &mut Slots) -> Event
+fn give(found: &[Answer], place: &mut usize, slots: &mut Slots) -> Event
     requires blank { slots.old ≡ no_bindings (length slots.old.values) }
     requires fit { (kept : ℕ) × AllFit (length slots.old.values) kept found.now }
     ensures event { (terms : List Term) → result ≡ event_of (left_from terms found.now place.old) }
@@ -61,16 +61,16 @@ fn give(found: &[Found], place: &mut usize, slots: &mut Slots) -> Event
         return Event::End;
     }
     match &found[*place] {
-        Found::Sat(own) => {
+        Answer::Sat(own) => {
             fill(own, slots);
             *place += 1;
             Event::Sat
         }
-        Found::Cut => {
+        Answer::Cut => {
             *place += 1;
             Event::Cut
         }
-        Found::Fault(fault) => {
+        Answer::Fault(fault) => {
             *place = found.len();
             Event::Fault(*fault)
         }
@@ -81,11 +81,11 @@ impl Listed {
     ghost use Rattle.hp_eval.specs.Slotted.{Slotted};
 
     /// A list of which nothing was given, to be given in slots in which nothing is bound.
-    pub fn new(found: Vec<Found>, slots: &Slots, cells: &Cells) -> Listed
+    pub fn new(found: Vec<Answer>, slots: &Slots, cells: &Cells) -> Listed
         requires blank { slots.now ≡ no_bindings (length slots.now.values) }
         requires fit { AllFit (length slots.now.values) (length cells.now) found.items }
         ensures rest { (terms : List Term) (e : Slotted)
-            → ⟦<Listed as Sats<()>>⟧.rest result tt terms e ≡ heard (found_events terms found.items) }
+            → ⟦<Listed as Sats<()>>⟧.rest result tt terms e ≡ heard (answer_events terms found.items) }
         ensures suits { ⟦<Listed as Sats<()>>⟧.suits result tt }
         ensures fits { ⟦<Listed as Sats<()>>⟧.fits result slots.now }
         ensures start { ⟦<Listed as Sats<()>>⟧.start result ≡ length slots.now.trail }

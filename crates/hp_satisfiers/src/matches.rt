@@ -9,10 +9,10 @@ ghost use Rattle.hp_eval.specs.GoalViews.{term_at, goal_of, GoalBelow};
 ghost use Rattle.hp_eval.specs.Growth.{Grows};
 ghost use Rattle.hp_eval.specs.Slotted.{AreBelow, bindings_of};
 ghost use Rattle.hp_world.specs.Stages.{StageBelow, state_of};
-ghost use Rattle.hp_satisfiers.specs.Founds.{Finds};
+ghost use Rattle.hp_satisfiers.specs.AnswerViews.{Finds};
 ghost use Rattle.hp_satisfiers.specs.Places.{place_events, IsAtomBelow};
 
-use crate::found::{Found, only, satisfied, stopped};
+use crate::answer::{Answer, only, satisfied, stopped};
 use hp_cells::{Cell, Cells, View};
 use hp_eval::{Goal, Slots, match_goal, meet, value};
 use hp_syntax::Pat;
@@ -26,7 +26,7 @@ fn met(
     cell: Cell,
     slots: &Slots,
     cells: &Cells,
-) -> Result<Vec<Found>, AllocError>
+) -> Result<Vec<Answer>, AllocError>
     requires slots { AreBelow (length cells.now) slots.now }
     requires cell { cell < length cells.now }
     ensures { IfOk result (λ found. Finds cells.now (length slots.now.values) found.items
@@ -34,7 +34,7 @@ fn met(
 {
     let mut copy = slots.copy(alloc)?;
     if meet(v, cell, cells, &mut copy) {
-        only(alloc, Found::Sat(copy))
+        only(alloc, Answer::Sat(copy))
     } else {
         Ok(Vec::new(alloc))
     }
@@ -47,7 +47,7 @@ pub fn assigned(
     pat: &Pat,
     slots: &Slots,
     cells: &mut Cells,
-) -> Result<Vec<Found>, AllocError>
+) -> Result<Vec<Answer>, AllocError>
     requires slots { AreBelow (length cells.old) slots.now }
     ensures found { IfOk result (λ found. Finds cells.new (length slots.now.values) found.items
         (plain.assigned (value (pattern_of pat.now) (bindings_of cells.old slots.now)) v
@@ -61,7 +61,7 @@ pub fn assigned(
 }
 
 // What a call meets whose value is this: nothing if it is the empty list.
-fn truth(alloc: Global, cell: Cell, slots: &Slots, cells: &Cells) -> Result<Vec<Found>, AllocError>
+fn truth(alloc: Global, cell: Cell, slots: &Slots, cells: &Cells) -> Result<Vec<Answer>, AllocError>
     requires slots { AreBelow (length cells.now) slots.now }
     requires cell { cell < length cells.now }
     ensures { IfOk result (λ found. Finds cells.now (length slots.now.values) found.items
@@ -79,7 +79,7 @@ pub fn tested(
     call: &Pat,
     slots: &Slots,
     cells: &mut Cells,
-) -> Result<Vec<Found>, AllocError>
+) -> Result<Vec<Answer>, AllocError>
     requires slots { AreBelow (length cells.old) slots.now }
     ensures found { IfOk result (λ found. Finds cells.new (length slots.now.values) found.items
         (plain.tested (value (pattern_of call.now) (bindings_of cells.old slots.now))
@@ -99,7 +99,7 @@ pub fn matched(
     atom: Cell,
     cells: &Cells,
     slots: &mut Slots,
-) -> Result<Vec<Found>, AllocError>
+) -> Result<Vec<Answer>, AllocError>
     requires slots { AreBelow (length cells.now) slots.old }
     requires goal { GoalBelow (length cells.now) goal.now }
     requires atom { atom < length cells.now }
@@ -124,7 +124,7 @@ fn at_place(
     atom: Option<Cell>,
     cells: &Cells,
     slots: &mut Slots,
-) -> Result<Vec<Found>, AllocError>
+) -> Result<Vec<Answer>, AllocError>
     requires slots { AreBelow (length cells.now) slots.old }
     requires goal { GoalBelow (length cells.now) goal.now }
     requires atom { IsAtomBelow (length cells.now) atom }
@@ -145,7 +145,7 @@ pub fn state_events(
     goal: &Goal,
     slots: &Slots,
     cells: &Cells,
-) -> Result<Vec<Found>, AllocError>
+) -> Result<Vec<Answer>, AllocError>
     requires slots { AreBelow (length cells.now) slots.now }
     requires goal { GoalBelow (length cells.now) goal.now }
     requires world { StageBelow (length cells.now) world.now.now }

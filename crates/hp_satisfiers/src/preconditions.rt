@@ -7,12 +7,12 @@ ghost use Rattle.hp_eval.specs.Events.{PlainEvent, event_of, left_after, AreOfFi
 ghost use Rattle.hp_eval.specs.Growth.{Grows};
 ghost use Rattle.hp_eval.specs.Slotted.{AreBelow, bindings_of};
 ghost use Rattle.hp_world.specs.Stages.{StageBelow};
-ghost use Rattle.hp_satisfiers.specs.Founds.{found_events, AllFit, Finds, FindsUpTo, Hears};
+ghost use Rattle.hp_satisfiers.specs.AnswerViews.{answer_events, AllFit, Finds, FindsUpTo, Hears};
 ghost use Rattle.hp_satisfiers.specs.Scenes.{axioms_in, stage_in, state_in};
 ghost use Rattle.hp_satisfiers.specs.Listed.{FindsMore};
 
+use crate::answer::Answer;
 use crate::expressions::Scene;
-use crate::found::Found;
 use crate::listed::Listed;
 use hp_cells::Cells;
 use hp_eval::{Event, Sats, Slots};
@@ -21,11 +21,11 @@ use hp_syntax::{Pre, SortKey};
 use std::alloc::{AllocError, Global};
 
 // How much of a list is heard: all up to and including its first fault.
-fn heard_len(found: &[Found]) -> usize
-    ensures { (terms : List Term) → found_events terms (take result found.now) ≡ heard (found_events terms found.now) }
+fn heard_len(found: &[Answer]) -> usize
+    ensures { (terms : List Term) → answer_events terms (take result found.now) ≡ heard (answer_events terms found.now) }
 {
     for (i, x) in found.iter().enumerate() {
-        if let Found::Fault(_) = x {
+        if let Answer::Fault(_) = x {
             return i + 1;
         }
     }
@@ -33,7 +33,7 @@ fn heard_len(found: &[Found]) -> usize
 }
 
 /// What is heard of a list.
-pub fn heard(mut found: Vec<Found>) -> Vec<Found>
+pub fn heard(mut found: Vec<Answer>) -> Vec<Answer>
     ensures { (terms : List Term) (vars : _) (events : List PlainEvent) → Hears terms vars found.items events
         → Finds terms vars result.items (heard events) }
 {
@@ -47,7 +47,7 @@ fn take_event(
     alloc: Global,
     event: Event,
     slots: &Slots,
-    found: &mut Vec<Found>,
+    found: &mut Vec<Answer>,
 ) -> Result<bool, AllocError>
     ensures takes { IfOk result (λ more. (terms : List Term) (whole left : List PlainEvent)
         → event ≡ event_of left → AreOfFirst left (bindings_of terms slots.now) → AreBelow (length terms) slots.now
@@ -59,15 +59,15 @@ fn take_event(
     match event {
         Event::Sat => {
             let copy = slots.copy(alloc)?;
-            found.push(Found::Sat(copy))?;
+            found.push(Answer::Sat(copy))?;
             Ok(true)
         }
         Event::Cut => {
-            found.push(Found::Cut)?;
+            found.push(Answer::Cut)?;
             Ok(true)
         }
         Event::Fault(fault) => {
-            found.push(Found::Fault(fault))?;
+            found.push(Answer::Fault(fault))?;
             Ok(false)
         }
         Event::End => Ok(false),
@@ -80,7 +80,7 @@ fn take_next<S: Sats<()>>(
     sats: &mut S,
     cells: &mut Cells,
     slots: &mut Slots,
-    found: &mut Vec<Found>,
+    found: &mut Vec<Answer>,
 ) -> Result<bool, AllocError>
     requires live { S.is_live sats.old ≡ true }
     requires open { S.is_open sats.old ≡ true }
@@ -112,7 +112,7 @@ fn drained<S: Sats<()>>(
     sats: &mut S,
     cells: &mut Cells,
     slots: &mut Slots,
-) -> Result<Vec<Found>, AllocError>
+) -> Result<Vec<Answer>, AllocError>
     requires live { S.is_live sats.old ≡ true }
     requires open { S.is_open sats.old ≡ true }
     requires suits { S.suits sats.old tt }
@@ -130,14 +130,14 @@ fn drained<S: Sats<()>>(
 // What is heard of a list up to and including its first Sat.
 fn first(
     alloc: Global,
-    found: Vec<Found>,
+    found: Vec<Answer>,
     vars: usize,
     cells: &mut Cells,
-) -> Result<Vec<Found>, AllocError>
+) -> Result<Vec<Answer>, AllocError>
     requires few { vars ≤ 256 }
     requires fit { AllFit vars (length cells.old) found.items }
     ensures finds { IfOk result (λ v. Finds cells.new vars v.items
-        (up_to_sat (heard (found_events cells.old found.items)))) }
+        (up_to_sat (heard (answer_events cells.old found.items)))) }
     ensures cells { Grows cells.old cells.new }
 {
     let mut slots = Slots::new(alloc, vars)?;
@@ -149,14 +149,14 @@ fn first(
 fn sorted(
     alloc: Global,
     key: &SortKey,
-    found: Vec<Found>,
+    found: Vec<Answer>,
     vars: usize,
     cells: &mut Cells,
-) -> Result<Vec<Found>, AllocError>
+) -> Result<Vec<Answer>, AllocError>
     requires few { vars ≤ 256 }
     requires fit { AllFit vars (length cells.old) found.items }
     ensures finds { IfOk result (λ v. Finds cells.new vars v.items
-        (sorted_events (key_of key.now).order (keyed (key_of key.now) (heard (found_events cells.old found.items))))) }
+        (sorted_events (key_of key.now).order (keyed (key_of key.now) (heard (answer_events cells.old found.items))))) }
     ensures cells { Grows cells.old cells.new }
 {
     let mut slots = Slots::new(alloc, vars)?;
@@ -173,7 +173,7 @@ impl Scene<'_> {
         slots: &Slots,
         nest: u32,
         cells: &mut Cells,
-    ) -> Result<Vec<Found>, AllocError>
+    ) -> Result<Vec<Answer>, AllocError>
         requires slots { AreBelow (length cells.old) slots.now }
         requires world { StageBelow (length cells.old) (stage_in self.now) }
         ensures finds { IfOk result (λ v. Finds cells.new (length slots.now.values) v.items

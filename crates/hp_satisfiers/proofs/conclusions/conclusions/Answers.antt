@@ -5,9 +5,9 @@ use Rattle.hp_syntax.specs.Views.{atom_of}
 use Rattle.hp_eval.specs.GoalViews.{goal_of}
 use Rattle.hp_eval.specs.Slotted.{bindings_of}
 use Rattle.hp_eval.proofs.GrowthLemmas.{below_grows, grows_on, grows_self}
-use Rattle.hp_satisfiers.specs.Founds.{BindsBelow, found_events}
+use Rattle.hp_satisfiers.specs.AnswerViews.{BindsBelow, answer_events}
 use Rattle.hp_eval.proofs.GoalViewLemmas.{goal_below_grows}
-use Rattle.hp_satisfiers.proofs.FoundLemmas.{binds_grow, item_holds}
+use Rattle.hp_satisfiers.proofs.AnswerLemmas.{binds_grow, item_holds}
 use Rattle.hp_satisfiers.proofs.HeardLemmas.{hears_replaced, hears_replaced_all, hears_over, hears_begin}
 use Rattle.hp_satisfiers.proofs.ConclusionSteps.{conclusion_heard}
 use Rattle.hp_satisfiers.proofs.conclusions.conclusions.Goals as goal
@@ -75,8 +75,8 @@ returns-then-over-clause-found c =
     let vars = length s.values in
     let items = c.add.new.found.items in
     let below = item_holds (BindsBelow (length old)) found i x c.loop-x-test.true c.x-item.is c.requires.found in
-    hears_over new vars items (through (found_events old found) f)
-    (through (found_events old (drop (i + 1) found)) f)
+    hears_over new vars items (through (answer_events old found) f)
+    (through (answer_events old (drop (i + 1) found)) f)
     (sym c.in_ok-over.ensures.over ∙ c.if-over.true)
     (hears_replaced old mid new grown vars f c.loop-x.all.items more items found i x c.loop-x-test.true c.x-item.is
     held.found

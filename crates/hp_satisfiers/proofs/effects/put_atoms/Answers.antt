@@ -5,7 +5,7 @@ use Rattle.hp_syntax.specs.Views.{atom_of}
 use Rattle.hp_eval.specs.Slotted.{bindings_of}
 use Rattle.hp_eval.proofs.GrowthLemmas.{grows_self, grows_on, bindings_stay, below_grows}
 use Rattle.hp_world.specs.Stages.{changes_of}
-use Rattle.hp_satisfiers.specs.Effected.{of_atom, HasPut, StopsHere}
+use Rattle.hp_satisfiers.specs.EffectsOutcomes.{of_atom, HasPut, StopsHere}
 use Rattle.hp_satisfiers.proofs.EffectLemmas.{atoms_going, along_none, along_more, along_stops, atoms_left}
 use Rattle.hp_satisfiers.proofs.effects.put_atoms.Goals as goal
 

@@ -3,9 +3,9 @@ use Rattle.std.proofs.lemmas.Result.{err_from_is_err_and}
 use Rattle.hp_syntax.specs.Views.{atoms_of}
 use Rattle.hp_eval.proofs.GrowthLemmas.{grows_self, grows_on}
 use Rattle.hp_world.specs.Stages.{changes_of}
-use Rattle.hp_satisfiers.specs.Founds.{BindsBelow, found_event}
-use Rattle.hp_satisfiers.specs.Effected.{values_at, HasPut, StopsHere}
-use Rattle.hp_satisfiers.proofs.FoundLemmas.{item_holds, binds_grow, event_stays}
+use Rattle.hp_satisfiers.specs.AnswerViews.{BindsBelow, answer_event}
+use Rattle.hp_satisfiers.specs.EffectsOutcomes.{values_at, HasPut, StopsHere}
+use Rattle.hp_satisfiers.proofs.AnswerLemmas.{item_holds, binds_grow, event_stays}
 use Rattle.hp_satisfiers.proofs.EffectLemmas.{each_going, along_none, along_more, along_stops, each_left}
 use Rattle.hp_satisfiers.proofs.effects.put_each.Goals as goal
 
@@ -45,7 +45,7 @@ loop-x-preserved c =
       along =
           along_more c.args.side (each_going as' old found)
           (changes_of old c.args.changes.now) now new c.loop-x.changes c.put_found.new.changes
-          (values_at as' (found_event old x)) (each_going as' old (drop i found))
+          (values_at as' (answer_event old x)) (each_going as' old (drop i found))
           (each_going as' old (drop (i + 1) found))
           (each_left as' old found i x c.loop-x-test.true c.x-item.is) c.loop-x.invariant.along put;
     }
@@ -65,7 +65,7 @@ returns-in_err-put_found-clause-puts c =
     c.in_err-put_found.ensures.puts in
     let p = err_from_is_err_and c.from_residual.result c.from_residual.ensures.1 in
     rw (p.1, p.2) (along_stops c.args.side (each_going as' old found)
-    (changes_of old c.args.changes.now) now c.loop-x.changes (values_at as' (found_event old x))
+    (changes_of old c.args.changes.now) now c.loop-x.changes (values_at as' (answer_event old x))
     (each_going as' old (drop i found))
     (each_going as' old (drop (i + 1) found)) halt
     (each_left as' old found i x c.loop-x-test.true c.x-item.is) c.loop-x.invariant.along stops)

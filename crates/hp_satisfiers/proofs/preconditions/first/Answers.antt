@@ -1,8 +1,8 @@
 use Rattle.std.proofs.Common.{◌≤◌, length, sym, ◌∙◌, ap, subst}
 use Rattle.std.proofs.lemmas.Result.{IfOk-weaker}
 use Rattle.hp_syntax.specs.Preconditions.{heard, up_to_sat}
-use Rattle.hp_satisfiers.specs.Founds.{Finds, found_events, AllFit}
-use Rattle.hp_satisfiers.proofs.FoundLemmas.{finds_same}
+use Rattle.hp_satisfiers.specs.AnswerViews.{Finds, answer_events, AllFit}
+use Rattle.hp_satisfiers.proofs.AnswerLemmas.{finds_same}
 use Rattle.hp_satisfiers.proofs.PreconditionLemmas.{new_vars, first_heard_whole}
 use Rattle.hp_eval.proofs.GrowthLemmas.{grows_self}
 use Rattle.hp_eval.specs.Slotted.{no_bindings}
@@ -12,7 +12,7 @@ pub returns-clause-finds : goal.returns-clause-finds
 returns-clause-finds c =
     let cells = c.args.cells.now in
     let slots = c.in_ok-slots.slots in
-    let xs = found_events cells c.args.found.items in
+    let xs = answer_events cells c.args.found.items in
     let vars = new_vars c.in_ok-slots.slots c.args.vars c.in_ok-slots.ensures in
     let rest =
     ap heard (c.new-sats.ensures.rest tt cells slots ∙ ap up_to_sat (c.new-2.ensures.rest cells slots))

@@ -1,6 +1,6 @@
 use Rattle.std.proofs.Common.{sym, ap, ◌∙◌, subst, take}
 use Rattle.hp_syntax.specs.Preconditions.{heard}
-use Rattle.hp_satisfiers.specs.Founds.{Finds, found_events}
+use Rattle.hp_satisfiers.specs.AnswerViews.{Finds, answer_events}
 use Rattle.hp_satisfiers.proofs.PreconditionLemmas.{heard_found}
 use Rattle.hp_satisfiers.proofs.preconditions.heard.Goals as goal
 
@@ -11,5 +11,5 @@ returns c =
     let found = c.args.found.items in
     subst (λ xs. Finds terms vars xs (heard events)) (sym c.truncate.ensures.items)
     (heard_found terms vars n found events
-    (ap (λ xs. found_events terms (take n xs)) (sym c.as_slice.ensures.value)
-    ∙ (c.heard_len-end.ensures terms ∙ ap (λ xs. heard (found_events terms xs)) c.as_slice.ensures.value)) h)
+    (ap (λ xs. answer_events terms (take n xs)) (sym c.as_slice.ensures.value)
+    ∙ (c.heard_len-end.ensures terms ∙ ap (λ xs. heard (answer_events terms xs)) c.as_slice.ensures.value)) h)

@@ -2,8 +2,8 @@ use Rattle.std.proofs.Common.{◌≤◌, length, sym, ◌∙◌, ap, subst}
 use Rattle.std.proofs.lemmas.Result.{IfOk-weaker}
 use Rattle.hp_syntax.specs.Preconditions.{heard, keyed, sorted_events}
 use Rattle.hp_syntax.specs.Views.{key_of}
-use Rattle.hp_satisfiers.specs.Founds.{Finds, found_events, AllFit}
-use Rattle.hp_satisfiers.proofs.FoundLemmas.{finds_same}
+use Rattle.hp_satisfiers.specs.AnswerViews.{Finds, answer_events, AllFit}
+use Rattle.hp_satisfiers.proofs.AnswerLemmas.{finds_same}
 use Rattle.hp_satisfiers.proofs.PreconditionLemmas.{new_vars, sorted_heard_whole}
 use Rattle.hp_eval.proofs.GrowthLemmas.{grows_self}
 use Rattle.hp_eval.specs.Slotted.{no_bindings}
@@ -15,7 +15,7 @@ returns-clause-finds c =
     let slots = c.in_ok-slots.slots in
     let k = key_of c.args.key.now in
     let copy = key_of c.in_ok-copy.field-0 in
-    let xs = heard (found_events cells c.args.found.items) in
+    let xs = heard (answer_events cells c.args.found.items) in
     let vars = new_vars c.in_ok-slots.slots c.args.vars c.in_ok-slots.ensures in
     let rest =
     ap heard (c.new-sats.ensures.rest tt cells slots

@@ -1,7 +1,7 @@
 use Rattle.std.proofs.Common.{map}
 use Rattle.hp_syntax.specs.Views.{rule_of}
 use Rattle.hp_satisfiers.specs.Tables.{places_in, places_from}
-use Rattle.hp_satisfiers.proofs.RulebookLemmas.{place_more, place_all}
+use Rattle.hp_satisfiers.proofs.RuleIndexLemmas.{place_more, place_all}
 use Rattle.hp_satisfiers.proofs.tables.table_of.Goals as goal
 
 pub loop-place-preserved : goal.loop-place-preserved

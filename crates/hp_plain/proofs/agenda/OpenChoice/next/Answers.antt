@@ -4,7 +4,7 @@ use Rattle.std.proofs.lemmas.List.Elements.{All-get_or}
 use Rattle.hp_syntax.specs.Walk.{child_of}
 use Rattle.hp_eval.specs.GoalViews.{term_at}
 use Rattle.hp_eval.proofs.GrowthLemmas.{grows_on, grows_self, grows_length}
-use Rattle.hp_satisfiers.specs.Founds.{found_event, BindsBelow}
+use Rattle.hp_satisfiers.specs.AnswerViews.{answer_event, BindsBelow}
 use Rattle.hp_tree.specs.Children.{place_in, done_by}
 use Rattle.hp_tree.proofs.SearchNodeLemmas.{node_grows}
 use Rattle.hp_plain.specs.Agendas.{rules_of}
@@ -50,7 +50,7 @@ returns-then-is_some-clause-takes c =
     let some : is_some c.in_ok-child.child ≡ true = search rules in
     let makes = subst (Makes new c.in_ok-child.child)
     (ap₂ (λ i t. child_of (done_by (rules_of context) context.nest (node_in mid node) (place_in node.net.now.entries i)
-    (term_at mid t) (slice_get (rules_of context) r.rule) r.choice.branch) (found_event mid c.index-found.result.now))
+    (term_at mid t) (slice_get (rules_of context) r.rule) r.choice.branch) (answer_event mid c.index-found.result.now))
     (sym before.id) (sym before.task)) c.in_ok-child.ensures.makes in
     choice_takes mid new c.in_ok-child.ensures.cells (rules_of context) context.nest node
     (node_grows old mid before.grows (held node) c.requires.node) r before.choice c.index-found.result.now
@@ -75,7 +75,7 @@ loop-self-preserved c =
     let none : is_some c.in_ok-child.child ≡ false = search rules in
     let makes = subst (Makes new c.in_ok-child.child)
     (ap₂ (λ i t. child_of (done_by (rules_of context) context.nest (node_in mid node) (place_in node.net.now.entries i)
-    (term_at mid t) (slice_get (rules_of context) r.rule) r.choice.branch) (found_event mid c.index-found.result.now))
+    (term_at mid t) (slice_get (rules_of context) r.rule) r.choice.branch) (answer_event mid c.index-found.result.now))
     (sym before.id) (sym before.task)) c.in_ok-child.ensures.makes in
     record {
       grows = grows_on old mid new before.grows c.in_ok-child.ensures.cells;

@@ -3,12 +3,12 @@ use Rattle.std.specs.Prelude.{flat_map, slice_get}
 use Rattle.std.proofs.lemmas.List.{length-map}
 use Rattle.hp_syntax.specs.Events.{chosen}
 use Rattle.hp_syntax.specs.Views.{branch_of}
-use Rattle.hp_satisfiers.specs.Founds.{found_event}
+use Rattle.hp_satisfiers.specs.AnswerViews.{answer_event}
 use Rattle.hp_eval.specs.Slotted.{bindings_of}
 use Rattle.hp_eval.proofs.GrowthLemmas.{below_grows, grows_on}
 use Rattle.hp_syntax.specs.Walk.{child_of}
 use Rattle.hp_world.specs.Stages.{StageBelow}
-use Rattle.hp_satisfiers.proofs.FoundLemmas.{stage_below_grows}
+use Rattle.hp_satisfiers.proofs.AnswerLemmas.{stage_below_grows}
 use Rattle.hp_tree.specs.Children.{branch_done}
 use Rattle.hp_tree.proofs.ChildLemmas.{branch_chosen}
 use Rattle.hp_plain.specs.Candidates.{rules_at, nest_at, own_node, place_at}
@@ -42,7 +42,7 @@ returns-then-not-is_empty-clause-chooses c =
           (branch_there branches i b c.loop-i-test.true c.index-branches-i.is)
           (held.left ∙ (chosen_left met branch_of branches i b c.loop-i-test.true c.index-branches-i.is
           ∙ chosen_here (branch_of b) (met (branch_of b)) (chosen met (map branch_of (drop (i + 1) branches)))
-          (subst (λ k. 0 < k) (sym (length-map items (found_event c.precondition.new.cells))
+          (subst (λ k. 0 < k) (sym (length-map items (answer_event c.precondition.new.cells))
           ∙ ap length finds.stand) some)));
       below = finds.below;
     }
@@ -66,7 +66,7 @@ loop-i-preserved c =
     (precondition_stays s old mid held.grows c.requires.candidate b.pre slots c.requires.slots)
     c.in_ok-found.ensures.finds in
     let lengths = ap length finds.stand in
-    let empty = length-map items (found_event c.precondition.new.cells) in
+    let empty = length-map items (answer_event c.precondition.new.cells) in
     record {
       grows = grows_on old mid c.precondition.new.cells held.grows c.in_ok-found.ensures.cells;
       left =

@@ -5,7 +5,7 @@ use Rattle.hp_syntax.specs.Changes.{apply, effects}
 use Rattle.hp_syntax.specs.Views.{operator_of}
 use Rattle.hp_eval.specs.Slotted.{bindings_of}
 use Rattle.hp_world.specs.Stages.{changes_of, StageBelow}
-use Rattle.hp_satisfiers.specs.Effected.{ComesTo}
+use Rattle.hp_satisfiers.specs.EffectsOutcomes.{ComesTo}
 use Rattle.hp_satisfiers.specs.Scenes.{axioms_in, state_in}
 use Rattle.hp_syntax.specs.Walk.{operated}
 use Rattle.hp_plain.specs.Candidates.{nest_at, own_node, own_task, place_at}

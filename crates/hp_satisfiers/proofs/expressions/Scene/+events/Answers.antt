@@ -16,13 +16,13 @@ use Rattle.hp_eval.proofs.GrowthLemmas.{grows_self, grows_on, bindings_stay, bel
 use Rattle.hp_syntax.specs.Preconditions.{heard}
 use Rattle.std.specs.List.{All}
 use Rattle.std.proofs.lemmas.List.Elements.{All-weaker}
-use Rattle.hp_satisfiers.specs.Founds.{found_events, Fits, AllFit, BindsBelow, MeetsHead}
+use Rattle.hp_satisfiers.specs.AnswerViews.{answer_events, Fits, AllFit, BindsBelow, MeetsHead}
 use Rattle.hp_laws.specs.HeardAlike.{AreHeardAlike}
 use Rattle.hp_laws.specs.RulesByName.{concluding}
-use Rattle.hp_satisfiers.specs.Rulebooks.{axiom_at}
+use Rattle.hp_satisfiers.specs.RuleIndexes.{axiom_at}
 use Rattle.hp_satisfiers.specs.Scenes.{rules_in, axioms_in, stage_in, state_in, below_at, placed_events}
 use Rattle.hp_eval.proofs.GoalViewLemmas.{goal_below_grows, goal_stays}
-use Rattle.hp_satisfiers.proofs.FoundLemmas.{finds_none, sat_replaced, cut_replaced, fault_replaced, fits_below, fits_grow, stage_below_grows, state_stays, item_holds, sat_fits}
+use Rattle.hp_satisfiers.proofs.AnswerLemmas.{finds_none, sat_replaced, cut_replaced, fault_replaced, fits_below, fits_grow, stage_below_grows, state_stays, item_holds, sat_fits}
 use Rattle.hp_satisfiers.proofs.Sizes.{size, sizes, left_to_do, less_to_do_below, branch_size, size_of-atom, size_of-and, size_of-or, size_of-not, size_of-forall, part_size}
 use Rattle.hp_satisfiers.proofs.SearchSteps.{sat_of-atom, sat_of-and, sat_of-or, sat_of-not, sat_of-forall, sat_of-assign, sat_of-call, forall_sat, all_of, all_begin, all_go_on, all_end, any_of, any_end}
 use Rattle.hp_satisfiers.proofs.AxiomSteps.{goal_begins, axioms_end, placed_axiom, few_at, axiom_among, axiom_unstarted, axiom_started, some_met, none_met}
@@ -176,14 +176,14 @@ forall_events-returns-clause-finds t c =
     let grown = grows_on old mid new met.cells got.cells in
     let refuted = c.in_ok-refuted.refuted.items in
     let each = hears_vars new c.vars.result (length s.values) refuted _ c.vars.ensures.vars got.finds in
-    let ranged = found_events mid c.as_slice.result.now in
+    let ranged = answer_events mid c.as_slice.result.now in
     let range = sat axioms level (state_in old scene) (expression_of c.args.range.now) e in
     let events =
     each.stand
     ∙ (ap (λ f. heard (through ranged f))
     (turned_stays old mid met.cells stage c.requires.world axioms level c.args.body.now true)
     ∙ alike_through ranged range (turned_sat axioms level (state_in old scene) c.args.body.now true)
-    (ap (λ xs. heard (found_events mid xs)) c.as_slice.ensures.value ∙ met.found)) in
+    (ap (λ xs. heard (answer_events mid xs)) c.as_slice.ensures.value ∙ met.found)) in
     IfOk-weaker c.turn.result _ _
     (λ v h. negation_gives new (length s.values) refuted v.items (bindings_of new s) e _ events
     (bindings_stay old new grown s c.requires.slots)
@@ -204,7 +204,7 @@ all_events-loop-part-init t c =
       fit = (finds_vars old (length s.values) c.vars-vars.result found _ (sym c.vars-vars.ensures.vars) one).fit;
       so_far =
           ap heard (all_begin (axioms_in scene) c.args.level (state_in old scene) c.args.parts.now (bindings_of old s)
-          (found_events old found) one.stand);
+          (answer_events old found) one.stand);
     }
 
 pub all_events-each_events-requires : goal.all_events-each_events-requires
@@ -238,10 +238,10 @@ all_events-loop-part-preserved t c =
       fit = got.finds.fit;
       so_far =
           all_go_on axioms level (state_in old scene) c.args.parts.now c.loop-part.part-index part
-          (found_events mid before) (found_events new c.in_ok-found-2.found.items) _ c.loop-part-test.true
+          (answer_events mid before) (answer_events new c.in_ok-found-2.found.items) _ c.loop-part-test.true
           c.part-item.is
           (got.finds.stand
-          ∙ ap₂ (λ xs f. heard (through (found_events mid xs) f)) c.as_slice.ensures.value
+          ∙ ap₂ (λ xs f. heard (through (answer_events mid xs) f)) c.as_slice.ensures.value
           (turned_stays old mid held.grows (stage_in scene) c.requires.world axioms level part false))
           held.so_far;
     }
@@ -256,7 +256,7 @@ all_events-returns-clause-finds t c =
     record {
       stand =
           all_end (axioms_in scene) c.args.level (state_in old scene) c.args.parts.now c.loop-part.part-index
-          (found_events new found) _ c.loop-part-test.false held.so_far;
+          (answer_events new found) _ c.loop-part-test.false held.so_far;
       fit = subst (λ n. AllFit n (length new) found) c.vars-vars.ensures.vars held.fit;
     }
 
@@ -618,7 +618,7 @@ axiom_events-returns-in_ok-found-in-Some-started-clause-finds t c =
     subst (λ o. MeetsHead mid (length x.vars) o (start_goal x.head q (unbound (length x.vars)))) c.in-Some-started.is
     c.in_ok-started.ensures.starts in
     let met =
-    ap (λ xs. heard (found_events new xs)) c.as_slice.ensures.value
+    ap (λ xs. heard (answer_events new xs)) c.as_slice.ensures.value
     ∙ (c.in_ok-found-in-Some-started.ensures.finds.stand
     ∙ ap (λ st. heard (branch_events (below_at axioms level st) x (bindings_of mid own)))
     (state_stays old mid c.in_ok-started.ensures.cells (stage_in scene) c.requires.world)) in
@@ -627,7 +627,7 @@ axiom_events-returns-in_ok-found-in-Some-started-clause-finds t c =
     (bindings_stay old new grown s c.requires.slots) in
     IfOk-weaker c.conclusions.result _ _
     (λ v h. hears_same c.conclusions.new.cells (length s.values) v.items _ _
-    (alike_through (found_events new c.as_slice.result.now) (branch_events lower x (bindings_of mid own))
+    (alike_through (answer_events new c.as_slice.result.now) (branch_events lower x (bindings_of mid own))
     (λ d. concluded x.head d (goal_of new goal') (bindings_of new s)) met
     ∙ ap heard (ap (through (branch_events lower x (bindings_of mid own))) same
     ∙ (axiom_started lower q e x (bindings_of mid own) m.0
@@ -685,7 +685,7 @@ branch_events-returns-then-not-is_empty-clause-finds t c =
     let found = c.in_ok-found.found.items in
     let f : Clause → List Event
     = λ x. sat axioms (level - 1) (state_in old scene) x.body (bindings_of old s) in
-    let met : AreHeardAlike (found_events new found) (f (clause_of clause))
+    let met : AreHeardAlike (answer_events new found) (f (clause_of clause))
     = got.found
     ∙ ap heard (sat_stays old mid held.grows (stage_in scene) c.requires.world s c.requires.slots axioms (level - 1)
     (expression_of clause.body)) in
@@ -723,7 +723,7 @@ branch_events-loop-clause-preserved t c =
     let found = c.in_ok-found.found.items in
     let f : Clause → List Event
     = λ x. sat axioms (level - 1) (state_in old scene) x.body (bindings_of old s) in
-    let met : AreHeardAlike (found_events new found) (f (clause_of clause))
+    let met : AreHeardAlike (answer_events new found) (f (clause_of clause))
     = got.found
     ∙ ap heard (sat_stays old mid held.grows (stage_in scene) c.requires.world s c.requires.slots axioms (level - 1)
     (expression_of clause.body)) in

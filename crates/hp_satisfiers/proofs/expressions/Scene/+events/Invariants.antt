@@ -6,7 +6,7 @@ use Rattle.hp_syntax.specs.Views.{axiom_of, clause_of, expression_of, expression
 use Rattle.hp_eval.specs.GoalViews.{goal_of}
 use Rattle.hp_eval.specs.Growth.{Grows}
 use Rattle.hp_eval.specs.Slotted.{bindings_of}
-use Rattle.hp_satisfiers.specs.Founds.{found_events, AllFit, HearsUpTo}
+use Rattle.hp_satisfiers.specs.AnswerViews.{answer_events, AllFit, HearsUpTo}
 use Rattle.hp_laws.specs.HeardAlike.{AreHeardAlike, turned}
 use Rattle.hp_laws.specs.RulesByName.{concluding}
 use Rattle.hp_satisfiers.specs.Scenes.{rules_in, axioms_in, state_in, atoms_at, below_at}
@@ -56,7 +56,7 @@ invariant-all_events-loop-part l =
       grows : Grows l.fn.cells l.cells;
       fit : AllFit l.vars (length l.cells) l.found.items;
       so_far : AreHeardAlike
-          (through (found_events l.cells l.found.items)
+          (through (answer_events l.cells l.found.items)
           (λ b. events_of_all atoms (expressions_of (drop l.part-index l.parts)) b))
           (events_of_all atoms (expressions_of l.parts) (bindings_of l.fn.cells l.slots));
     }
@@ -78,8 +78,8 @@ invariant-each_events-loop-x l =
     = λ b. turned l.negate (sat (axioms_in l.self) l.level (state_in l.fn.cells l.self) (expression_of l.part) b) b in
     record {
       grows : Grows l.fn.cells l.cells;
-      found : HearsUpTo l.cells l.vars l.all.items (through (found_events l.fn.cells l.found) f)
-          (through (found_events l.fn.cells (drop l.x-index l.found)) f);
+      found : HearsUpTo l.cells l.vars l.all.items (through (answer_events l.fn.cells l.found) f)
+          (through (answer_events l.fn.cells (drop l.x-index l.found)) f);
     }
 
 abbrev pub invariant-goal_events-loop-place : goal.invariant-goal_events-loop-place

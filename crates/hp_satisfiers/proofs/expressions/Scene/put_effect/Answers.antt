@@ -6,10 +6,10 @@ use Rattle.hp_syntax.specs.Events.{sat}
 use Rattle.hp_syntax.specs.Views.{atoms_of, effect_of, expression_of}
 use Rattle.hp_eval.specs.Slotted.{bindings_of}
 use Rattle.hp_world.specs.Stages.{changes_of}
-use Rattle.hp_satisfiers.specs.Founds.{Hears, Fits, BindsBelow}
+use Rattle.hp_satisfiers.specs.AnswerViews.{Hears, Fits, BindsBelow}
 use Rattle.hp_satisfiers.specs.Scenes.{axioms_in, state_in}
-use Rattle.hp_satisfiers.specs.Effected.{only_atoms, PutsAll}
-use Rattle.hp_satisfiers.proofs.FoundLemmas.{fits_below}
+use Rattle.hp_satisfiers.specs.EffectsOutcomes.{only_atoms, PutsAll}
+use Rattle.hp_satisfiers.proofs.AnswerLemmas.{fits_below}
 use Rattle.hp_satisfiers.proofs.EffectLemmas.{changes_stay, changes_grow, each_going, each_effect}
 use Rattle.hp_eval.proofs.GrowthLemmas.{grows_on}
 use Rattle.hp_satisfiers.proofs.expressions.Scene.put_effect.Goals as goal

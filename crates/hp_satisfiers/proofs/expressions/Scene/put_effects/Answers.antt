@@ -6,9 +6,9 @@ use Rattle.hp_eval.specs.Slotted.{bindings_of}
 use Rattle.hp_eval.proofs.GrowthLemmas.{grows_self, grows_on, below_grows}
 use Rattle.hp_world.specs.Stages.{changes_of}
 use Rattle.hp_satisfiers.specs.Scenes.{axioms_in, stage_in, state_in}
-use Rattle.hp_satisfiers.specs.Effected.{HasPut, StopsHere}
+use Rattle.hp_satisfiers.specs.EffectsOutcomes.{HasPut, StopsHere}
 use Rattle.hp_satisfiers.proofs.EffectLemmas.{list_going, along_none, along_more, along_stops, effects_left, seen_stays}
-use Rattle.hp_satisfiers.proofs.FoundLemmas.{stage_below_grows}
+use Rattle.hp_satisfiers.proofs.AnswerLemmas.{stage_below_grows}
 use Rattle.hp_satisfiers.proofs.expressions.Scene.put_effects.Goals as goal
 
 pub loop-effect-init : goal.loop-effect-init

@@ -7,9 +7,9 @@ use Rattle.hp_eval.specs.Slotted.{bindings_of}
 use Rattle.hp_eval.proofs.GrowthLemmas.{grows_on, below_grows, bindings_stay}
 use Rattle.hp_world.specs.Stages.{changes_of}
 use Rattle.hp_satisfiers.specs.Scenes.{axioms_in, stage_in, state_in}
-use Rattle.hp_satisfiers.specs.Effected.{halt_of, StopsHere}
+use Rattle.hp_satisfiers.specs.EffectsOutcomes.{halt_of, StopsHere}
 use Rattle.hp_satisfiers.proofs.EffectLemmas.{changes_stay, changes_grow, list_stays, list_going, dels_stop, adds_stop, cost_stop, cost_stops, all_go, gathered_both}
-use Rattle.hp_satisfiers.proofs.FoundLemmas.{stage_below_grows}
+use Rattle.hp_satisfiers.proofs.AnswerLemmas.{stage_below_grows}
 use Rattle.hp_satisfiers.proofs.expressions.Scene.put_lists.Goals as goal
 
 pub returns-in_err-put_effects-clause-goes : goal.returns-in_err-put_effects-clause-goes

@@ -2,9 +2,9 @@ use Rattle.std.proofs.Common.{length, ◌∙◌, sym, ap, subst}
 use Rattle.std.proofs.lemmas.Result.{IfOk-weaker}
 use Rattle.hp_syntax.specs.Events.{negated, finding}
 use Rattle.hp_eval.specs.Slotted.{bindings_of}
-use Rattle.hp_satisfiers.specs.Founds.{Finds, found_events}
+use Rattle.hp_satisfiers.specs.AnswerViews.{Finds, answer_events}
 use Rattle.hp_laws.specs.HeardAlike.{turned}
-use Rattle.hp_satisfiers.proofs.found.turn.Goals as goal
+use Rattle.hp_satisfiers.proofs.answer.turn.Goals as goal
 
 pub returns-then-negate : goal.returns-then-negate
 returns-then-negate c =
@@ -15,8 +15,8 @@ returns-then-negate c =
     let e = bindings_of terms s in
     let same =
     ap (λ f. negated f e)
-    (c.outcome_of.ensures terms ∙ ap (λ xs. finding (found_events terms xs)) c.as_slice.ensures.value)
-    ∙ ap (λ b. turned b (found_events terms found) e) (sym c.if-negate.true) in
+    (c.outcome_of.ensures terms ∙ ap (λ xs. finding (answer_events terms xs)) c.as_slice.ensures.value)
+    ∙ ap (λ b. turned b (answer_events terms found) e) (sym c.if-negate.true) in
     subst (Finds terms (length s.values) v.items) same (h terms below))
     c.negated.ensures
 
@@ -26,6 +26,6 @@ returns-else-negate c =
     let found = c.args.found.items in
     λ terms below fit.
     record {
-      stand = ap (λ b. turned b (found_events terms found) (bindings_of terms s)) (sym c.if-negate.false);
+      stand = ap (λ b. turned b (answer_events terms found) (bindings_of terms s)) (sym c.if-negate.false);
       fit = fit;
     }

@@ -15,8 +15,8 @@ use Rattle.hp_satisfiers.specs.declared.effects.Side.{Side}
 use Rattle.hp_satisfiers.specs.declared.effects.Side.TheVariants.{Deletes, Adds}
 use Rattle.hp_satisfiers.specs.declared.effects.Obstacle.{Obstacle}
 use Rattle.hp_satisfiers.specs.declared.effects.Obstacle.TheVariants.{Cut, Fault, NoMemory}
-use Rattle.hp_satisfiers.specs.declared.effects.Effected.{Effected}
-use Rattle.hp_satisfiers.specs.declared.effects.Effected.TheVariants as effected
+use Rattle.hp_satisfiers.specs.declared.effects.EffectsOutcome.{EffectsOutcome}
+use Rattle.hp_satisfiers.specs.declared.effects.EffectsOutcome.TheVariants as effected
 
 -- what is done with an atom of a list of effects, and with a protection
 abbrev pub part_of_atoms : Side → Part
@@ -98,7 +98,7 @@ GoesInto (Ok cost) going terms changes = HasGone going terms changes cost
 GoesInto (Err halt) going terms changes = StopsHere halt going
 
 -- an operator's effects come to changes and a cost, or stop at a Cut or at a fault
-abbrev pub ComesTo : Effected → Going (Changes × ℤ) → List Term → Type 0
+abbrev pub ComesTo : EffectsOutcome → Going (Changes × ℤ) → List Term → Type 0
 ComesTo (effected.Went changes cost) going terms = HasGone going terms changes cost
 ComesTo effected.Cut going terms = going ≡ CutShort
 ComesTo (effected.Fault f) going terms = going ≡ Failed f

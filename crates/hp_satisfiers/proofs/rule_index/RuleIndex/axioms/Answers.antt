@@ -1,10 +1,10 @@
 use Rattle.std.proofs.Common.{map, sym, ◌∙◌, ap}
 use Rattle.std.specs.Option.{option_copied}
 use Rattle.hp_syntax.specs.Views.{domain_of}
-use Rattle.hp_satisfiers.specs.Rulebooks.{axiom_at}
+use Rattle.hp_satisfiers.specs.RuleIndexes.{axiom_at}
 use Rattle.hp_satisfiers.specs.Tables.{listed}
-use Rattle.hp_satisfiers.proofs.RulebookLemmas.{all_conclude}
-use Rattle.hp_satisfiers.proofs.rulebook.Rulebook.axioms.Goals as goal
+use Rattle.hp_satisfiers.proofs.RuleIndexLemmas.{all_conclude}
+use Rattle.hp_satisfiers.proofs.rule_index.RuleIndex.axioms.Goals as goal
 
 pub returns-in-Some : goal.returns-in-Some
 returns-in-Some c =

@@ -2,7 +2,7 @@ use Rattle.std.proofs.Common.{map, ◌∙◌, ap}
 use Rattle.hp_syntax.specs.Views.{rule_of}
 use Rattle.hp_satisfiers.specs.declared.tables.Kind.TheVariants as kinds
 use Rattle.hp_satisfiers.specs.Tables.{places_from}
-use Rattle.hp_satisfiers.proofs.rulebook.Rulebook.new.Goals as goal
+use Rattle.hp_satisfiers.proofs.rule_index.RuleIndex.new.Goals as goal
 
 pub invariant_of-result : goal.invariant_of-result
 invariant_of-result c = record {

@@ -20,7 +20,7 @@ use Rattle.hp_laws.proofs.ResultLemmas.{map_some}
 use Rattle.hp_satisfiers.specs.declared.tables.Kind.{Kind}
 use Rattle.hp_satisfiers.specs.declared.tables.Kind.TheVariants as kinds
 use Rattle.hp_laws.specs.RulesByName.{concluding, task_name, relevant, relevant_to, is_name}
-use Rattle.hp_satisfiers.specs.Rulebooks.{axiom_at}
+use Rattle.hp_satisfiers.specs.RuleIndexes.{axiom_at}
 use Rattle.hp_satisfiers.specs.Tables.{name_as, places_from, with_place}
 
 module _ (all : List Rule) (name : List ℕ) where

@@ -6,7 +6,7 @@ ghost use Rattle.hp_syntax.specs.Views.{axiom_of, domain_of};
 ghost use Rattle.hp_eval.specs.GoalViews.{term_at};
 ghost use Rattle.hp_satisfiers.specs.declared.tables.Kind.TheVariants as kinds;
 ghost use Rattle.hp_laws.specs.RulesByName.{concluding, symbol_name, task_name, relevant};
-ghost use Rattle.hp_satisfiers.specs.Rulebooks.{axiom_at, AreFew};
+ghost use Rattle.hp_satisfiers.specs.RuleIndexes.{axiom_at, AreFew};
 ghost use Rattle.hp_satisfiers.specs.Tables.{IsTableOf};
 
 use crate::tables::{Kind, table_of};
@@ -16,7 +16,7 @@ use indexmap::IndexMap;
 use std::alloc::{AllocError, Global};
 
 /// The rules of a domain, found by their names and not by going through the domain.
-pub struct Rulebook<'a> {
+pub struct RuleIndex<'a> {
     pub domain: &'a Domain,
     tasks: IndexMap<Name, Vec<usize>>,
     axioms: IndexMap<Name, Vec<usize>>,
@@ -25,9 +25,9 @@ pub struct Rulebook<'a> {
     ghost listed: { IsTableOf kinds.Axiom (domain_of domain.now).rules axioms },
 }
 
-impl Drop for Rulebook<'_> {
+impl Drop for RuleIndex<'_> {
     fn drop(self) {
-        let Rulebook {
+        let RuleIndex {
             domain: _,
             tasks,
             axioms,
@@ -59,15 +59,15 @@ fn task_name(task: Cell, cells: &Cells) -> Option<&Name>
     }
 }
 
-impl<'a> Rulebook<'a> {
+impl<'a> RuleIndex<'a> {
     /// The rules of a domain, whose axioms have few variables.
-    pub fn new(alloc: Global, domain: &'a Domain) -> Result<Rulebook<'a>, AllocError>
+    pub fn new(alloc: Global, domain: &'a Domain) -> Result<RuleIndex<'a>, AllocError>
         requires few { AreFew (axioms_of (domain_of domain.now).rules) }
         ensures { IfOk result (λ book. book.domain.now ≡ domain.now) }
     {
         let tasks = table_of(alloc, Kind::Task, domain.rules.as_slice())?;
         let axioms = table_of(alloc, Kind::Axiom, domain.rules.as_slice())?;
-        Ok(Rulebook {
+        Ok(RuleIndex {
             domain,
             tasks,
             axioms,

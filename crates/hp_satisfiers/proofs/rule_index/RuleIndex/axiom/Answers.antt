@@ -1,8 +1,8 @@
 use Rattle.std.proofs.Common.{ap, sym}
 use Rattle.std.specs.Option.{option_and_then}
 use Rattle.hp_syntax.specs.Events.{axiom_if}
-use Rattle.hp_satisfiers.proofs.RulebookLemmas.{rule_there, rule_missing}
-use Rattle.hp_satisfiers.proofs.rulebook.Rulebook.axiom.Goals as goal
+use Rattle.hp_satisfiers.proofs.RuleIndexLemmas.{rule_there, rule_missing}
+use Rattle.hp_satisfiers.proofs.rule_index.RuleIndex.axiom.Goals as goal
 
 pub returns-in-Some-Axiom : goal.returns-in-Some-Axiom
 returns-in-Some-Axiom c =

@@ -1,6 +1,6 @@
 use Rattle.std.proofs.lemmas.Result.{IfOk-weaker}
-use Rattle.hp_satisfiers.proofs.FoundLemmas.{finds_copy}
-use Rattle.hp_satisfiers.proofs.found.satisfied.Goals as goal
+use Rattle.hp_satisfiers.proofs.AnswerLemmas.{finds_copy}
+use Rattle.hp_satisfiers.proofs.answer.satisfied.Goals as goal
 
 pub returns : goal.returns
 returns c =

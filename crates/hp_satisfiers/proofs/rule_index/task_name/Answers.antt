@@ -4,7 +4,7 @@ use Rattle.hp_eval.specs.GoalViews.{term_at}
 use Rattle.hp_eval.proofs.CellViews.{named_at}
 use Rattle.hp_eval.proofs.AttemptLemmas.{view_nil, view_symbol, view_number, cons_at, whole_at}
 use Rattle.hp_laws.specs.RulesByName.{task_name}
-use Rattle.hp_satisfiers.proofs.rulebook.task_name.Goals as goal
+use Rattle.hp_satisfiers.proofs.rule_index.task_name.Goals as goal
 
 pub symbol_name-requires : goal.symbol_name-requires
 symbol_name-requires c =

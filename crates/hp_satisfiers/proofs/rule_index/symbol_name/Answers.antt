@@ -3,7 +3,7 @@ use Rattle.hp_eval.specs.GoalViews.{term_at}
 use Rattle.hp_eval.proofs.CellViews.{named_at}
 use Rattle.hp_eval.proofs.AttemptLemmas.{view_nil, view_symbol, view_cons, view_number}
 use Rattle.hp_laws.specs.RulesByName.{symbol_name}
-use Rattle.hp_satisfiers.proofs.rulebook.symbol_name.Goals as goal
+use Rattle.hp_satisfiers.proofs.rule_index.symbol_name.Goals as goal
 
 pub returns-in-Sym : goal.returns-in-Sym
 returns-in-Sym c =

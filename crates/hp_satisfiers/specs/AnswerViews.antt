@@ -9,61 +9,61 @@ use Rattle.hp_laws.specs.HeardAlike.{AreHeardAlike}
 use Rattle.hp_eval.specs.declared.event.EvalStop.{EvalStop}
 use Rattle.hp_eval.specs.declared.event.EvalStop.TheVariants as stops
 use Rattle.hp_eval.specs.Slotted.{Slotted, AreBelow, bindings_of}
-use Rattle.hp_satisfiers.specs.declared.found.Found.{Found}
-use Rattle.hp_satisfiers.specs.declared.found.Found.TheVariants.{Sat, Cut, Fault}
-use Rattle.hp_satisfiers.specs.declared.found.Finding.{Finding}
-use Rattle.hp_satisfiers.specs.declared.found.Finding.TheVariants as findings
+use Rattle.hp_satisfiers.specs.declared.answer.Answer.{Answer}
+use Rattle.hp_satisfiers.specs.declared.answer.Answer.TheVariants.{Sat, Cut, Fault}
+use Rattle.hp_satisfiers.specs.declared.answer.Finding.{Finding}
+use Rattle.hp_satisfiers.specs.declared.answer.Finding.TheVariants as findings
 
-abbrev pub found_event : List Term → Found → Event
-found_event terms (Sat slots) = plain.Sat (bindings_of terms slots)
-found_event terms Cut = plain.Cut
-found_event terms (Fault f) = plain.Fault f
+abbrev pub answer_event : List Term → Answer → Event
+answer_event terms (Sat slots) = plain.Sat (bindings_of terms slots)
+answer_event terms Cut = plain.Cut
+answer_event terms (Fault f) = plain.Fault f
 
-abbrev pub found_events : List Term → List Found → List Event
-found_events terms found = map (found_event terms) found
+abbrev pub answer_events : List Term → List Answer → List Event
+answer_events terms found = map (answer_event terms) found
 
 -- a Sat binds so many variables, to cells below a count
-abbrev pub Fits : ℕ → ℕ → Found → Type 0
+abbrev pub Fits : ℕ → ℕ → Answer → Type 0
 Fits vars n (Sat slots) = (length slots.values ≡ vars) × AreBelow n slots
 Fits vars n Cut = Unit {0}
 Fits vars n (Fault f) = Unit {0}
 
-abbrev pub AllFit : ℕ → ℕ → List Found → Type 0
+abbrev pub AllFit : ℕ → ℕ → List Answer → Type 0
 AllFit vars n found = All (Fits vars n) found
 
 -- what is found stands for these events, and each Sat fits
-pub record Finds (terms : List Term) (vars : ℕ) (found : List Found) (events : List Event) : Type 0 where
-  pub stand : found_events terms found ≡ events
+pub record Finds (terms : List Term) (vars : ℕ) (found : List Answer) (events : List Event) : Type 0 where
+  pub stand : answer_events terms found ≡ events
   pub fit : AllFit vars (length terms) found
 
 -- what is found so far stands for all events but those that are left
-pub record FindsUpTo (terms : List Term) (vars : ℕ) (found : List Found) (whole left : List Event) : Type 0 where
-  pub so_far : whole ≡ found_events terms found ++ left
+pub record FindsUpTo (terms : List Term) (vars : ℕ) (found : List Answer) (whole left : List Event) : Type 0 where
+  pub so_far : whole ≡ answer_events terms found ++ left
   pub fit : AllFit vars (length terms) found
 
 -- what is found is heard as these events are, and each Sat fits
-pub record Hears (terms : List Term) (vars : ℕ) (found : List Found) (events : List Event) : Type 0 where
-  pub stand : AreHeardAlike (found_events terms found) events
+pub record Hears (terms : List Term) (vars : ℕ) (found : List Answer) (events : List Event) : Type 0 where
+  pub stand : AreHeardAlike (answer_events terms found) events
   pub fit : AllFit vars (length terms) found
 
 -- all events are heard as what is found so far and those that are left behind it
-pub record HearsUpTo (terms : List Term) (vars : ℕ) (found : List Found) (whole left : List Event) : Type 0 where
-  pub so_far : AreHeardAlike whole (found_events terms found ++ left)
+pub record HearsUpTo (terms : List Term) (vars : ℕ) (found : List Answer) (whole left : List Event) : Type 0 where
+  pub so_far : AreHeardAlike whole (answer_events terms found ++ left)
   pub fit : AllFit vars (length terms) found
 
 -- one is found, and it is a fault
-abbrev pub is_found_fault : Option Found → Bool
+abbrev pub is_found_fault : Option Answer → Bool
 is_found_fault None = false
 is_found_fault (Some (Sat slots)) = false
 is_found_fault (Some Cut) = false
 is_found_fault (Some (Fault f)) = true
 
 -- the last of a list is a fault
-abbrev pub ends_in_fault : List Found → Bool
+abbrev pub ends_in_fault : List Answer → Bool
 ends_in_fault found = is_found_fault (slice_get found (length found - 1))
 
 -- what is found where an evaluation stopped: its fault
-abbrev pub FindsStop : EvalStop → List Found → Type 0
+abbrev pub FindsStop : EvalStop → List Answer → Type 0
 FindsStop (stops.Fault f) found = found ≡ Fault f ∷ []
 FindsStop stops.NoMemory found = ⊥
 
@@ -75,7 +75,7 @@ finding_of findings.Undecided = plain.Undecided
 finding_of findings.Nothing = plain.Nothing
 
 -- a Sat binds to cells below a count
-abbrev pub BindsBelow : ℕ → Found → Type 0
+abbrev pub BindsBelow : ℕ → Answer → Type 0
 BindsBelow n (Sat slots) = AreBelow n slots
 BindsBelow n Cut = Unit {0}
 BindsBelow n (Fault f) = Unit {0}

@@ -3,8 +3,8 @@ use Rattle.std.specs.Option.{option_copied}
 use Rattle.std.proofs.lemmas.Option.{slice_get-map}
 use Rattle.hp_syntax.specs.Views.{domain_of}
 use Rattle.hp_laws.specs.RulesByName.{relevant}
-use Rattle.hp_satisfiers.proofs.RulebookLemmas.{looked_up}
-use Rattle.hp_satisfiers.proofs.rulebook.Rulebook.relevant_at.Goals as goal
+use Rattle.hp_satisfiers.proofs.RuleIndexLemmas.{looked_up}
+use Rattle.hp_satisfiers.proofs.rule_index.RuleIndex.relevant_at.Goals as goal
 
 pub returns : goal.returns
 returns c =

@@ -2,8 +2,8 @@ use Rattle.std.proofs.Common.{map, slice_get, sym, ◌∙◌, ap}
 use Rattle.std.specs.Option.{option_copied}
 use Rattle.hp_syntax.specs.Views.{domain_of}
 use Rattle.hp_satisfiers.specs.Tables.{listed}
-use Rattle.hp_satisfiers.proofs.RulebookLemmas.{all_relevant}
-use Rattle.hp_satisfiers.proofs.rulebook.Rulebook.relevant.Goals as goal
+use Rattle.hp_satisfiers.proofs.RuleIndexLemmas.{all_relevant}
+use Rattle.hp_satisfiers.proofs.rule_index.RuleIndex.relevant.Goals as goal
 
 pub returns-in-Some : goal.returns-in-Some
 returns-in-Some c =
