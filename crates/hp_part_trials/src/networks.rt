@@ -10,7 +10,7 @@ use std::alloc::{AllocError, Global};
 
 // The tasks that ids name.
 fn tasks_of(net: &Net, ids: &[TaskId], alloc: Global) -> Result<Vec<Cell>, AllocError>
-    requires { All (NamesTask net.now) ids.now }
+    requires { All (NamesTask net.now.now) ids.now }
 {
     let mut tasks = Vec::new(alloc);
     for id in ids {

@@ -146,7 +146,7 @@ impl Twins {
 }
 
 impl Walk for Twins {
-    ghost use Rattle.std.specs.Prelude.{true};
+    ghost use Rattle.std.specs.Prelude.{true, None};
     ghost use Rattle.hp_part_trials.specs.Twins.{twins, standing_of};
 
     ghost tree = { λ s. twins };
@@ -156,6 +156,8 @@ impl Walk for Twins {
     ghost terms = { λ s. s.cells };
 
     ghost is_live = { λ s. true };
+
+    ghost root_cells = { λ s. None };
 
     fn step(&mut self) -> Result<Option<Step>, AllocError> {
         let met = next_met(self.at, self.left);
