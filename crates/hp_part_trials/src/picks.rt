@@ -4,11 +4,13 @@ ghost use Rattle.hp_eval.specs.Slotted.{no_bindings};
 ghost use Rattle.hp_part_trials.specs.Answered.{AnswersBelow};
 
 use crate::answers::{Reply, answers_of};
+use crate::fixtures::of_a;
 use crate::page::Page;
 use hp_cells::{Cell, Cells};
+use hp_effect::{Changes, Obstacle, Part, Side, put_each};
 use hp_eval::{Event, Sats, Slots};
 use hp_pick::{First, Sorted};
-use hp_syntax::{FaultKind, RunFault, SortKey, SortOrder, Span};
+use hp_syntax::{AtomPat, FaultKind, RunFault, SortKey, SortOrder, Span};
 use std::alloc::{AllocError, Global};
 
 // Where the fault and the key of the trials stand.
@@ -145,6 +147,32 @@ fn heard_in_order(
     first_five(&mut sats, &7, cells, slots, 1)
 }
 
+// How many atoms are put among those to add, each of some for each Sat of answers, and what comes of it.
+fn put_for_each(
+    alloc: Global,
+    cells: &mut Cells,
+    slots: &mut Slots,
+    answers: Vec<Reply>,
+    atoms: &[AtomPat],
+) -> (usize, Result<(), Obstacle>)
+    requires answers { AnswersBelow (length cells.old) answers.items }
+    requires slots { slots.old ≡ no_bindings 2 }
+{
+    let mut changes = Changes::new(alloc);
+    let mut sats = answers_of(answers, cells);
+    let put = put_each(
+        Side::Adds,
+        atoms,
+        &mut sats,
+        &7,
+        slots,
+        cells,
+        &mut changes,
+    );
+    sats.close(slots);
+    (changes.list(Part::Add).len(), put)
+}
+
 fn show_events(page: &mut Page, told: &[Told; 5]) {
     let [(first, _), (second, _), (third, _), (fourth, _), (fifth, _)] = told;
     page.line("events", &[*first, *second, *third, *fourth, *fifth]);
@@ -212,10 +240,33 @@ fn show_sorted(page: &mut Page, alloc: Global, cells: &mut Cells) -> Result<(), 
     Ok(())
 }
 
-/// Answers, the first of answers, and answers in an order.
+fn show_put(page: &mut Page, alloc: Global, cells: &mut Cells) -> Result<(), AllocError> {
+    page.title("An atom is put for each satisfier");
+    let Numbers { nine, one, .. } = three_numbers(cells)?;
+    let atom = of_a(alloc)?;
+    let atoms = vec![in alloc; atom]?;
+    let mut slots = Slots::new(alloc, 2)?;
+    let answers = vec![in alloc; Reply::Sat(nine), Reply::Sat(one)]?;
+    let told = put_for_each(alloc, cells, &mut slots, answers, atoms.as_slice());
+    page.line("of 9 and 1", &told);
+    Ok(())
+}
+
+fn show_not_put(page: &mut Page, alloc: Global, cells: &mut Cells) -> Result<(), AllocError> {
+    let Numbers { nine, .. } = three_numbers(cells)?;
+    let mut slots = Slots::new(alloc, 2)?;
+    let answers = vec![in alloc; Reply::Cut, Reply::Sat(nine)]?;
+    let told = put_for_each(alloc, cells, &mut slots, answers, &[]);
+    page.line("of a Cut and 9", &told);
+    Ok(())
+}
+
+/// Answers, the first of answers, answers in an order, and what is put for each.
 pub fn show_picks(page: &mut Page, alloc: Global) -> Result<(), AllocError> {
     let mut cells = Cells::new(alloc)?;
     show_answers(page, alloc, &mut cells)?;
     show_first(page, alloc, &mut cells)?;
-    show_sorted(page, alloc, &mut cells)
+    show_sorted(page, alloc, &mut cells)?;
+    show_put(page, alloc, &mut cells)?;
+    show_not_put(page, alloc, &mut cells)
 }
