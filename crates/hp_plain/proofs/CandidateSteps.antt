@@ -1,5 +1,5 @@
 -- The children of a node by a candidate, step by step.
-use Rattle.std.proofs.Common.{◌≡◌, ℕ, ◌<◌, ◌≤◌, ℤ, Vec, List, [], ◌∷◌, length, map, get_or, Bool, true, false, Option, option_map, Some, None, refl, sym, ◌∙◌, ap, ap₂, subst, arith}
+use Rattle.std.proofs.Common.{◌≡◌, ℕ, ◌<◌, ℤ, Vec, List, [], ◌∷◌, length, map, get_or, Bool, true, false, Option, option_map, Some, None, sym, ◌∙◌, ap, ap₂, subst}
 use Rattle.std.specs.List.{All}
 use Rattle.std.specs.Prelude.{flat_map, slice_get}
 use Rattle.std.specs.Global.{Global}

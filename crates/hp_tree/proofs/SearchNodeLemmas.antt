@@ -1,5 +1,5 @@
 -- Nodes in memory stand for the same where terms are added, and their costs stay within bounds.
-use Rattle.std.proofs.Common.{◌≡◌, ℕ, ◌-◌, ◌<◌, ◌≤◌, ℤ, pos, neg_ℤ, ◌+ℤ◌, ◌≤ℤ◌, SFits, w64, to_z, of_z, List, [], ◌∷◌, ◌++◌, length, take, drop, Option, refl, sym, ◌∙◌, ap, ap₂, arith}
+use Rattle.std.proofs.Common.{◌≡◌, ℕ, ◌-◌, ◌<◌, ◌≤◌, ℤ, pos, neg_ℤ, ◌+ℤ◌, ◌≤ℤ◌, SFits, w64, to_z, of_z, List, [], ◌∷◌, ◌++◌, length, take, drop, Option, refl, ◌∙◌, ap, ap₂, arith}
 use Rattle.std.specs.Int.{w128}
 use Rattle.std.specs.List.{All}
 use Rattle.std.specs.Option.{option_and_then}
@@ -18,7 +18,7 @@ use Rattle.hp_eval.proofs.GrowthLemmas.{stays, all_below, terms_stay, grows_leng
 use Rattle.hp_net.specs.declared.entry.Entry.{Entry}
 use Rattle.hp_net.specs.declared.entry.Entry.TheVariants.{Task, List as Parts}
 use Rattle.hp_net.specs.FlatNetworks.{focused, forest, listed, first_network, network_in, place_of, EntryBelow}
-use Rattle.hp_world.specs.Stages.{AllBelow, StageBelow, live_atoms, state_of, guards_of, terms_at}
+use Rattle.hp_world.specs.Stages.{AllBelow, live_atoms, state_of, guards_of, terms_at}
 use Rattle.hp_tree.specs.SearchNodes.{HeldNode, node_of, most_cost, IsHeldNode}
 
 -- ---- the parts of a node

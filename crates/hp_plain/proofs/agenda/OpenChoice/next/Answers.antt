@@ -1,4 +1,4 @@
-use Rattle.std.proofs.Common.{◌≡◌, ◌+◌, true, false, length, arith, sym, ◌∙◌, ap₂, subst, refl, rules}
+use Rattle.std.proofs.Common.{◌≡◌, ◌+◌, true, false, length, arith, sym, ap₂, subst, refl, rules}
 use Rattle.std.specs.Prelude.{is_some, slice_get}
 use Rattle.std.proofs.lemmas.List.Elements.{All-get_or}
 use Rattle.hp_syntax.specs.Walk.{child_of}

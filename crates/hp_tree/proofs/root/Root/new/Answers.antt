@@ -1,4 +1,4 @@
-use Rattle.std.proofs.Common.{◌<◌, pos, length, [], None, ◌∙◌, ap, refl, sym, arith}
+use Rattle.std.proofs.Common.{◌<◌, length, [], None, ◌∙◌, ap, refl, arith}
 use Rattle.std.proofs.lemmas.Int.{ints}
 use Rattle.std.proofs.lemmas.List.Elements.{All-nil}
 use Rattle.hp_syntax.specs.Changes.{added}
