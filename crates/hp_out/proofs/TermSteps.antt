@@ -9,6 +9,7 @@ use Rattle.hp_cells.specs.Keys.{parts_of}
 use Rattle.hp_cells.specs.Shows.{Shows}
 use Rattle.hp_cells.specs.declared.keys.View.{View}
 use Rattle.hp_cells.specs.declared.keys.View.TheVariants.{Nil, Sym, Num, Cons}
+use Rattle.hp_eval.proofs.AttemptLemmas.{list_within}
 use Rattle.hp_eval.proofs.CellViews.{at_named, named_at}
 use Rattle.hp_eval.specs.GoalViews.{term_at}
 use Rattle.hp_out.proofs.PageSteps.{Joins}
@@ -26,10 +27,6 @@ IsShown terms cell v = (t : Term) → slice_get terms cell ≡ Some t → Shows 
 pub shown_at : (terms : List Term) (cell : ℕ) (v : View) → cell < length terms → IsShown terms cell v
     → Shows terms v (term_at terms cell)
 shown_at terms cell v h s = s (term_at terms cell) (named_at terms cell h)
-
--- the cell of a list names a term
-pub list_within : (terms : List Term) (cell : ℕ) → NamesList terms cell → cell < length terms
-list_within terms cell n = slice_get_within terms cell (Listed n.0) n.1
 
 -- the parts of a list, where it has some
 pub cons_shown : (terms : List Term) (cell head tail : ℕ) → NamesList terms cell → IsShown terms cell (Cons head tail)

@@ -4,52 +4,32 @@ use Rattle.std.specs.Prelude.{flat_map}
 use Rattle.std.specs.List.{All}
 use Rattle.std.proofs.lemmas.Bool.{ne_eqb}
 use Rattle.std.proofs.lemmas.List.{append-nil}
-use Rattle.std.proofs.lemmas.List.Elements.{All-nil, All-cons, All-append, All-head, All-tail, All-weaker, All-map}
+use Rattle.std.proofs.lemmas.List.Elements.{All-nil, All-cons, All-append, All-head, All-tail, All-weaker}
 use Rattle.hp_syntax.specs.Syntax.{Rule}
 use Rattle.hp_syntax.specs.Networks.{is_empty}
 use Rattle.hp_syntax.specs.Walk.{Node, Child, DidChild, CutChild, FaultChild, children, Did, Plan, CutHere, FaultHere, Visit, visit, numbered_children, child_visits, visits_within, visits, begins, skip}
 use Rattle.hp_net.specs.Standings.{next_below}
-use Rattle.hp_laws.proofs.JoinLemmas.{all_from}
-use Rattle.hp_laws.proofs.DepthLemmas.{child_at_depth, children_at_depth}
+use Rattle.hp_laws.proofs.DepthLemmas.{HasDepth, children_have_depth}
 use Rattle.hp_laws.proofs.VisitLemmas.{all_visits}
 use Rattle.hp_tree.specs.Successors.{Successor, ThePlan, TheChild, successors, visits_of}
 
 -- ---- the visits of a node are those of its successors
 
--- a child has this depth, where it is a node
-abbrev IsDeep : ℕ → Child → Type 0
-IsDeep k (DidChild m) = m.depth ≡ k
-IsDeep k CutChild = Unit {0}
-IsDeep k (FaultChild f) = Unit {0}
-
-is_deep : (k : ℕ) (c : Child) → IsDeep k (child_at_depth k c)
-is_deep k (DidChild m) = refl
-is_deep k CutChild = tt
-is_deep k (FaultChild f) = tt
-
 module _ (rules : List Rule) (nest : ℕ) where
-  -- each child of a node has one decomposition less
-  children_deep : (n : Node) → All (IsDeep (n.depth - 1)) (children rules nest n)
-  children_deep n =
-      subst (All (IsDeep (n.depth - 1))) (sym (children_at_depth n.depth n rules nest))
-      (All-map (IsDeep (n.depth - 1)) (child_at_depth (n.depth - 1)) (children rules nest n)
-      (all_from (λ x. IsDeep (n.depth - 1) (child_at_depth (n.depth - 1) x)) (is_deep (n.depth - 1))
-      (children rules nest n)))
-
   -- the visits of numbered children, where each has this depth
-  numbered_visits : (d i : ℕ) (n : Node) (p : List ℕ) (cs : List Child) → All (IsDeep d) cs
+  numbered_visits : (d i : ℕ) (n : Node) (p : List ℕ) (cs : List Child) → All (HasDepth d) cs
       → flat_map (child_visits (visits_within rules nest d) n p) (numbered_children i cs)
       ≡ visits_of rules nest n p i (map TheChild cs)
   unfolding visits_of visits
   numbered_visits d i n p [] h = refl
   numbered_visits d i n p (DidChild m ∷ cs) h =
-      let e : m.depth ≡ d = All-head (IsDeep d) (DidChild m) cs h in
+      let e : m.depth ≡ d = All-head (HasDepth d) (DidChild m) cs h in
       ap₂ (λ k vs. visit (p ++ i ∷ []) m Did ∷ (visits_within rules nest k m (p ++ i ∷ []) ++ vs)) (sym e)
-      (numbered_visits d (suc i) n p cs (All-tail (IsDeep d) (DidChild m) cs h))
+      (numbered_visits d (suc i) n p cs (All-tail (HasDepth d) (DidChild m) cs h))
   numbered_visits d i n p (CutChild ∷ cs) h =
-      ap (λ vs. visit p n CutHere ∷ vs) (numbered_visits d i n p cs (All-tail (IsDeep d) CutChild cs h))
+      ap (λ vs. visit p n CutHere ∷ vs) (numbered_visits d i n p cs (All-tail (HasDepth d) CutChild cs h))
   numbered_visits d i n p (FaultChild f ∷ cs) h =
-      ap (λ vs. visit p n (FaultHere f) ∷ vs) (numbered_visits d i n p cs (All-tail (IsDeep d) (FaultChild f) cs h))
+      ap (λ vs. visit p n (FaultHere f) ∷ vs) (numbered_visits d i n p cs (All-tail (HasDepth d) (FaultChild f) cs h))
 
   within_split : (d : ℕ) (n : Node) (p : List ℕ) → n.depth ≡ d
       → visits_within rules nest d n p ≡ visits_of rules nest n p 0 (successors rules nest n)
@@ -67,7 +47,7 @@ module _ (rules : List Rule) (nest : ℕ) where
   within_split (suc d) n p e =
       let z : (n.depth == 0) ≡ false = ne_eqb n.depth 0 (λ k. omega arith) in
       let one : n.depth - 1 ≡ d = omega arith in
-      let deep = subst (λ k. All (IsDeep k) (children rules nest n)) one (children_deep n) in
+      let deep = subst (λ k. All (HasDepth k) (children rules nest n)) one (children_have_depth rules nest n) in
       elim (is_empty n.network) as (λ b. cond b (visit p n Plan ∷ [])
       (flat_map (child_visits (visits_within rules nest d) n p) (numbered_children 0 (children rules nest n)))
       ≡ visits_of rules nest n p 0
