@@ -1,24 +1,24 @@
 //! What operators change and cost.
 ghost use Rattle.std.specs.Prelude.{◌≡◌, ◌≤◌, [], IfOk, map, length};
-ghost use Rattle.hp_syntax.specs.Changes.{atom_values, values_for_each, effect_values, effects_values, effects};
-ghost use Rattle.hp_syntax.specs.Values.{atom_value};
-ghost use Rattle.hp_syntax.specs.Views.{atom_of, atoms_of, effect_of, operator_of};
-ghost use Rattle.std.specs.List.{All};
+ghost use Rattle.hp_syntax.specs.Changes.{effect_values, effects_values, effects};
+ghost use Rattle.hp_syntax.specs.Preconditions.{heard};
+ghost use Rattle.hp_syntax.specs.Views.{atoms_of, effect_of, operator_of};
 ghost use Rattle.hp_eval.specs.Growth.{Grows};
 ghost use Rattle.hp_eval.specs.Slotted.{AreBelow, bindings_of};
 ghost use Rattle.hp_world.specs.Stages.{StageBelow, ChangesBelow, changes_of};
-ghost use Rattle.hp_satisfiers.specs.AnswerViews.{answer_event, answer_events, BindsBelow};
+ghost use Rattle.hp_effect.specs.Gathering.{each_going, PutsAll};
+ghost use Rattle.hp_satisfiers.specs.AnswerViews.{answer_events, AllFit};
 ghost use Rattle.hp_satisfiers.specs.Scenes.{axioms_in, stage_in, state_in};
-ghost use Rattle.hp_satisfiers.specs.EffectsOutcomes.{part_of_atoms, part_of_protections, of_atom, of_guard, only_atoms, values_at, PutsAll, GoesAll, GoesInto, ComesTo};
+ghost use Rattle.hp_satisfiers.specs.EffectsOutcomes.{GoesAll, GoesInto, ComesTo};
 
 use crate::answer::Answer;
 use crate::expressions::Scene;
-use crate::preconditions::heard;
+use crate::listed::Listed;
 use hp_cells::Cells;
-use hp_effect::{Changes, Part, cost};
-use hp_eval::{EvalStop, Slots};
+use hp_effect::{Changes, Obstacle, Side, cost, put_atom, put_each, put_protection};
+use hp_eval::Slots;
 use hp_syntax::{AtomPat, Effect, Operator, RunFault};
-use std::alloc::AllocError;
+use std::alloc::{AllocError, Global};
 
 /// What the effects of an operator come to: changes and a cost, or what stops them.
 #[derive(Drop)]
@@ -28,165 +28,26 @@ pub enum EffectsOutcome {
     Fault(RunFault),
 }
 
-// Why effects stop.
-#[derive(Drop)]
-enum Obstacle {
-    Cut,
-    Fault(RunFault),
-    NoMemory,
-}
-
-impl From<EvalStop> for Obstacle {
-    ghost use Rattle.std.specs.Prelude.{◌≡◌};
-    ghost use Rattle.hp_satisfiers.specs.EffectsOutcomes.{halt_of};
-
-    ghost from_gives = { λ stop halt. halt ≡ halt_of stop };
-
-    fn from(stop: EvalStop) -> Obstacle {
-        match stop {
-            EvalStop::Fault(fault) => Obstacle::Fault(fault),
-            EvalStop::NoMemory => Obstacle::NoMemory,
-        }
-    }
-}
-
-impl From<AllocError> for Obstacle {
-    ghost use Rattle.std.specs.Prelude.{◌≡◌};
-    ghost use Rattle.hp_satisfiers.specs.declared.effects.Obstacle.TheVariants.{NoMemory};
-
-    ghost from_gives = { λ _ halt. halt ≡ NoMemory };
-
-    fn from(_refused: AllocError) -> Obstacle {
-        Obstacle::NoMemory
-    }
-}
-
-// Of the two lists of an operator, the one that deletes or the one that adds.
-#[derive(Clone, Copy)]
-enum Side {
-    Deletes,
-    Adds,
-}
-
-impl Side {
-    // What is done with its atoms.
-    fn atoms(self) -> Part
-        ensures { result ≡ part_of_atoms self }
-    {
-        match self {
-            Side::Deletes => Part::Delete,
-            Side::Adds => Part::Add,
-        }
-    }
-
-    // What is done with its protections.
-    fn protections(self) -> Part
-        ensures { result ≡ part_of_protections self }
-    {
-        match self {
-            Side::Deletes => Part::Unguard,
-            Side::Adds => Part::Guard,
-        }
-    }
-}
-
-// Puts the value of an atom into changes.
-fn put_atom(
-    side: Side,
-    atom: &AtomPat,
-    slots: &Slots,
-    cells: &mut Cells,
-    changes: &mut Changes,
-) -> Result<(), Obstacle>
-    requires slots { AreBelow (length cells.old) slots.now }
-    requires below { ChangesBelow (length cells.old) changes.old }
-    ensures puts { PutsAll side result (of_atom (atom_value (atom_of atom.now) (bindings_of cells.old slots.now)))
-        cells.new (changes_of cells.old changes.old) changes.new }
-    ensures cells { Grows cells.old cells.new }
-{
-    changes.put(side.atoms(), atom, slots, cells)?;
-    Ok(())
-}
-
-// Puts the value of a protection's atom into changes.
-fn put_protection(
-    side: Side,
-    atom: &AtomPat,
-    slots: &Slots,
-    cells: &mut Cells,
-    changes: &mut Changes,
-) -> Result<(), Obstacle>
-    requires slots { AreBelow (length cells.old) slots.now }
-    requires below { ChangesBelow (length cells.old) changes.old }
-    ensures puts { PutsAll side result (of_guard (atom_value (atom_of atom.now) (bindings_of cells.old slots.now)))
-        cells.new (changes_of cells.old changes.old) changes.new }
-    ensures cells { Grows cells.old cells.new }
-{
-    changes.put(side.protections(), atom, slots, cells)?;
-    Ok(())
-}
-
-// Puts the values of atoms into changes.
-fn put_atoms(
+// Puts the values of atoms under each Sat that is heard of a list, in turn, into changes. A cut or a fault stops.
+fn put_listed(
+    alloc: Global,
     side: Side,
     atoms: &[AtomPat],
-    slots: &Slots,
+    found: Vec<Answer>,
+    vars: usize,
     cells: &mut Cells,
     changes: &mut Changes,
 ) -> Result<(), Obstacle>
-    requires slots { AreBelow (length cells.old) slots.now }
+    requires few { vars ≤ 256 }
+    requires fit { AllFit vars (length cells.old) found.items }
     requires below { ChangesBelow (length cells.old) changes.old }
-    ensures puts { PutsAll side result
-        (only_atoms (atom_values (atoms_of atoms.now) (bindings_of cells.old slots.now)))
+    ensures puts { PutsAll side result (each_going (atoms_of atoms.now) (heard (answer_events cells.old found.items)))
         cells.new (changes_of cells.old changes.old) changes.new }
     ensures cells { Grows cells.old cells.new }
 {
-    for atom in atoms {
-        put_atom(side, atom, slots, cells, changes)?;
-    }
-    Ok(())
-}
-
-// Puts the values of atoms under a Sat into changes. A cut or a fault stops.
-fn put_found(
-    side: Side,
-    atoms: &[AtomPat],
-    found: &Answer,
-    cells: &mut Cells,
-    changes: &mut Changes,
-) -> Result<(), Obstacle>
-    requires found { BindsBelow (length cells.old) found.now }
-    requires below { ChangesBelow (length cells.old) changes.old }
-    ensures puts { PutsAll side result (values_at (atoms_of atoms.now) (answer_event cells.old found.now))
-        cells.new (changes_of cells.old changes.old) changes.new }
-    ensures cells { Grows cells.old cells.new }
-{
-    match found {
-        Answer::Sat(slots) => put_atoms(side, atoms, slots, cells, changes),
-        Answer::Cut => Err(Obstacle::Cut),
-        Answer::Fault(fault) => Err(Obstacle::Fault(*fault)),
-    }
-}
-
-// Puts the values of atoms under each Sat in turn into changes.
-fn put_each(
-    side: Side,
-    atoms: &[AtomPat],
-    found: &[Answer],
-    cells: &mut Cells,
-    changes: &mut Changes,
-) -> Result<(), Obstacle>
-    requires found { All (BindsBelow (length cells.old)) found.now }
-    requires below { ChangesBelow (length cells.old) changes.old }
-    ensures puts { PutsAll side result
-        (only_atoms (values_for_each (atoms_of atoms.now) (answer_events cells.old found.now)))
-        cells.new (changes_of cells.old changes.old) changes.new }
-    ensures cells { Grows cells.old cells.new }
-{
-    for x in found {
-        put_found(side, atoms, x, cells, changes)?;
-    }
-    Ok(())
+    let mut slots = Slots::new(alloc, vars)?;
+    let mut sats = Listed::new(found, &slots, cells);
+    put_each(side, atoms, &mut sats, &(), &mut slots, cells, changes)
 }
 
 impl Scene<'_> {
@@ -213,8 +74,16 @@ impl Scene<'_> {
             Effect::Atom(atom) => put_atom(side, atom, slots, cells, changes),
             Effect::Protection(atom) => put_protection(side, atom, slots, cells, changes),
             Effect::Forall(_, expr, atoms) => {
-                let found = heard(self.events(expr, slots, nest, cells)?);
-                put_each(side, atoms.as_slice(), found.as_slice(), cells, changes)
+                let found = self.events(expr, slots, nest, cells)?;
+                put_listed(
+                    self.alloc,
+                    side,
+                    atoms.as_slice(),
+                    found,
+                    slots.vars(),
+                    cells,
+                    changes,
+                )
             }
         }
     }
@@ -284,7 +153,7 @@ impl Scene<'_> {
         let mut changes = Changes::new(self.alloc);
         match self.put_lists(operator, slots, nest, cells, &mut changes) {
             Ok(cost) => Ok((changes, cost)),
-            Err(halt) => Err(halt),
+            Err(obstacle) => Err(obstacle),
         }
     }
 

@@ -6,8 +6,9 @@ use Rattle.hp_eval.specs.Slotted.{bindings_of}
 use Rattle.hp_eval.proofs.GrowthLemmas.{grows_self, grows_on, below_grows}
 use Rattle.hp_world.specs.Stages.{changes_of}
 use Rattle.hp_satisfiers.specs.Scenes.{axioms_in, stage_in, state_in}
-use Rattle.hp_satisfiers.specs.EffectsOutcomes.{HasPut, StopsHere}
-use Rattle.hp_satisfiers.proofs.EffectLemmas.{list_going, along_none, along_more, along_stops, effects_left, seen_stays}
+use Rattle.hp_effect.specs.Gathering.{HasPut, StopsHere}
+use Rattle.hp_effect.proofs.GatheringLemmas.{along_none, along_more, along_stops}
+use Rattle.hp_satisfiers.proofs.EffectLemmas.{list_going, effects_left, seen_stays}
 use Rattle.hp_satisfiers.proofs.AnswerLemmas.{stage_below_grows}
 use Rattle.hp_satisfiers.proofs.expressions.Scene.put_effects.Goals as goal
 
@@ -66,9 +67,9 @@ returns-in_err-put_effect-clause-puts c =
     let x = c.effect-item.result in
     let s = state_in old scene in
     let e = bindings_of old c.args.slots.now in
-    let halt = c.in_err-put_effect.field-0.0 in
+    let obstacle = c.in_err-put_effect.field-0.0 in
     let stops =
-    subst (StopsHere halt)
+    subst (StopsHere obstacle)
     (seen_stays old now c.loop-effect.invariant.grows (stage_in scene) c.requires.world c.args.slots.now
     c.requires.slots (λ st b. effect_values axioms nest st (effect_of x) b))
     c.in_err-put_effect.ensures.puts in
@@ -76,7 +77,7 @@ returns-in_err-put_effect-clause-puts c =
     rw (p.1, p.2) (along_stops c.args.side (list_going axioms nest s e effects)
     (changes_of old c.args.changes.now) now c.loop-effect.changes (effect_values axioms nest s (effect_of x) e)
     (list_going axioms nest s e (drop i effects))
-    (list_going axioms nest s e (drop (i + 1) effects)) halt
+    (list_going axioms nest s e (drop (i + 1) effects)) obstacle
     (effects_left axioms nest s e effects i x c.loop-effect-test.true c.effect-item.is)
     c.loop-effect.invariant.along stops)
 

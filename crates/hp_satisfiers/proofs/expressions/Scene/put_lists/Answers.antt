@@ -7,8 +7,9 @@ use Rattle.hp_eval.specs.Slotted.{bindings_of}
 use Rattle.hp_eval.proofs.GrowthLemmas.{grows_on, below_grows, bindings_stay}
 use Rattle.hp_world.specs.Stages.{changes_of}
 use Rattle.hp_satisfiers.specs.Scenes.{axioms_in, stage_in, state_in}
-use Rattle.hp_satisfiers.specs.EffectsOutcomes.{halt_of, StopsHere}
-use Rattle.hp_satisfiers.proofs.EffectLemmas.{changes_stay, changes_grow, list_stays, list_going, dels_stop, adds_stop, cost_stop, cost_stops, all_go, gathered_both}
+use Rattle.hp_effect.specs.Gathering.{obstacle_of, StopsHere}
+use Rattle.hp_effect.proofs.GatheringLemmas.{changes_stay, changes_grow}
+use Rattle.hp_satisfiers.proofs.EffectLemmas.{list_stays, list_going, dels_stop, adds_stop, cost_stop, cost_stops, all_go, gathered_both}
 use Rattle.hp_satisfiers.proofs.AnswerLemmas.{stage_below_grows}
 use Rattle.hp_satisfiers.proofs.expressions.Scene.put_lists.Goals as goal
 
@@ -19,10 +20,10 @@ returns-in_err-put_effects-clause-goes c =
     let s = state_in c.args.cells.now scene in
     let o = c.args.operator.now in
     let e = bindings_of c.args.cells.now c.args.slots.now in
-    let halt = c.in_err-put_effects.field-0.0 in
+    let obstacle = c.in_err-put_effects.field-0.0 in
     let p = err_from_is_err_and c.from_residual.result c.from_residual.ensures.1 in
-    rw (p.1, p.2) (dels_stop axioms c.args.nest s o e halt
-    (subst (λ xs. StopsHere halt (list_going axioms c.args.nest s e xs)) c.as_slice-dels.ensures.value
+    rw (p.1, p.2) (dels_stop axioms c.args.nest s o e obstacle
+    (subst (λ xs. StopsHere obstacle (list_going axioms c.args.nest s e xs)) c.as_slice-dels.ensures.value
     c.in_err-put_effects.ensures.puts))
 
 pub returns-in_err-put_effects-2-clause-goes : goal.returns-in_err-put_effects-2-clause-goes
@@ -35,7 +36,7 @@ returns-in_err-put_effects-2-clause-goes c =
     let s = state_in old scene in
     let o = c.args.operator.now in
     let e = bindings_of old c.args.slots.now in
-    let halt = c.in_err-put_effects-2.field-0.0 in
+    let obstacle = c.in_err-put_effects-2.field-0.0 in
     let put = c.in_ok-put_effects.ensures.puts in
     let dels = sym (ap (list_going axioms nest s e) c.as_slice-dels.ensures.value) ∙ put.went in
     let adds =
@@ -43,8 +44,8 @@ returns-in_err-put_effects-2-clause-goes c =
     axioms nest c.as_slice-adds.result.now o.adds.items c.as_slice-adds.ensures.value in
     let p = err_from_is_err_and c.from_residual-in_err-put_effects-2.result
     c.from_residual-in_err-put_effects-2.ensures.1 in
-    rw (p.1, p.2) (adds_stop axioms nest s o e put.values dels halt
-    (subst (StopsHere halt) adds c.in_err-put_effects-2.ensures.puts))
+    rw (p.1, p.2) (adds_stop axioms nest s o e put.values dels obstacle
+    (subst (StopsHere obstacle) adds c.in_err-put_effects-2.ensures.puts))
 
 pub cost-requires : goal.cost-requires
 cost-requires c =
@@ -74,8 +75,8 @@ returns-in_err-cost-clause-goes c =
     axioms nest c.as_slice-adds.result.now o.adds.items c.as_slice-adds.ensures.value in
     let stop = c.in_err-cost.field-0.0 in
     let p = err_from_is_err_and c.from_residual-in_err-cost.result c.from_residual-in_err-cost.ensures.1 in
-    rw (p.1, p.2) (cost_stop axioms nest s o e put.values dels put2.values (sym adds ∙ put2.went) (halt_of stop)
-    (subst (λ b. StopsHere (halt_of stop) (cost_value (pattern_of o.cost) b))
+    rw (p.1, p.2) (cost_stop axioms nest s o e put.values dels put2.values (sym adds ∙ put2.went) (obstacle_of stop)
+    (subst (λ b. StopsHere (obstacle_of stop) (cost_value (pattern_of o.cost) b))
     (bindings_stay old later grows c.args.slots.now c.requires.slots)
     (cost_stops stop (cost_value (pattern_of o.cost) (bindings_of later c.args.slots.now))
     c.in_err-cost.ensures.costs)))
