@@ -160,15 +160,7 @@ fn put_for_each(
 {
     let mut changes = Changes::new(alloc);
     let mut sats = answers_of(answers, cells);
-    let put = put_each(
-        Side::Adds,
-        atoms,
-        &mut sats,
-        &7,
-        slots,
-        cells,
-        &mut changes,
-    );
+    let put = put_each(Side::Adds, atoms, &mut sats, &7, slots, cells, &mut changes);
     sats.close(slots);
     (changes.list(Part::Add).len(), put)
 }
