@@ -1,0 +1,5 @@
+pub mod EffectLemmas
+pub mod LoweredLemmas
+pub mod RuleLemmas
+pub mod SourceLemmas
+pub mod TreeLemmas

@@ -1,0 +1,4 @@
+pub mod Compiled
+pub mod Lowered
+pub mod Sources
+pub mod Trees

@@ -1,0 +1,5 @@
+//! The compiled code: what each rule is compiled to, what that reads back as, and laws that both mean the rule. The
+//! compiler itself is to come.
+#![tactic(auto)]
+
+pub mod laws;
