@@ -1,5 +1,9 @@
+pub mod CheckedLemmas
+pub mod CodeLemmas
 pub mod EffectLemmas
+pub mod ListingLemmas
 pub mod LoweredLemmas
+pub mod NodeLemmas
 pub mod RuleLemmas
 pub mod SourceLemmas
 pub mod TreeLemmas

@@ -9,7 +9,7 @@ followed NoTree us = us
 followed (More t ts) us = More t (followed ts us)
 
 -- where some nodes are left, the first tree is among the first
-within_more : (n m : ℕ) (t : Tree) (ts : Trees) → n ≡ suc m → within n (More t ts) ≡ More t (within (n - size t) ts)
+pub within_more : (n m : ℕ) (t : Tree) (ts : Trees) → n ≡ suc m → within n (More t ts) ≡ More t (within (n - size t) ts)
 unfolding within
 within_more n m t ts e = rw e refl
 
@@ -48,7 +48,7 @@ mutual
   unfolding laid all_laid trees size sizes
 
   -- a tree that is laid down reads back as itself, before what stands behind it
-  tree_back : (i : ℕ) (t : Tree) (ns : List Laid) → trees i (laid i t ++ ns) ≡ More t (trees (i + size t) ns)
+  pub tree_back : (i : ℕ) (t : Tree) (ns : List Laid) → trees i (laid i t ++ ns) ≡ More t (trees (i + size t) ns)
   tree_back i (Node op s ts) ns =
       let us = trees (suc i + sizes ts) ns in
       let e : suc i + sizes ts - suc i ≡ sizes ts = omega arith in

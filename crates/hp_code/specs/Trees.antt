@@ -1,5 +1,5 @@
 -- The compiled code: each rule as a tree of nodes, and trees laid down in one list, each node before those below it.
-use Rattle.std.specs.Prelude.{ℕ, zero, suc, ◌+◌, ◌-◌, List, [], ◌∷◌, ◌++◌, Option}
+use Rattle.std.specs.Prelude.{ℕ, zero, suc, ◌+◌, ◌-◌, List, [], ◌∷◌, ◌++◌, drop, Option, Some, None}
 use Rattle.hp_syntax.specs.declared.pattern.Span.{Span}
 use Rattle.hp_syntax.specs.Syntax.{Pattern, Atom, Key, Tasks}
 
@@ -62,6 +62,11 @@ unfoldable mutual
   all_laid i NoTree = []
   all_laid i (More t ts) = laid i t ++ all_laid (i + size t) ts
 
+-- the indices of the first nodes of trees, of which the first has this index
+abbrev pub roots : ℕ → Trees → List ℕ
+roots i NoTree = []
+roots i (More t ts) = i ∷ roots (i + size t) ts
+
 -- ---- reading back
 
 -- the first of some trees, as far as so many nodes go
@@ -81,3 +86,16 @@ unfoldable pub trees : ℕ → List Laid → Trees
 trees i [] = NoTree
 trees i (n ∷ ns) =
     More (Node n.op n.span (within (n.to - suc i) (trees (suc i) ns))) (behind (n.to - suc i) (trees (suc i) ns))
+
+-- the first of trees, if there is one
+abbrev pub first_tree : Trees → Option Tree
+first_tree NoTree = None
+first_tree (More t ts) = Some t
+
+-- the tree of the node of an index among nodes, if there is such a node
+abbrev pub tree_at : List Laid → ℕ → Option Tree
+tree_at nodes i = first_tree (trees i (drop i nodes))
+
+-- the trees from the node of one index up to another
+abbrev pub trees_between : List Laid → ℕ → ℕ → Trees
+trees_between nodes i to = within (to - i) (trees i (drop i nodes))

@@ -1,17 +1,25 @@
 //! Laws of rules as they are compiled.
 //!
 //! Each function does nothing, and its contract is the law.
-ghost use Rattle.std.specs.Prelude.{◌≡◌, ℕ, List, Some, map};
-ghost use Rattle.hp_syntax.specs.Syntax.{Axiom, Expression, Operator, Pair, Precondition, Rule};
+ghost use Rattle.std.specs.Prelude.{◌≡◌, ◌≤◌, ℕ, suc, List, None, Some, map, slice_get};
+ghost use Rattle.std.specs.List.{All, flat_map};
+ghost use Rattle.hp_syntax.specs.Syntax.{Axiom, Concludes, Expression, Operator, Pair, Precondition, Rule};
 ghost use Rattle.hp_syntax.specs.Changes.{effects};
+ghost use Rattle.hp_syntax.specs.Checks.{first_of, rule_faults};
 ghost use Rattle.hp_syntax.specs.Events.{State, sat};
+ghost use Rattle.hp_syntax.specs.Networks.{Place};
+ghost use Rattle.hp_syntax.specs.Numbered.{IsNumberedRule};
 ghost use Rattle.hp_syntax.specs.Preconditions.{precondition_events};
+ghost use Rattle.hp_syntax.specs.Terms.{Term};
 ghost use Rattle.hp_syntax.specs.Values.{Bindings};
-ghost use Rattle.hp_syntax.specs.Walk.{Node, children, node_at, visits, walk};
+ghost use Rattle.hp_syntax.specs.Walk.{Node, children, node_at, rule_children, visits, walk};
+ghost use Rattle.hp_laws.specs.RulesByName.{concluding, relevant, task_name};
+ghost use Rattle.hp_code.specs.CodeViews.{CodeView, IsCode, IsCodeOf, beside, rule_nodes, rules_of, vars_at};
 ghost use Rattle.hp_code.specs.Compiled.{rule_trees, vars_of};
 ghost use Rattle.hp_code.specs.Lowered.{lowered, lowered_axiom, lowered_operator, lowered_precondition, lowered_rules};
 ghost use Rattle.hp_code.specs.Sources.{rules_read};
-ghost use Rattle.hp_code.specs.Trees.{Trees, all_laid, trees};
+ghost use Rattle.hp_code.specs.Trees as trees;
+ghost use Rattle.hp_code.specs.Trees.{Laid, Tree, Trees, all_laid, tree_at, trees_between};
 
 /// Looking for the satisfiers of a lowered expression or precondition under lowered axioms meets what it meets for the
 /// expression or precondition itself, and a lowered operator changes and costs what the operator does.
@@ -41,7 +49,51 @@ pub fn lowered_rules_have_the_tree()
 /// Trees that are laid down in one list of nodes read back from it as themselves, and the trees of rules read back as
 /// the lowered rules.
 pub fn compiled_rules_read_back()
-    ensures nodes { (i : ℕ) (ts : Trees) → trees i (all_laid i ts) ≡ ts }
+    ensures nodes { (i : ℕ) (ts : Trees) → trees.trees i (all_laid i ts) ≡ ts }
     ensures rules { (rules : List Rule) → rules_read (map vars_of rules) (rule_trees rules)
         ≡ Some (lowered_rules rules) }
+{}
+
+/// Lowered rules are numbered where the rules are, and the checks find in them what they find in the rules.
+pub fn lowered_rules_are_checked_alike()
+    ensures faults { (rules : List Rule)
+        → flat_map rule_faults (lowered_rules rules) ≡ flat_map rule_faults rules }
+    ensures numbered { (rules : List Rule) → All IsNumberedRule rules → All IsNumberedRule (lowered_rules rules) }
+{}
+
+/// What numbered rules are compiled to, in which the checks find nothing, is a code, which reads back as the lowered
+/// rules.
+pub fn compiled_rules_are_a_code()
+    ensures reads { (rules : List Rule) (c : CodeView) → IsCodeOf rules c
+        → rules_of c ≡ Some (lowered_rules rules) }
+    ensures keeps { (rules : List Rule) (c : CodeView) → IsCodeOf rules c → All IsNumberedRule rules
+        → first_of (flat_map rule_faults rules) ≡ None → IsCode c }
+{}
+
+/// A node of a code reads back as what it does, over the trees that stand between it and the index that it holds; and
+/// trees between two indices are that of the first node, and those from the index that it holds on. So what a node
+/// means is said by what the nodes below it mean.
+pub fn nodes_read_back_over_those_below()
+    ensures node { (c : CodeView) → IsCode c → (i : ℕ) (n : Laid) → slice_get c.nodes i ≡ Some n
+        → tree_at c.nodes i ≡ Some (trees.Node n.op n.span (trees_between c.nodes (suc i) n.to)) }
+    ensures none { (c : CodeView) → IsCode c → (i : ℕ) → trees_between c.nodes i i ≡ trees.NoTree }
+    ensures first { (c : CodeView) → IsCode c → (i to : ℕ) (n : Laid) → slice_get c.nodes i ≡ Some n → n.to ≤ to
+        → (t : Tree) → tree_at c.nodes i ≡ Some t
+        → trees_between c.nodes i to ≡ trees.More t (trees_between c.nodes n.to to) }
+{}
+
+/// By the name of a task a code's table finds the rules that are relevant to it, which give a node all its children by
+/// the task, and by that of a goal the axioms that conclude it. A rule's node finds the names of its variables.
+pub fn codes_find_their_rules()
+    ensures tasks { (c : CodeView) (code : IsCode c) (name : List ℕ)
+        → map (λ i. beside i (rule_nodes c) code.rules) (c.task_rules name)
+        ≡ map Some (relevant (Some name) code.rules) }
+    ensures axioms { (c : CodeView) (code : IsCode c) (name : List ℕ)
+        → map (λ i. beside i (rule_nodes c) code.rules) (c.axiom_rules name)
+        ≡ map Some (map Concludes (concluding name code.rules)) }
+    ensures children { (rules : List Rule) (nest : ℕ) (n : Node) (p : Place) (t : Term)
+        → flat_map (rule_children rules nest n p t) (relevant (task_name t) rules)
+        ≡ flat_map (rule_children rules nest n p t) rules }
+    ensures vars { (c : CodeView) (code : IsCode c) (i : ℕ) (r : Rule)
+        → beside i (rule_nodes c) code.rules ≡ Some r → vars_at c i ≡ vars_of r }
 {}

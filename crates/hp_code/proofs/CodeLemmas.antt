@@ -1,0 +1,255 @@
+-- What rules are compiled to is a code, and a code's tables find its rules.
+use Rattle.std.proofs.Common.{◌≡◌, ℕ, suc, ◌+◌, ◌<◌, ◌≤◌, ◌==◌, Bool, true, false, cond, List, [], ◌∷◌, ◌++◌, map, length, Option, Some, None, refl, ap, ap₂, sym, ◌∙◌, arith}
+use Rattle.std.specs.Prelude.{filter, flat_map}
+use Rattle.std.specs.List.{All}
+use Rattle.hp_syntax.specs.Syntax.{Rule, Does, Refines, Concludes}
+use Rattle.hp_syntax.specs.Numbered.{IsNumberedRule}
+use Rattle.hp_syntax.specs.Checks.{first_of, rule_faults}
+use Rattle.hp_laws.specs.RulesByName.{is_name, axiom_head, relevant, concluding}
+use Rattle.hp_tables.specs.declared.Kind.{Kind}
+use Rattle.hp_tables.specs.declared.Kind.TheVariants as kinds
+use Rattle.hp_tables.specs.Tables.{name_as, places_of}
+use Rattle.hp_code.specs.CodeViews.{CodeView, IsCodeOf, IsCode, beside, or_empty, rule_nodes, rules_of, vars_at}
+use Rattle.hp_code.specs.Compiled.{rule_trees, vars_of}
+use Rattle.hp_code.specs.Lowered.{lowered_rule, lowered_rules}
+use Rattle.hp_code.specs.Sources.{made_of, rule_read, rules_read, Body, branches_read, clauses_read, body_read, precondition_read}
+use Rattle.hp_code.specs.Trees.{Tree, Trees, Node, NoTree, More, OperatorOf, MethodOf, AxiomOf, size, roots, trees, all_laid}
+use Rattle.hp_code.proofs.CheckedLemmas.{rules_checked, rules_numbered}
+use Rattle.hp_code.proofs.SourceLemmas.{rules_back}
+use Rattle.hp_code.proofs.TreeLemmas.{laid_back}
+
+-- ---- rules of a name
+
+-- a lowered rule has the name of the rule
+name_lowered : (kind : Kind) (r : Rule) → name_as kind (lowered_rule r) ≡ name_as kind r
+name_lowered kinds.Task (Does o) = refl
+name_lowered kinds.Task (Refines m) = refl
+name_lowered kinds.Task (Concludes x) = refl
+name_lowered kinds.Axiom (Does o) = refl
+name_lowered kinds.Axiom (Refines m) = refl
+name_lowered kinds.Axiom (Concludes x) = refl
+
+-- lowered rules have the places of the rules under each name
+places_lowered : (kind : Kind) (name : List ℕ) (is : List ℕ) (rs : List Rule)
+    → places_of kind name is (lowered_rules rs) ≡ places_of kind name is rs
+places_lowered kind name [] rs = refl
+places_lowered kind name (i ∷ is) [] = refl
+places_lowered kind name (i ∷ is) (r ∷ rs) =
+    ap (λ o. cond (is_name name o) (i ∷ places_of kind name is (lowered_rules rs))
+    (places_of kind name is (lowered_rules rs))) (name_lowered kind r)
+    ∙ ap (λ js. cond (is_name name (name_as kind r)) (i ∷ js) js) (places_lowered kind name is rs)
+
+module _ (rules : List Rule) (c : CodeView) (of : IsCodeOf rules c) where
+  -- the nodes of a code of rules read back as the trees of the rules
+  code_trees : trees 0 c.nodes ≡ rule_trees rules
+  code_trees = ap (trees 0) of.nodes ∙ laid_back 0 (rule_trees rules)
+
+  -- and as the rules, lowered
+  pub code_reads : rules_of c ≡ Some (lowered_rules rules)
+  code_reads = ap₂ rules_read of.vars code_trees ∙ rules_back rules
+
+  -- where its rules are numbered and the checks find nothing in them, a code of rules keeps what a code keeps
+  pub code_keeps : All IsNumberedRule rules → first_of (flat_map rule_faults rules) ≡ None → IsCode c
+  code_keeps numbered faultless = record {
+    rules = lowered_rules rules;
+    read = code_reads;
+    laid = of.nodes ∙ ap (all_laid 0) (sym code_trees);
+    numbered = rules_numbered rules numbered;
+    faultless = ap first_of (rules_checked rules) ∙ faultless;
+    task_rules =
+        λ name.
+        of.task_rules name ∙ sym (places_lowered kinds.Task name (roots 0 (rule_trees rules)) rules)
+        ∙ ap (λ ts. places_of kinds.Task name (roots 0 ts) (lowered_rules rules)) (sym code_trees);
+    axiom_rules =
+        λ name.
+        of.axiom_rules name ∙ sym (places_lowered kinds.Axiom name (roots 0 (rule_trees rules)) rules)
+        ∙ ap (λ ts. places_of kinds.Axiom name (roots 0 ts) (lowered_rules rules)) (sym code_trees);
+  }
+
+-- ---- places that ascend
+
+-- numbers ascend, the first of them not below this one
+abbrev pub AscendFrom : ℕ → List ℕ → Type 0
+AscendFrom k [] = Unit {0}
+AscendFrom k (n ∷ ns) = (k ≤ n) × AscendFrom (suc n) ns
+
+-- numbers that ascend from one ascend from each smaller one
+ascend_lower : (j k : ℕ) (ns : List ℕ) → j ≤ k → AscendFrom k ns → AscendFrom j ns
+ascend_lower j k [] l a = tt
+ascend_lower j k (n ∷ ns) l a = (omega (arith, l, a.0), a.1)
+
+-- a tree has a node
+positive : (t : Tree) → 1 ≤ size t
+unfolding size
+positive (Node op s ts) = omega arith
+
+-- the indices of the first nodes of trees ascend
+pub roots_ascend : (i : ℕ) (ts : Trees) → AscendFrom i (roots i ts)
+roots_ascend i NoTree = tt
+roots_ascend i (More t ts) =
+    let more : suc i ≤ i + size t = omega (arith, positive t) in
+    (omega arith, ascend_lower (suc i) (i + size t) (roots (i + size t) ts) more (roots_ascend (i + size t) ts))
+
+-- all numbers that ascend from one are at least that
+ascend_above : (k : ℕ) (ns : List ℕ) → AscendFrom k ns → All (λ i. k ≤ i) ns
+ascend_above k [] a = tt
+ascend_above k (n ∷ ns) a = (a.0, later ns (ascend_above (suc n) ns a.1))
+  where
+    later : (ms : List ℕ) → All (λ i. suc n ≤ i) ms → All (λ i. k ≤ i) ms
+    later [] h = tt
+    later (m ∷ ms) h = (omega (arith, h.0, a.0), later ms h.1)
+
+-- what is true of all places is true of those under a name
+places_all : (P : ℕ → Type 0) (kind : Kind) (name : List ℕ) (is : List ℕ) (rs : List Rule) → All P is
+    → All P (places_of kind name is rs)
+places_all P kind name [] rs a = tt
+places_all P kind name (i ∷ is) [] a = tt
+places_all P kind name (i ∷ is) (r ∷ rs) a =
+    either (is_name name (name_as kind r)) (places_all P kind name is rs a.1)
+  where
+    either : (b : Bool) → All P (places_of kind name is rs)
+        → All P (cond b (i ∷ places_of kind name is rs) (places_of kind name is rs))
+    either true h = (a.0, h)
+    either false h = h
+
+-- equal numbers are found equal
+same_index : (n : ℕ) → (n == n) ≡ true
+same_index n = cc
+
+module _ {A : Type 0} (n : ℕ) (ns : List ℕ) (x : A) (xs : List A) where
+  -- beside the first of places stands the first of the things
+  beside_first : beside n (n ∷ ns) (x ∷ xs) ≡ Some x
+  beside_first = ap (λ b. cond b (Some x) (beside n ns xs)) (same_index n)
+
+  -- and beside a greater one what stands beside it among the others
+  beside_later : (i : ℕ) → suc n ≤ i → beside i (n ∷ ns) (x ∷ xs) ≡ beside i ns xs
+  beside_later i l = ap (λ b. cond b (Some x) (beside i ns xs)) differs
+    where
+      differs : (n == i) ≡ false
+      differs = cc
+
+  -- so it does at many
+  all_later : (is : List ℕ) → All (λ i. suc n ≤ i) is
+      → map (λ i. beside i (n ∷ ns) (x ∷ xs)) is ≡ map (λ i. beside i ns xs) is
+  all_later [] a = refl
+  all_later (i ∷ is) a = ap₂ ◌∷◌ (beside_later i a.0) (all_later is a.1)
+
+-- ---- finding rules
+
+-- as many places as rules
+abbrev AreAsMany : List ℕ → List Rule → Type 0
+AreAsMany is rs = length is ≡ length rs
+
+-- at the places under a name, where places ascend, stand the rules that have it
+found : (kind : Kind) (name : List ℕ) (k : ℕ) (is : List ℕ) (rs : List Rule) → AscendFrom k is → AreAsMany is rs
+    → map (λ i. beside i is rs) (places_of kind name is rs)
+    ≡ map Some (filter (λ r. is_name name (name_as kind r)) rs)
+found kind name k [] [] a m = refl
+found kind name k [] (r ∷ rs) a m = absurd (omega (arith, m))
+found kind name k (i ∷ is) [] a m = refl
+found kind name k (i ∷ is) (r ∷ rs) a m =
+    either (is_name name (name_as kind r))
+  where
+    places : List ℕ
+    places = places_of kind name is rs
+
+    later : map (λ j. beside j (i ∷ is) (r ∷ rs)) places ≡ map Some (filter (λ q. is_name name (name_as kind q)) rs)
+    later =
+        all_later i is r rs places (places_all (λ j. suc i ≤ j) kind name is rs (ascend_above (suc i) is a.1))
+        ∙ found kind name (suc i) is rs a.1 (omega (arith, m))
+
+    either : (b : Bool) → map (λ j. beside j (i ∷ is) (r ∷ rs)) (cond b (i ∷ places) places)
+        ≡ map Some (cond b (r ∷ filter (λ q. is_name name (name_as kind q)) rs)
+        (filter (λ q. is_name name (name_as kind q)) rs))
+    either true = ap₂ ◌∷◌ (beside_first i is r rs) later
+    either false = later
+
+-- ---- what is read
+
+-- what is made of two things that are there
+record Made {A B C : Type 0} (f : A → B → C) (x : Option A) (y : Option B) (z : C) : Type 0 where
+  first : A
+  second : B
+  is_first : x ≡ Some first
+  is_second : y ≡ Some second
+  is : z ≡ f first second
+
+-- where something is made of two things, both are there
+made : {A B C : Type 0} (f : A → B → C) (x : Option A) (y : Option B) (z : C) → made_of f x y ≡ Some z → Made f x y z
+made f None y z e = absurd cc
+made f (Some a) None z e = absurd cc
+made f (Some a) (Some b) z e = record { first = a; second = b; is_first = refl; is_second = refl; is = cc }
+
+-- as many rules are read as there are trees
+read_many : (i : ℕ) (all : List (List (List ℕ))) (ts : Trees) (rules : List Rule) → rules_read all ts ≡ Some rules
+    → AreAsMany (roots i ts) rules
+read_many i [] NoTree [] e = refl
+read_many i [] NoTree (r ∷ rs) e = absurd cc
+read_many i [] (More t ts) rules e = absurd cc
+read_many i (vars ∷ all) NoTree rules e = absurd cc
+read_many i (vars ∷ all) (More t ts) rules e =
+    let m = made (λ r rs. r ∷ rs) (rule_read vars t) (rules_read all ts) rules e in
+    ap suc (read_many (i + size t) all ts m.second m.is_second) ∙ sym (ap length m.is)
+
+-- filtering for axioms gives those that conclude a name
+axioms_filtered : (name : List ℕ) (rs : List Rule)
+    → filter (λ r. is_name name (axiom_head r)) rs ≡ map Concludes (concluding name rs)
+axioms_filtered name [] = refl
+axioms_filtered name (Does o ∷ rs) = axioms_filtered name rs
+axioms_filtered name (Refines m ∷ rs) = axioms_filtered name rs
+axioms_filtered name (Concludes x ∷ rs) = either (is_name name (axiom_head (Concludes x)))
+  where
+    either : (b : Bool) → cond b (Concludes x ∷ filter (λ r. is_name name (axiom_head r)) rs)
+        (filter (λ r. is_name name (axiom_head r)) rs)
+        ≡ map Concludes (cond b (x ∷ concluding name rs) (concluding name rs))
+    either true = ap (λ ys. Concludes x ∷ ys) (axioms_filtered name rs)
+    either false = axioms_filtered name rs
+
+module _ (c : CodeView) (is : IsCode c) (name : List ℕ) where
+  -- at the nodes that a code has for a name stand the rules that are relevant to tasks of that name
+  pub tasks_found : map (λ i. beside i (rule_nodes c) is.rules) (c.task_rules name)
+      ≡ map Some (relevant (Some name) is.rules)
+  tasks_found =
+      ap (map (λ i. beside i (rule_nodes c) is.rules)) (is.task_rules name)
+      ∙ found kinds.Task name 0 (rule_nodes c) is.rules (roots_ascend 0 (trees 0 c.nodes))
+      (read_many 0 c.vars (trees 0 c.nodes) is.rules is.read)
+
+  -- and the axioms that conclude it
+  pub axioms_found : map (λ i. beside i (rule_nodes c) is.rules) (c.axiom_rules name)
+      ≡ map Some (map Concludes (concluding name is.rules))
+  axioms_found =
+      ap (map (λ i. beside i (rule_nodes c) is.rules)) (is.axiom_rules name)
+      ∙ found kinds.Axiom name 0 (rule_nodes c) is.rules (roots_ascend 0 (trees 0 c.nodes))
+      (read_many 0 c.vars (trees 0 c.nodes) is.rules is.read)
+      ∙ ap (map Some) (axioms_filtered name is.rules)
+
+-- ---- names of variables
+
+-- a rule that is read has the names that it was read with
+read_vars : (vars : List (List ℕ)) (t : Tree) (r : Rule) → rule_read vars t ≡ Some r → vars_of r ≡ vars
+read_vars vars t r e = cc
+
+module _ (i : ℕ) (r : Rule) where
+  -- beside the node of a rule stand the names of its variables
+  vars_beside : (k : ℕ) (all : List (List (List ℕ))) (ts : Trees) (rules : List Rule) → rules_read all ts ≡ Some rules
+      → beside i (roots k ts) rules ≡ Some r → beside i (roots k ts) all ≡ Some (vars_of r)
+  vars_beside k [] NoTree rules e h = absurd cc
+  vars_beside k [] (More t ts) rules e h = absurd cc
+  vars_beside k (vars ∷ all) NoTree rules e h = absurd cc
+  vars_beside k (vars ∷ all) (More t ts) rules e h =
+      let m = made (λ q qs. q ∷ qs) (rule_read vars t) (rules_read all ts) rules e in
+      here (k == i) m.first (read_vars vars t m.first m.is_first) m.second
+      (vars_beside (k + size t) all ts m.second m.is_second)
+      (sym (ap (beside i (k ∷ roots (k + size t) ts)) m.is) ∙ h)
+    where
+      here : (b : Bool) (q : Rule) → vars_of q ≡ vars → (qs : List Rule)
+          → (beside i (roots (k + size t) ts) qs ≡ Some r → beside i (roots (k + size t) ts) all ≡ Some (vars_of r))
+          → cond b (Some q) (beside i (roots (k + size t) ts) qs) ≡ Some r
+          → cond b (Some vars) (beside i (roots (k + size t) ts) all) ≡ Some (vars_of r)
+      here true q v qs later g = cc
+      here false q v qs later g = later g
+
+-- the names at the node of a rule are those of the rule's variables
+pub vars_found : (c : CodeView) (is : IsCode c) (i : ℕ) (r : Rule) → beside i (rule_nodes c) is.rules ≡ Some r
+    → vars_at c i ≡ vars_of r
+vars_found c is i r e = ap or_empty (vars_beside i r 0 c.vars (trees 0 c.nodes) is.rules is.read e)

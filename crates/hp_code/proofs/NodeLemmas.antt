@@ -1,0 +1,175 @@
+-- What each node of trees that are laid down reads back as, by what is below it.
+use Rattle.std.proofs.Common.{◌≡◌, ℕ, zero, suc, ◌+◌, ◌-◌, ◌<◌, ◌≤◌, List, [], ◌∷◌, ◌++◌, length, drop, slice_get, Option, Some, None, inl, inr, refl, ap, sym, ◌∙◌, arith}
+use Rattle.std.proofs.lemmas.List.{append_assoc, append-nil, length-append}
+use Rattle.std.proofs.lemmas.Option.{slice_get_cases, slice_get_within}
+use Rattle.std.proofs.Math.Seq.{drop-append-add}
+use Rattle.hp_code.specs.Trees.{Laid, Tree, Trees, Node, NoTree, More, size, sizes, laid, all_laid, within, behind, trees, first_tree, tree_at, trees_between}
+use Rattle.hp_code.proofs.TreeLemmas.{tree_back, within_more}
+
+-- ---- what stands at an index
+
+-- what is left of a list from an index on begins with what stands there
+drop_there : {X : Type 0} (xs : List X) (i : ℕ) (x : X) → slice_get xs i ≡ Some x → drop i xs ≡ x ∷ drop (suc i) xs
+drop_there [] i x e = absurd cc
+drop_there (y ∷ ys) zero x e = ap (λ z. z ∷ ys) cc
+drop_there (y ∷ ys) (suc i) x e = drop_there ys i x e
+
+-- a node reads back with those that stand between it and where those below it end
+pub node_there : (nodes : List Laid) (i : ℕ) (n : Laid) → slice_get nodes i ≡ Some n
+    → tree_at nodes i ≡ Some (Node n.op n.span (trees_between nodes (suc i) n.to))
+unfolding trees
+node_there nodes i n e = ap (λ ns. first_tree (trees i ns)) (drop_there nodes i n e)
+
+-- between an index and itself is none
+pub none_between : (nodes : List Laid) (i : ℕ) → trees_between nodes i i ≡ NoTree
+none_between nodes i =
+    let e : i - i ≡ zero = omega arith in
+    ap (λ n. within n (trees i (drop i nodes))) e ∙ nothing (trees i (drop i nodes))
+  where
+    nothing : (ts : Trees) → within zero ts ≡ NoTree
+    unfolding within
+    nothing NoTree = refl
+    nothing (More t ts) = refl
+
+-- ---- trees that are laid down
+
+-- nodes begin with those of a tree, of which the first has this index
+record BeginsTree (i : ℕ) (ns : List Laid) : Type 0 where
+  tree : Tree
+  rest : List Laid
+  is : ns ≡ laid i tree ++ rest
+
+mutual
+  unfolding laid all_laid size sizes
+
+  -- a tree has as many nodes as it says
+  pub length-laid : (i : ℕ) (t : Tree) → length (laid i t) ≡ size t
+  length-laid i (Node op s ts) = ap suc (length-all_laid (suc i) ts)
+
+  -- so have trees
+  pub length-all_laid : (i : ℕ) (ts : Trees) → length (all_laid i ts) ≡ sizes ts
+  length-all_laid i NoTree = refl
+  length-all_laid i (More t ts) =
+      length-append (laid i t) (all_laid (i + size t) ts)
+      ∙ ap (λ n. n + length (all_laid (i + size t) ts)) (length-laid i t)
+      ∙ ap (λ n. size t + n) (length-all_laid (i + size t) ts)
+
+-- the same nodes begin with a tree
+begins_alike : (i : ℕ) (ms ns : List Laid) → ms ≡ ns → BeginsTree i ns → BeginsTree i ms
+begins_alike i ms ns e b = record { tree = b.tree; rest = b.rest; is = e ∙ b.is }
+
+mutual
+  unfolding laid all_laid size sizes
+
+  -- from each node of a tree on stands the tree of that node
+  tree_begins : (k i m : ℕ) (t : Tree) (ns : List Laid) → i ≡ k + m → m < size t
+      → BeginsTree i (drop m (laid k t ++ ns))
+  tree_begins k i zero t ns e l =
+      let same : k ≡ i = omega arith in
+      record { tree = t; rest = ns; is = ap (λ j. laid j t ++ ns) same }
+  tree_begins k i (suc m) (Node op s ts) ns e l =
+      trees_begin (suc k) i m ts ns (omega arith) (omega arith)
+
+  -- so it does from each node of trees
+  pub trees_begin : (k i m : ℕ) (ts : Trees) (ns : List Laid) → i ≡ k + m → m < sizes ts
+      → BeginsTree i (drop m (all_laid k ts ++ ns))
+  trees_begin k i m NoTree ns e l = absurd (omega arith)
+  trees_begin k i m (More t ts) ns e l =
+      let later = all_laid (k + size t) ts ++ ns in
+      let whole = append_assoc (laid k t) (all_laid (k + size t) ts) ns in
+      let long = length-laid k t in
+      begins_alike i (drop m ((laid k t ++ all_laid (k + size t) ts) ++ ns)) (drop m (laid k t ++ later))
+      (ap (drop m) whole)
+      (elim ((slice_get_cases (laid k t) m).1) [
+        | inl w ↦ tree_begins k i m t later e (omega (arith, w.1.0, long))
+        | inr w ↦
+            let n = m - length (laid k t) in
+            let past : m ≡ length (laid k t) + n = omega (arith, w.0) in
+            begins_alike i (drop m (laid k t ++ later)) (drop n later)
+            (ap (λ j. drop j (laid k t ++ later)) past ∙ drop-append-add (laid k t) later n)
+            (trees_begin (k + size t) i n ts ns (omega (arith, w.0, long)) (omega (arith, w.0, long)))
+      ])
+
+-- the trees from an index on are the node's own, and those from where the nodes below it end
+record ReadsFrom (nodes : List Laid) (i to : ℕ) : Type 0 where
+  tree : Tree
+  ends : i + size tree ≡ to
+  is : trees i (drop i nodes) ≡ More tree (trees to (drop to nodes))
+
+-- the head of a list that is known in two ways
+head_same : {X : Type 0} (x y : X) (xs ys : List X) → x ∷ xs ≡ y ∷ ys → x ≡ y
+head_same x y xs ys e = cc
+
+-- where nodes begin with a tree, the first of them says where the tree ends
+first_ends : (i : ℕ) (t : Tree) (n : Laid) (ms ns : List Laid) → n ∷ ms ≡ laid i t ++ ns → i + size t ≡ n.to
+unfolding laid size
+first_ends i (Node op s ts) n ms ns e =
+    let own : Laid = record { op = op; to = suc i + sizes ts; span = s } in
+    let same = head_same n own ms (all_laid (suc i) ts ++ ns) e in
+    let ends : i + suc (sizes ts) ≡ suc i + sizes ts = omega arith in
+    ends ∙ sym (ap (λ l. l.to) same)
+
+-- each node of trees that are laid down reads back before what stands where the nodes below it end
+reads_from : (ts : Trees) (nodes : List Laid) → nodes ≡ all_laid 0 ts → (i : ℕ) (n : Laid)
+    → slice_get nodes i ≡ Some n → ReadsFrom nodes i n.to
+reads_from ts nodes laid_down i n e =
+    let inside : i < sizes ts =
+        omega (arith, slice_get_within nodes i n e, ap length laid_down, length-all_laid 0 ts) in
+    let b = trees_begin 0 i i ts [] (omega arith) inside in
+    let here : drop i nodes ≡ laid i b.tree ++ b.rest =
+        ap (drop i) (laid_down ∙ sym (append-nil (all_laid 0 ts))) ∙ b.is in
+    let ends = first_ends i b.tree n (drop (suc i) nodes) b.rest (sym (drop_there nodes i n e) ∙ here) in
+    let rest : drop n.to nodes ≡ b.rest = behind_tree nodes i n.to b.tree b.rest here ends in
+    record {
+      tree = b.tree;
+      ends = ends;
+      is =
+          ap (trees i) here ∙ tree_back i b.tree b.rest
+          ∙ ap (λ j. More b.tree (trees j b.rest)) ends
+          ∙ ap (λ ns. More b.tree (trees n.to ns)) (sym rest);
+    }
+  where
+    behind_tree : (nodes : List Laid) (i to : ℕ) (t : Tree) (rest : List Laid) → drop i nodes ≡ laid i t ++ rest
+        → i + size t ≡ to → drop to nodes ≡ rest
+    behind_tree nodes i to t rest e ends =
+        let far : to ≡ i + length (laid i t) = omega (arith, ends, length-laid i t) in
+        ap (λ j. drop j nodes) far ∙ sym (drop_twice i (length (laid i t)) nodes)
+        ∙ ap (drop (length (laid i t))) e ∙ past (laid i t) rest
+      where
+        drop_twice : {X : Type 0} (i j : ℕ) (xs : List X) → drop j (drop i xs) ≡ drop (i + j) xs
+        drop_twice zero j xs = refl
+        drop_twice (suc i) j [] = none j
+          where
+            none : {X : Type 0} (j : ℕ) → drop {A = X} j [] ≡ []
+            none zero = refl
+            none (suc j) = refl
+        drop_twice (suc i) j (x ∷ xs) = drop_twice i j xs
+
+        past : {X : Type 0} (xs ys : List X) → drop (length xs) (xs ++ ys) ≡ ys
+        past [] ys = refl
+        past (x ∷ xs) ys = past xs ys
+
+-- of the trees between two indices the first is that of the first node, and the others begin where that ends
+pub first_between : (ts : Trees) (nodes : List Laid) → nodes ≡ all_laid 0 ts → (i to : ℕ) (n : Laid)
+    → slice_get nodes i ≡ Some n → n.to ≤ to → (t : Tree) → tree_at nodes i ≡ Some t
+    → trees_between nodes i to ≡ More t (trees_between nodes n.to to)
+unfolding size
+first_between ts nodes laid_down i to n e l t at =
+    from (reads_from ts nodes laid_down i n e)
+  where
+    from : ReadsFrom nodes i n.to → trees_between nodes i to ≡ More t (trees_between nodes n.to to)
+    from r =
+        let own : r.tree ≡ t = some_same r.tree t (sym (ap first_tree r.is) ∙ at) in
+        let some : to - i ≡ suc (to - i - 1) = omega (arith, l, r.ends, positive r.tree) in
+        let left : to - i - size r.tree ≡ to - n.to = omega (arith, r.ends) in
+        ap (within (to - i)) r.is
+        ∙ within_more (to - i) (to - i - 1) r.tree (trees n.to (drop n.to nodes)) some
+        ∙ ap (λ k. More r.tree (within k (trees n.to (drop n.to nodes)))) left
+        ∙ ap (λ u. More u (trees_between nodes n.to to)) own
+      where
+        some_same : {X : Type 0} (x y : X) → Some x ≡ Some y → x ≡ y
+        some_same x y e = cc
+
+        positive : (t : Tree) → 1 ≤ size t
+        unfolding size
+        positive (Node op s ts) = omega arith
