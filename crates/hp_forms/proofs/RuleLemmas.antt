@@ -132,41 +132,41 @@ clauses-turn end (Grow n rest) names = first_clause end n rest names (begins_nam
 
 -- one more branch is read
 pub turn_read : {X A : Type 0} (view : X → A) (one : Parse (A × Forest)) (later : Forest → Parse (List A)) (g : Forest)
-    (front : List X) (x : X) (before after : Names) (all whole : Result (List A × Names) Misform)
-    → all ≡ prepend (map view front) whole
+    (prefix : List X) (x : X) (before after : Names) (all whole : Result (List A × Names) Misform)
+    → all ≡ prepend (map view prefix) whole
     → whole ≡ and_then (one before) (λ y. later y.1 >>= (λ others. pure (y.0 ∷ others)))
-    → one before ≡ Ok ((view x, g), after) → all ≡ prepend (map view (front ++ x ∷ [])) (later g after)
-turn_read view one later g front x before after all whole e turn r =
-    e ∙ ap (prepend (map view front)) (turn
+    → one before ≡ Ok ((view x, g), after) → all ≡ prepend (map view (prefix ++ x ∷ [])) (later g after)
+turn_read view one later g prefix x before after all whole e turn r =
+    e ∙ ap (prepend (map view prefix)) (turn
     ∙ ap (λ o. and_then o (λ y. later y.1 >>= (λ others. pure (y.0 ∷ others)))) r)
-    ∙ prepend_more (map view front) (view x) (later g after)
-    ∙ ap (λ xs. prepend xs (later g after)) (sym (map-append view front (x ∷ [])))
+    ∙ prepend_more (map view prefix) (view x) (later g after)
+    ∙ ap (λ xs. prepend xs (later g after)) (sym (map-append view prefix (x ∷ [])))
 
 -- a branch that is refused refuses all
 pub turn_refused : {A : Type 0} (why : FormRefusal) (one : Parse (A × Forest)) (later : Forest → Parse (List A))
-    (front : List A) (before : Names) (all whole : Result (List A × Names) Misform) → all ≡ prepend front whole
+    (prefix : List A) (before : Names) (all whole : Result (List A × Names) Misform) → all ≡ prepend prefix whole
     → whole ≡ and_then (one before) (λ y. later y.1 >>= (λ others. pure (y.0 ∷ others)))
     → Refuses why (one before) → Refuses why all
-turn_refused (refusals.Expected what span) one later front before all whole e turn r =
-    e ∙ ap (prepend front) (turn ∙ ap (λ o. and_then o (λ y. later y.1 >>= (λ others. pure (y.0 ∷ others)))) r)
-turn_refused (refusals.SeveralPairs span) one later front before all whole e turn r =
-    e ∙ ap (prepend front) (turn ∙ ap (λ o. and_then o (λ y. later y.1 >>= (λ others. pure (y.0 ∷ others)))) r)
-turn_refused refusals.NoMemory one later front before all whole e turn r = r
+turn_refused (refusals.Expected what span) one later prefix before all whole e turn r =
+    e ∙ ap (prepend prefix) (turn ∙ ap (λ o. and_then o (λ y. later y.1 >>= (λ others. pure (y.0 ∷ others)))) r)
+turn_refused (refusals.SeveralPairs span) one later prefix before all whole e turn r =
+    e ∙ ap (prepend prefix) (turn ∙ ap (λ o. and_then o (λ y. later y.1 >>= (λ others. pure (y.0 ∷ others)))) r)
+turn_refused refusals.NoMemory one later prefix before all whole e turn r = r
 
 -- where no node is left, the branches that were read are all
-pub branches_done : (end : Span) (rest : List public.Node) (front : List Branch) (names : Names)
+pub branches_done : (end : Span) (rest : List public.Node) (prefix : List Branch) (names : Names)
     (all : Result (List Branch × Names) Misform) → length rest ≡ 0
-    → all ≡ prepend front (branches end false (nodes_of rest) names) → all ≡ Ok (front, names)
+    → all ≡ prepend prefix (branches end false (nodes_of rest) names) → all ≡ Ok (prefix, names)
 unfolding branches
-branches_done end [] front names all none e = e ∙ ap (λ xs. Ok (xs, names)) (append-nil front)
-branches_done end (n ∷ ns) front names all none e = absurd (omega arith)
+branches_done end [] prefix names all none e = e ∙ ap (λ xs. Ok (xs, names)) (append-nil prefix)
+branches_done end (n ∷ ns) prefix names all none e = absurd (omega arith)
 
-pub clauses_done : (end : Span) (rest : List public.Node) (front : List Clause) (names : Names)
+pub clauses_done : (end : Span) (rest : List public.Node) (prefix : List Clause) (names : Names)
     (all : Result (List Clause × Names) Misform) → length rest ≡ 0
-    → all ≡ prepend front (clauses end false (nodes_of rest) names) → all ≡ Ok (front, names)
+    → all ≡ prepend prefix (clauses end false (nodes_of rest) names) → all ≡ Ok (prefix, names)
 unfolding clauses
-clauses_done end [] front names all none e = e ∙ ap (λ xs. Ok (xs, names)) (append-nil front)
-clauses_done end (n ∷ ns) front names all none e = absurd (omega arith)
+clauses_done end [] prefix names all none e = e ∙ ap (λ xs. Ok (xs, names)) (append-nil prefix)
+clauses_done end (n ∷ ns) prefix names all none e = absurd (omega arith)
 
 -- where a node is left, further branches are read as at the front
 pub branches_go_on : (end : Span) (rest : List public.Node) (names : Names) → length rest ≢ 0

@@ -3,13 +3,13 @@ pub mod PlaceLemmas
 pub mod ForestLemmas
 pub mod RefusalLemmas
 pub mod Reading
-pub mod Front
+pub mod PrefixRefusals
 pub mod LimitLemmas
 pub mod Spelled
 pub mod NumberedSteps
 pub mod NumberedLemmas
-pub mod FrontSteps
-pub mod FrontForests
-pub mod FrontForms
+pub mod PrefixSteps
+pub mod PrefixForests
+pub mod PrefixForms
 pub mod TermEquality
 pub mod FormLemmas

@@ -1,4 +1,4 @@
-pub mod Fronts
+pub mod TellingLemmas
 pub mod Loads
 pub mod NextVisits
 pub mod NoteSteps
