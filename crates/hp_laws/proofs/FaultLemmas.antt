@@ -1,27 +1,13 @@
 -- What it means that the checks find nothing.
-use Rattle.std.proofs.Common.{◌≡◌, ℕ, ◌≤◌, Bool, true, false, cond, List, [], ◌∷◌, ◌++◌, length, Option, Some, None, refl, ap, arith}
+use Rattle.std.proofs.Common.{◌≡◌, ℕ, ◌≤◌, List, [], ◌∷◌, ◌++◌, length, None, refl, ap, arith}
 use Rattle.std.proofs.lemmas.Bool.Decides.{nat_tests}
 use Rattle.std.proofs.lemmas.List.Elements.{All-nil, All-cons}
 use Rattle.std.specs.List.{All, flat_map}
 use Rattle.hp_syntax.specs.declared.pattern.Span.{Span}
-use Rattle.hp_syntax.specs.declared.check.CheckFault.{CheckFault}
 use Rattle.hp_syntax.specs.declared.limits.TheConstants.{MOST_VARIABLES}
-use Rattle.hp_syntax.specs.Checks.{HasFewVariables, vars_faults, rule_faults, pair_faults, domain_faults, problem_faults, comes_before, earlier, first_of}
+use Rattle.hp_syntax.specs.Checks.{HasFewVariables, vars_faults, rule_faults, pair_faults, domain_faults, problem_faults, first_of}
 use Rattle.hp_syntax.specs.Syntax.{Rule, Does, Refines, Concludes, Domain, Problem}
-
--- the earlier of a fault and another one is a fault
-some_fault : (f : CheckFault) (o : Option CheckFault) → earlier (Some f) o ≡ None → ⊥
-some_fault f None e = cc
-some_fault f (Some g) e = one (comes_before g f) e
-  where
-    one : (b : Bool) → cond b (Some g) (Some f) ≡ None → ⊥
-    one true e = cc
-    one false e = cc
-
--- where no fault is the first there is none
-none_found : (fs : List CheckFault) → first_of fs ≡ None → fs ≡ []
-none_found [] e = refl
-none_found (f ∷ fs) e = absurd (some_fault f (first_of fs) e)
+use Rattle.hp_syntax.proofs.CheckLemmas.{none_found}
 
 -- where two lists make an empty one both are empty
 pub both_empty : {A : Type 0} (xs ys : List A) → xs ++ ys ≡ [] → (xs ≡ []) × (ys ≡ [])

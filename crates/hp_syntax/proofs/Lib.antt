@@ -13,3 +13,5 @@ pub mod PrefixForests
 pub mod PrefixForms
 pub mod TermEquality
 pub mod FormLemmas
+pub mod CheckLemmas
+pub mod ListLemmas

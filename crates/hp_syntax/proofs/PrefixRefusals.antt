@@ -1,14 +1,13 @@
 -- What is refused at an offset is decided by a prefix of the text.
 use Rattle.std.proofs.Common.{◌≡◌, ℕ, zero, suc, ◌+◌, ◌-◌, ◌<◌, ◌≤◌, List, [], ◌∷◌, length, take, drop, refl, sym, ◌∙◌, ap, ap₂, arith, subst, ⊎_elim}
 use Rattle.std.specs.Prelude.{slice_index, slice_range, nat_lt}
-use Rattle.std.proofs.lemmas.Bool.{cases_lt, lt-ltb, le-ltb, eq-eqb}
+use Rattle.std.proofs.lemmas.Bool.{cases_lt, lt-ltb, le-ltb}
 use Rattle.std.proofs.lemmas.List.{get_or-take, length-take, take_all, take-take, drop-take}
-use Rattle.hp_syntax.specs.declared.text.TextKind.TheVariants.{TooLarge}
 use Rattle.hp_syntax.specs.declared.limits.TheConstants.{LARGEST_TEXT}
 use Rattle.hp_syntax.specs.Text.{Kind, Blank, Opening, Closing, NameByte, Bad, End, comment_after, in_comment, kind_at}
-use Rattle.hp_syntax.specs.Refusal.{Refusal, refused, opened, open_before, token_start, token_refusal, kind_refusal, refusal_at, IsRefused}
+use Rattle.hp_syntax.specs.Refusal.{Refusal, opened, open_before, token_start, token_refusal, kind_refusal, refusal_at, IsRefused}
 use Rattle.hp_syntax.specs.Forest.{Forest, IsForest}
-use Rattle.hp_syntax.proofs.TextLemmas.{clear_within}
+use Rattle.hp_syntax.proofs.TextLemmas.{refusal_at-limit, clear_within}
 
 module _ (n : ℕ) (text : List ℕ) where
   -- the prefix has the bytes of the text
@@ -104,11 +103,6 @@ prefix_decides text other r x e =
     (λ i u. sym (refusal_prefix (x.at + 2) text i (omega arith))
     ∙ (ap (λ t. refusal_at t i) e ∙ refusal_prefix (x.at + 2) other i (omega arith)))
 
--- a byte behind the largest text is refused
-too_large : (text : List ℕ) (i : ℕ) → i ≡ LARGEST_TEXT → i < length text → refusal_at text i ≡ refused TooLarge i
-unfolding refusal_at
-too_large text i e l = rw (eq-eqb i LARGEST_TEXT e, lt-ltb i (length text) l) refl
-
 -- up to the limit the same is refused of the prefix up to the byte behind it
 limit_prefix : (n : ℕ) (text : List ℕ) (i : ℕ) → n ≡ LARGEST_TEXT + 1 → i ≤ LARGEST_TEXT
     → refusal_at (take n text) i ≡ refusal_at text i
@@ -121,7 +115,7 @@ limit_prefix n text i e l =
     large : i < length text → n ≤ i + 1 → refusal_at (take n text) i ≡ refusal_at text i
     large u m =
         let p = length-take n text in
-        too_large (take n text) i (omega arith) (omega arith) ∙ sym (too_large text i (omega arith) u)
+        refusal_at-limit (take n text) i (omega arith) (omega arith) ∙ sym (refusal_at-limit text i (omega arith) u)
 
 -- a text is refused as its prefix up to the byte behind the limit is
 pub limit_refuses : (n : ℕ) (text : List ℕ) (r : Refusal) → n ≡ LARGEST_TEXT + 1 → IsRefused (take n text) r
