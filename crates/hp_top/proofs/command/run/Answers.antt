@@ -1,5 +1,5 @@
 use Rattle.std.proofs.Common.{inl, inr}
-use Rattle.hp_top.proofs.RunEnds.{ends_well, ends_usage, ends_write, ends_read, ends_prefix, ends_proper}
+use Rattle.hp_top.proofs.RunSteps.{ends_well, ends_usage, ends_write, ends_read, ends_prefix, ends_proper}
 use Rattle.hp_top.proofs.command.run.Goals as goal
 
 pub returns-clause-exact : goal.returns-clause-exact

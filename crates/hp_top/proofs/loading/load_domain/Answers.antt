@@ -1,7 +1,7 @@
 use Rattle.hp_io.specs.declared.folder.Input.TheVariants as inputs
 use Rattle.hp_syntax.specs.Grammar.{domain_form}
 use Rattle.hp_syntax.specs.Views.{domain_of}
-use Rattle.hp_top.proofs.Loads.{reads_file, stops_file, read_weaker, cause_weaker}
+use Rattle.hp_top.proofs.LoadingSteps.{reads_file, stops_file, read_weaker, cause_weaker}
 use Rattle.hp_top.proofs.loading.load_domain.Goals as goal
 
 pub returns-in-Ok-clause-domain : goal.returns-in-Ok-clause-domain

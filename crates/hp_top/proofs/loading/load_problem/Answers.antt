@@ -1,7 +1,7 @@
 use Rattle.hp_io.specs.declared.folder.Input.TheVariants as inputs
 use Rattle.hp_syntax.specs.Grammar.{problem_form}
 use Rattle.hp_syntax.specs.Views.{problem_of}
-use Rattle.hp_top.proofs.Loads.{reads_file, stops_file, read_weaker, cause_weaker}
+use Rattle.hp_top.proofs.LoadingSteps.{reads_file, stops_file, read_weaker, cause_weaker}
 use Rattle.hp_top.proofs.loading.load_problem.Goals as goal
 
 pub returns-in-Ok-clause-problem : goal.returns-in-Ok-clause-problem
