@@ -5,6 +5,7 @@ use Rattle.std.proofs.lemmas.List.Elements.{All-weaker, All-cons, All-nil, All-s
 use Rattle.std.proofs.lemmas.Bool.Decides.{nat_tests}
 use Rattle.hp_syntax.specs.declared.check.CheckFault.{CheckFault}
 use Rattle.hp_syntax.specs.Checks.{number_of, comes_before, earlier, first_of}
+use Rattle.hp_syntax.proofs.CheckLemmas.{none_found}
 use Rattle.hp_check.proofs.FaultLemmas.{stands_first, comes_before-none}
 
 self_first : (p : Bool) (a m : ℕ) → stands_first p a m p a m ≡ false
@@ -35,18 +36,6 @@ at_first f fs = Contains-append_left (f ∷ []) fs f (Contains-push [] f)
 
 behind_first : (f g : CheckFault) (fs : List CheckFault) → Contains fs f → Contains (g ∷ fs) f
 behind_first f g fs h = Contains-append_right (g ∷ []) fs f h
-
-one_of_two : (f g : CheckFault) (b : Bool) → cond b (Some g) (Some f) ≡ None → ⊥
-one_of_two f g true h = cc
-one_of_two f g false h = cc
-
-never_none : (f : CheckFault) (o : Option CheckFault) → earlier (Some f) o ≡ None → ⊥
-never_none f None h = cc
-never_none f (Some g) h = one_of_two f g (comes_before g f) h
-
-none_found : (fs : List CheckFault) → first_of fs ≡ None → fs ≡ []
-none_found [] h = refl
-none_found (f ∷ fs) h = absurd (never_none f (first_of fs) h)
 
 -- no fault is told exactly where there is none
 pub first_of-none : (fs : List CheckFault) → first_of fs ≡ None ↔ fs ≡ []

@@ -1,3 +1,3 @@
-pub mod RuleLemmas
-pub mod FileLemmas
+pub mod RuleSteps
+pub mod FileSteps
 pub mod NumberedForms

@@ -12,10 +12,10 @@ at_end [] n room count none some = refl
 at_end (b ∷ old) n room count none some = absurd (omega arith)
 
 -- a read that copies as many bytes as there is room for takes them from the front of the rest
-taken_front : (n room : ℕ) (buf old : List ℕ) (new : Option (List ℕ)) → n ≡ min (length old) room
+taken_prefix : (n room : ℕ) (buf old : List ℕ) (new : Option (List ℕ)) → n ≡ min (length old) room
     → take n buf ≡ take n old → new ≡ Some (drop n old) → Taken n room buf (Some old) new
-taken_front n room buf old new count front rest =
-    (drop n old, rest, rw front (sym (take-append-drop n old)), at_end old n room count)
+taken_prefix n room buf old new count prefix rest =
+    (drop n old, rest, rw prefix (sym (take-append-drop n old)), at_end old n room count)
 
 -- what stands in a file from a later place on is the rest without its first bytes
 further : (f : Option File) (at' n : ℕ) → bytes_at f (at' + n) ≡ drop n (bytes_at f at')
@@ -28,6 +28,6 @@ pub taken_at : (fs : List File) (p : Place) (n room : ℕ) (buf rest : List ℕ)
     → old ≡ rest_from fs (Some p) → rest ≡ bytes_at (slice_get fs p.file) p.at → n ≡ min (length rest) room
     → take n buf ≡ take n rest → new ≡ rest_from fs (Some record { file = p.file; at = p.at + n })
     → Taken n room buf old new
-taken_at fs p n room buf rest old new before is count front after =
+taken_at fs p n room buf rest old new before is count prefix after =
     let moved = further (slice_get fs p.file) p.at n ∙ ap (drop n) (sym is) in
-    rw (before, ← is) (taken_front n room buf rest new count front (after ∙ ap Some moved))
+    rw (before, ← is) (taken_prefix n room buf rest new count prefix (after ∙ ap Some moved))

@@ -226,7 +226,7 @@ impl Folder for MemFolder {
         }
         let input = self.input(which);
         let place = input.place.unwrap();
-        let count = copy_front(rest_at(self.files.as_slice(), place), buf);
+        let count = copy_prefix(rest_at(self.files.as_slice(), place), buf);
         let at = place.at + count;
         let place = Some(Place { at, ..place });
         self.set_input(which, MemInput { place, ..input });
@@ -260,10 +260,10 @@ fn rest_at(files: &[File], place: Place) -> &[u8]
 }
 
 /// Copies as much as there is room for.
-fn copy_front(rest: &[u8], buf: &mut [u8]) -> usize
+fn copy_prefix(rest: &[u8], buf: &mut [u8]) -> usize
     ensures count { result ≡ min (length rest.now) (length buf.old) }
     ensures length { length buf.new ≡ length buf.old }
-    ensures front { take result buf.new ≡ take result rest.now }
+    ensures prefix { take result buf.new ≡ take result rest.now }
 {
     let count = rest.len().min(buf.len());
     buf[..count].copy_from_slice(&rest[..count]);

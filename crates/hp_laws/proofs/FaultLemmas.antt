@@ -1,27 +1,13 @@
 -- What it means that the checks find nothing.
-use Rattle.std.proofs.Common.{◌≡◌, ℕ, ◌≤◌, Bool, true, false, cond, List, [], ◌∷◌, ◌++◌, length, Option, Some, None, refl, ap, arith}
+use Rattle.std.proofs.Common.{◌≡◌, ℕ, ◌≤◌, List, [], ◌∷◌, ◌++◌, length, None, refl, ap, arith}
 use Rattle.std.proofs.lemmas.Bool.Decides.{nat_tests}
 use Rattle.std.proofs.lemmas.List.Elements.{All-nil, All-cons}
 use Rattle.std.specs.List.{All, flat_map}
 use Rattle.hp_syntax.specs.declared.pattern.Span.{Span}
-use Rattle.hp_syntax.specs.declared.check.CheckFault.{CheckFault}
 use Rattle.hp_syntax.specs.declared.limits.TheConstants.{MOST_VARIABLES}
-use Rattle.hp_syntax.specs.Checks.{HasFewVariables, vars_faults, rule_faults, pair_faults, domain_faults, problem_faults, comes_before, earlier, first_of}
+use Rattle.hp_syntax.specs.Checks.{HasFewVariables, vars_faults, rule_faults, pair_faults, domain_faults, problem_faults, first_of}
 use Rattle.hp_syntax.specs.Syntax.{Rule, Does, Refines, Concludes, Domain, Problem}
-
--- the earlier of a fault and another one is a fault
-some_fault : (f : CheckFault) (o : Option CheckFault) → earlier (Some f) o ≡ None → ⊥
-some_fault f None e = cc
-some_fault f (Some g) e = one (comes_before g f) e
-  where
-    one : (b : Bool) → cond b (Some g) (Some f) ≡ None → ⊥
-    one true e = cc
-    one false e = cc
-
--- where no fault is the first there is none
-none_found : (fs : List CheckFault) → first_of fs ≡ None → fs ≡ []
-none_found [] e = refl
-none_found (f ∷ fs) e = absurd (some_fault f (first_of fs) e)
+use Rattle.hp_syntax.proofs.CheckLemmas.{none_found}
 
 -- where two lists make an empty one both are empty
 pub both_empty : {A : Type 0} (xs ys : List A) → xs ++ ys ≡ [] → (xs ≡ []) × (ys ≡ [])
@@ -29,8 +15,8 @@ both_empty [] ys e = (refl, e)
 both_empty (x ∷ xs) ys e = absurd cc
 
 -- where two lists make an empty one the first is empty
-front_empty : {A : Type 0} (xs ys : List A) → xs ++ ys ≡ [] → xs ≡ []
-front_empty xs ys e = (both_empty xs ys e).0
+prefix_empty : {A : Type 0} (xs ys : List A) → xs ++ ys ≡ [] → xs ≡ []
+prefix_empty xs ys e = (both_empty xs ys e).0
 
 -- where all the lists that are made of a list's elements are empty together each is empty
 pub each_empty : {X A : Type 0} (f : X → List A) (xs : List X) → flat_map f xs ≡ [] → All (λ x. f x ≡ []) xs
@@ -45,9 +31,9 @@ few_variables vars s e = grind (arith, nat_tests)
 
 -- a rule without faults has few variables
 pub faultless_has_few : (r : Rule) → rule_faults r ≡ [] → HasFewVariables r
-faultless_has_few (Does o) e = few_variables o.vars o.span (search (front_empty, e))
-faultless_has_few (Refines m) e = few_variables m.vars m.span (search (front_empty, e))
-faultless_has_few (Concludes a) e = few_variables a.vars a.span (search (front_empty, e))
+faultless_has_few (Does o) e = few_variables o.vars o.span (search (prefix_empty, e))
+faultless_has_few (Refines m) e = few_variables m.vars m.span (search (prefix_empty, e))
+faultless_has_few (Concludes a) e = few_variables a.vars a.span (search (prefix_empty, e))
 
 -- where no fault is the first of a domain no rule of it has faults
 pub faultless_rules : (d : Domain) → first_of (domain_faults d) ≡ None → All (λ r. rule_faults r ≡ []) d.rules
@@ -57,7 +43,7 @@ faultless_rules d e = each_empty rule_faults d.rules (none_found (domain_faults 
 -- where no fault is the first of all none is the first of the domain
 pub accepted_is_checked : (d : Domain) (p : Problem) → first_of (domain_faults d ++ problem_faults d p) ≡ None
     → first_of (domain_faults d) ≡ None
-accepted_is_checked d p e = ap first_of (front_empty (domain_faults d) (problem_faults d p) (none_found _ e))
+accepted_is_checked d p e = ap first_of (prefix_empty (domain_faults d) (problem_faults d p) (none_found _ e))
 
 -- where no fault is the first of all no pair of the problem has faults
 pub faultless_pairs : (d : Domain) (p : Problem) → first_of (domain_faults d ++ problem_faults d p) ≡ None

@@ -119,10 +119,10 @@ join_none f [] h = refl
 join_none f (x ∷ xs) h =
     ap₂ (λ ys zs. ys ++ zs) (All-head (λ x. f x ≡ []) x xs h) (join_none f xs (All-tail (λ x. f x ≡ []) x xs h))
 
--- a join begins with the join of a front
-pub join_front : {X A : Type 0} (f : X → List A) (xs ys zs : List X) → xs ++ ys ≡ zs
+-- a join begins with the join of a prefix
+pub join_prefix : {X A : Type 0} (f : X → List A) (xs ys zs : List X) → xs ++ ys ≡ zs
     → flat_map f xs ++ flat_map f ys ≡ flat_map f zs
-join_front f xs ys zs e = sym (flat_map-append f xs ys) ∙ ap (flat_map f) e
+join_prefix f xs ys zs e = sym (flat_map-append f xs ys) ∙ ap (flat_map f) e
 
 -- one element makes no pair
 pub one_pair : {X : Type 0} (R : X → X → Type 0) (x : X) → AllPairs R (x ∷ [])

@@ -15,7 +15,7 @@ begins_none xs = (xs, refl)
 pub begins_itself : {A : Type 0} (xs : List A) → IsPrefix xs xs
 begins_itself xs = ([], append-nil xs)
 
--- a list begins another behind the same front
+-- a list begins another behind the same prefix
 pub begins_behind : {A : Type 0} (xs ys zs : List A) → IsPrefix ys zs → IsPrefix (xs ++ ys) (xs ++ zs)
 begins_behind xs ys zs b = (b.0, append_assoc xs ys b.0 ∙ ap (λ ws. xs ++ ws) b.1)
 

@@ -1,4 +1,4 @@
-pub mod FrontLemmas
+pub mod WritingLemmas
 pub mod PageSteps
 pub mod ReportSteps
 pub mod TermSteps

@@ -7,9 +7,9 @@ use Rattle.std.proofs.lemmas.Bool.{false≢true}
 use Rattle.std.proofs.lemmas.List.{take_more, take_all, take-append-drop}
 use Rattle.std.proofs.lemmas.List.Concat.{flat_map-append}
 use Rattle.hp_out.specs.Pages.{Desk, desk, Put, Puts}
-use Rattle.hp_out.specs.Writing.{Wrote, WroteProperFront, Writes}
-use Rattle.hp_out.proofs.FrontLemmas.{proper_longer, proper_after}
-use Rattle.hp_out.proofs.WriteSteps.{wrote_both, writes_front, rest_written}
+use Rattle.hp_out.specs.Writing.{Wrote, WroteProperPrefix, Writes}
+use Rattle.hp_out.proofs.WritingLemmas.{proper_longer, proper_after}
+use Rattle.hp_out.proofs.WriteSteps.{wrote_both, writes_prefix, rest_written}
 
 -- ---- what was put
 
@@ -53,18 +53,18 @@ put_both x y a b c p q = record {
 
 -- what a failed call did
 abbrev pub FailedIn : List ℕ → Desk → Desk → Type 0
-FailedIn text a b = WroteProperFront (a.page ++ text) a.sink b.sink
+FailedIn text a b = WroteProperPrefix (a.page ++ text) a.sink b.sink
 
 -- a text that couldn't be put is the first part of none that could
 pub failed_longer : (x y : List ℕ) (a b : Desk) → FailedIn x a b → FailedIn (x ++ y) a b
 failed_longer x y a b w =
-    subst (λ t. WroteProperFront t a.sink b.sink) (append_assoc a.page x y)
+    subst (λ t. WroteProperPrefix t a.sink b.sink) (append_assoc a.page x y)
     (proper_longer (a.page ++ x) y a.sink b.sink w)
 
 -- behind a text that was put another couldn't be
 pub failed_after : (x y : List ℕ) (a b c : Desk) → Put x a b → FailedIn y b c → FailedIn (x ++ y) a c
 failed_after x y a b c p w =
-    subst (λ t. WroteProperFront t a.sink c.sink) (joined x y a b p)
+    subst (λ t. WroteProperPrefix t a.sink c.sink) (joined x y a b p)
     (proper_after p.taken (b.page ++ y) a.sink b.sink c.sink p.wrote w)
 
 -- ---- calls
@@ -114,31 +114,31 @@ put_behind (Err x) text page left a b c e w v = proper_after page text a b c w v
 pub puts_same : {A E : Type 0} (r : Result A E) (x y : List ℕ) (a b : Desk) → x ≡ y → Puts r x a b → Puts r y a b
 puts_same r x y a b e w = subst (λ t. Puts r t a b) e w
 
--- ---- a text of which a front was put
+-- ---- a text of which a prefix was put
 
 -- all of a text but this rest was put
 pub record PutUpTo (rest whole : List ℕ) (old new : Desk) : Type 0 where
-  pub front : List ℕ
-  pub put : Put front old new
-  pub all : front ++ rest ≡ whole
+  pub prefix : List ℕ
+  pub put : Put prefix old new
+  pub all : prefix ++ rest ≡ whole
 
 -- before the first call the whole text is left
 pub nothing_yet : (whole : List ℕ) (d : Desk) → PutUpTo whole whole d d
-nothing_yet whole d = record { front = []; put = put_nothing d; all = refl }
+nothing_yet whole d = record { prefix = []; put = put_nothing d; all = refl }
 
 -- a part of the rest is put, and a smaller rest is left
 pub less_left : (x y rest whole : List ℕ) (a b c : Desk) → PutUpTo rest whole a b → Put x b c → x ++ y ≡ rest
     → PutUpTo y whole a c
 less_left x y rest whole a b c p q e = record {
-  front = p.front ++ x;
-  put = put_both p.front x a b c p.put q;
-  all = append_assoc p.front x y ∙ ap (λ t. p.front ++ t) e ∙ p.all;
+  prefix = p.prefix ++ x;
+  put = put_both p.prefix x a b c p.put q;
+  all = append_assoc p.prefix x y ∙ ap (λ t. p.prefix ++ t) e ∙ p.all;
 }
 
 -- the rest is put, and with it the whole
 pub rest_of_whole : {A E : Type 0} (r : Result A E) (rest whole : List ℕ) (a b c : Desk) → PutUpTo rest whole a b
     → Puts r rest b c → Puts r whole a c
-rest_of_whole r rest whole a b c p w = rest_put r p.front rest whole a b c p.put w p.all
+rest_of_whole r rest whole a b c p w = rest_put r p.prefix rest whole a b c p.put w p.all
 
 -- a part of the rest couldn't be put, and so the whole couldn't
 pub part_not_put : {A B E F : Type 0} (r : Result A E) (s : Result B F) (f : F) (x y rest whole : List ℕ)
@@ -207,8 +207,8 @@ pub first_not_written : {A B E F : Type 0} (r : Result A E) (s : Result B F) (f 
     (old new : Option (List ℕ)) → page ≡ [] → IsErr r → s ≡ Err f → Puts s text (desk old page) (desk new left)
     → Writes r text old new
 first_not_written r s f text page left old new e h k w =
-    writes_front r text old new h
-    (subst (λ t. WroteProperFront (t ++ text) old new) e (failed_in s f text (desk old page) (desk new left) k w))
+    writes_prefix r text old new h
+    (subst (λ t. WroteProperPrefix (t ++ text) old new) e (failed_in s f text (desk old page) (desk new left) k w))
 
 -- where what stands on the page is written at the end, the text is
 pub page_written : {A E : Type 0} (r : Result A E) (text page left : List ℕ) (old mid new : Option (List ℕ))

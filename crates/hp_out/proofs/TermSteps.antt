@@ -17,6 +17,7 @@ use Rattle.hp_syntax.specs.Report.{lines_text}
 use Rattle.hp_syntax.specs.Terms.{Term, Terms, Symbol, Number, Listed, NoTerm}
 use Rattle.hp_syntax.specs.TermTexts.{term_text, terms_text}
 use Rattle.hp_world.specs.Stages.{live_atoms, terms_at}
+use Rattle.hp_world.proofs.StageLemmas.{live_joined}
 
 -- ---- terms
 
@@ -96,11 +97,6 @@ pub lines_joined : (terms : List Term) → Joins (cells_text terms)
 lines_joined terms xs ys =
     ap lines_text (map-append (term_at terms) xs ys)
     ∙ flat_map-append (λ t. term_text t ++ codes "\n") (terms_at terms xs) (terms_at terms ys)
-
-live_joined : (ps qs : List (Option ℕ)) → live_atoms (ps ++ qs) ≡ live_atoms ps ++ live_atoms qs
-live_joined [] qs = refl
-live_joined (None ∷ ps) qs = live_joined ps qs
-live_joined (Some a ∷ ps) qs = ap (λ xs. a ∷ xs) (live_joined ps qs)
 
 pub places_joined : (terms : List Term) → Joins (places_text terms)
 places_joined terms ps qs =

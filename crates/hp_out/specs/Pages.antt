@@ -1,6 +1,6 @@
 -- A page: bytes that are on their way to a sink, to be written together.
 use Rattle.std.specs.Prelude.{◌≡◌, ℕ, List, ◌++◌, Option, Result, Ok, Err}
-use Rattle.hp_out.specs.Writing.{Wrote, WroteProperFront}
+use Rattle.hp_out.specs.Writing.{Wrote, WroteProperPrefix}
 
 -- all that a sink took, where it tells, and what stands on the page before it
 pub record Desk : Type 0 where
@@ -16,7 +16,7 @@ pub record Put (text : List ℕ) (old new : Desk) : Type 0 where
   pub wrote : Wrote taken old.sink new.sink
   pub all : taken ++ new.page ≡ old.page ++ text
 
--- the text was put behind what stood on the page, or, where writing failed, the sink took a proper front of both
+-- the text was put behind what stood on the page, or, where writing failed, the sink took a proper prefix of both
 abbrev pub Puts : {A E : Type 0} → Result A E → List ℕ → Desk → Desk → Type 0
 Puts (Ok x) text old new = Put text old new
-Puts (Err e) text old new = WroteProperFront (old.page ++ text) old.sink new.sink
+Puts (Err e) text old new = WroteProperPrefix (old.page ++ text) old.sink new.sink

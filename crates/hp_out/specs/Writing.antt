@@ -16,17 +16,17 @@ abbrev pub Wrote : List ℕ → Option (List ℕ) → Option (List ℕ) → Type
 Wrote text None new = new ≡ None
 Wrote text (Some old) new = new ≡ Some (old ++ text)
 
--- a front of the text was appended, maybe all of it
-abbrev pub WroteFront : List ℕ → Option (List ℕ) → Option (List ℕ) → Type 0
-WroteFront text None new = new ≡ None
-WroteFront text (Some old) new = (n : ℕ) × (n ≤ length text) × (new ≡ Some (old ++ take n text))
+-- a prefix of the text was appended, maybe all of it
+abbrev pub WrotePrefix : List ℕ → Option (List ℕ) → Option (List ℕ) → Type 0
+WrotePrefix text None new = new ≡ None
+WrotePrefix text (Some old) new = (n : ℕ) × (n ≤ length text) × (new ≡ Some (old ++ take n text))
 
--- a proper front of the text was appended
-abbrev pub WroteProperFront : List ℕ → Option (List ℕ) → Option (List ℕ) → Type 0
-WroteProperFront text None new = new ≡ None
-WroteProperFront text (Some old) new = (n : ℕ) × (n < length text) × (new ≡ Some (old ++ take n text))
+-- a proper prefix of the text was appended
+abbrev pub WroteProperPrefix : List ℕ → Option (List ℕ) → Option (List ℕ) → Type 0
+WroteProperPrefix text None new = new ≡ None
+WroteProperPrefix text (Some old) new = (n : ℕ) × (n < length text) × (new ≡ Some (old ++ take n text))
 
--- the whole text was appended, or, where writing failed, a proper front of it
+-- the whole text was appended, or, where writing failed, a proper prefix of it
 abbrev pub Writes : {A E : Type 0} → Result A E → List ℕ → Option (List ℕ) → Option (List ℕ) → Type 0
 Writes (Ok x) text old new = Wrote text old new
-Writes (Err e) text old new = WroteProperFront text old new
+Writes (Err e) text old new = WroteProperPrefix text old new

@@ -25,7 +25,7 @@ use hp_net::Walk;
 use hp_syntax::{Span, TextKind};
 use itoa::Buffer;
 
-/// Writes lines to a sink. It takes no memory. After Failed the sink holds a proper front of the text that was being
+/// Writes lines to a sink. It takes no memory. After Failed the sink holds a proper prefix of the text that was being
 /// written, behind what it held before.
 #[derive(Drop)]
 pub struct Pen<'a, K: Sink> {

@@ -7,7 +7,7 @@ ghost use Rattle.hp_out.specs.Writing.{Writes};
 
 use hp_io::{Failed, Sink};
 
-/// Writes a whole text, or a proper front of it.
+/// Writes a whole text, or a proper prefix of it.
 pub fn write_all<K: Sink>(sink: &mut K, text: &[u8]) -> Result<(), Failed>
     ensures writes { Writes result text.now (K.bytes sink.old) (K.bytes sink.new) }
     ensures later { K.faults sink.old ≤ K.faults sink.new }

@@ -1,6 +1,5 @@
 -- The size of a term counts it and all terms in it. Recursion goes to smaller terms.
-use Rattle.std.proofs.Common.{◌≡◌, ap, ℕ, zero, suc, ◌+◌, ◌-◌, ◌<◌, ◌≤◌, List, [], ◌∷◌, length, get_or, take, drop, arith}
-use Rattle.std.proofs.lemmas.Grind.{common_steps}
+use Rattle.std.proofs.Common.{◌≡◌, ℕ, ◌+◌, ◌-◌, ◌<◌, ◌≤◌, List, length, get_or, take, drop, refl}
 use Rattle.hp_syntax.specs.declared.pattern.Ground.{Ground}
 use Rattle.hp_syntax.specs.declared.pattern.Pat.{Pat}
 use Rattle.hp_syntax.specs.GroundViews.{ground_of, grounds_of}
@@ -8,6 +7,7 @@ use Rattle.hp_syntax.specs.Views.{pattern_of, patterns_of}
 use Rattle.hp_syntax.specs.Syntax.{Pattern, Patterns, Variable, Symbol, Number, Listing, Call, NoPattern, Before}
 use Rattle.hp_syntax.specs.Terms as plain
 use Rattle.hp_syntax.specs.Terms.{Term, Terms, Listed, NoTerm, More}
+use Rattle.hp_syntax.proofs.ListLemmas.{element-smaller, others-smaller}
 
 abbrev mutual
   pub term_size : Term → ℕ
@@ -22,21 +22,14 @@ abbrev mutual
 -- each term of a list is smaller than the list
 pub ground-smaller : (gs : List Ground) (i : ℕ) (g : Ground) → i < length gs → g ≡ get_or gs i g
     → term_size (ground_of g) < terms_size (grounds_of gs)
-ground-smaller [] i g h at = absurd (omega arith)
-ground-smaller (x ∷ gs) zero g h at = let same = ap (λ y. term_size (ground_of y)) at in omega arith
-ground-smaller (x ∷ gs) (suc i) g h at =
-    let below : i < length gs = omega arith in
-    let smaller = ground-smaller gs i g below at in omega arith
+ground-smaller =
+    element-smaller (λ g. term_size (ground_of g)) (λ gs. terms_size (grounds_of gs)) (λ g gs. refl)
 
 -- the terms behind the first are smaller than the list
 pub grounds-smaller : (gs : List Ground) → 1 ≤ length gs
     → terms_size (grounds_of (take (length gs - 1) (drop 1 gs))) < terms_size (grounds_of gs)
-grounds-smaller [] h = absurd (omega arith)
-grounds-smaller (x ∷ gs) h =
-    let same : take (length (x ∷ gs) - 1) (drop 1 (x ∷ gs)) ≡ gs = grind (arith, common_steps) in
-    let size : terms_size (grounds_of (take (length (x ∷ gs) - 1) (drop 1 (x ∷ gs)))) ≡ terms_size (grounds_of gs) =
-    ap (λ ys. terms_size (grounds_of ys)) same in
-    omega arith
+grounds-smaller =
+    others-smaller (λ g. term_size (ground_of g)) (λ gs. terms_size (grounds_of gs)) (λ g gs. refl)
 
 abbrev mutual
   pub pattern_size : Pattern → ℕ
@@ -53,18 +46,11 @@ abbrev mutual
 -- each pattern of a list is smaller than the list
 pub pattern-smaller : (ps : List Pat) (i : ℕ) (p : Pat) → i < length ps → p ≡ get_or ps i p
     → pattern_size (pattern_of p) < patterns_size (patterns_of ps)
-pattern-smaller [] i p h at = absurd (omega arith)
-pattern-smaller (x ∷ ps) zero p h at = let same = ap (λ y. pattern_size (pattern_of y)) at in omega arith
-pattern-smaller (x ∷ ps) (suc i) p h at =
-    let below : i < length ps = omega arith in
-    let smaller = pattern-smaller ps i p below at in omega arith
+pattern-smaller =
+    element-smaller (λ p. pattern_size (pattern_of p)) (λ ps. patterns_size (patterns_of ps)) (λ p ps. refl)
 
 -- the patterns behind the first are smaller than the list
 pub patterns-smaller : (ps : List Pat) → 1 ≤ length ps
     → patterns_size (patterns_of (take (length ps - 1) (drop 1 ps))) < patterns_size (patterns_of ps)
-patterns-smaller [] h = absurd (omega arith)
-patterns-smaller (x ∷ ps) h =
-    let same : take (length (x ∷ ps) - 1) (drop 1 (x ∷ ps)) ≡ ps = grind (arith, common_steps) in
-    let size : patterns_size (patterns_of (take (length (x ∷ ps) - 1) (drop 1 (x ∷ ps)))) ≡ patterns_size (patterns_of ps) =
-    ap (λ ys. patterns_size (patterns_of ys)) same in
-    omega arith
+patterns-smaller =
+    others-smaller (λ p. pattern_size (pattern_of p)) (λ ps. patterns_size (patterns_of ps)) (λ p ps. refl)

@@ -8,25 +8,10 @@ use Rattle.std.proofs.lemmas.List.{get_or_default}
 use Rattle.hp_syntax.specs.declared.limits.TheConstants.{LONGEST_TOKEN}
 use Rattle.hp_syntax.specs.Text.{Blank, Opening, Closing, NameByte, Bad, End, is_blank, is_name_byte, comment_after, in_comment, kind_at, IsToken}
 use Rattle.hp_syntax.specs.Forest.{Node, Word, Numeral, Group, Forest, Bare, Grow, span_of, SpellsNode, Spells, IsForest, longest_token, longest_token_of_node}
-use Rattle.hp_syntax.proofs.TextLemmas.{kind_within}
+use Rattle.hp_syntax.proofs.TextLemmas.{kind_within, name_byte_only}
 use Rattle.hp_syntax.proofs.LimitLemmas.{forest_keeps_limits}
 use Rattle.hp_print.proofs.CanSpell.{IsName, CanSpell, CanSpellAll}
 use Rattle.hp_print.proofs.NumberTexts.{number_can_spell, spelled_in_range}
-
--- the kind that these tests choose is a name byte's only by the last of them
-by_last_test : (l c s o k n : Bool)
-    → cond l (cond c Blank (cond s Blank (cond o Opening (cond k Closing (cond n NameByte Bad))))) End ≡ NameByte
-    → n ≡ true
-by_last_test true false false false false true e = refl
-by_last_test _ _ _ _ _ _ e = absurd cc
-
--- a name byte is one outside a comment
-pub name_byte_told : (text : List ℕ) (i : ℕ) → kind_at text i ≡ NameByte → is_name_byte (slice_index text i) ≡ true
-unfolding kind_at
-name_byte_told text i h =
-    let b = slice_index text i in
-    by_last_test (nat_lt i (length text)) (comment_after (in_comment text i) b) (is_blank b) (b == 40) (b == 41)
-    (is_name_byte b) h
 
 -- a token ends within the text
 token_within : (text : List ℕ) (a b : ℕ) → IsToken text a b → b ≤ length text
@@ -48,7 +33,7 @@ token_bytes text a b t = list_all-from_AllPass is_name_byte (slice_range text a 
         let m = token_length text a b t in
         let e = get_or_default (slice_range text a b) i d 0 l
         ∙ (get_or-take (b - a) (drop a text) i 0 (omega arith) ∙ get_or-drop a text i 0) in
-        ap is_name_byte e ∙ name_byte_told text (a + i) (t.run (a + i) (omega arith) (omega arith))
+        ap is_name_byte e ∙ name_byte_only text (a + i) (t.run (a + i) (omega arith) (omega arith))
 
 -- what a text spells without long tokens can be spelled
 mutual

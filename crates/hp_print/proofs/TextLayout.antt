@@ -11,9 +11,8 @@ use Rattle.hp_syntax.specs.Text.{Blank, Opening, Closing, NameByte, Bad, is_blan
 use Rattle.hp_syntax.specs.Forest.{Node, Word, Numeral, Group, Forest, Bare, Grow, span_of, IsSpelled, SpellsNode, Spells, longest_token, longest_token_of_node}
 use Rattle.hp_syntax.specs.Unplaced as unplaced
 use Rattle.hp_syntax.specs.Written.{nowhere, node_text, rest_text, lines}
-use Rattle.hp_syntax.proofs.TextLemmas.{in_comment-next, kind_at-byte, kind_at-end, outside_behind}
+use Rattle.hp_syntax.proofs.TextLemmas.{in_comment-next, kind_at-byte, kind_at-end, name_kind, name_byte_only, outside_behind}
 use Rattle.hp_print.proofs.CanSpell.{IsName, IsNumber, CanSpell, CanSpellAll}
-use Rattle.hp_print.proofs.SpelledNodes.{name_byte_told}
 
 -- the rest of a text from an offset on, before which no comment is open
 pub record Stands (text : List ℕ) (a : ℕ) (xs : List ℕ) : Type 0 where
@@ -50,22 +49,6 @@ pub record ForestPlace (text : List ℕ) (a : ℕ) (f : Forest) (rest : List ℕ
 name_no_semicolon : (b : ℕ) → is_name_byte b ≡ true → b == 59 ≡ false
 name_no_semicolon b h = ne_eqb b 59 (λ e. false≢true (ap is_name_byte (sym e) ∙ h))
 
--- what passes only the test for name bytes is one
-name_chosen : (s o k n : Bool) → s ≡ false → o ≡ false → k ≡ false → n ≡ true
-    → cond s Blank (cond o Opening (cond k Closing (cond n NameByte Bad))) ≡ NameByte
-name_chosen false false false true p q r t = refl
-name_chosen _ _ _ _ p q r t = absurd cc
-
--- a name byte is of no other kind
-name_kind : (b : ℕ) → is_name_byte b ≡ true → byte_kind b ≡ NameByte
-name_kind b h =
-    name_chosen (is_blank b) (b == 40) (b == 41) (is_name_byte b)
-    (ap₂ ◌||◌ (ap₂ ◌||◌ (ap₂ ◌||◌ (other 32 refl) (other 9 refl)) (other 13 refl)) (other 10 refl)) (other 40 refl)
-    (other 41 refl) h
-  where
-    other : (c : ℕ) → is_name_byte c ≡ false → b == c ≡ false
-    other c k = ne_eqb b c (λ e. false≢true (sym k ∙ (ap is_name_byte (sym e) ∙ h)))
-
 module _ (text : List ℕ) where
   -- a byte that is no semicolon is what it is alone, and the rest stands behind it
   pub byte_stands : (a b : ℕ) (bs : List ℕ) → Stands text a (b ∷ bs) → b == 59 ≡ false
@@ -95,7 +78,7 @@ module _ (text : List ℕ) where
       let n : length (drop a text) ≡ length (c ∷ cs) = ap length s.rest in
       let d = sym (drop_more text a 0 (omega arith)) ∙ s.rest in
       let e : slice_index text a ≡ c = cc in
-      false≢true (sym b ∙ (ap is_name_byte (sym e) ∙ name_byte_told text a h))
+      false≢true (sym b ∙ (ap is_name_byte (sym e) ∙ name_byte_only text a h))
 
   -- name bytes that stand at an offset are a run of them
   name_run : (xs rest : List ℕ) (a : ℕ) → list_all is_name_byte xs ≡ true → Stands text a (xs ++ rest)

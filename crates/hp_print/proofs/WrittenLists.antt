@@ -2,22 +2,11 @@
 use Rattle.std.proofs.Common.{◌≡◌, ℕ, ◌+◌, ◌<◌, ◌≤◌, ◌++◌, List, [], ◌∷◌, length, get_or, drop, codes, Result, ap, sym, ◌∙◌, append_assoc, append-nil}
 use Rattle.std.specs.Bool.{if◌then◌else◌}
 use Rattle.std.specs.Result.{OnOk, is_ok}
-use Rattle.std.proofs.lemmas.List.{drop_more, at_drop_all}
+use Rattle.std.proofs.lemmas.List.{at_drop_all}
+use Rattle.hp_syntax.proofs.ListLemmas.{made_on}
 use Rattle.hp_print.proofs.WrittenTexts.{ended}
 
-module _ {X : Type 0} (rest : List X → List ℕ) (part : X → List ℕ) (xs : List X) (i : ℕ) (x : X) where
-  -- once one more part is written, the text and what is left of the list are what they were together before
-  pub written_on : (text new whole : List ℕ) → ((y : X) (ys : List X) → rest (y ∷ ys) ≡ part y ++ rest ys)
-      → i < length xs → x ≡ get_or xs i x → text ++ rest (drop i xs) ≡ whole → new ≡ text ++ part x
-      → new ++ rest (drop (i + 1) xs) ≡ whole
-  written_on text new whole step below at left put =
-      let behind = drop (i + 1) xs in
-      let here : drop i xs ≡ x ∷ behind = drop_more xs i x below ∙ ap (λ y. y ∷ behind) (sym at) in
-      ap (λ t. t ++ rest behind) put
-      ∙ (append_assoc text (part x) (rest behind)
-      ∙ (ap (λ r. text ++ r) (sym (ap rest here ∙ step x behind)) ∙ left))
-
--- the same of a part that is written behind a space
+-- once one more part is written behind a space, the text and what is left of the list are what they were before
 pub spaced_on : {X : Type 0} (rest : List X → List ℕ) (part : X → List ℕ) (xs : List X) (i : ℕ) (x : X)
     (text spaced new whole : List ℕ)
     → ((y : X) (ys : List X) → rest (y ∷ ys) ≡ codes " " ++ part y ++ rest ys)
@@ -25,7 +14,7 @@ pub spaced_on : {X : Type 0} (rest : List X → List ℕ) (part : X → List ℕ
     → spaced ≡ text ++ codes " " → new ≡ spaced ++ part x
     → new ++ rest (drop (i + 1) xs) ≡ whole
 spaced_on rest part xs i x text spaced new whole step below at left gap put =
-    written_on rest (λ y. codes " " ++ part y) xs i x text new whole step below at left
+    made_on rest (λ y. codes " " ++ part y) xs i x text new whole step below at left
     (put ∙ (ap (λ t. t ++ part x) gap ∙ append_assoc text (codes " ") (part x)))
 
 module _ {X T E : Type 0} (r : Result T E) (rest : List X → List ℕ) (xs : List X) (i : ℕ)

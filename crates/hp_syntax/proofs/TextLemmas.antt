@@ -1,7 +1,8 @@
 -- What stands at the offsets of a text, and what is refused there.
-use Rattle.std.proofs.Common.{◌≡◌, ℕ, zero, suc, ◌+◌, ◌<◌, ◌≤◌, Bool, true, false, cond, List, ◌∷◌, length, None, refl, sym, ◌∙◌, ap, arith, add-one, ⊎_elim}
-use Rattle.std.specs.Prelude.{slice_index, drop, nat_lt, ◌==◌, ◌&&◌}
-use Rattle.std.proofs.lemmas.Bool.{lt-ltb, le-ltb, cases_lt, cases_eq, false_from_ne_true, ne_eqb, and_right, cases_cond}
+use Rattle.std.proofs.Common.{◌≡◌, ℕ, zero, suc, ◌+◌, ◌<◌, ◌≤◌, Bool, true, false, cond, List, ◌∷◌, length, None, refl, sym, ◌∙◌, ap, subst, arith, add-one, ⊎_elim}
+use Rattle.std.specs.Prelude.{slice_index, drop, nat_lt, ◌==◌, ◌&&◌, ◌||◌}
+use Rattle.std.proofs.lemmas.Bool.{lt-ltb, le-ltb, eq-eqb, cases_lt, cases_eq, false_from_ne_true, ne_eqb, and_right, cases_cond}
+use Rattle.std.proofs.lemmas.Bool.Decides.{nat_tests}
 use Rattle.hp_syntax.specs.declared.limits.TheConstants.{LARGEST_TEXT}
 use Rattle.hp_syntax.specs.Text.{Kind, Blank, Opening, Closing, NameByte, Bad, End, is_blank, is_name_byte, byte_kind, comment_after, in_comment, kind_at, IsOutside, IsToken, IsGap}
 use Rattle.hp_syntax.specs.Refusal.{opened, open_before, token_start, kind_refusal, refused, refusal_at, is_name, IsClear}
@@ -33,29 +34,56 @@ kind_at-end text i l = rw (le-ltb i (length text) l)
 pub kind_within : (text : List ℕ) (i : ℕ) → (kind_at text i ≡ End → ⊥) → i < length text
 kind_within text i h = ⊎_elim (λ l. l) (λ l. absurd (h (kind_at-end text i l))) (cases_lt i (length text))
 
--- the kind that a test chooses of two is a third kind only if one of them is
-other_kind : (b : Bool) (x y k : Kind) → (x ≡ k → ⊥) → (y ≡ k → ⊥) → cond b x y ≡ k → ⊥
-other_kind true x y k h j e = h e
-other_kind false x y k h j e = j e
+-- within the text a byte of a comment is blank, and another one is what it is alone
+pub kind_at-within : (text : List ℕ) (i : ℕ) → i < length text
+    → kind_at text i ≡ cond (comment_after (in_comment text i) (slice_index text i)) Blank
+    (byte_kind (slice_index text i))
+unfolding kind_at
+kind_at-within text i l = rw (lt-ltb i (length text) l) refl
 
--- no byte is the end
-byte_kind-End : (b : ℕ) → byte_kind b ≡ End → ⊥
-byte_kind-End b =
-    other_kind (is_blank b) Blank _ End (λ e. absurd cc)
-    (other_kind (b == 40) Opening _ End (λ e. absurd cc)
-    (other_kind (b == 41) Closing _ End (λ e. absurd cc)
-    (other_kind (is_name_byte b) NameByte Bad End (λ e. absurd cc) (λ e. absurd cc))))
+-- the test that was passed where a kind was chosen
+abbrev pub Shown : Kind → Bool → Bool → Bool → Bool → Bool → Type 0
+Shown Blank inside blank opens closes names = (inside || blank) ≡ true
+Shown Opening inside blank opens closes names = opens ≡ true
+Shown Closing inside blank opens closes names = closes ≡ true
+Shown NameByte inside blank opens closes names = names ≡ true
+Shown Bad inside blank opens closes names = Unit {0}
+Shown End inside blank opens closes names = ⊥
+
+-- the kind that tests choose shows which of them was passed
+chosen_shows : (inside blank opens closes names : Bool)
+    → Shown (cond inside Blank
+    (cond blank Blank (cond opens Opening (cond closes Closing (cond names NameByte Bad)))))
+    inside blank opens closes names
+chosen_shows true blank opens closes names = refl
+chosen_shows false true opens closes names = refl
+chosen_shows false false true closes names = refl
+chosen_shows false false false true names = refl
+chosen_shows false false false false true = refl
+chosen_shows false false false false false = tt
+
+-- within the text the kind of a byte shows which test it passes
+pub kind_shows : (text : List ℕ) (i : ℕ) (k : Kind) → i < length text → kind_at text i ≡ k
+    → Shown k (comment_after (in_comment text i) (slice_index text i)) (is_blank (slice_index text i))
+    (slice_index text i == 40) (slice_index text i == 41) (is_name_byte (slice_index text i))
+kind_shows text i k l e =
+    let b = slice_index text i in
+    subst (λ q. Shown q (comment_after (in_comment text i) b) (is_blank b) (b == 40) (b == 41) (is_name_byte b))
+    (sym (kind_at-within text i l) ∙ e)
+    (chosen_shows (comment_after (in_comment text i) b) (is_blank b) (b == 40) (b == 41) (is_name_byte b))
+
+-- a name byte is of no other kind
+pub name_kind : (b : ℕ) → is_name_byte b ≡ true → byte_kind b ≡ NameByte
+name_kind b h = grind (arith, nat_tests)
+
+-- a byte of a token is a name byte
+pub name_byte_only : (text : List ℕ) (i : ℕ) → kind_at text i ≡ NameByte → is_name_byte (slice_index text i) ≡ true
+name_byte_only text i e =
+    kind_shows text i NameByte (kind_within text i (λ h. let k : NameByte ≡ End = sym e ∙ h in cc)) e
 
 -- where a text ends no byte of it follows
 pub end_of_text : (text : List ℕ) (i : ℕ) → kind_at text i ≡ End → length text ≤ i
-unfolding kind_at
-end_of_text text i h = ⊎_elim (λ l. absurd (a_byte l h)) (λ l. l) (cases_lt i (length text))
-  where
-    a_byte : i < length text → kind_at text i ≡ End → ⊥
-    a_byte l e =
-        let f = rw (lt-ltb i (length text) l) at e in
-        other_kind (comment_after (in_comment text i) (slice_index text i)) Blank (byte_kind (slice_index text i)) End
-        (λ q. absurd cc) (byte_kind-End (slice_index text i)) f
+end_of_text text i h = ⊎_elim (λ l. absurd (kind_shows text i End l h)) (λ l. l) (cases_lt i (length text))
 
 -- behind what isn't blank no comment is open
 pub quiet_behind : (text : List ℕ) (i : ℕ) → (kind_at text i ≡ Blank → ⊥) → i < length text
@@ -151,6 +179,12 @@ pub refusal_at-end : (text : List ℕ) (i : ℕ) → length text ≤ i
     → refusal_at text i ≡ kind_refusal text i (kind_at text i) (open_before text i)
 unfolding refusal_at
 refusal_at-end text i l = rw (and_right (i == LARGEST_TEXT) (nat_lt i (length text)) (le-ltb i (length text) l))
+
+-- the byte behind the largest text is refused
+pub refusal_at-limit : (text : List ℕ) (i : ℕ) → i ≡ LARGEST_TEXT → i < length text
+    → refusal_at text i ≡ refused TooLarge i
+unfolding refusal_at
+refusal_at-limit text i e l = rw (eq-eqb i LARGEST_TEXT e, lt-ltb i (length text) l) refl
 
 -- a text is clear no further than the limit
 pub clear_within : (text : List ℕ) (i : ℕ) → IsClear text i → i ≤ length text → i ≤ LARGEST_TEXT

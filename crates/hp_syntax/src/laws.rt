@@ -37,9 +37,9 @@ pub fn every_text_is_one_or_the_other()
 
 /// A refusal is decided by the text up to the byte where it arises and the one behind it: a text
 /// that is alike up to there is refused alike, whatever stands later. So a text that goes on past
-/// the limit is refused as its front is.
-pub fn refusals_are_decided_by_the_front()
-    ensures front { (text other : List ℕ) (r : Refusal) (refused : IsRefused text r)
+/// the limit is refused as its prefix is.
+pub fn refusals_are_decided_by_the_prefix()
+    ensures prefix { (text other : List ℕ) (r : Refusal) (refused : IsRefused text r)
         → take (refused.at + 2) text ≡ take (refused.at + 2) other → IsRefused other r }
     ensures refused { (text : List ℕ) (r : Refusal) → IsRefused (take (LARGEST_TEXT + 1) text) r
         → IsRefused text r }
@@ -86,7 +86,7 @@ pub fn forms_are_numbered()
 
 /// What is refused of a forest is decided by the text up to the end of the refused node and the
 /// byte behind it: what is alike up to there is refused alike, whatever stands later.
-pub fn misforms_are_decided_by_the_front()
+pub fn misforms_are_decided_by_the_prefix()
     ensures domain { (text other : List ℕ) (f g : Forest) (e : Misform) → IsForest text f → IsForest other g
         → domain_form (length text) f ≡ Err e
         → take ((misform_span e).to + 1) text ≡ take ((misform_span e).to + 1) other

@@ -1,6 +1,6 @@
 pub mod Turns
 pub mod PlaceLemmas
-pub mod Items
+pub mod ItemSteps
 pub mod Sizes
-pub mod PartLemmas
+pub mod PartSteps
 pub mod WordLemmas

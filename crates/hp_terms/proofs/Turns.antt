@@ -16,8 +16,8 @@ use Rattle.hp_terms.specs.declared.refusal.FormRefusal.TheVariants as refusals
 
 -- what was read so far, before what is read from here on
 abbrev pub prepend : {A : Type 0} → List A → Result (List A × Names) Misform → Result (List A × Names) Misform
-prepend front (Ok p) = Ok (front ++ p.0, p.1)
-prepend front (Err e) = Err e
+prepend prefix (Ok p) = Ok (prefix ++ p.0, p.1)
+prepend prefix (Err e) = Err e
 
 -- before anything was read, what is read from here on is all
 pub prepend-nil : {A : Type 0} (r : Result (List A × Names) Misform) → r ≡ prepend [] r
@@ -25,10 +25,10 @@ prepend-nil (Ok p) = refl
 prepend-nil (Err e) = refl
 
 -- an item that is read goes from the front of what is to be read to the end of what was
-pub prepend_more : {A : Type 0} (front : List A) (x : A) (r : Result (List A × Names) Misform)
-    → prepend front (and_then r (λ xs. pure (x ∷ xs))) ≡ prepend (front ++ x ∷ []) r
-prepend_more front x (Ok p) = ap (λ xs. Ok (xs, p.1)) (sym (append_assoc front (x ∷ []) p.0))
-prepend_more front x (Err e) = refl
+pub prepend_more : {A : Type 0} (prefix : List A) (x : A) (r : Result (List A × Names) Misform)
+    → prepend prefix (and_then r (λ xs. pure (x ∷ xs))) ≡ prepend (prefix ++ x ∷ []) r
+prepend_more prefix x (Ok p) = ap (λ xs. Ok (xs, p.1)) (sym (append_assoc prefix (x ∷ []) p.0))
+prepend_more prefix x (Err e) = refl
 
 -- what refuses the step that comes next refuses all
 pub refused_next : {A B : Type 0} (e : FormRefusal) (r : Result (A × Names) Misform) (f : A → Parse B)
@@ -37,11 +37,11 @@ refused_next (refusals.Expected what span) r f h = ap (λ x. and_then x f) h
 refused_next (refusals.SeveralPairs span) r f h = ap (λ x. and_then x f) h
 refused_next refusals.NoMemory r f h = h
 
-refused_behind : {A : Type 0} (e : FormRefusal) (front : List A) (r : Result (List A × Names) Misform)
-    → Refuses e r → Refuses e (prepend front r)
-refused_behind (refusals.Expected what span) front r h = ap (prepend front) h
-refused_behind (refusals.SeveralPairs span) front r h = ap (prepend front) h
-refused_behind refusals.NoMemory front r h = h
+refused_behind : {A : Type 0} (e : FormRefusal) (prefix : List A) (r : Result (List A × Names) Misform)
+    → Refuses e r → Refuses e (prepend prefix r)
+refused_behind (refusals.Expected what span) prefix r h = ap (prepend prefix) h
+refused_behind (refusals.SeveralPairs span) prefix r h = ap (prepend prefix) h
+refused_behind refusals.NoMemory prefix r h = h
 
 -- what refuses a result refuses an equal one
 pub refused_same : {A : Type 0} (e : FormRefusal) (r s : Result A Misform) → r ≡ s → Refuses e s → Refuses e r
@@ -66,41 +66,41 @@ module _ {A : Type 0} (item : plain.Node → Parse A) (nodes : List Node) where
   none_left i names h = ap (λ ns. each item (nodes_of ns) names) (drop_all i nodes h)
 
   -- at the end, what was read so far is all
-  pub all_read : (i : ℕ) (front : List A) (names : Names) (all : Result (List A × Names) Misform)
-      → length nodes ≤ i → all ≡ prepend front (from_here item nodes i names) → all ≡ Ok (front, names)
-  all_read i front names all h e =
-      e ∙ ap (prepend front) (none_left i names h) ∙ ap (λ xs. Ok (xs, names)) (append-nil front)
+  pub all_read : (i : ℕ) (prefix : List A) (names : Names) (all : Result (List A × Names) Misform)
+      → length nodes ≤ i → all ≡ prepend prefix (from_here item nodes i names) → all ≡ Ok (prefix, names)
+  all_read i prefix names all h e =
+      e ∙ ap (prepend prefix) (none_left i names h) ∙ ap (λ xs. Ok (xs, names)) (append-nil prefix)
 
   -- one more item is read
-  pub one_read : (i : ℕ) (d : Node) (front : List A) (x : A) (before after : Names)
+  pub one_read : (i : ℕ) (d : Node) (prefix : List A) (x : A) (before after : Names)
       (all : Result (List A × Names) Misform) → i < length nodes
-      → all ≡ prepend front (from_here item nodes i before)
+      → all ≡ prepend prefix (from_here item nodes i before)
       → item (node_of (get_or nodes i d)) before ≡ Ok (x, after)
-      → all ≡ prepend (front ++ x ∷ []) (from_here item nodes (i + 1) after)
-  one_read i d front x before after all h e r =
-      e ∙ ap (prepend front) (here_first i d before h)
-      ∙ ap (λ o. prepend front (and_then o (λ y later. and_then (from_here item nodes (i + 1) later)
+      → all ≡ prepend (prefix ++ x ∷ []) (from_here item nodes (i + 1) after)
+  one_read i d prefix x before after all h e r =
+      e ∙ ap (prepend prefix) (here_first i d before h)
+      ∙ ap (λ o. prepend prefix (and_then o (λ y later. and_then (from_here item nodes (i + 1) later)
       (λ xs. pure (y ∷ xs))))) r
-      ∙ prepend_more front x (from_here item nodes (i + 1) after)
+      ∙ prepend_more prefix x (from_here item nodes (i + 1) after)
 
   -- an item that is refused refuses all
-  pub one_refused : (i : ℕ) (d : Node) (front : List A) (why : FormRefusal) (names : Names)
+  pub one_refused : (i : ℕ) (d : Node) (prefix : List A) (why : FormRefusal) (names : Names)
       (all : Result (List A × Names) Misform) → i < length nodes
-      → all ≡ prepend front (from_here item nodes i names)
+      → all ≡ prepend prefix (from_here item nodes i names)
       → Refuses why (item (node_of (get_or nodes i d)) names) → Refuses why all
-  one_refused i d front why names all h e r =
-      refused_same why all _ (e ∙ ap (prepend front) (here_first i d names h))
-      (refused_behind why front _ (refused_next why _ _ r))
+  one_refused i d prefix why names all h e r =
+      refused_same why all _ (e ∙ ap (prepend prefix) (here_first i d names h))
+      (refused_behind why prefix _ (refused_next why _ _ r))
 
 -- the same where what is read is seen through a view
 pub one_viewed : {X A : Type 0} (view : X → A) (item : plain.Node → Parse A) (nodes : List Node) (i : ℕ) (d : Node)
-    (front : List X) (x : X) (before after : Names) (all : Result (List A × Names) Misform) → i < length nodes
-    → all ≡ prepend (map view front) (from_here item nodes i before)
+    (prefix : List X) (x : X) (before after : Names) (all : Result (List A × Names) Misform) → i < length nodes
+    → all ≡ prepend (map view prefix) (from_here item nodes i before)
     → item (node_of (get_or nodes i d)) before ≡ Ok (view x, after)
-    → all ≡ prepend (map view (front ++ x ∷ [])) (from_here item nodes (i + 1) after)
-one_viewed view item nodes i d front x before after all h e r =
-    one_read item nodes i d (map view front) (view x) before after all h e r
-    ∙ ap (λ xs. prepend xs (from_here item nodes (i + 1) after)) (sym (map-append view front (x ∷ [])))
+    → all ≡ prepend (map view (prefix ++ x ∷ [])) (from_here item nodes (i + 1) after)
+one_viewed view item nodes i d prefix x before after all h e r =
+    one_read item nodes i d (map view prefix) (view x) before after all h e r
+    ∙ ap (λ xs. prepend xs (from_here item nodes (i + 1) after)) (sym (map-append view prefix (x ∷ [])))
 
 -- what an iterator over nodes takes is the first of those that are left
 pub first_taken : {Z : Type 0} (old new : IntoIter Node Z) (r : Option Node) (n : Node)
@@ -113,32 +113,32 @@ pub none_taken : {Z : Type 0} (old new : IntoIter Node Z) (r : Option Node)
 none_taken old new r is h =
     nil_from_length (into_iter_items old) (sym old.rest.ok.0 ∙ (MatchOption-at_none _ _ is h).0)
 
-module _ {X A : Type 0} (view : X → A) (item : plain.Node → Parse A) (front : List X) (left : List Node)
+module _ {X A : Type 0} (view : X → A) (item : plain.Node → Parse A) (prefix : List X) (left : List Node)
     (names : Names) (all : Result (List A × Names) Misform)
-    (so_far : all ≡ prepend (map view front) (each item (nodes_of left) names)) where
+    (so_far : all ≡ prepend (map view prefix) (each item (nodes_of left) names)) where
   -- the first of the items that are left is read
   pub first_read : (n : Node) (others : List Node) (x : X) (after : Names) → left ≡ n ∷ others
       → item (node_of n) names ≡ Ok (view x, after)
-      → all ≡ prepend (map view (front ++ x ∷ [])) (each item (nodes_of others) after)
+      → all ≡ prepend (map view (prefix ++ x ∷ [])) (each item (nodes_of others) after)
   first_read n others x after at r =
-      so_far ∙ ap (λ ns. prepend (map view front) (each item (nodes_of ns) names)) at
-      ∙ ap (λ o. prepend (map view front) (and_then o (λ y later. and_then (each item (nodes_of others) later)
+      so_far ∙ ap (λ ns. prepend (map view prefix) (each item (nodes_of ns) names)) at
+      ∙ ap (λ o. prepend (map view prefix) (and_then o (λ y later. and_then (each item (nodes_of others) later)
       (λ xs. pure (y ∷ xs))))) r
-      ∙ prepend_more (map view front) (view x) (each item (nodes_of others) after)
-      ∙ ap (λ xs. prepend xs (each item (nodes_of others) after)) (sym (map-append view front (x ∷ [])))
+      ∙ prepend_more (map view prefix) (view x) (each item (nodes_of others) after)
+      ∙ ap (λ xs. prepend xs (each item (nodes_of others) after)) (sym (map-append view prefix (x ∷ [])))
 
   -- where the first of the items that are left is refused, all are
   pub first_refused : (n : Node) (others : List Node) (why : FormRefusal) → left ≡ n ∷ others
       → Refuses why (item (node_of n) names) → Refuses why all
   first_refused n others why at r =
-      refused_same why all _ (so_far ∙ ap (λ ns. prepend (map view front) (each item (nodes_of ns) names)) at)
-      (refused_behind why (map view front) _ (refused_next why _ _ r))
+      refused_same why all _ (so_far ∙ ap (λ ns. prepend (map view prefix) (each item (nodes_of ns) names)) at)
+      (refused_behind why (map view prefix) _ (refused_next why _ _ r))
 
   -- where no item is left, what was read so far is all
-  pub none_is_left : left ≡ [] → all ≡ Ok (map view front, names)
+  pub none_is_left : left ≡ [] → all ≡ Ok (map view prefix, names)
   none_is_left at =
-      so_far ∙ ap (λ ns. prepend (map view front) (each item (nodes_of ns) names)) at
-      ∙ ap (λ xs. Ok (xs, names)) (append-nil (map view front))
+      so_far ∙ ap (λ ns. prepend (map view prefix) (each item (nodes_of ns) names)) at
+      ∙ ap (λ xs. Ok (xs, names)) (append-nil (map view prefix))
 
 -- steps one after the other may be grouped either way
 pub bind-assoc : {A B C : Type 0} (r : Result (A × Names) Misform) (f : A → Parse B) (g : B → Parse C)

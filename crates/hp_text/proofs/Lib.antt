@@ -1,7 +1,7 @@
 pub mod SpellingLemmas
 pub mod ByteLemmas
 pub mod PlaceLemmas
-pub mod ScanLemmas
+pub mod ScanSteps
 pub mod Clear
-pub mod Runs
-pub mod Made
+pub mod ReadSteps
+pub mod NodeLemmas

@@ -3,9 +3,9 @@ use Rattle.std.proofs.Common.{◌≡◌, ℕ, ◌+◌, ◌-◌, ◌<◌, ◌≤�
 use Rattle.std.proofs.lemmas.Bool.{cases_lt}
 use Rattle.std.proofs.lemmas.List.{take_all, get_or-drop, length-drop}
 use Rattle.hp_syntax.specs.Text.{Kind, Blank, NameByte, End, is_blank, is_name_byte, in_comment, kind_at, IsGap}
-use Rattle.hp_syntax.proofs.TextLemmas.{kind_at-end, kind_within, quiet_behind, outside_behind}
+use Rattle.hp_syntax.proofs.TextLemmas.{kind_at-end, kind_within, name_byte_only, quiet_behind, outside_behind}
 use Rattle.hp_text.specs.Places.{IsBetween, IsStop}
-use Rattle.hp_text.proofs.ByteLemmas.{blank_byte, quiet_behind_blank, comment_byte, quiet_behind_line, no_blank_byte, name_byte_only}
+use Rattle.hp_text.proofs.ByteLemmas.{blank_byte, quiet_behind_blank, comment_byte, quiet_behind_line, no_blank_byte}
 
 -- one more byte of a kind
 run_more : (k : Kind) (text : List ℕ) (from i : ℕ) → ((j : ℕ) → from ≤ j → j < i → kind_at text j ≡ k)

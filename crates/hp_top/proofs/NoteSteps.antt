@@ -6,7 +6,7 @@ use Rattle.hp_out.specs.Writing.{Wrote, sink_run}
 use Rattle.hp_out.proofs.WriteSteps.{seam, wrote_both}
 use Rattle.hp_top.specs.declared.telling.Halt.{Halt}
 use Rattle.hp_top.specs.Telling.{Halts}
-use Rattle.hp_top.proofs.Fronts.{halts_longer, halts_after}
+use Rattle.hp_top.proofs.TellingLemmas.{halts_longer, halts_after}
 
 -- texts of what other elements stand for
 flat_map-map : {X Y A : Type 0} (f : Y → List A) (g : X → Y) (xs : List X)

@@ -16,8 +16,8 @@ use Rattle.hp_top.specs.declared.telling.Halt.{Halt}
 use Rattle.hp_top.specs.Outcome.{walk_of_pairs, first_fault, job_answer, answer_of_read}
 use Rattle.hp_top.specs.Command.{Job, make_command}
 use Rattle.hp_top.specs.Telling.{IsAtItsNode, Halts, Tells, status_told, telling}
-use Rattle.hp_top.proofs.Reports.{report_heard}
-use Rattle.hp_top.proofs.Tellings.{tells_told}
+use Rattle.hp_top.proofs.ReportLemmas.{report_heard}
+use Rattle.hp_top.proofs.PlanningSteps.{tells_told}
 
 -- a list of pairs is as long as that of the plain ones
 pub one_in_memory : (ps : List Pair) → length (map pair_of ps) ≡ 1 → length ps ≡ 1

@@ -32,7 +32,7 @@ pub record FolderRun : Type 0 where
 abbrev pub folder_run : (List ℕ → ToldFile) → (Input → ℕ) → (Input → ℕ) → FolderRun
 folder_run file before now = record { file = file; before = before; now = now }
 
--- the front of a told file, up to one byte past the longest text
+-- the prefix of a told file, up to one byte past the longest text
 abbrev pub ReadsFile : List ℕ → ToldFile → Type 0
 ReadsFile bytes None = Unit {0}
 ReadsFile bytes (Some None) = ⊥

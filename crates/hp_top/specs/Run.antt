@@ -9,7 +9,7 @@ use Rattle.hp_top.specs.Loading.{ToldFile, FolderRun, IsUnread, LoadsBoth}
 use Rattle.hp_out.specs.declared.refusal.Refusal.TheVariants as refusals
 use Rattle.hp_top.specs.declared.loading.LoadError.TheVariants as causes
 use Rattle.hp_out.specs.Lines.{refused_usage, refused_read}
-use Rattle.hp_out.specs.Writing.{SinkRun, Wrote, WroteFront, WroteProperFront}
+use Rattle.hp_out.specs.Writing.{SinkRun, Wrote, WrotePrefix, WroteProperPrefix}
 
 -- the folder tells these files
 abbrev pub TellsFiles : (List ℕ → ToldFile) → Files → Type 0
@@ -55,9 +55,9 @@ pub record WritesSome (much : List ℕ → Option (List ℕ) → Option (List �
   pub could : CouldWrite words files folder text
   pub written : much text r.before r.after
 
--- a front of a text that the run could write was written, maybe all of it; or a proper front
-abbrev pub WritesFront : List (List ℕ) → Files → FolderRun → SinkRun → Type 0
-WritesFront = WritesSome WroteFront
+-- a prefix of a text that the run could write was written, maybe all of it; or a proper prefix
+abbrev pub WritesPrefix : List (List ℕ) → Files → FolderRun → SinkRun → Type 0
+WritesPrefix = WritesSome WrotePrefix
 
-abbrev pub WritesProperFront : List (List ℕ) → Files → FolderRun → SinkRun → Type 0
-WritesProperFront = WritesSome WroteProperFront
+abbrev pub WritesProperPrefix : List (List ℕ) → Files → FolderRun → SinkRun → Type 0
+WritesProperPrefix = WritesSome WroteProperPrefix

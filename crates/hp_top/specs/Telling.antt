@@ -3,7 +3,7 @@ use Rattle.std.specs.Prelude.{◌≡◌, ℕ, ◌+◌, ◌<◌, ◌==◌, cond, 
 use Rattle.hp_io.specs.Rules.{Rose}
 use Rattle.hp_net.specs.Standings.{Tree}
 use Rattle.hp_out.specs.Endings.{ending_of}
-use Rattle.hp_out.specs.Writing.{SinkRun, Wrote, WroteFront, WroteProperFront}
+use Rattle.hp_out.specs.Writing.{SinkRun, Wrote, WrotePrefix, WroteProperPrefix}
 use Rattle.hp_out.specs.declared.ending.Ending.{Ending}
 use Rattle.hp_out.specs.declared.ending.Ending.TheVariants.{Stopped}
 use Rattle.hp_syntax.specs.Report.{Answer, Tally, tally, ended, answer_at, behind, report, line_of, plan_of}
@@ -55,11 +55,11 @@ Visited None detail k p q before after old new =
     Goes detail k p q before after old new × (q.plans < k) × (length after < length before)
 Visited (Some x) detail k p q before after old new = Closes detail k p q before x old new
 
--- the telling of a text stops: for want of memory, with a front of it written, or because the sink's
--- count rose, with a proper front
+-- the telling of a text stops: for want of memory, with a prefix of it written, or because the sink's
+-- count rose, with a proper prefix
 abbrev pub Halts : Halt → List ℕ → SinkRun → Type 0
-Halts NoMemory text r = WroteFront text r.before r.after
-Halts Failed text r = Rose r.faults_before r.faults_after × WroteProperFront text r.before r.after
+Halts NoMemory text r = WrotePrefix text r.before r.after
+Halts Failed text r = Rose r.faults_before r.faults_after × WroteProperPrefix text r.before r.after
 
 -- one more plan is counted
 abbrev pub counted : Progress → Progress
@@ -70,11 +70,11 @@ abbrev pub stop_at : ℕ → ℕ → Option Ending
 stop_at k n = cond (n == k) (Some Stopped) None
 
 -- how a run ends that is to write a text and to end with a status: as it is to, or for want of memory
--- after a front of the text, or by a fault of the sink after a proper front
+-- after a prefix of the text, or by a fault of the sink after a proper prefix
 pub data Tells (a : Answer) (s : Status) (r : SinkRun) : Type 0 where
-  WithoutMemory : s ≡ status.NoMemory → WroteFront a.0 r.before r.after → Tells a s r
+  WithoutMemory : s ≡ status.NoMemory → WrotePrefix a.0 r.before r.after → Tells a s r
   Unwritten : s ≡ status.WriteFault → Rose r.faults_before r.faults_after
-      → WroteProperFront a.0 r.before r.after → Tells a s r
+      → WroteProperPrefix a.0 r.before r.after → Tells a s r
   Written : s ≡ a.1 → Wrote a.0 r.before r.after → Tells a s r
 
 -- the status of a run whose answer was told, or whose telling stopped

@@ -7,7 +7,7 @@ ghost use Rattle.hp_io.specs.declared.folder.Input.{Input};
 ghost use Rattle.hp_top.specs.Command.{accepts, make_command};
 ghost use Rattle.hp_top.specs.Loading.{folder_run};
 ghost use Rattle.hp_top.specs.Outcome.{Files};
-ghost use Rattle.hp_top.specs.Run.{TellsFiles, IsOutcome, RefusesWords, ReadFails, WritesFront, WritesProperFront};
+ghost use Rattle.hp_top.specs.Run.{TellsFiles, IsOutcome, RefusesWords, ReadFails, WritesPrefix, WritesProperPrefix};
 ghost use Rattle.hp_top.specs.Serving.{Serves, Ends};
 ghost use Rattle.hp_top.specs.Touching.{Touches, TouchesNamed, input_run};
 ghost use Rattle.hp_top.specs.Words.{IsAsked, job_of};
@@ -116,15 +116,15 @@ pub fn run<F: Folder, K: Sink>(
         (sink_run (K.faults out.old) (K.faults out.new) (K.bytes out.old) (K.bytes out.new)) }
     ensures usage { result ≡ Status.Usage → accepts (map string_bytes words.now) ≡ None }
 
-    // After want of memory a front of a text was written that the run could write, maybe all of it,
-    // and after a fault of writing a proper front.
-    ensures front { (files : Files) → TellsFiles (F.file folder.old) files → result ≡ Status.NoMemory →
-        WritesFront (map string_bytes words.now) files
+    // After want of memory a prefix of a text was written that the run could write, maybe all of it,
+    // and after a fault of writing a proper prefix.
+    ensures prefix { (files : Files) → TellsFiles (F.file folder.old) files → result ≡ Status.NoMemory →
+        WritesPrefix (map string_bytes words.now) files
         (folder_run (F.file folder.old) (F.faults folder.old) (F.faults folder.new))
         (sink_run (K.faults out.old) (K.faults out.new) (K.bytes out.old) (K.bytes out.new)) }
-    ensures proper_front { (files : Files) → TellsFiles (F.file folder.old) files →
+    ensures proper_prefix { (files : Files) → TellsFiles (F.file folder.old) files →
         result ≡ Status.WriteFault →
-        WritesProperFront (map string_bytes words.now) files
+        WritesProperPrefix (map string_bytes words.now) files
         (folder_run (F.file folder.old) (F.faults folder.old) (F.faults folder.new))
         (sink_run (K.faults out.old) (K.faults out.new) (K.bytes out.old) (K.bytes out.new)) }
 

@@ -17,7 +17,7 @@ use crate::reading::{ReadError, read_rest};
 use hp_forms::FormRefusal;
 use hp_io::{BeginError, Folder, Input};
 use hp_out::Refusal;
-use hp_syntax::laws::{limits_are_kept, refusals_are_decided_by_the_front};
+use hp_syntax::laws::{limits_are_kept, refusals_are_decided_by_the_prefix};
 use hp_syntax::{Domain, Problem};
 use hp_text::{Forest, TextRefusal, read};
 use std::alloc::Global;
@@ -104,8 +104,8 @@ pub fn problem_in(alloc: Global, bytes: Vec<u8>) -> Result<Problem, LoadError>
     }
 }
 
-/// The front of a file, up to its end or one byte past the longest text.
-fn file_front<F: Folder>(
+/// The prefix of a file, up to its end or one byte past the longest text.
+fn file_prefix<F: Folder>(
     alloc: Global,
     folder: &mut F,
     which: Input,
@@ -142,10 +142,10 @@ fn load_domain<F: Folder>(alloc: Global, folder: &mut F, name: &str) -> Result<D
     ensures files { (n : List ℕ) → F.file folder.new n ≡ F.file folder.old n }
     ensures later { (w : Input) → F.faults folder.old w ≤ F.faults folder.new w }
 {
-    match file_front(alloc, folder, Input::Domain, name) {
+    match file_prefix(alloc, folder, Input::Domain, name) {
         Ok(bytes) => {
-            // Nothing runs here: the laws make known that the front is read as the whole text is.
-            refusals_are_decided_by_the_front();
+            // Nothing runs here: the laws make known that the prefix is read as the whole text is.
+            refusals_are_decided_by_the_prefix();
             limits_are_kept();
             domain_in(alloc, bytes)
         }
@@ -168,10 +168,10 @@ fn load_problem<F: Folder>(alloc: Global, folder: &mut F, name: &str) -> Result<
     ensures files { (n : List ℕ) → F.file folder.new n ≡ F.file folder.old n }
     ensures later { (w : Input) → F.faults folder.old w ≤ F.faults folder.new w }
 {
-    match file_front(alloc, folder, Input::Problem, name) {
+    match file_prefix(alloc, folder, Input::Problem, name) {
         Ok(bytes) => {
-            // Nothing runs here: the laws make known that the front is read as the whole text is.
-            refusals_are_decided_by_the_front();
+            // Nothing runs here: the laws make known that the prefix is read as the whole text is.
+            refusals_are_decided_by_the_prefix();
             limits_are_kept();
             problem_in(alloc, bytes)
         }

@@ -47,7 +47,7 @@ fn read_more<F: Folder>(
     }
 }
 
-/// The front of a begun input, up to its end or one byte past the limit.
+/// The prefix of a begun input, up to its end or one byte past the limit.
 pub fn read_rest<F: Folder>(
     alloc: Global,
     folder: &mut F,

@@ -8,7 +8,7 @@ use Rattle.hp_syntax.specs.ViewLaws.{expression_of-atom, expression_of-call, exp
 use Rattle.hp_syntax.specs.Views.{expression_of, pattern_of, atom_of}
 use Rattle.hp_text.specs.Nodes.{nodes_of}
 use Rattle.hp_terms.proofs.Turns.{one_viewed, refused_next, refused_same}
-use Rattle.hp_terms.proofs.PartLemmas.{expressions_read, expressions_refused, reads_same, conjunction-list}
+use Rattle.hp_terms.proofs.PartSteps.{expressions_read, expressions_refused, reads_same, conjunction-list}
 use Rattle.hp_terms.proofs.Sizes.{item-smaller}
 use Rattle.hp_conditions.proofs.KeyLemmas.{seen_as, by_nothing, by_and, by_or, by_not, by_imply, by_forall, by_assign, by_call, by_name, by_no_name}
 use Rattle.hp_conditions.proofs.expressions.+expression.Goals as goal

@@ -1,6 +1,6 @@
 use Rattle.std.proofs.Common.{◌∙◌, ◌≢◌, arith, length, refl}
 use Rattle.hp_syntax.specs.ViewLaws.{expression_of-and}
-use Rattle.hp_terms.proofs.PartLemmas.{gathered-many}
+use Rattle.hp_terms.proofs.PartSteps.{gathered-many}
 use Rattle.hp_conditions.proofs.preconditions.gathered.Goals as goal
 
 pub returns-else-len-eq1 : goal.returns-else-len-eq1

@@ -5,7 +5,7 @@ use Rattle.hp_syntax.specs.Steps.{and_then, pure}
 use Rattle.hp_syntax.specs.Views.{precondition_of}
 use Rattle.hp_text.specs.Nodes.{nodes_of}
 use Rattle.hp_terms.specs.Words.{behind}
-use Rattle.hp_terms.proofs.PartLemmas.{reads_same}
+use Rattle.hp_terms.proofs.PartSteps.{reads_same}
 use Rattle.hp_terms.proofs.Turns.{refused_same, refused_next}
 use Rattle.hp_terms.proofs.WordLemmas.{precondition-by_word}
 use Rattle.hp_conditions.proofs.preconditions.list_precondition.Goals as goal

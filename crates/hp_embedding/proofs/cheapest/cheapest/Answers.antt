@@ -1,6 +1,6 @@
 use Rattle.std.proofs.Common.{refl, subst}
 use Rattle.hp_embedding.specs.Search.{Turned}
-use Rattle.hp_embedding.proofs.Searches.{explained, searched_none, searched_on}
+use Rattle.hp_embedding.proofs.CheapestSteps.{explained, searched_none, searched_on}
 use Rattle.hp_embedding.proofs.cheapest.cheapest.Goals as goal
 
 pub loop-best-init : goal.loop-best-init

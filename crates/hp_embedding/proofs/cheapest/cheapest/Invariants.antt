@@ -1,7 +1,7 @@
 use Rattle.std.proofs.Common.{◌≡◌, true, length}
 use Rattle.std.specs.List.{All}
 use Rattle.hp_top.specs.Telling.{IsAtItsNode}
-use Rattle.hp_embedding.proofs.Searches.{Searched}
+use Rattle.hp_embedding.proofs.CheapestSteps.{Searched}
 use Rattle.hp_embedding.proofs.cheapest.cheapest.Given as goal
 
 abbrev pub invariant-loop-best : goal.invariant-loop-best

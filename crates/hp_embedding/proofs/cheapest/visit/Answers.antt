@@ -3,7 +3,7 @@ use Rattle.hp_embedding.specs.Search.{IsAt, cost_of, lower, reaches}
 use Rattle.hp_net.specs.Standings.{next_of, pruned, step_or_end}
 use Rattle.hp_top.specs.Telling.{IsAtItsNode}
 use Rattle.hp_top.proofs.NextVisits.{IsNext, at_kept, at_visit, cut_next, did_next, plan_next}
-use Rattle.hp_embedding.proofs.Searches.{at_left, fault_left, goes_cut, goes_down, goes_plan}
+use Rattle.hp_embedding.proofs.CheapestSteps.{at_left, fault_left, goes_cut, goes_down, goes_plan}
 use Rattle.hp_syntax.specs.Walk.{CutHere, Did, Plan}
 use Rattle.hp_embedding.proofs.cheapest.visit.Goals as goal
 

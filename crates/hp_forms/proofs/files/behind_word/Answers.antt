@@ -6,7 +6,7 @@ use Rattle.hp_syntax.specs.Grammar.{file_list}
 use Rattle.hp_text.specs.Nodes.{node_of, nodes_of}
 use Rattle.hp_text.specs.NodeLaws.{node_of-parts, node_of-span}
 use Rattle.hp_terms.proofs.Turns.{refused_same}
-use Rattle.hp_forms.proofs.FileLemmas.{next_is, list_refused, list_named, list_unnamed, partless_refused}
+use Rattle.hp_forms.proofs.FileSteps.{next_is, list_refused, list_named, list_unnamed, partless_refused}
 use Rattle.hp_forms.proofs.files.behind_word.Goals as goal
 
 pub returns-in_default : goal.returns-in_default

@@ -8,7 +8,7 @@ use Rattle.hp_syntax.specs.Views.{domain_of}
 use Rattle.hp_text.specs.Nodes.{node_of, nodes_of}
 use Rattle.hp_text.specs.NodeLaws.{node_of-span}
 use Rattle.hp_terms.proofs.Turns.{refused_same, refused_next}
-use Rattle.hp_forms.proofs.FileLemmas.{list_behind, reads_same}
+use Rattle.hp_forms.proofs.FileSteps.{list_behind, reads_same}
 use Rattle.hp_forms.proofs.files.domain_of_node.Goals as goal
 
 pub returns-in_err-rest : goal.returns-in_err-rest

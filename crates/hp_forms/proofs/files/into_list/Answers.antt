@@ -1,6 +1,6 @@
 use Rattle.std.proofs.Common.{◌∙◌, ap, sym, option_map}
 use Rattle.hp_text.specs.Nodes.{node_of, nodes_of}
-use Rattle.hp_forms.proofs.FileLemmas.{list-parts, list-none}
+use Rattle.hp_forms.proofs.FileSteps.{list-parts, list-none}
 use Rattle.hp_forms.proofs.files.into_list.Goals as goal
 
 pub returns-in-Some : goal.returns-in-Some

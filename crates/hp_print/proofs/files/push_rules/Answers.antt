@@ -2,13 +2,13 @@ use Rattle.std.proofs.Common.{◌++◌, codes, map, refl, ap, ◌∙◌, append_
 use Rattle.hp_syntax.specs.Views.{rule_of}
 use Rattle.hp_syntax.specs.Written as written
 use Rattle.hp_syntax.specs.Written.{lines, node_text}
-use Rattle.hp_print.proofs.WrittenLists.{written_on}
+use Rattle.hp_syntax.proofs.ListLemmas.{made_on}
 use Rattle.hp_print.proofs.files.push_rules.Goals as goal
 
 pub loop-rule-preserved : goal.loop-rule-preserved
 loop-rule-preserved c =
     let line = node_text (written.rule (rule_of c.rule-item.result)) in
-    written_on (λ rs. lines (written.rules (map rule_of rs))) (λ r. node_text (written.rule (rule_of r)) ++ codes "\n")
+    made_on (λ rs. lines (written.rules (map rule_of rs))) (λ r. node_text (written.rule (rule_of r)) ++ codes "\n")
     c.args.rules.now c.loop-rule.rule-index c.rule-item.result c.loop-rule.text.items _ _ (λ r rs. refl)
     c.loop-rule-test.true c.rule-item.is c.loop-rule.invariant
     (c.in_ok-push.ensures.items

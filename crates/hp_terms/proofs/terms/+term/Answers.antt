@@ -8,11 +8,11 @@ use Rattle.hp_syntax.specs.ViewLaws.{pattern_of-list}
 use Rattle.hp_text.specs.Nodes.{nodes_of}
 use Rattle.hp_text.specs.NodeLaws.{node_of-name}
 use Rattle.hp_terms.specs.Words.{behind}
-use Rattle.hp_terms.proofs.PartLemmas.{reads_same}
+use Rattle.hp_terms.proofs.PartSteps.{reads_same}
 use Rattle.hp_terms.proofs.Turns.{refused_same, refused_next, one_viewed}
 use Rattle.hp_terms.proofs.WordLemmas.{term-by_word, listing}
 use Rattle.hp_terms.specs.FormReads.{setting_of}
-use Rattle.hp_terms.proofs.Items.{item_read, tail_added, none_added, terms_read, terms_refused}
+use Rattle.hp_terms.proofs.ItemSteps.{item_read, tail_added, none_added, terms_read, terms_refused}
 use Rattle.hp_terms.proofs.Sizes.{item-smaller, rest-smaller}
 use Rattle.hp_terms.proofs.terms.+term.Goals as goal
 

@@ -5,7 +5,7 @@ use Rattle.hp_syntax.specs.Views.{pattern_of}
 use Rattle.hp_text.specs.Nodes.{node_of, nodes_of}
 use Rattle.hp_terms.specs.FormReads.{setting_of}
 use Rattle.hp_terms.proofs.Turns.{prepend, from_here}
-use Rattle.hp_terms.proofs.Items.{SoFar}
+use Rattle.hp_terms.proofs.ItemSteps.{SoFar}
 use Rattle.hp_terms.proofs.Sizes.{node_size, forest_size}
 use Rattle.hp_terms.proofs.terms.+term.Given as goal
 

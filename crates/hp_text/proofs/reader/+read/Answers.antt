@@ -8,9 +8,9 @@ use Rattle.hp_text.proofs.reader.+read.Goals as goal
 use Rattle.hp_text.proofs.reader.+read.Goals.{nodes-then-loop-end-test+else-bytes-end-ne41, nodes-else-loop-end-test}
 use Rattle.hp_text.proofs.ByteLemmas.{unblank_byte, opening_byte, closing_byte, name_left, opening_within, within_no_end}
 use Rattle.hp_text.proofs.Clear.{clear_is_short, no_bad, closes_within}
-use Rattle.hp_text.proofs.Runs.{read_none}
+use Rattle.hp_text.proofs.ReadSteps.{read_none}
 use Rattle.hp_text.proofs.PlaceLemmas.{between_brackets}
-use Rattle.hp_text.proofs.Made.{opening_no_name, opening_no_blank, list_at, read_pushed}
+use Rattle.hp_text.proofs.NodeLemmas.{opening_no_name, opening_no_blank, list_at, read_pushed}
 
 -- the bracket stands within the text
 pub list-overflow_add-from : goal.list-overflow_add-from

@@ -5,7 +5,7 @@ use Rattle.hp_syntax.specs.Refusal.{open_before}
 use Rattle.hp_text.specs.Nodes.{node_of}
 use Rattle.hp_text.proofs.reader.forest.Goals as goal
 use Rattle.hp_text.proofs.Clear.{clear_is_short, closes_nothing, none_open_first}
-use Rattle.hp_text.proofs.Runs.{read_whole}
+use Rattle.hp_text.proofs.ReadSteps.{read_whole}
 
 -- a clear text isn't too large
 pub overflow_cast-result : goal.overflow_cast-result

@@ -3,7 +3,7 @@ use Rattle.hp_syntax.specs.declared.limits.TheConstants.{LARGEST_TEXT}
 use Rattle.std.specs.Int.RustNames.{FitsSigned as SFits}
 use Rattle.hp_syntax.specs.Text.{ANumber, spelling_of}
 use Rattle.hp_text.specs.Spellings.{plain_spelling}
-use Rattle.hp_text.proofs.Made.{name_at, number_at}
+use Rattle.hp_text.proofs.NodeLemmas.{name_at, number_at}
 use Rattle.hp_text.proofs.reader.word.Goals as goal
 use Rattle.hp_text.proofs.PlaceLemmas.{name_within}
 use Rattle.hp_text.proofs.Clear.{clear_is_short, token_is_spelled, no_other_spelling}

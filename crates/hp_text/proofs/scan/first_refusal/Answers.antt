@@ -2,9 +2,10 @@ use Rattle.std.proofs.Common.{rules, ◌≡◌, ◌<◌, ◌≤◌, sym, ◌∙�
 use Rattle.hp_syntax.specs.declared.limits.TheConstants.{LARGEST_TEXT}
 use Rattle.hp_syntax.specs.declared.text.TextKind.TheVariants.{TooLarge}
 use Rattle.hp_syntax.specs.Refusal.{refused, refusal_at}
+use Rattle.hp_syntax.proofs.TextLemmas.{refusal_at-limit}
 use Rattle.hp_text.specs.Refusals.{plain_refusal}
 use Rattle.hp_text.proofs.scan.first_refusal.Goals as goal
-use Rattle.hp_text.proofs.ScanLemmas.{scan_begins, refused_first, clear_behind, refusal_at-limit, refusal_at-last}
+use Rattle.hp_text.proofs.ScanSteps.{scan_begins, refused_first, clear_behind, refusal_at-last}
 
 -- nothing is open before the first byte
 pub loop-state-init : goal.loop-state-init

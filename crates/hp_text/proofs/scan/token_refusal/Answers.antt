@@ -2,7 +2,7 @@ use Rattle.std.proofs.Common.{◌+◌, ◌<◌, ◌≤◌, arith}
 use Rattle.hp_syntax.specs.declared.limits.TheConstants.{LARGEST_TEXT, LONGEST_TOKEN}
 use Rattle.hp_text.proofs.scan.token_refusal.Goals as goal
 use Rattle.hp_text.proofs.scan.token_refusal.Goals.{else-to-longest-via-then-to-longest+else-end-longest, else-to-longest-via-else-to-longest}
-use Rattle.hp_text.proofs.ScanLemmas.{long_token_told, cut_token_clear, token_told}
+use Rattle.hp_text.proofs.ScanSteps.{long_token_told, cut_token_clear, token_told}
 
 -- the token is too long
 pub returns-then-end-longest-clause-refused : goal.returns-then-end-longest-clause-refused

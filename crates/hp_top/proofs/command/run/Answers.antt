@@ -1,5 +1,5 @@
 use Rattle.std.proofs.Common.{inl, inr}
-use Rattle.hp_top.proofs.RunEnds.{ends_well, ends_usage, ends_write, ends_read, ends_front, ends_proper}
+use Rattle.hp_top.proofs.RunSteps.{ends_well, ends_usage, ends_write, ends_read, ends_prefix, ends_proper}
 use Rattle.hp_top.proofs.command.run.Goals as goal
 
 pub returns-clause-exact : goal.returns-clause-exact
@@ -20,12 +20,12 @@ returns-clause-read g c = λ e. ends_read _ _ _ _ c.serve.ensures.ends e
 pub returns-clause-write : goal.returns-clause-write
 returns-clause-write g c = λ e. ends_write _ _ _ _ c.serve.ensures.ends e
 
-pub returns-clause-front : goal.returns-clause-front
-returns-clause-front g c = λ files told e.
-    ends_front _ _ _ _ files told (c.every_run_has_an_outcome.ensures _ files) c.serve.ensures.ends e
+pub returns-clause-prefix : goal.returns-clause-prefix
+returns-clause-prefix g c = λ files told e.
+    ends_prefix _ _ _ _ files told (c.every_run_has_an_outcome.ensures _ files) c.serve.ensures.ends e
 
-pub returns-clause-proper_front : goal.returns-clause-proper_front
-returns-clause-proper_front g c = λ files told e.
+pub returns-clause-proper_prefix : goal.returns-clause-proper_prefix
+returns-clause-proper_prefix g c = λ files told e.
     ends_proper _ _ _ _ files told (c.every_run_has_an_outcome.ensures _ files) c.serve.ensures.ends e
 
 pub returns-clause-refused : goal.returns-clause-refused

@@ -2,7 +2,7 @@ use Rattle.std.proofs.Common.{◌≡◌, Some, refl, subst, sym, map, string_byt
 use Rattle.hp_top.specs.Command.{accepts, make_command}
 use Rattle.hp_top.specs.Serving.{ByCommand, ByMaking}
 use Rattle.hp_top.specs.Words.{job_of, request_of}
-use Rattle.hp_top.proofs.RunEnds.{refused_words, touched_by_command}
+use Rattle.hp_top.proofs.RunSteps.{refused_words, touched_by_command}
 use Rattle.hp_top.proofs.command.serve.Goals as goal
 
 pub returns-in-None-clause-untouched : goal.returns-in-None-clause-untouched

@@ -4,7 +4,7 @@ use Rattle.hp_syntax.specs.Grammar.{problem_form}
 use Rattle.hp_syntax.specs.Views.{domain_of, problem_of}
 use Rattle.hp_top.specs.Loading.{Reads}
 use Rattle.hp_top.specs.Outcome.{Stopped, Went}
-use Rattle.hp_top.proofs.Loads.{stops_since}
+use Rattle.hp_top.proofs.LoadingSteps.{stops_since}
 use Rattle.hp_top.proofs.loading.load.Goals as goal
 
 pub returns-in-Err-clause-loads : goal.returns-in-Err-clause-loads

@@ -1,7 +1,7 @@
 use Rattle.hp_io.specs.declared.folder.Input.TheVariants as inputs
 use Rattle.hp_syntax.specs.Grammar.{problem_form}
 use Rattle.hp_text.specs.Nodes.{forest_of}
-use Rattle.hp_top.proofs.Loads.{text_refused, form_refused}
+use Rattle.hp_top.proofs.LoadingSteps.{text_refused, form_refused}
 use Rattle.hp_top.proofs.loading.problem_in.Goals as goal
 
 pub returns-in-Err-into_problem-clause-refused : goal.returns-in-Err-into_problem-clause-refused

@@ -1,6 +1,6 @@
 use Rattle.std.proofs.Common.{arith, subst}
 use Rattle.hp_top.specs.Telling.{Visited}
-use Rattle.hp_top.proofs.Tellings.{goes_through, goes_to_close, halted_midway, halted_at_end}
+use Rattle.hp_top.proofs.PlanningSteps.{goes_through, goes_to_close, halted_midway, halted_at_end}
 use Rattle.hp_top.proofs.planning.tell.Goals as goal
 
 pub loop-ending-preserved : goal.loop-ending-preserved

@@ -1,6 +1,6 @@
 use Rattle.std.proofs.Common.{◌≡◌, ◌≤◌, ◌++◌, take, arith}
 use Rattle.std.proofs.lemmas.Grind.{common_steps}
-use Rattle.hp_top.proofs.Steps.{grown_by, taken_up_to, none_taken}
+use Rattle.hp_top.proofs.ReadingSteps.{grown_by, taken_up_to, none_taken}
 use Rattle.hp_top.proofs.reading.read_more.Goals as goal
 
 -- a read that failed took nothing

@@ -1,6 +1,6 @@
 use Rattle.std.proofs.Common.{◌+◌, arith}
 use Rattle.hp_syntax.specs.declared.limits.TheConstants.{LARGEST_TEXT}
-use Rattle.hp_top.proofs.Steps.{full, ended, left_takes, takes_more}
+use Rattle.hp_top.proofs.ReadingSteps.{full, ended, left_takes, takes_more}
 use Rattle.hp_top.proofs.reading.read_rest.Goals.{else-loop-which-test, then-loop-which-test+in_ok-count+then-count-eq0}
 use Rattle.hp_top.proofs.reading.read_rest.Goals as goal
 

@@ -1,5 +1,5 @@
 use Rattle.std.proofs.Common.{refl}
-use Rattle.hp_out.proofs.FrontLemmas.{nothing_written}
+use Rattle.hp_out.proofs.WritingLemmas.{nothing_written}
 use Rattle.hp_top.specs.Telling.{WithoutMemory}
 use Rattle.hp_top.proofs.refusing.refuse_files.Goals as goal
 

@@ -1,6 +1,6 @@
 use Rattle.hp_syntax.specs.Views.{domain_of, problem_of}
 use Rattle.hp_syntax.specs.Written as written
-use Rattle.hp_top.proofs.Fronts.{err_after}
+use Rattle.hp_top.proofs.TellingLemmas.{err_after}
 use Rattle.hp_top.proofs.showing.show.Goals as goal
 
 -- what stops the problem's text stops it behind the domain's

@@ -1,6 +1,6 @@
 use Rattle.hp_syntax.specs.Views.{problem_of}
 use Rattle.hp_top.specs.Making.{made_lines}
-use Rattle.hp_top.proofs.Fronts.{err_after}
+use Rattle.hp_top.proofs.TellingLemmas.{err_after}
 use Rattle.hp_top.proofs.summing.sum_up.Goals as goal
 
 -- what stops the telling of the walk stops it behind what was made

@@ -1,6 +1,6 @@
 use Rattle.std.proofs.Common.{option_map}
 use Rattle.hp_top.specs.Words.{request_of}
-use Rattle.hp_top.proofs.Numbers.{make_by_three}
+use Rattle.hp_top.proofs.NumberSteps.{make_by_three}
 use Rattle.hp_top.proofs.words.asked_by_three.Goals as goal
 
 pub returns-then-eq-clause-spelled : goal.returns-then-eq-clause-spelled

@@ -1,6 +1,6 @@
 use Rattle.std.proofs.Common.{arith}
 use Rattle.std.proofs.lemmas.Grind.{common_steps}
-use Rattle.hp_top.proofs.Numbers.{over_most}
+use Rattle.hp_top.proofs.NumberSteps.{over_most}
 use Rattle.hp_top.proofs.words.number_up_to.Goals as goal
 
 pub returns-then-number-most : goal.returns-then-number-most

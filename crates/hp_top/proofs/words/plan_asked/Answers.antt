@@ -1,5 +1,5 @@
 use Rattle.std.proofs.Common.{sym}
-use Rattle.hp_top.proofs.Numbers.{accepts_few}
+use Rattle.hp_top.proofs.NumberSteps.{accepts_few}
 use Rattle.hp_top.proofs.words.plan_asked.Goals as goal
 
 pub returns-in_default-clause-asks : goal.returns-in_default-clause-asks

@@ -1,6 +1,6 @@
 use Rattle.std.proofs.Common.{◌∙◌, sym, map, string_bytes, arith}
-use Rattle.hp_top.proofs.Numbers.{within_most}
-use Rattle.hp_top.proofs.OptionWords.{first_read, states_read, nest_read, other_read}
+use Rattle.hp_top.proofs.NumberSteps.{within_most}
+use Rattle.hp_top.proofs.OptionSteps.{first_read, states_read, nest_read, other_read}
 use Rattle.hp_top.proofs.words.plan_options.Goals as goal
 
 pub loop-word-init : goal.loop-word-init

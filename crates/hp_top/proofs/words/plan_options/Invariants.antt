@@ -2,7 +2,7 @@ use Rattle.std.proofs.Common.{◌≡◌, ◌≤◌, length, map, string_bytes}
 use Rattle.std.specs.Prelude.{IfSome}
 use Rattle.hp_syntax.specs.declared.limits.TheConstants.{MOST_LEVELS}
 use Rattle.hp_top.specs.Command.{plan_options}
-use Rattle.hp_top.proofs.OptionWords.{options_after}
+use Rattle.hp_top.proofs.OptionSteps.{options_after}
 use Rattle.hp_top.proofs.words.plan_options.Given as goal
 
 abbrev pub invariant-loop-word : goal.invariant-loop-word

@@ -1,7 +1,7 @@
 use Rattle.std.proofs.Common.{◌∙◌, ap}
 use Rattle.hp_top.specs.Command.{number_within}
 use Rattle.hp_top.specs.Words.{options_of}
-use Rattle.hp_top.proofs.Numbers.{planned}
+use Rattle.hp_top.proofs.NumberSteps.{planned}
 use Rattle.hp_top.proofs.words.planned.Goals as goal
 
 pub returns-clause-spelled : goal.returns-clause-spelled

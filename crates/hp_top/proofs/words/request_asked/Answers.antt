@@ -1,5 +1,5 @@
 use Rattle.std.proofs.Common.{◌∙◌}
-use Rattle.hp_top.proofs.Numbers.{accepts_three}
+use Rattle.hp_top.proofs.NumberSteps.{accepts_three}
 use Rattle.hp_top.proofs.words.request_asked.Goals as goal
 
 pub returns-in-len3-clause-asks : goal.returns-in-len3-clause-asks

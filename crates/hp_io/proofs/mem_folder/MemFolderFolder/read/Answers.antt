@@ -20,7 +20,7 @@ returns-clause-taken c =
     let after = ap (λ (s : List File). rest_from s (input_of new which).place) kept
     ∙ ap (λ i. rest_from files i.place) c.set_input.ensures.set in
     taken_at files place _ _ _ c.rest_at.result.now _ _ before (c.rest_at.ensures.rest ∙ here)
-    c.copy_front-count.ensures.count c.copy_front-count.ensures.front after
+    c.copy_prefix-count.ensures.count c.copy_prefix-count.ensures.prefix after
 
 -- a read that fails takes nothing
 pub returns-then-next_fails-clause-begun : goal.returns-then-next_fails-clause-begun

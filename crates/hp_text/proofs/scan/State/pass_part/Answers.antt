@@ -2,8 +2,9 @@ use Rattle.std.proofs.Common.{◌≡◌, ◌<◌, length, slice_index, sym, ◌�
 use Rattle.hp_syntax.specs.declared.limits.TheConstants.{LARGEST_TEXT}
 use Rattle.hp_syntax.specs.Text.{Opening, Closing, Bad, byte_kind, kind_at}
 use Rattle.hp_text.proofs.scan.State.pass_part.Goals as goal
-use Rattle.hp_text.proofs.ByteLemmas.{unblank_byte, name_kind, bad_byte}
-use Rattle.hp_text.proofs.ScanLemmas.{refusal_at-opening, refusal_at-closing, refusal_at-bad, refused_first, scanned_behind}
+use Rattle.hp_syntax.proofs.TextLemmas.{name_kind}
+use Rattle.hp_text.proofs.ByteLemmas.{unblank_byte, bad_byte}
+use Rattle.hp_text.proofs.ScanSteps.{refusal_at-opening, refusal_at-closing, refusal_at-bad, refused_first, scanned_behind}
 
 -- an opening bracket
 pub returns-then-byte-eq40-clause-refused : goal.returns-then-byte-eq40-clause-refused

@@ -1,6 +1,6 @@
 use Rattle.std.proofs.Common.{◌<◌, ◌≤◌, refl, arith}
 use Rattle.hp_text.proofs.scan.State.pass_token.Goals as goal
-use Rattle.hp_text.proofs.ScanLemmas.{scanned_behind_token}
+use Rattle.hp_text.proofs.ScanSteps.{scanned_behind_token}
 
 -- the scan goes on behind the token
 pub returns-clause-scanned : goal.returns-clause-scanned

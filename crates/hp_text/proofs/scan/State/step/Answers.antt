@@ -1,7 +1,7 @@
 use Rattle.std.proofs.Common.{◌≤◌, refl, arith}
 use Rattle.hp_text.proofs.scan.State.step.Goals as goal
 use Rattle.hp_text.proofs.PlaceLemmas.{gap_part}
-use Rattle.hp_text.proofs.ScanLemmas.{scanned_over_gap}
+use Rattle.hp_text.proofs.ScanSteps.{scanned_over_gap}
 
 -- the gap goes on to the scan's end
 pub returns-then-at-end-clause-scanned : goal.returns-then-at-end-clause-scanned

@@ -41,26 +41,26 @@ module _ (refused_whole : (text : List ℕ) (r : Refusal) → IsRefused (take (L
     (spelled_whole : (text : List ℕ) (f : Forest) → IsForest (take (LARGEST_TEXT + 1) text) f → IsForest text f)
     (kept : (text : List ℕ) (f : Forest) → IsForest text f
     → (length text ≤ LARGEST_TEXT) × (longest_token f ≤ LONGEST_TOKEN) × (nesting f ≤ DEEPEST_NESTING)) where
-  -- a front that spells a forest is the whole text
-  front_is_whole : (text : List ℕ) (f : Forest) → IsForest (take (LARGEST_TEXT + 1) text) f
+  -- a prefix that spells a forest is the whole text
+  prefix_is_whole : (text : List ℕ) (f : Forest) → IsForest (take (LARGEST_TEXT + 1) text) f
       → take (LARGEST_TEXT + 1) text ≡ text
-  front_is_whole text f s =
+  prefix_is_whole text f s =
       let h : length text ≤ LARGEST_TEXT = (kept text f (spelled_whole text f s)).0 in
       take_all (LARGEST_TEXT + 1) text (omega arith)
 
   module _ {A : Type 0} (form : Form A) where
-    -- what the front is read as the whole text is
+    -- what the prefix is read as the whole text is
     read_whole : (text : List ℕ) (x : A) → IsRead form (take (LARGEST_TEXT + 1) text) x → IsRead form text x
-    read_whole text x h = subst (λ t. IsRead form t x) (front_is_whole text h.forest h.spelled) h
+    read_whole text x h = subst (λ t. IsRead form t x) (prefix_is_whole text h.forest h.spelled) h
 
-    -- a front that is read as nothing is that of a text which is read as nothing
+    -- a prefix that is read as nothing is that of a text which is read as nothing
     unreadable_whole : (text : List ℕ) (why : Why) → IsUnreadable form (take (LARGEST_TEXT + 1) text) why
         → IsUnreadable form text why
     unreadable_whole text why (outcome.ByText r h e) = outcome.ByText r (refused_whole text r h) e
     unreadable_whole text why (outcome.ByForm f m s k e) =
-        subst (λ t. IsUnreadable form t why) (front_is_whole text f s) (outcome.ByForm f m s k e)
+        subst (λ t. IsUnreadable form t why) (prefix_is_whole text f s) (outcome.ByForm f m s k e)
 
-    -- what the front of a file is read as the told file is
+    -- what the prefix of a file is read as the told file is
     pub reads_file : (bytes : List ℕ) (file : ToldFile) (x : A) → ReadsFile bytes file
         → IsRead form bytes x → Reads form file x
     reads_file bytes None x r h = tt
@@ -74,7 +74,7 @@ module _ (refused_whole : (text : List ℕ) (r : Refusal) → IsRefused (take (L
     unreadable_file bytes (Some (Some text)) why r h =
         unreadable_whole text why (subst (λ b. IsUnreadable form b why) r h)
 
-    -- a file whose front is read as nothing stops the run
+    -- a file whose prefix is read as nothing stops the run
     pub stops_file : (which : Input) (bytes : List ℕ) (file : ToldFile) (cause : LoadError) (before now : Input → ℕ)
         → ReadsFile bytes file → IsRefusedFor which form bytes cause → StopsAt which form cause file before now
     stops_file which bytes file cause before now r (loading.IsRefusedFor.WithoutMemory e) =

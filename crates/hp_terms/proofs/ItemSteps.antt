@@ -26,8 +26,8 @@ all_before (p ∷ ps) rest = Before p (all_before ps rest)
 
 -- the terms read so far, before those that are read from here on
 abbrev pub put_before : List Pattern → Read → Read
-put_before front (Ok p) = Ok ((all_before front p.0.0, p.0.1), p.1)
-put_before front (Err e) = Err e
+put_before prefix (Ok p) = Ok ((all_before prefix p.0.0, p.0.1), p.1)
+put_before prefix (Err e) = Err e
 
 put_before-nil : (r : Read) → r ≡ put_before [] r
 put_before-nil (Ok p) = refl
@@ -48,15 +48,15 @@ all_before-parts (p ∷ ps) qs = ap (Before p) (all_before-parts ps qs)
 abbrev behind_first : Pattern → Patterns × Option Tail → Parse (Patterns × Option Tail)
 behind_first x xs = pure (Before x xs.0, xs.1)
 
-put_before_more : (front : List Pattern) (x : Pattern) (r : Read)
-    → put_before front (and_then r (behind_first x)) ≡ put_before (front ++ x ∷ []) r
-put_before_more front x (Ok p) = ap (λ ps. Ok ((ps, p.0.1), p.1)) (all_before-append front (x ∷ []) p.0.0)
-put_before_more front x (Err e) = refl
+put_before_more : (prefix : List Pattern) (x : Pattern) (r : Read)
+    → put_before prefix (and_then r (behind_first x)) ≡ put_before (prefix ++ x ∷ []) r
+put_before_more prefix x (Ok p) = ap (λ ps. Ok ((ps, p.0.1), p.1)) (all_before-append prefix (x ∷ []) p.0.0)
+put_before_more prefix x (Err e) = refl
 
-refused_below : (e : FormRefusal) (front : List Pattern) (r : Read) → Refuses e r → Refuses e (put_before front r)
-refused_below (refusals.Expected what span) front r h = ap (put_before front) h
-refused_below (refusals.SeveralPairs span) front r h = ap (put_before front) h
-refused_below refusals.NoMemory front r h = h
+refused_below : (e : FormRefusal) (prefix : List Pattern) (r : Read) → Refuses e r → Refuses e (put_before prefix r)
+refused_below (refusals.Expected what span) prefix r h = ap (put_before prefix) h
+refused_below (refusals.SeveralPairs span) prefix r h = ap (put_before prefix) h
+refused_below refusals.NoMemory prefix r h = h
 
 -- Parts were added to a list, and are what a step gives, but for what another step gives from here on.
 pub record SoFar (all next : Parse (Patterns × Option Tail)) (old new : List Pat) (start names : Names) : Type 0 where
@@ -194,22 +194,22 @@ terms-each (Grow n f) names = elim (term InRule n names) as (λ r. and_then r
     ]
 
 -- arguments that were read are the terms of a call
-pub terms_read : (nodes : List public.Node) (i : ℕ) (front : List Pat) (start names : Names) → length nodes ≤ i
-    → each (term InRule) (nodes_of nodes) start ≡ prepend (map pattern_of front) (from_here (term InRule) nodes i names)
-    → terms (nodes_of nodes) start ≡ Ok (patterns_of front, names)
-terms_read nodes i front start names h e =
+pub terms_read : (nodes : List public.Node) (i : ℕ) (prefix : List Pat) (start names : Names) → length nodes ≤ i
+    → each (term InRule) (nodes_of nodes) start ≡ prepend (map pattern_of prefix) (from_here (term InRule) nodes i names)
+    → terms (nodes_of nodes) start ≡ Ok (patterns_of prefix, names)
+terms_read nodes i prefix start names h e =
     terms-each (nodes_of nodes) start
     ∙ ap (λ r. and_then r (λ ps. pure (as_patterns ps)))
-    (all_read (term InRule) nodes i (map pattern_of front) names (each (term InRule) (nodes_of nodes) start) h e)
+    (all_read (term InRule) nodes i (map pattern_of prefix) names (each (term InRule) (nodes_of nodes) start) h e)
 
 -- an argument that is refused refuses the terms of a call
-pub terms_refused : (nodes : List public.Node) (i : ℕ) (d : public.Node) (front : List Pat) (why : FormRefusal)
+pub terms_refused : (nodes : List public.Node) (i : ℕ) (d : public.Node) (prefix : List Pat) (why : FormRefusal)
     (start names : Names) → i < length nodes
-    → each (term InRule) (nodes_of nodes) start ≡ prepend (map pattern_of front) (from_here (term InRule) nodes i names)
+    → each (term InRule) (nodes_of nodes) start ≡ prepend (map pattern_of prefix) (from_here (term InRule) nodes i names)
     → d ≡ get_or nodes i d → Refuses why (term InRule (node_of d) names) → Refuses why (terms (nodes_of nodes) start)
-terms_refused nodes i d front why start names h e at r =
+terms_refused nodes i d prefix why start names h e at r =
     refused_same why _ _ (terms-each (nodes_of nodes) start)
     (refused_next why (each (term InRule) (nodes_of nodes) start) _
-    (one_refused (term InRule) nodes i d (map pattern_of front) why names (each (term InRule) (nodes_of nodes) start) h
+    (one_refused (term InRule) nodes i d (map pattern_of prefix) why names (each (term InRule) (nodes_of nodes) start) h
     e
     (subst (λ n. Refuses why (term InRule (node_of n) names)) at r)))

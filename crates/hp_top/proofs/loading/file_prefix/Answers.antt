@@ -1,5 +1,5 @@
 use Rattle.std.proofs.Common.{arith, inl}
-use Rattle.hp_top.proofs.loading.file_front.Goals as goal
+use Rattle.hp_top.proofs.loading.file_prefix.Goals as goal
 
 pub returns-in-Ok-clause-later : goal.returns-in-Ok-clause-later
 returns-in-Ok-clause-later g c = λ w. omega (arith, c.begin.ensures.later w, c.read_rest.ensures.later w)

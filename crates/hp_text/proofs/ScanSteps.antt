@@ -4,7 +4,7 @@ use Rattle.std.specs.Prelude.{◌==◌}
 use Rattle.std.proofs.lemmas.Bool.{lt-ltb, le-ltb, cases_lt}
 use Rattle.std.proofs.lemmas.Bool.Decides.{nat_tests}
 use Rattle.hp_syntax.specs.declared.limits.TheConstants.{LARGEST_TEXT, LONGEST_TOKEN}
-use Rattle.hp_syntax.specs.declared.text.TextKind.TheVariants.{BadByte, TokenLong, TooLarge}
+use Rattle.hp_syntax.specs.declared.text.TextKind.TheVariants.{BadByte, TokenLong}
 use Rattle.hp_syntax.specs.Text.{Kind, Blank, Opening, Closing, NameByte, Bad, End, kind_at, spelling_of, IsToken, IsGap}
 use Rattle.hp_syntax.specs.Refusal.{refused, opened, open_before, is_name, token_start, numeral_refusal, token_refusal, kind_refusal, refusal_at, IsClear}
 use Rattle.hp_syntax.proofs.TextLemmas.{open_before-next, level_over, level_over_gap, is_name-NameByte, token_start-run, kind_at-end, refusal_at-within, refusal_at-end, clear_more}
@@ -206,14 +206,6 @@ scan_begins text end s here brackets = record {
   place = λ _. rw here (between_first text);
   brackets = rw (brackets, here) refl;
 }
-
--- the byte behind the largest text is refused
-pub refusal_at-limit : (text : List ℕ) (i : ℕ) → i ≡ LARGEST_TEXT → i < length text
-    → refusal_at text i ≡ refused TooLarge i
-unfolding refusal_at
-refusal_at-limit text i e l =
-    let same : i == LARGEST_TEXT ≡ true = grind (arith, nat_tests) in
-    rw (same, lt-ltb i (length text) l) refl
 
 end_alike : (text : List ℕ) (i : ℕ) (os : List ℕ) → kind_refusal text i End os ≡ kind_refusal [] 0 End os
 end_alike text i [] = refl

@@ -8,8 +8,8 @@ use Rattle.hp_syntax.specs.Text.{Opening, kind_at, IsToken, IsGap, Spelling, spe
 use Rattle.hp_syntax.specs.Forest.{Node, Word, Numeral, Group, Forest, Bare, Grow, span_of, IsSpelled, Spells, SpellsNode, IsForest}
 use Rattle.hp_syntax.proofs.TextLemmas.{kind_at-end}
 use Rattle.hp_syntax.proofs.ForestLemmas.{begins_node, one_gap, node_begins, token_no_list, same_node}
-use Rattle.hp_syntax.proofs.Front.{kind_front, part_front}
-use Rattle.hp_syntax.proofs.FrontSteps.{NodeBeyond, Beyond, AlikeUpTo, PastFront, SameNode, OpenList, OpenNode}
+use Rattle.hp_syntax.proofs.PrefixRefusals.{kind_prefix, part_prefix}
+use Rattle.hp_syntax.proofs.PrefixSteps.{NodeBeyond, Beyond, AlikeUpTo, PastPrefix, SameNode, OpenList, OpenNode}
 
 -- a node that is spelled is not empty
 node_order : (text : List ℕ) (n : Node) → SpellsNode text n → (span_of n).from < (span_of n).to
@@ -89,7 +89,7 @@ module _ (at : ℕ) (text other : List ℕ) (kinds : (i : ℕ) → i ≤ at → 
               (span_of n).to b f l h.2,
         )
 
-  -- where a node stands within the front, a forest of the other text has the same
+  -- where a node stands within the prefix, a forest of the other text has the same
   first_node : (n : Node) (a c : ℕ) (g : Forest) → IsGap other a (span_of n).from
       → begins_node (kind_at other (span_of n).from) ≡ Some true
       → Spells other a c g → begins_node (kind_at other c) ≡ Some false
@@ -120,7 +120,7 @@ module _ (at : ℕ) (text other : List ℕ) (kinds : (i : ℕ) → i ≤ at → 
       (OpenNode l
       (k (t.to - 1) q (subst (λ i. Spells other (i + 1) (t.to - 1) q) (sym e) h.3) (ap begins_node h.2))) b
 
-  -- a node that ends within the front stands in the other text too
+  -- a node that ends within the prefix stands in the other text too
   cut_within : (n : Node) (f g : Forest) (a c : ℕ) → (span_of n).to ≤ at → SpellsNode text n
       → IsGap text a (span_of n).from
       → Spells other a c g → begins_node (kind_at other c) ≡ Some false
@@ -134,7 +134,7 @@ module _ (at : ℕ) (text other : List ℕ) (kinds : (i : ℕ) → i ≤ at → 
       (subst (λ z. AlikeUpTo at (Grow n f) (Grow z w.1)) q
       (SameNode (rest w.1 (subst (λ (z : Node). Spells other (span_of z).to c w.1) (sym q) w.5))))
 
-  -- a list that begins within the front and ends behind it begins in the other text too
+  -- a list that begins within the prefix and ends behind it begins in the other text too
   cut_inside : (s : Span) (p f g : Forest) (a c : ℕ) → s.from < at → at < s.to → SpellsNode text (Group s p)
       → IsGap text a s.from
       → Spells other a c g → begins_node (kind_at other c) ≡ Some false
@@ -149,13 +149,13 @@ module _ (at : ℕ) (text other : List ℕ) (kinds : (i : ℕ) → i ≤ at → 
   -- two forests are alike up to the offset if the first goes on behind it
   pub cut_forest : (f g : Forest) (a b c : ℕ) → Spells text a b f → Spells other a c g → at ≤ b
       → begins_node (kind_at other c) ≡ Some false → AlikeUpTo at f g
-  cut_forest Bare g a b c h k l y = PastFront tt
+  cut_forest Bare g a b c h k l y = PastPrefix tt
   cut_forest (Grow (Word s name) f) g a b c h k l y =
-      ⊎_elim (λ u. PastFront (u, forest_beyond at text s.to b f h.2 (omega arith)))
+      ⊎_elim (λ u. PastPrefix (u, forest_beyond at text s.to b f h.2 (omega arith)))
       (λ u. cut_within (Word s name) f g a c u h.1 h.0 k y (λ r z. cut_forest f r s.to b c h.2 z l y))
       (cases_lt at s.to)
   cut_forest (Grow (Numeral s n) f) g a b c h k l y =
-      ⊎_elim (λ u. PastFront (u, forest_beyond at text s.to b f h.2 (omega arith)))
+      ⊎_elim (λ u. PastPrefix (u, forest_beyond at text s.to b f h.2 (omega arith)))
       (λ u. cut_within (Numeral s n) f g a c u h.1 h.0 k y (λ r z. cut_forest f r s.to b c h.2 z l y))
       (cases_lt at s.to)
   cut_forest (Grow (Group s p) f) g a b c h k l y =
@@ -164,12 +164,12 @@ module _ (at : ℕ) (text other : List ℕ) (kinds : (i : ℕ) → i ≤ at → 
       (λ v. cut_inside s p f g a c v u h.1 h.0 k y
       (λ d q z x. cut_forest p q (s.from + 1) (s.to - 1) d h.1.3 z (omega arith) x)
       (forest_beyond at text s.to b f h.2 (omega arith)))
-      (λ v. PastFront (node_beyond at text (Group s p) h.1 v, forest_beyond at text s.to b f h.2 (omega arith)))
+      (λ v. PastPrefix (node_beyond at text (Group s p) h.1 v, forest_beyond at text s.to b f h.2 (omega arith)))
       (cases_lt s.from at))
       (λ u. cut_within (Group s p) f g a c u h.1 h.0 k y (λ r z. cut_forest f r s.to b c h.2 z l y))
       (cases_lt at s.to)
 
--- texts with the same front spell forests that are alike up to its last byte
+-- texts with the same prefix spell forests that are alike up to its last byte
 pub cut_texts : (at : ℕ) (text other : List ℕ) (f g : Forest) → IsForest text f → IsForest other g
     → take (at + 1) text ≡ take (at + 1) other → at < length text → AlikeUpTo at f g
 cut_texts at text other f g h k e l =
@@ -178,15 +178,15 @@ cut_texts at text other f g h k e l =
   where
     kinds : (i : ℕ) → i ≤ at → kind_at text i ≡ kind_at other i
     kinds i m =
-        sym (kind_front (at + 1) text i (omega arith))
-        ∙ (ap (λ t. kind_at t i) e ∙ kind_front (at + 1) other i (omega arith))
+        sym (kind_prefix (at + 1) text i (omega arith))
+        ∙ (ap (λ t. kind_at t i) e ∙ kind_prefix (at + 1) other i (omega arith))
 
     parts : (a b : ℕ) → b ≤ at → slice_range text a b ≡ slice_range other a b
     parts a b m =
-        sym (part_front (at + 1) text a b (omega arith))
-        ∙ (ap (λ t. slice_range t a b) e ∙ part_front (at + 1) other a b (omega arith))
+        sym (part_prefix (at + 1) text a b (omega arith))
+        ∙ (ap (λ t. slice_range t a b) e ∙ part_prefix (at + 1) other a b (omega arith))
 
--- a front that reaches behind the text is the whole text, and the other one too
+-- a prefix that reaches behind the text is the whole text, and the other one too
 pub whole_texts : (at : ℕ) (text other : List ℕ) → take (at + 1) text ≡ take (at + 1) other → length text ≤ at
     → text ≡ other
 whole_texts at text other e l =

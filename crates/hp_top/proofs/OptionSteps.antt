@@ -137,11 +137,11 @@ module _ (levels : Option ℕ) (states : Bool) (w : String Global) where
   other_first (x ∷ xs) h i = rw (h, i) refl
 
 module _ (levels : Option ℕ) (states : Bool) (ws : List (String Global)) (w : String Global)
-    (behind : List (String Global)) (front : ws ≡ w ∷ behind) where
+    (behind : List (String Global)) (begins : ws ≡ w ∷ behind) where
   -- where states weren't asked yet, `--states` asks for them, and the words behind it are read on
   pub states_read : (t : List ℕ) → t ≡ string_bytes w → t ≡ codes "--states" → states ≡ false
       → options_after levels true (map string_bytes behind) ≡ options_after levels states (map string_bytes ws)
-  states_read t h i s = rw front (states_first levels states w behind (sym h ∙ i) s)
+  states_read t h i s = rw begins (states_first levels states w behind (sym h ∙ i) s)
 
   -- where levels weren't asked yet, `--nest N` asks for them, and the words behind it are read on
   pub nest_read : (x : String Global) (others : List (String Global)) (t u : List ℕ) (most n : ℕ)
@@ -150,11 +150,11 @@ module _ (levels : Option ℕ) (states : Bool) (ws : List (String Global)) (w : 
       → options_after (Some n) states (map string_bytes others) ≡ options_after levels states (map string_bytes ws)
   nest_read x others t u most n next h i l j m e =
       let word : string_bytes w ≡ codes "--nest" = sym h ∙ i in
-      rw (front, next, word, l, ← j, ← m, ← e) refl
+      rw (begins, next, word, l, ← j, ← m, ← e) refl
 
   -- another word is no option
   pub other_read : (t : List ℕ) → t ≡ string_bytes w → t ≢ codes "--states" → t ≢ codes "--nest"
       → None ≡ options_after levels states (map string_bytes ws)
   other_read t h i j =
-      rw front
+      rw begins
       (other_first levels states w behind (differs _ _ (λ e. i (h ∙ e))) (differs _ _ (λ e. j (h ∙ e))))

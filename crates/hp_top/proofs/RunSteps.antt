@@ -6,10 +6,10 @@ use Rattle.hp_io.specs.Inputs.{by_input}
 use Rattle.hp_io.specs.Rules.{Rose}
 use Rattle.hp_make.specs.Texts.{domain_text, problem_text}
 use Rattle.hp_out.specs.Lines.{text_of, refused_usage, refused_read}
-use Rattle.hp_out.specs.Writing.{SinkRun, Wrote, WroteFront, WroteProperFront}
+use Rattle.hp_out.specs.Writing.{SinkRun, Wrote, WrotePrefix, WroteProperPrefix}
 use Rattle.hp_out.specs.declared.refusal.Refusal.{Refusal}
 use Rattle.hp_out.specs.declared.refusal.Refusal.TheVariants as refusals
-use Rattle.hp_out.proofs.FrontLemmas.{whole_front, front_longer}
+use Rattle.hp_out.proofs.WritingLemmas.{whole_prefix, prefix_longer}
 use Rattle.hp_syntax.specs.declared.check.CheckFault.{CheckFault}
 use Rattle.hp_syntax.specs.declared.limits.TheConstants.{MADE_DEPTH, USUAL_LEVELS}
 use Rattle.hp_syntax.specs.declared.status.Status.{Status}
@@ -28,7 +28,7 @@ use Rattle.hp_top.specs.Outcome as outcome
 use Rattle.hp_top.specs.Outcome.{Files, Outcome, Comes, LoadsFile, Both, answer_to, walk_of_pairs, job_answer, unless_faulty, first_fault, answer_of_read, IsUnreadable, Why, InText, InForm, refused_status, refusal_status, refusal_of, refusal_answer}
 use Rattle.hp_top.specs.Loading as loading
 use Rattle.hp_top.specs.Loading.{ToldFile, FolderRun, Holds, Reads, IsUnread, StopsAt, LoadsBoth}
-use Rattle.hp_top.specs.Run.{TellsFiles, IsOutcome, RefusesWords, IsReadLine, ReadFails, CouldWrite, OfOutcome, OfReading, WritesFront, WritesProperFront}
+use Rattle.hp_top.specs.Run.{TellsFiles, IsOutcome, RefusesWords, IsReadLine, ReadFails, CouldWrite, OfOutcome, OfReading, WritesPrefix, WritesProperPrefix}
 use Rattle.hp_top.specs.Serving as serving
 use Rattle.hp_top.specs.Serving.{Serves, Ends, load_answer, no_faults, made_run}
 use Rattle.hp_top.specs.Telling as telling
@@ -287,8 +287,8 @@ read_answers c d p = checks_answer (first_fault d p) (job_answer c.job d p) (job
 
 -- a run that tells an answer ends in one of three ways, and what follows from each follows
 told_status : (a : Answer) (s : Status) (r : SinkRun) (P : Type 0) → Tells a s r
-    → (s ≡ status.NoMemory → WroteFront a.0 r.before r.after → P)
-    → (s ≡ status.WriteFault → Rose r.faults_before r.faults_after → WroteProperFront a.0 r.before r.after → P)
+    → (s ≡ status.NoMemory → WrotePrefix a.0 r.before r.after → P)
+    → (s ≡ status.WriteFault → Rose r.faults_before r.faults_after → WroteProperPrefix a.0 r.before r.after → P)
     → (s ≡ a.1 → Wrote a.0 r.before r.after → P) → P
 told_status a s r P (telling.WithoutMemory e f) m w t = m e f
 told_status a s r P (telling.Unwritten e rose f) m w t = w e rose f
@@ -300,35 +300,35 @@ other s t u n e f = n (sym e ∙ f)
 
 -- what a run that tells an answer wrote where it stopped short
 record IsShort (text : List ℕ) (s : Status) (r : SinkRun) : Type 0 where
-  front : s ≡ status.NoMemory → WroteFront text r.before r.after
-  proper : s ≡ status.WriteFault → WroteProperFront text r.before r.after
+  prefix : s ≡ status.NoMemory → WrotePrefix text r.before r.after
+  proper : s ≡ status.WriteFault → WroteProperPrefix text r.before r.after
 
--- an answer of another status than want of memory and a write fault is told up to a front
+-- an answer of another status than want of memory and a write fault is told up to a prefix
 told_short : (a : Answer) (s : Status) (r : SinkRun) → (a.1 ≡ status.NoMemory → ⊥) → (a.1 ≡ status.WriteFault → ⊥)
     → Tells a s r → IsShort a.0 s r
 told_short a s r n w t = record {
-  front =
-      λ e. told_status a s r (WroteFront a.0 r.before r.after) t (λ m f. f)
+  prefix =
+      λ e. told_status a s r (WrotePrefix a.0 r.before r.after) t (λ m f. f)
       (λ m rose f. absurd (other s _ _ (λ x. cc) m e)) (λ m h. absurd (n (sym m ∙ e)));
   proper =
-      λ e. told_status a s r (WroteProperFront a.0 r.before r.after) t (λ m f. absurd (other s _ _ (λ x. cc) m e))
+      λ e. told_status a s r (WroteProperPrefix a.0 r.before r.after) t (λ m f. absurd (other s _ _ (λ x. cc) m e))
       (λ m rose f. f) (λ m h. absurd (w (sym m ∙ e)));
 }
 
--- the empty text has no proper front, so only a sink that tells nothing has one of it written
-empty_proper : (text : List ℕ) (a b : Option (List ℕ)) → WroteProperFront [] a b → WroteProperFront text a b
+-- the empty text has no proper prefix, so only a sink that tells nothing has one of it written
+empty_proper : (text : List ℕ) (a b : Option (List ℕ)) → WroteProperPrefix [] a b → WroteProperPrefix text a b
 empty_proper text None b w = w
 empty_proper text (Some a) b w = absurd (omega (arith, w.1))
 
--- where nothing is written for want of memory, every text is told up to its empty front
+-- where nothing is written for want of memory, every text is told up to its empty prefix
 nothing_short : (text : List ℕ) (s : Status) (r : SinkRun) → Tells (load_answer causes.NoMemory) s r → IsShort text s r
 nothing_short text s r t = record {
-  front =
-      λ e. front_longer [] text r.before r.after
-      (told_status (load_answer causes.NoMemory) s r (WroteFront [] r.before r.after) t (λ m f. f)
-      (λ m rose f. absurd (other s _ _ (λ x. cc) m e)) (λ m h. whole_front [] r.before r.after h));
+  prefix =
+      λ e. prefix_longer [] text r.before r.after
+      (told_status (load_answer causes.NoMemory) s r (WrotePrefix [] r.before r.after) t (λ m f. f)
+      (λ m rose f. absurd (other s _ _ (λ x. cc) m e)) (λ m h. whole_prefix [] r.before r.after h));
   proper =
-      λ e. told_status (load_answer causes.NoMemory) s r (WroteProperFront text r.before r.after) t
+      λ e. told_status (load_answer causes.NoMemory) s r (WroteProperPrefix text r.before r.after) t
       (λ m f. absurd (other s _ _ (λ x. cc) m e)) (λ m rose f. empty_proper text r.before r.after f)
       (λ m h. absurd (other s _ _ (λ x. cc) m e));
 }
@@ -414,7 +414,7 @@ module _ (c : Command) (folder : FolderRun) (s : Status) (r : SinkRun) where
       abbrev ServesShort : Type 0
       ServesShort = (text : List ℕ) × MayWrite text × IsShort text s r
 
-      -- an answer that the files come to is told up to a front
+      -- an answer that the files come to is told up to a prefix
       answer_short : (loaded : Loaded folder c)
           → ((cause : LoadError) → loaded ≡ Err cause → IsExact folder c fs told cause)
           → LoadsBoth folder c.domain c.problem loaded → IsAnswer (status_to loaded)
@@ -447,7 +447,7 @@ module _ (c : Command) (folder : FolderRun) (s : Status) (r : SinkRun) where
           answer_short loaded (λ cause i. let y : Ok x ≡ Err cause = sym e ∙ i in cc) l
           (subst IsAnswer (sym (ap status_to e)) (read_answers c x.0 x.1)) t
 
-      -- what is served has a text that a run may write, of which it wrote a front where it stopped short
+      -- what is served has a text that a run may write, of which it wrote a prefix where it stopped short
       serves_short : Serves c folder s r → ServesShort
       serves_short h = how_short h.loaded h.loads (known folder c h.loaded h.loads) h.tells
 
@@ -508,7 +508,7 @@ module _ (words : List (List ℕ)) (folder : FolderRun) (s : Status) (r : SinkRu
     any_text : (text : List ℕ) × MayWrite text
     any_text = (some.0.0, OfOutcome some.0.1 some.1)
 
-    -- for every run there is a text that it could write, of which it wrote a front where it stopped short
+    -- for every run there is a text that it could write, of which it wrote a prefix where it stopped short
     ends_short : Ends words folder s r → EndsShort
     ends_short (serving.NoCommand e t) =
         (refused_usage, OfOutcome status.Usage (outcome.NoCommand e refl), told_short _ s r (λ x. cc) (λ x. cc) t)
@@ -520,13 +520,13 @@ module _ (words : List (List ℕ)) (folder : FolderRun) (s : Status) (r : SinkRu
         (λ which name i q l. absurd (made_read which name seed n i q)) (made_files seed n) (λ name. refl)
         (λ a x. OfOutcome a.1 (outcome.ByMaking seed n e x)) any_text h
 
-    -- after want of memory a front of a text was written that the run could write
-    pub ends_front : Ends words folder s r → s ≡ status.NoMemory → WritesFront words files folder r
-    ends_front h e = let x = ends_short h in record { text = x.0; could = x.1; written = x.2.front e }
+    -- after want of memory a prefix of a text was written that the run could write
+    pub ends_prefix : Ends words folder s r → s ≡ status.NoMemory → WritesPrefix words files folder r
+    ends_prefix h e = let x = ends_short h in record { text = x.0; could = x.1; written = x.2.prefix e }
 
-    -- after a write fault a proper front of a text was written that the run could write
+    -- after a write fault a proper prefix of a text was written that the run could write
     pub ends_proper : Ends words folder s r → s ≡ status.WriteFault
-        → WritesProperFront words files folder r
+        → WritesProperPrefix words files folder r
     ends_proper h e = let x = ends_short h in record { text = x.0; could = x.1; written = x.2.proper e }
 
 -- a status that is usage or a write fault is no want of memory

@@ -5,7 +5,7 @@ use Rattle.hp_top.specs.declared.telling.Halt.{Halt}
 use Rattle.hp_top.specs.declared.telling.Halt.TheVariants.{NoMemory, Failed}
 use Rattle.hp_top.specs.Telling.{Halts}
 use Rattle.hp_out.specs.Writing.{SinkRun, sink_run, Wrote}
-use Rattle.hp_out.proofs.FrontLemmas.{front_longer, proper_longer, front_after, proper_after}
+use Rattle.hp_out.proofs.WritingLemmas.{prefix_longer, proper_longer, prefix_after, proper_after}
 use Rattle.hp_out.proofs.WriteSteps.{wrote_both}
 
 on_ok_weaker : {A E : Type 0} (r : Result A E) (P Q : Type 0) → OnOk r P → (P → Q) → OnOk r Q
@@ -18,13 +18,13 @@ if_err_weaker (Err e) P Q h f = f e h
 
 -- what stops the telling of a text stops that of every text that goes on from it
 pub halts_longer : (h : Halt) (x y : List ℕ) (r : SinkRun) → Halts h x r → Halts h (x ++ y) r
-halts_longer NoMemory x y r w = front_longer x y r.before r.after w
+halts_longer NoMemory x y r w = prefix_longer x y r.before r.after w
 halts_longer Failed x y r w = (w.0, proper_longer x y r.before r.after w.1)
 
 -- what stops the telling of a text stops that of a text that was begun by another
 pub halts_after : (h : Halt) (x y : List ℕ) (f g k : ℕ) (a b c : Option (List ℕ)) → f ≤ g → Wrote x a b
     → Halts h y (sink_run g k b c) → Halts h (x ++ y) (sink_run f k a c)
-halts_after NoMemory x y f g k a b c e w h = front_after x y a b c w h
+halts_after NoMemory x y f g k a b c e w h = prefix_after x y a b c w h
 halts_after Failed x y f g k a b c e w h =
     let rose : Rose g k = h.0 in (omega arith, proper_after x y a b c w h.1)
 

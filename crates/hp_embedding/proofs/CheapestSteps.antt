@@ -65,9 +65,9 @@ least_skip o p c r (w ∷ ws) a =
     skip_one o p c r w ws (least_skip o p c r ws (All-tail (IsDear p c) w ws a)) (All-head (IsDear p c) w ws a)
     (begins p w.path) refl
 
--- a list is a front and what is left of it
+-- a list is a prefix and what is left of it
 abbrev IsRest : List Visit → List Visit → Type 0
-IsRest vs ws = (front : List Visit) × (vs ≡ front ++ ws)
+IsRest vs ws = (prefix : List Visit) × (vs ≡ prefix ++ ws)
 
 skip_rest_by : (p : List ℕ) (w : Visit) (ws : List Visit) → IsRest ws (skip p ws) → (b : Bool)
     → begins p w.path ≡ b → IsRest (w ∷ ws) (skip p (w ∷ ws))
@@ -96,16 +96,16 @@ no_longer (x ∷ xs) ys = let h = no_longer xs ys in omega (arith, h)
 abbrev IsNoCheaper : Visit → Visit → Type 0
 IsNoCheaper v w = begins v.path w.path ≡ true → v.node.cost ≤ℤ w.node.cost
 
--- a front of the visits is passed, which leaves the least cost as it is
-goes_past : (a b : Option CheapestPlan) (vs front ws : List Visit) → vs ≡ front ++ ws → length ws < length vs
+-- a prefix of the visits is passed, which leaves the least cost as it is
+goes_past : (a b : Option CheapestPlan) (vs prefix ws : List Visit) → vs ≡ prefix ++ ws → length ws < length vs
     → (NeverFalls vs → least_cost (cost_of b) ws ≡ least_cost (cost_of a) vs)
     → (b ≡ a) ⊎ IfSome b (λ f. Any (IsOf f) vs) → Goes a b vs ws
-goes_past a b vs front ws e shorter least plan = record {
+goes_past a b vs prefix ws e shorter least plan = record {
   shorter = shorter;
   among =
       subst (λ l. All (Contains l) ws) (sym e)
-      (all_from_contains (Contains (front ++ ws)) ws (λ x c. Contains-append_right front ws x c));
-  falls = λ h. pairs_right IsNoCheaper front ws (subst (AllPairs IsNoCheaper) e h);
+      (all_from_contains (Contains (prefix ++ ws)) ws (λ x c. Contains-append_right prefix ws x c));
+  falls = λ h. pairs_right IsNoCheaper prefix ws (subst (AllPairs IsNoCheaper) e h);
   least = least;
   plan = plan;
 }

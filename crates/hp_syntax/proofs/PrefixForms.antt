@@ -12,8 +12,8 @@ use Rattle.hp_syntax.specs.Syntax.{Variable, Expression, And, Also, Order, Up, P
 use Rattle.hp_syntax.specs.Misforms.{misform_span}
 use Rattle.std.proofs.lemmas.Bool.{cases_lt}
 use Rattle.hp_syntax.proofs.ForestLemmas.{one_forest}
-use Rattle.hp_syntax.proofs.FrontForests.{cut_texts, whole_texts}
-use Rattle.hp_syntax.proofs.FrontSteps.{NodeBeyond, Beyond, AlikeUpTo, SameNode, IsLate, AlikeResult, RefusesAlike, alike_same, alike_choice, ReadsAlike, ReadsNodeAlike, late_pure, late_numbered, late_names, late_refusal, late_made, late_choice, reads_late, reads_choice, reads_last, reads_made, reads_by_itself, reads_grow, reads_word, reads_word_by, reads_numeral_by, both_refused, both_rest, both_by, both_then, both_choice, reads_next, reads_ended, node_word, node_numeral, node_group, reads_each, reads_group, both_whole, reads_begun}
+use Rattle.hp_syntax.proofs.PrefixForests.{cut_texts, whole_texts}
+use Rattle.hp_syntax.proofs.PrefixSteps.{NodeBeyond, Beyond, AlikeUpTo, SameNode, IsLate, AlikeResult, RefusesAlike, alike_same, alike_choice, ReadsAlike, ReadsNodeAlike, late_pure, late_numbered, late_names, late_refusal, late_made, late_choice, reads_late, reads_choice, reads_last, reads_made, reads_by_itself, reads_grow, reads_word, reads_word_by, reads_numeral_by, both_refused, both_rest, both_by, both_then, both_choice, reads_next, reads_ended, node_word, node_numeral, node_group, reads_each, reads_group, both_whole, reads_begun}
 
 -- a list at the head of a list, as an expression
 abbrev first_expression : Node → Parse Expression

@@ -15,8 +15,8 @@ use Rattle.hp_top.specs.declared.planning.Progress.{Progress}
 use Rattle.hp_top.specs.declared.telling.Halt.{Halt}
 use Rattle.hp_top.specs.declared.telling.Halt.TheVariants.{NoMemory, Failed}
 use Rattle.hp_top.specs.Telling.{left, telling, tally_of, Goes, Closes, Visited, Halts, counted, stop_at, Tells, WithoutMemory, Unwritten, Written, status_told}
-use Rattle.hp_top.proofs.Fronts.{halts_longer, halts_after}
-use Rattle.hp_top.proofs.Reports.{did_reported, plan_reported, last_reported, texts_first, report_saturates}
+use Rattle.hp_top.proofs.TellingLemmas.{halts_longer, halts_after}
+use Rattle.hp_top.proofs.ReportLemmas.{did_reported, plan_reported, last_reported, texts_first, report_saturates}
 
 -- where nothing was written, the empty text was
 pub wrote_nothing : (b : Option (List ℕ)) → Wrote [] b b

@@ -52,48 +52,48 @@ task_list-each setting (Grow n f) names = elim (tasks setting n names) as
     ]
 
 -- expressions that were read one by one are read
-pub expressions_read : (nodes : List public.Node) (i : ℕ) (front : List Expr) (start names : Names) → length nodes ≤ i
-    → each expression (nodes_of nodes) start ≡ prepend (map expression_of front) (from_here expression nodes i names)
-    → expressions (nodes_of nodes) start ≡ Ok (expressions_of front, names)
-expressions_read nodes i front start names h e =
+pub expressions_read : (nodes : List public.Node) (i : ℕ) (prefix : List Expr) (start names : Names) → length nodes ≤ i
+    → each expression (nodes_of nodes) start ≡ prepend (map expression_of prefix) (from_here expression nodes i names)
+    → expressions (nodes_of nodes) start ≡ Ok (expressions_of prefix, names)
+expressions_read nodes i prefix start names h e =
     expressions-each (nodes_of nodes) start
     ∙ ap (λ r. and_then r (λ es. pure (as_expressions es)))
-    (all_read expression nodes i (map expression_of front) names (each expression (nodes_of nodes) start) h e)
+    (all_read expression nodes i (map expression_of prefix) names (each expression (nodes_of nodes) start) h e)
 
 -- an expression that is refused refuses all
-pub expressions_refused : (nodes : List public.Node) (i : ℕ) (d : public.Node) (front : List Expr) (why : FormRefusal)
+pub expressions_refused : (nodes : List public.Node) (i : ℕ) (d : public.Node) (prefix : List Expr) (why : FormRefusal)
     (start names : Names) → i < length nodes
-    → each expression (nodes_of nodes) start ≡ prepend (map expression_of front) (from_here expression nodes i names)
+    → each expression (nodes_of nodes) start ≡ prepend (map expression_of prefix) (from_here expression nodes i names)
     → d ≡ get_or nodes i d → Refuses why (expression (node_of d) names)
     → Refuses why (expressions (nodes_of nodes) start)
-expressions_refused nodes i d front why start names h e at r =
+expressions_refused nodes i d prefix why start names h e at r =
     refused_same why _ _ (expressions-each (nodes_of nodes) start)
     (refused_next why (each expression (nodes_of nodes) start) _
-    (one_refused expression nodes i d (map expression_of front) why names (each expression (nodes_of nodes) start) h e
+    (one_refused expression nodes i d (map expression_of prefix) why names (each expression (nodes_of nodes) start) h e
     (subst (λ n. Refuses why (expression (node_of n) names)) at r)))
 
 -- tasks that were read one by one are a task list
-pub task_list_read : (setting : Setting) (nodes : List public.Node) (i : ℕ) (front : List NetPat) (start names : Names)
+pub task_list_read : (setting : Setting) (nodes : List public.Node) (i : ℕ) (prefix : List NetPat) (start names : Names)
     → length nodes ≤ i
     → each (tasks setting) (nodes_of nodes) start
-    ≡ prepend (map tasks_of front) (from_here (tasks setting) nodes i names)
-    → task_list setting (nodes_of nodes) start ≡ Ok (task_list_of front, names)
-task_list_read setting nodes i front start names h e =
+    ≡ prepend (map tasks_of prefix) (from_here (tasks setting) nodes i names)
+    → task_list setting (nodes_of nodes) start ≡ Ok (task_list_of prefix, names)
+task_list_read setting nodes i prefix start names h e =
     task_list-each setting (nodes_of nodes) start
     ∙ ap (λ r. and_then r (λ ts. pure (as_task_list ts)))
-    (all_read (tasks setting) nodes i (map tasks_of front) names (each (tasks setting) (nodes_of nodes) start) h e)
+    (all_read (tasks setting) nodes i (map tasks_of prefix) names (each (tasks setting) (nodes_of nodes) start) h e)
 
 -- tasks that are refused refuse the task list
-pub task_list_refused : (setting : Setting) (nodes : List public.Node) (i : ℕ) (d : public.Node) (front : List NetPat)
+pub task_list_refused : (setting : Setting) (nodes : List public.Node) (i : ℕ) (d : public.Node) (prefix : List NetPat)
     (why : FormRefusal) (start names : Names) → i < length nodes
     → each (tasks setting) (nodes_of nodes) start
-    ≡ prepend (map tasks_of front) (from_here (tasks setting) nodes i names)
+    ≡ prepend (map tasks_of prefix) (from_here (tasks setting) nodes i names)
     → d ≡ get_or nodes i d → Refuses why (tasks setting (node_of d) names)
     → Refuses why (task_list setting (nodes_of nodes) start)
-task_list_refused setting nodes i d front why start names h e at r =
+task_list_refused setting nodes i d prefix why start names h e at r =
     refused_same why _ _ (task_list-each setting (nodes_of nodes) start)
     (refused_next why (each (tasks setting) (nodes_of nodes) start) _
-    (one_refused (tasks setting) nodes i d (map tasks_of front) why names (each (tasks setting) (nodes_of nodes) start)
+    (one_refused (tasks setting) nodes i d (map tasks_of prefix) why names (each (tasks setting) (nodes_of nodes) start)
     h e
     (subst (λ n. Refuses why (tasks setting (node_of n) names)) at r)))
 

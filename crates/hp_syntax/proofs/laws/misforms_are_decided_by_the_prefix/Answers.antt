@@ -1,5 +1,5 @@
-use Rattle.hp_syntax.proofs.FrontForms.{domain_refused, problem_refused}
-use Rattle.hp_syntax.proofs.laws.misforms_are_decided_by_the_front.Goals as goal
+use Rattle.hp_syntax.proofs.PrefixForms.{domain_refused, problem_refused}
+use Rattle.hp_syntax.proofs.laws.misforms_are_decided_by_the_prefix.Goals as goal
 
 pub returns-clause-domain : goal.returns-clause-domain
 returns-clause-domain c = domain_refused

@@ -14,7 +14,7 @@ use Rattle.hp_text.specs.Nodes.{node_of, nodes_of}
 use Rattle.hp_text.specs.NodeLaws.{node_of-name, node_of-number, node_of-list}
 use Rattle.hp_text.specs.Places.{IsBetween, IsNodeAt, AreRead}
 use Rattle.hp_text.proofs.PlaceLemmas.{between_brackets}
-use Rattle.hp_text.proofs.Runs.{read_more, read_spelled}
+use Rattle.hp_text.proofs.ReadSteps.{read_more, read_spelled}
 
 -- an opening bracket is no name byte
 pub opening_no_name : (text : List ℕ) (i : ℕ) → kind_at text i ≡ Opening → kind_at text i ≡ NameByte → ⊥

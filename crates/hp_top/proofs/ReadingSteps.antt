@@ -5,13 +5,13 @@ use Rattle.std.proofs.lemmas.List.{take_all}
 use Rattle.hp_io.specs.Rules.{Taken}
 use Rattle.hp_top.specs.Reading.{ReadsTo, Left, TakesUpTo, Grows}
 
--- what was read up to the limit is the front of the rest, up to one byte past it
+-- what was read up to the limit is the prefix of the rest, up to one byte past it
 pub full : (most : ℕ) (bytes : List ℕ) (old now : Option (List ℕ)) → Left bytes old now
     → length bytes ≡ most + 1 → ReadsTo most bytes old
 full most bytes None now a h = omega arith
 full most bytes (Some old) now a h = sym (ap (take (most + 1)) a.2 ∙ rw (← h) (take-append_seam bytes a.0))
 
--- a list that is no longer than its front is that front
+-- a list that is no longer than its prefix is that prefix
 no_more : (xs ys zs : List ℕ) → zs ≡ xs ++ ys → length zs ≡ length xs → zs ≡ xs
 no_more xs [] zs e h = e ∙ append-nil xs
 no_more xs (y ∷ ys) zs e h = absurd (omega (arith, ap length e, length-append xs (y ∷ ys)))
@@ -28,7 +28,7 @@ ended most before after n (Some old) mid new a t z e h =
     let short : after ≡ before = no_more before t'.1 after t'.4 (omega arith) in
     short ∙ sym (ap (take (most + 1)) same ∙ take_all (most + 1) before h)
 
--- what is left after some bytes were read is left after that many of the front were taken
+-- what is left after some bytes were read is left after that many were taken from the front
 pub left_takes : (most : ℕ) (bytes : List ℕ) (old now : Option (List ℕ)) → Left bytes old now
     → length bytes ≤ most → TakesUpTo most old now
 left_takes most bytes None now a h = a

@@ -1,10 +1,10 @@
 use Rattle.std.proofs.Common.{◌+◌, arith}
 use Rattle.hp_syntax.specs.declared.limits.TheConstants.{LARGEST_TEXT}
-use Rattle.hp_syntax.proofs.Front.{front_decides, limit_refuses, limit_spells}
-use Rattle.hp_syntax.proofs.laws.refusals_are_decided_by_the_front.Goals as goal
+use Rattle.hp_syntax.proofs.PrefixRefusals.{prefix_decides, limit_refuses, limit_spells}
+use Rattle.hp_syntax.proofs.laws.refusals_are_decided_by_the_prefix.Goals as goal
 
-pub returns-clause-front : goal.returns-clause-front
-returns-clause-front c = front_decides
+pub returns-clause-prefix : goal.returns-clause-prefix
+returns-clause-prefix c = prefix_decides
 
 pub returns-clause-refused : goal.returns-clause-refused
 returns-clause-refused c = λ text r x. limit_refuses (LARGEST_TEXT + 1) text r (omega arith) x

@@ -2,6 +2,7 @@
 use Rattle.std.proofs.Common.{◌≡◌, ◌∙◌, sym, ap, refl, ℕ, Bool, true, false, cond, List, [], ◌∷◌, ◌++◌, Option, Some, None, Result, Ok, Err, length, map, append-nil, arith, ◌≢◌, codes, bytes_eq}
 use Rattle.std.proofs.lemmas.List.{map-append}
 use Rattle.hp_syntax.specs.declared.pattern.Span.{Span}
+use Rattle.hp_syntax.specs.declared.form.What.{What}
 use Rattle.hp_syntax.specs.declared.form.What.TheVariants as wants
 use Rattle.hp_syntax.specs.Forest.{Node, Forest, Bare, Grow}
 use Rattle.hp_syntax.specs.Steps.{Misform, Expected, SeveralPairs, Names, Parse, and_then, pure, next, ◌>>=◌, value_in, by_itself}
@@ -27,6 +28,30 @@ pub keyed-operator : (s : Span) (key : List ℕ) (rest : Forest) (names : Names)
     → grammar.keyed_rule s key rest names ≡ operator s rest names
 unfolding grammar.keyed_rule
 keyed-operator s key rest names h = rw h (operator_parts s rest names)
+
+-- ---- names of branches
+
+module _ {A B : Type 0} (what : What) (end : Span) (branch_from : Option (List ℕ) × (Node × Forest) → Parse A)
+    (later : A → Parse B) where
+  -- branches begin with one that has a name or none, and is read from its first node on
+  named_or_not : (n : Node) (rest : Forest) (names : Names) (is_named : Bool) (named : List ℕ → Parse B)
+      (unnamed : Parse B)
+      → ((text : List ℕ) (after : Names) → named text after
+      ≡ and_then (and_then (next what end rest after) (λ x. branch_from (Some text, x))) later)
+      → unnamed names ≡ and_then (branch_from (None, (n, rest)) names) later
+      → cond is_named (branch_name n >>= named) unnamed names
+      ≡ and_then (and_then (and_then (cond is_named (branch_name n >>= (λ text. pure (Some text))) (pure None) names)
+      (λ text. behind_name what end n rest text)) branch_from) later
+  named_or_not n rest names true named unnamed by_name without =
+      elim (branch_name n names) as (λ r. and_then r named
+      ≡ and_then (and_then (and_then (and_then r (λ text. pure (Some text)))
+      (λ text. behind_name what end n rest text)) branch_from) later) [
+        | Ok t ↦ by_name t.0 t.1
+            ∙ ap (λ r. and_then r later) (sym (bind-assoc (next what end rest t.1) (λ x. pure (Some t.0, x))
+            branch_from))
+        | Err e ↦ refl
+      ]
+  named_or_not n rest names false named unnamed by_name without = without
 
 -- ---- branches of a method
 
@@ -61,28 +86,15 @@ unfolding named_branch
 named_branch-turn end text Bare names = refl
 named_branch-turn end text (Grow n rest) names = from_precondition end (Some text) n rest names
 
-first_branch : (end : Span) (n : Node) (rest : Forest) (names : Names) (is_named : Bool)
-    → cond is_named (branch_name n >>= (λ text. named_branch end text rest))
-    (precondition n >>= (λ p. branch_tasks end None p rest)) names
-    ≡ and_then (and_then (and_then (cond is_named (branch_name n >>= (λ text. pure (Some text))) (pure None) names)
-    (λ text. behind_name wants.Pre end n rest text)) (rest_of_branch end)) (then_branches end)
-first_branch end n rest names true =
-    elim (branch_name n names) as (λ r. and_then r (λ text. named_branch end text rest)
-    ≡ and_then (and_then (and_then (and_then r (λ text. pure (Some text)))
-    (λ text. behind_name wants.Pre end n rest text)) (rest_of_branch end)) (then_branches end)) [
-      | Ok t ↦ named_branch-turn end t.0 rest t.1
-          ∙ ap (λ r. and_then r (then_branches end)) (sym (bind-assoc (next wants.Pre end rest t.1)
-          (λ x. pure (Some t.0, x)) (rest_of_branch end)))
-      | Err e ↦ refl
-    ]
-first_branch end n rest names false = from_precondition end None n rest names
-
 -- the branches of a method are one branch, and then the rest
 pub branches-turn : (end : Span) (f : Forest) (names : Names)
     → branches end true f names ≡ and_then (branch end f names) (then_branches end)
 unfolding branches branch start
 branches-turn end Bare names = refl
-branches-turn end (Grow n rest) names = first_branch end n rest names (begins_named n)
+branches-turn end (Grow n rest) names =
+    named_or_not wants.Pre end (rest_of_branch end) (then_branches end) n rest names (begins_named n)
+    (λ text. named_branch end text rest) (precondition n >>= (λ p. branch_tasks end None p rest))
+    (λ text later. named_branch-turn end text rest later) (from_precondition end None n rest names)
 
 -- ---- branches of an axiom
 
@@ -105,68 +117,56 @@ unfolding named_clause
 named_clause-turn end text Bare names = refl
 named_clause-turn end text (Grow n rest) names = from_expression end (Some text) n rest names
 
-first_clause : (end : Span) (n : Node) (rest : Forest) (names : Names) (is_named : Bool)
-    → cond is_named (branch_name n >>= (λ text. named_clause end text rest))
-    (expression n >>= (λ e. clauses end false rest >>= (λ others. pure (make_clause None e ∷ others)))) names
-    ≡ and_then (and_then (and_then (cond is_named (branch_name n >>= (λ text. pure (Some text))) (pure None) names)
-    (λ text. behind_name wants.Expr end n rest text)) rest_of_clause) (then_clauses end)
-first_clause end n rest names true =
-    elim (branch_name n names) as (λ r. and_then r (λ text. named_clause end text rest)
-    ≡ and_then (and_then (and_then (and_then r (λ text. pure (Some text)))
-    (λ text. behind_name wants.Expr end n rest text)) rest_of_clause) (then_clauses end)) [
-      | Ok t ↦ named_clause-turn end t.0 rest t.1
-          ∙ ap (λ r. and_then r (then_clauses end)) (sym (bind-assoc (next wants.Expr end rest t.1)
-          (λ x. pure (Some t.0, x)) rest_of_clause))
-      | Err e ↦ refl
-    ]
-first_clause end n rest names false = from_expression end None n rest names
-
 -- the branches of an axiom are one branch, and then the rest
 pub clauses-turn : (end : Span) (f : Forest) (names : Names)
     → clauses end true f names ≡ and_then (clause end f names) (then_clauses end)
 unfolding clauses clause start
 clauses-turn end Bare names = refl
-clauses-turn end (Grow n rest) names = first_clause end n rest names (begins_named n)
+clauses-turn end (Grow n rest) names =
+    named_or_not wants.Expr end rest_of_clause (then_clauses end) n rest names (begins_named n)
+    (λ text. named_clause end text rest)
+    (expression n >>= (λ e. clauses end false rest >>= (λ others. pure (make_clause None e ∷ others))))
+    (λ text later. named_clause-turn end text rest later) (from_expression end None n rest names)
 
 -- ---- turns of a loop over branches
 
 -- one more branch is read
 pub turn_read : {X A : Type 0} (view : X → A) (one : Parse (A × Forest)) (later : Forest → Parse (List A)) (g : Forest)
-    (front : List X) (x : X) (before after : Names) (all whole : Result (List A × Names) Misform)
-    → all ≡ prepend (map view front) whole
+    (prefix : List X) (x : X) (before after : Names) (all whole : Result (List A × Names) Misform)
+    → all ≡ prepend (map view prefix) whole
     → whole ≡ and_then (one before) (λ y. later y.1 >>= (λ others. pure (y.0 ∷ others)))
-    → one before ≡ Ok ((view x, g), after) → all ≡ prepend (map view (front ++ x ∷ [])) (later g after)
-turn_read view one later g front x before after all whole e turn r =
-    e ∙ ap (prepend (map view front)) (turn
+    → one before ≡ Ok ((view x, g), after) → all ≡ prepend (map view (prefix ++ x ∷ [])) (later g after)
+turn_read view one later g prefix x before after all whole e turn r =
+    e ∙ ap (prepend (map view prefix)) (turn
     ∙ ap (λ o. and_then o (λ y. later y.1 >>= (λ others. pure (y.0 ∷ others)))) r)
-    ∙ prepend_more (map view front) (view x) (later g after)
-    ∙ ap (λ xs. prepend xs (later g after)) (sym (map-append view front (x ∷ [])))
+    ∙ prepend_more (map view prefix) (view x) (later g after)
+    ∙ ap (λ xs. prepend xs (later g after)) (sym (map-append view prefix (x ∷ [])))
 
 -- a branch that is refused refuses all
 pub turn_refused : {A : Type 0} (why : FormRefusal) (one : Parse (A × Forest)) (later : Forest → Parse (List A))
-    (front : List A) (before : Names) (all whole : Result (List A × Names) Misform) → all ≡ prepend front whole
+    (prefix : List A) (before : Names) (all whole : Result (List A × Names) Misform) → all ≡ prepend prefix whole
     → whole ≡ and_then (one before) (λ y. later y.1 >>= (λ others. pure (y.0 ∷ others)))
     → Refuses why (one before) → Refuses why all
-turn_refused (refusals.Expected what span) one later front before all whole e turn r =
-    e ∙ ap (prepend front) (turn ∙ ap (λ o. and_then o (λ y. later y.1 >>= (λ others. pure (y.0 ∷ others)))) r)
-turn_refused (refusals.SeveralPairs span) one later front before all whole e turn r =
-    e ∙ ap (prepend front) (turn ∙ ap (λ o. and_then o (λ y. later y.1 >>= (λ others. pure (y.0 ∷ others)))) r)
-turn_refused refusals.NoMemory one later front before all whole e turn r = r
+turn_refused (refusals.Expected what span) one later prefix before all whole e turn r =
+    e ∙ ap (prepend prefix) (turn ∙ ap (λ o. and_then o (λ y. later y.1 >>= (λ others. pure (y.0 ∷ others)))) r)
+turn_refused (refusals.SeveralPairs span) one later prefix before all whole e turn r =
+    e ∙ ap (prepend prefix) (turn ∙ ap (λ o. and_then o (λ y. later y.1 >>= (λ others. pure (y.0 ∷ others)))) r)
+turn_refused refusals.NoMemory one later prefix before all whole e turn r = r
 
 -- where no node is left, the branches that were read are all
-pub branches_done : (end : Span) (rest : List public.Node) (front : List Branch) (names : Names)
+pub branches_done : (end : Span) (rest : List public.Node) (prefix : List Branch) (names : Names)
     (all : Result (List Branch × Names) Misform) → length rest ≡ 0
-    → all ≡ prepend front (branches end false (nodes_of rest) names) → all ≡ Ok (front, names)
+    → all ≡ prepend prefix (branches end false (nodes_of rest) names) → all ≡ Ok (prefix, names)
 unfolding branches
-branches_done end [] front names all none e = e ∙ ap (λ xs. Ok (xs, names)) (append-nil front)
-branches_done end (n ∷ ns) front names all none e = absurd (omega arith)
+branches_done end [] prefix names all none e = e ∙ ap (λ xs. Ok (xs, names)) (append-nil prefix)
+branches_done end (n ∷ ns) prefix names all none e = absurd (omega arith)
 
-pub clauses_done : (end : Span) (rest : List public.Node) (front : List Clause) (names : Names)
+pub clauses_done : (end : Span) (rest : List public.Node) (prefix : List Clause) (names : Names)
     (all : Result (List Clause × Names) Misform) → length rest ≡ 0
-    → all ≡ prepend front (clauses end false (nodes_of rest) names) → all ≡ Ok (front, names)
+    → all ≡ prepend prefix (clauses end false (nodes_of rest) names) → all ≡ Ok (prefix, names)
 unfolding clauses
-clauses_done end [] front names all none e = e ∙ ap (λ xs. Ok (xs, names)) (append-nil front)
-clauses_done end (n ∷ ns) front names all none e = absurd (omega arith)
+clauses_done end [] prefix names all none e = e ∙ ap (λ xs. Ok (xs, names)) (append-nil prefix)
+clauses_done end (n ∷ ns) prefix names all none e = absurd (omega arith)
 
 -- where a node is left, further branches are read as at the front
 pub branches_go_on : (end : Span) (rest : List public.Node) (names : Names) → length rest ≢ 0

@@ -23,7 +23,7 @@ abbrev mutual
 -- both with a list that ends behind it in the first and is alike up to it
 mutual
   pub data AlikeUpTo (at : ℕ) : Forest → Forest → Type 0 where
-    PastFront : {f g : Forest} → Beyond at f → AlikeUpTo at f g
+    PastPrefix : {f g : Forest} → Beyond at f → AlikeUpTo at f g
     SameNode : {n : Node} {f g : Forest} → AlikeUpTo at f g → AlikeUpTo at (Grow n f) (Grow n g)
     OpenList : {n m : Node} {f g : Forest} → NodeAlikeUpTo at n m → Beyond at f → AlikeUpTo at (Grow n f) (Grow m g)
 
@@ -212,7 +212,7 @@ module _ {at : ℕ} where
       alike : (n : Node) (f : Forest) → ReadsBothAlike at n f (λ m g. K (Grow m g)) (λ m g. L (Grow m g)) → (g : Forest)
           → AlikeUpTo at (Grow n f) g
           → RefusesAlike at (K (Grow n f)) (L g)
-      alike n f h g (PastFront b) = alike_late (h.beyond b.0 b.1)
+      alike n f h g (PastPrefix b) = alike_late (h.beyond b.0 b.1)
       alike n f h g (SameNode c) = h.same _ c
       alike n f h g (OpenList c b) = h.cut _ _ c b
 
@@ -358,7 +358,7 @@ module _ {at : ℕ} where
 
       grown : (n : Node) (f g : Forest) → ReadsBothAlike at n f S T → ((g : Forest) → L (Grow n g) ≡ T n g)
           → AlikeUpTo at (Grow n f) g → RefusesAlike at (S n f) (L g)
-      grown n f g k d (PastFront b) = alike_late (k.beyond b.0 b.1)
+      grown n f g k d (PastPrefix b) = alike_late (k.beyond b.0 b.1)
       grown n f g k d (SameNode {g = g'} c) = subst (RefusesAlike at (S n f)) (sym (d g')) (k.same g' c)
       grown n f g k d (OpenList {m = m} {g = g'} c b) = inside n m f g' c (k.cut m g' c b)
 
