@@ -14,8 +14,9 @@ ghost use Rattle.hp_syntax.specs.Terms.{Term};
 ghost use Rattle.hp_syntax.specs.Values.{Bindings};
 ghost use Rattle.hp_syntax.specs.Walk.{Node, children, node_at, rule_children, visits, walk};
 ghost use Rattle.hp_laws.specs.RulesByName.{concluding, relevant, task_name};
-ghost use Rattle.hp_code.specs.CodeViews.{CodeView, IsCode, IsCodeOf, beside, rule_nodes, rules_of, vars_at};
+ghost use Rattle.hp_code.specs.CodeViews.{CodeView, IsCode, IsCodeOf, beside, compiled, rule_nodes, rules_of, vars_at};
 ghost use Rattle.hp_code.specs.Compiled.{rule_trees, vars_of};
+ghost use Rattle.hp_code.specs.Listing.{listing_text};
 ghost use Rattle.hp_code.specs.Lowered.{lowered, lowered_axiom, lowered_operator, lowered_precondition, lowered_rules};
 ghost use Rattle.hp_code.specs.Sources.{rules_read};
 ghost use Rattle.hp_code.specs.Trees as trees;
@@ -96,4 +97,9 @@ pub fn codes_find_their_rules()
         ≡ flat_map (rule_children rules nest n p t) rules }
     ensures vars { (c : CodeView) (code : IsCode c) (i : ℕ) (r : Rule)
         → beside i (rule_nodes c) code.rules ≡ Some r → vars_at c i ≡ vars_of r }
+{}
+
+/// Codes of the same rules have the same listing, that of what the rules are compiled to.
+pub fn codes_have_one_listing()
+    ensures { (rules : List Rule) (c : CodeView) → IsCodeOf rules c → listing_text c ≡ listing_text (compiled rules) }
 {}

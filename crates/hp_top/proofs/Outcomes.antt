@@ -12,10 +12,10 @@ use Rattle.hp_syntax.specs.Report.{Answer}
 use Rattle.hp_syntax.specs.Steps.{Misform}
 use Rattle.hp_syntax.specs.Syntax.{Domain, Problem}
 use Rattle.hp_syntax.specs.TextForms.{Form, IsRead}
-use Rattle.hp_top.specs.Command.{Command, Request, OnFiles, Making, accepts}
+use Rattle.hp_top.specs.Command.{Command, Request, OnFiles, Listing, Making, accepts}
 use Rattle.hp_top.specs.Making.{made_files, made_command}
 use Rattle.hp_top.specs.Outcome as outcome
-use Rattle.hp_top.specs.Outcome.{Files, Outcome, Comes, LoadsFile, Then, Both, Why, InText, InForm, IsUnreadable, refusal_of, refusal_answer, answer_of_read, answer_to}
+use Rattle.hp_top.specs.Outcome.{Files, Outcome, Comes, CommandComes, LoadsFile, LoadsFiles, LoadsDomain, Then, Both, Why, InText, InForm, IsUnreadable, refusal_of, refusal_answer, answer_of_read, answer_of_pair, listing_answer, answer_to}
 
 one_value : {A : Type 0} (o : Option A) (x y : A) → o ≡ Some x → o ≡ Some y → x ≡ y
 one_value o x y h k = let e : Some x ≡ Some y = sym h ∙ k in cc
@@ -35,11 +35,11 @@ ok_or_err r x y h k = cc
 -- a command whose files are read comes to the answer to them
 pub judged_comes : (files : Files) (c : Command) (t u : List ℕ) (d : Domain) (p : Problem) (a : Answer)
     → files c.domain ≡ Some t → IsRead domain_form t d → files c.problem ≡ Some u → IsRead problem_form u p
-    → a ≡ answer_of_read c d p → Comes files c a
+    → a ≡ answer_of_read c d p → CommandComes files c a
 judged_comes files c t u d p a i h j k e = record {
   loaded = Ok (d, p);
   loads = outcome.Went d (outcome.Good t d i h refl) (outcome.Went p (outcome.Good u p j k refl) refl);
-  answer = e;
+  comes = e;
 }
 
 module _ (one : (t : List ℕ) (f g : Forest) → IsForest t f → IsForest t g → f ≡ g)
@@ -105,50 +105,58 @@ module _ (one : (t : List ℕ) (f g : Forest) → IsForest t f → IsForest t g 
       let same : Ok a ≡ Ok b = f (Ok a) (Ok b) h k in
       g b x y (subst (λ a. second a x) (one_ok (Ok a) a b refl same) i) j
 
-  module _ (files : Files) (c : Command) where
-    -- two ways in which a command comes to an answer are one
-    comes_one : (a b : Answer) → Comes files c a → Comes files c b → a ≡ b
-    comes_one a b x y =
-        let same : x.loaded ≡ y.loaded = then_one _ _ (load_one inputs.Domain domain_form (files c.domain))
-        (λ d. then_one _ _ (load_one inputs.Problem problem_form (files c.problem)) (λ p u v h k. h ∙ sym k)) x.loaded
-        y.loaded x.loads y.loads in
-        x.answer ∙ (ap (answer_to refusal_answer c) same ∙ sym y.answer)
+  -- two ways in which something comes of what is loaded are one, where one thing is loaded
+  comes_one : {X : Type 0} (loads : Result X Refusal → Type 0) (answer : X → Answer)
+      → ((x y : Result X Refusal) → loads x → loads y → x ≡ y) → (a b : Answer) → Comes loads answer a
+      → Comes loads answer b → a ≡ b
+  comes_one loads answer one_loaded a b x y =
+      let same : x.loaded ≡ y.loaded = one_loaded x.loaded y.loaded x.loads y.loads in
+      x.comes ∙ (ap (answer_to refusal_answer answer) same ∙ sym y.comes)
 
-  one_command : (o : Option Request) (c d : Command) → o ≡ Some (OnFiles c) → o ≡ Some (OnFiles d) → c ≡ d
-  one_command o c d h k = let e : OnFiles c ≡ OnFiles d = one_value o (OnFiles c) (OnFiles d) h k in cc
+  -- of the files of a command one thing is loaded
+  command_one : (files : Files) (c : Command) (x y : Result (Domain × Problem) Refusal) → LoadsFiles files c x
+      → LoadsFiles files c y → x ≡ y
+  command_one files c =
+      then_one _ _ (load_one inputs.Domain domain_form (files c.domain))
+      (λ d. then_one _ _ (load_one inputs.Problem problem_form (files c.problem)) (λ p u v h k. h ∙ sym k))
 
-  one_seed : (o : Option Request) (s t m n : ℕ) → o ≡ Some (Making s m) → o ≡ Some (Making t n) → s ≡ t
-  one_seed o s t m n h k = let e : Making s m ≡ Making t n = one_value o (Making s m) (Making t n) h k in cc
+  -- what comes of a request with these files
+  abbrev RequestComes : Files → Request → Answer → Type 0
+  RequestComes files (OnFiles c) a = CommandComes files c a
+  RequestComes files (Listing d) a = Comes (LoadsDomain files d) listing_answer a
+  RequestComes files (Making s n) a = CommandComes (made_files s n) (made_command s n) a
 
-  one_count : (o : Option Request) (s t m n : ℕ) → o ≡ Some (Making s m) → o ≡ Some (Making t n) → m ≡ n
-  one_count o s t m n h k = let e : Making s m ≡ Making t n = one_value o (Making s m) (Making t n) h k in cc
+  -- two answers that come of one request are one
+  request_one : (files : Files) (q : Request) (a b : Answer) → RequestComes files q a → RequestComes files q b → a ≡ b
+  request_one files (OnFiles c) a b x y =
+      comes_one (LoadsFiles files c) (answer_of_pair c) (command_one files c) a b x y
+  request_one files (Listing d) a b x y =
+      comes_one (LoadsDomain files d) listing_answer (load_one inputs.Domain domain_form (files d)) a b x y
+  request_one files (Making s n) a b x y =
+      comes_one (LoadsFiles (made_files s n) (made_command s n)) (answer_of_pair (made_command s n))
+      (command_one (made_files s n) (made_command s n)) a b x y
 
-  not_both : (o : Option Request) (c : Command) (s n : ℕ) → o ≡ Some (OnFiles c) → o ≡ Some (Making s n) → ⊥
-  not_both o c s n h k = let e : OnFiles c ≡ Making s n = one_value o (OnFiles c) (Making s n) h k in cc
+  -- an outcome by what the words ask for
+  data ByRequest (words : List (List ℕ)) (files : Files) (a : Answer) : Type 0 where
+    NoneAsked : accepts words ≡ None → a ≡ refusal_answer refusals.Usage → ByRequest words files a
+    Asked : (q : Request) → accepts words ≡ Some q → RequestComes files q a → ByRequest words files a
+
+  by_request : (words : List (List ℕ)) (files : Files) (a : Answer) → Outcome words files a → ByRequest words files a
+  by_request words files a (outcome.NoCommand e x) = NoneAsked e x
+  by_request words files a (outcome.ByCommand c e x) = Asked (OnFiles c) e x
+  by_request words files a (outcome.ByListing d e x) = Asked (Listing d) e x
+  by_request words files a (outcome.ByMaking s n e x) = Asked (Making s n) e x
 
   pub outcome_one : (words : List (List ℕ)) (files : Files) (a b : Answer) → Outcome words files a
       → Outcome words files b → a ≡ b
-  outcome_one words files a b (outcome.NoCommand e x) (outcome.NoCommand f y) = x ∙ sym y
-  outcome_one words files a b (outcome.NoCommand e x) (outcome.ByCommand c f y) =
-      absurd (no_value (accepts words) (OnFiles c) f e)
-  outcome_one words files a b (outcome.ByCommand c e x) (outcome.NoCommand f y) =
-      absurd (no_value (accepts words) (OnFiles c) e f)
-  outcome_one words files a b (outcome.ByCommand c e x) (outcome.ByCommand d f y) =
-      comes_one files d a b (subst (λ c. Comes files c a) (one_command (accepts words) c d e f) x) y
-  outcome_one words files a b (outcome.NoCommand e x) (outcome.ByMaking t n f y) =
-      absurd (no_value (accepts words) (Making t n) f e)
-  outcome_one words files a b (outcome.ByMaking s m e x) (outcome.NoCommand f y) =
-      absurd (no_value (accepts words) (Making s m) e f)
-  outcome_one words files a b (outcome.ByCommand c e x) (outcome.ByMaking t n f y) =
-      absurd (not_both (accepts words) c t n e f)
-  outcome_one words files a b (outcome.ByMaking s m e x) (outcome.ByCommand d f y) =
-      absurd (not_both (accepts words) d s m f e)
-  outcome_one words files a b (outcome.ByMaking s m e x) (outcome.ByMaking t n f y) =
-      let seed = one_seed (accepts words) s t m n e f in
-      let count = one_count (accepts words) s t m n e f in
-      let same = subst (λ i. Comes (made_files i m) (made_command i m) a) seed x in
-      let both = subst (λ i. Comes (made_files t i) (made_command t i) a) count same in
-      comes_one (made_files t n) (made_command t n) a b both y
+  outcome_one words files a b x y = both (by_request words files a x) (by_request words files b y)
+    where
+      both : ByRequest words files a → ByRequest words files b → a ≡ b
+      both (NoneAsked e x) (NoneAsked f y) = x ∙ sym y
+      both (NoneAsked e x) (Asked q f y) = absurd (no_value (accepts words) q f e)
+      both (Asked p e x) (NoneAsked f y) = absurd (no_value (accepts words) p e f)
+      both (Asked p e x) (Asked q f y) =
+          request_one files q a b (subst (λ q. RequestComes files q a) (one_value (accepts words) p q e f) x) y
 
 module _ (all : (t : List ℕ) → ((f : Forest) × IsForest t f) ⊎ ((r : texts.Refusal) × IsRefused t r)) where
   module _ {A : Type 0} (form : Form A) (t : List ℕ) where
@@ -182,12 +190,12 @@ module _ (all : (t : List ℕ) → ((f : Forest) × IsForest t f) ⊎ ((r : text
   both_some first second (Ok a, h) (Err e, k) = (Err e, outcome.Went a h (outcome.Stopped e k refl))
   both_some first second (Ok a, h) (Ok b, k) = (Ok (a, b), outcome.Went a h (outcome.Went b k refl))
 
-  some_answer : (files : Files) (c : Command) → (a : Answer) × Comes files c a
+  some_answer : (files : Files) (c : Command) → (a : Answer) × CommandComes files c a
   some_answer files c =
       let x = both_some _ _ (load_by inputs.Domain domain_form (files c.domain) (files c.domain) refl)
       (load_by inputs.Problem problem_form (files c.problem) (files c.problem) refl) in (
-        answer_to refusal_answer c x.0,
-        record { loaded = x.0; loads = x.1; answer = refl },
+        answer_to refusal_answer (answer_of_pair c) x.0,
+        record { loaded = x.0; loads = x.1; comes = refl },
       )
 
   by_words : (words : List (List ℕ)) (files : Files) (o : Option Request) → accepts words ≡ o
@@ -195,6 +203,11 @@ module _ (all : (t : List ℕ) → ((f : Forest) × IsForest t f) ⊎ ((r : text
   by_words words files None e = (refusal_answer refusals.Usage, outcome.NoCommand e refl)
   by_words words files (Some (OnFiles c)) e =
       let x = some_answer files c in (x.0, outcome.ByCommand c e x.1)
+  by_words words files (Some (Listing d)) e =
+      let x = load_by inputs.Domain domain_form (files d) (files d) refl in (
+        answer_to refusal_answer listing_answer x.0,
+        outcome.ByListing d e (record { loaded = x.0; loads = x.1; comes = refl }),
+      )
   by_words words files (Some (Making s n)) e =
       let x = some_answer (made_files s n) (made_command s n) in
       (x.0, outcome.ByMaking s n e x.1)

@@ -1,5 +1,7 @@
 -- From how a run ends to what the top call promises.
 use Rattle.std.proofs.Common.{◌≡◌, ◌≢◌, ◌⊎◌, inl, inr, ℕ, List, [], Bool, true, false, cond, nat_lt, Option, Some, None, Result, Ok, Err, codes, arith, refl, ap, sym, ◌∙◌, subst}
+use Rattle.hp_code.specs.CodeViews.{compiled}
+use Rattle.hp_code.specs.Listing.{listing_text}
 use Rattle.hp_io.specs.declared.folder.Input.{Input}
 use Rattle.hp_io.specs.declared.folder.Input.TheVariants as inputs
 use Rattle.hp_io.specs.Inputs.{by_input}
@@ -15,6 +17,7 @@ use Rattle.hp_syntax.specs.declared.limits.TheConstants.{MADE_DEPTH, USUAL_LEVEL
 use Rattle.hp_syntax.specs.declared.status.Status.{Status}
 use Rattle.hp_syntax.specs.declared.status.Status.TheVariants as status
 use Rattle.hp_syntax.specs.Grammar.{domain_form, problem_form}
+use Rattle.hp_syntax.specs.Checks.{first_of, domain_faults}
 use Rattle.hp_syntax.specs.Report.{Answer, Ending, Stopped, AtFault, AtCut, AtEnd, end_of, line_of, nothing_seen, plan_of, plan_report, report, status_of}
 use Rattle.hp_syntax.specs.Steps.{Expected, SeveralPairs}
 use Rattle.hp_syntax.specs.Syntax.{Domain, Problem}
@@ -22,213 +25,18 @@ use Rattle.hp_syntax.specs.TextForms.{Form, IsRead}
 use Rattle.hp_syntax.specs.Walk.{Visit}
 use Rattle.hp_top.specs.declared.loading.LoadError.{LoadError}
 use Rattle.hp_top.specs.declared.loading.LoadError.TheVariants as causes
-use Rattle.hp_top.specs.Command.{Command, Job, Planning, Checking, Showing, Summing, OnFiles, accepts, make_command, named, on_files}
+use Rattle.hp_top.specs.Command.{Command, Job, Planning, Checking, Showing, Summing, Request, OnFiles, Listing, accepts, make_command, named, file_named, on_files}
 use Rattle.hp_top.specs.Making.{made_files, made_command}
 use Rattle.hp_top.specs.Outcome as outcome
-use Rattle.hp_top.specs.Outcome.{Files, Outcome, Comes, LoadsFile, Both, answer_to, walk_of_pairs, job_answer, unless_faulty, first_fault, answer_of_read, IsUnreadable, Why, InText, InForm, refused_status, refusal_status, refusal_of, refusal_answer}
+use Rattle.hp_top.specs.Outcome.{Files, Outcome, Comes, LoadsFile, LoadsFiles, LoadsDomain, answer_to, walk_of_pairs, job_answer, unless_faulty, first_fault, answer_of_read, answer_of_pair, listing_answer, IsUnreadable, Why, InText, InForm, refused_status, refusal_status, refusal_of, refusal_answer}
 use Rattle.hp_top.specs.Loading as loading
-use Rattle.hp_top.specs.Loading.{ToldFile, FolderRun, Holds, Reads, IsUnread, StopsAt, LoadsBoth}
-use Rattle.hp_top.specs.Run.{TellsFiles, IsOutcome, RefusesWords, IsReadLine, ReadFails, CouldWrite, OfOutcome, OfReading, WritesPrefix, WritesProperPrefix}
+use Rattle.hp_top.specs.Loading.{ToldFile, FolderRun, Holds, Reads, IsUnread, StopsAt, LoadsBoth, LoadsAlone}
+use Rattle.hp_top.specs.Run.{TellsFiles, IsOutcome, RefusesWords, IsStopped, IsReadLine, ReadFails, CouldWrite, OfOutcome, OfReading, WritesPrefix, WritesProperPrefix}
 use Rattle.hp_top.specs.Serving as serving
 use Rattle.hp_top.specs.Serving.{Serves, Ends, load_answer, no_faults, made_run}
 use Rattle.hp_top.specs.Telling as telling
 use Rattle.hp_top.specs.Telling.{Tells}
-use Rattle.hp_top.specs.Touching.{InputRun, Touches, TouchesNamed}
-
--- ---- what is loaded
-
--- a fact of a told file is one of its text
-told_text : (P : List ℕ → Type 0) (f : ToldFile) (o : Option (List ℕ)) → f ≡ Some o → Holds P f
-    → (t : List ℕ) × (o ≡ Some t) × P t
-told_text P f None e h = absurd (subst (Holds P) e h)
-told_text P f (Some t) e h = (t, refl, subst (Holds P) e h)
-
--- a file that is told to be missing isn't there
-missing : (f : ToldFile) (o : Option (List ℕ)) → f ≡ Some o → f ≡ Some None → o ≡ None
-missing f None e h = refl
-missing f (Some t) e h = let both : Some (Some t) ≡ Some None = sym e ∙ h in cc
-
--- reading didn't fail: the status says so, or no count of faults rose
-abbrev pub ReadsWell : Status → FolderRun → Type 0
-ReadsWell s r = (s ≢ status.ReadFault) ⊎ ((w : Input) → Rose (r.before w) (r.now w) → ⊥)
-
--- where reading didn't fail but an input is unread, its file is told to be missing
-unread_missing : (s : Status) (r : FolderRun) (which : Input) (f : ToldFile) (o : Option (List ℕ))
-    → s ≡ status.ReadFault → ReadsWell s r → f ≡ Some o → IsUnread which f r.before r.now → o ≡ None
-unread_missing s r which f o e (inl x) t u = absurd (x e)
-unread_missing s r which f o e (inr x) t (inl rose) = absurd (x which rose)
-unread_missing s r which f o e (inr x) t (inr m) = missing f o t m
-
-module _ (folder : FolderRun) (c : Command) where
-  -- a domain and a problem, or why they aren't loaded
-  abbrev Loaded : Type 0
-  Loaded = Result (Domain × Problem) LoadError
-
-  -- what is known of them
-  data Known (loaded : Loaded) : Type 0 where
-    ForMemory : loaded ≡ Err causes.NoMemory → Known loaded
-    ForReading : (which : Input) (name : List ℕ) → loaded ≡ Err (causes.Refused (refusals.Read which))
-        → named c which ≡ Some name → IsUnread which (folder.file name) folder.before folder.now → Known loaded
-    ForText : (which : Input) (why : Why) → loaded ≡ Err (causes.Refused (refusal_of which why)) → Known loaded
-    ForAnswer : (x : Domain × Problem) → loaded ≡ Ok x → Known loaded
-
-  -- what stops at a file that the command names
-  stop_known : {A : Type 0} (which : Input) (form : Form A) (name : List ℕ) (cause : LoadError) (loaded : Loaded)
-      → named c which ≡ Some name → StopsAt which form cause (folder.file name) folder.before folder.now
-      → loaded ≡ Err cause → Known loaded
-  stop_known which form name cause loaded n (loading.StopsAt.WithoutMemory e) i = ForMemory (i ∙ ap Err e)
-  stop_known which form name cause loaded n (loading.StopsAt.Unread e u) i = ForReading which name (i ∙ ap Err e) n u
-  stop_known which form name cause loaded n (loading.StopsAt.Unreadable why e h) i = ForText which why (i ∙ ap Err e)
-
-  known : (loaded : Loaded) → LoadsBoth folder c.domain c.problem loaded → Known loaded
-  known loaded (outcome.Then.Stopped e h i) = stop_known inputs.Domain domain_form c.domain e loaded refl h i
-  known loaded (outcome.Then.Went d h (outcome.Then.Stopped e k j)) =
-      stop_known inputs.Problem problem_form c.problem e loaded refl k j
-  known loaded (outcome.Then.Went d h (outcome.Then.Went p k j)) = ForAnswer (d, p) j
-
-  module _ (files : Files) (told : TellsFiles folder.file files) where
-    -- a cause is one that the files have: memory isn't wanting, and what is unread is missing
-    abbrev IsExact : LoadError → Type 0
-    IsExact cause =
-        (cause ≢ causes.NoMemory)
-        × ((which : Input) (name : List ℕ) → cause ≡ causes.Refused (refusals.Read which)
-        → IsUnread which (folder.file name) folder.before folder.now → files name ≡ None)
-
-    -- what is read of a told file is loaded of the file
-    good_exact : {A : Type 0} (which : Input) (form : Form A) (name : List ℕ) (x : A) → Reads form (folder.file name) x
-        → LoadsFile which form (files name) (Ok x)
-    good_exact which form name x h =
-        let t = told_text (λ t. IsRead form t x) (folder.file name) (files name) (told name) h in
-        outcome.LoadsFile.Good t.0 x t.1 t.2 refl
-
-    -- what stops at a told file refuses the file
-    bad_exact : {A : Type 0} (which : Input) (form : Form A) (name : List ℕ) (cause : LoadError) → IsExact cause
-        → StopsAt which form cause (folder.file name) folder.before folder.now
-        → (r : Refusal) × LoadsFile which form (files name) (Err r) × (cause ≡ causes.Refused r)
-    bad_exact which form name cause p (loading.StopsAt.WithoutMemory e) = absurd (p.0 e)
-    bad_exact which form name cause p (loading.StopsAt.Unread e u) =
-        (refusals.Read which, outcome.LoadsFile.Missing (p.1 which name e u) refl, e)
-    bad_exact which form name cause p (loading.StopsAt.Unreadable why e h) =
-        let t = told_text (λ t. IsUnreadable form t why) (folder.file name) (files name) (told name) h in
-        (refusal_of which why, outcome.LoadsFile.Bad t.0 why t.1 t.2 refl, e)
-
-    -- a refusal is a cause
-    abbrev as_told : Result (Domain × Problem) Refusal → Loaded
-    as_told (Ok x) = Ok x
-    as_told (Err r) = Err (causes.Refused r)
-
-    both_exact : (loaded : Loaded) → ((cause : LoadError) → loaded ≡ Err cause → IsExact cause)
-        → LoadsBoth folder c.domain c.problem loaded
-        → (x : Result (Domain × Problem) Refusal)
-        × Both (LoadsFile inputs.Domain domain_form (files c.domain))
-        (LoadsFile inputs.Problem problem_form (files c.problem)) x
-        × (loaded ≡ as_told x)
-    both_exact loaded p (outcome.Then.Stopped e h i) =
-        let b = bad_exact inputs.Domain domain_form c.domain e (p e i) h in
-        (Err b.0, outcome.Then.Stopped b.0 b.1 refl, i ∙ ap Err b.2)
-    both_exact loaded p (outcome.Then.Went d h (outcome.Then.Stopped e k j)) =
-        let b = bad_exact inputs.Problem problem_form c.problem e (p e j) k in (
-          Err b.0,
-          outcome.Then.Went d (good_exact inputs.Domain domain_form c.domain d h)
-              (outcome.Then.Stopped b.0 b.1 refl),
-          j ∙ ap Err b.2,
-        )
-    both_exact loaded p (outcome.Then.Went d h (outcome.Then.Went q k j)) = (
-      Ok (d, q),
-      outcome.Then.Went d (good_exact inputs.Domain domain_form c.domain d h)
-          (outcome.Then.Went q (good_exact inputs.Problem problem_form c.problem q k) refl),
-      j,
-    )
-
-    same_answer : (x : Result (Domain × Problem) Refusal)
-        → answer_to load_answer c (as_told x) ≡ answer_to refusal_answer c x
-    same_answer (Ok x) = refl
-    same_answer (Err r) = refl
-
-    -- what is told of files comes to what they come to
-    comes_exact : (loaded : Loaded) → ((cause : LoadError) → loaded ≡ Err cause → IsExact cause)
-        → LoadsBoth folder c.domain c.problem loaded
-        → Comes files c (answer_to load_answer c loaded)
-    comes_exact loaded p h =
-        let x = both_exact loaded p h in
-        record { loaded = x.0; loads = x.1; answer = ap (answer_to load_answer c) x.2 ∙ same_answer x.0 }
-
-    -- unless memory is wanting or reading failed
-    comes_well : (loaded : Loaded) (s : Status) → s ≢ status.NoMemory → s ≡ (answer_to load_answer c loaded).1
-        → ReadsWell s folder → LoadsBoth folder c.domain c.problem loaded
-        → Comes files c (answer_to load_answer c loaded)
-    comes_well loaded s n x w =
-        comes_exact loaded
-        (λ cause i. (
-          λ e. n (x ∙ ap (λ l. (answer_to load_answer c l).1) (i ∙ ap Err e)),
-          λ which name e u.
-              unread_missing s folder which (folder.file name) (files name)
-              (x ∙ ap (λ l. (answer_to load_answer c l).1) (i ∙ ap Err e)) w (told name) u,
-        ))
-
--- ---- what was told
-
--- without want of memory and a write fault the answer's whole text was written, with its status
-told_whole : (a : Answer) (s : Status) (r : SinkRun) → Tells a s r → s ≢ status.NoMemory → s ≢ status.WriteFault
-    → (s ≡ a.1) × Wrote a.0 r.before r.after
-told_whole a s r (telling.WithoutMemory e f) n w = absurd (n e)
-told_whole a s r (telling.Unwritten e rose f) n w = absurd (w e)
-told_whole a s r (telling.Written e t) n w = (e, t)
-
--- an outcome whose whole text was written is the outcome of the run
-made : (words : List (List ℕ)) (files : Files) (before : List ℕ) (a : Answer) (s : Status) (old new : Option (List ℕ))
-    → old ≡ Some before → (s ≡ a.1) × Wrote a.0 old new → Outcome words files a → IsOutcome words files s before new
-made words files before a s old new o w x = record {
-  text = a.0;
-  outcome = subst (λ s. Outcome words files (a.0, s)) (sym w.0) x;
-  written = subst (λ m. Wrote a.0 m new) o w.1;
-}
-
-never_rose : (which : Input) → Rose (no_faults which) (no_faults which) → ⊥
-never_rose which rose = absurd (omega (arith, rose))
-
--- a file that is made is there
-made_there : (seed n : ℕ) (which : Input) (name : List ℕ) → named (made_command seed n) which ≡ Some name
-    → (made_run seed n).file name ≡ Some None → ⊥
-made_there seed n inputs.Domain name i m =
-    let e : codes "domain" ≡ name = cc in
-    let f : Some (Some domain_text) ≡ Some None = subst (λ x. (made_run seed n).file x ≡ Some None) (sym e) m in
-    cc
-made_there seed n inputs.Problem name i m =
-    let e : codes "problem" ≡ name = cc in
-    let f : Some (Some (problem_text seed n)) ≡ Some None =
-    subst (λ x. (made_run seed n).file x ≡ Some None) (sym e) m in
-    cc
-
--- no file that is made is left unread
-made_read : (which : Input) (name : List ℕ) (seed n : ℕ) → named (made_command seed n) which ≡ Some name
-    → IsUnread which ((made_run seed n).file name) no_faults no_faults → ⊥
-made_read which name seed n i (inl rose) = never_rose which rose
-made_read which name seed n i (inr m) = made_there seed n which name i m
-
-module _ (words : List (List ℕ)) (s : Status) (r : SinkRun) (files : Files) (written : List ℕ)
-    (o : r.before ≡ Some written) (memory : s ≢ status.NoMemory) (write : s ≢ status.WriteFault) where
-  -- what is served without want of memory and faults is an outcome, where what it comes to is one of the words
-  serves_well : (c : Command) (folder : FolderRun) (fs : Files) → TellsFiles folder.file fs → ReadsWell s folder
-      → ((a : Answer) → Comes fs c a → Outcome words files a) → Serves c folder s r
-      → IsOutcome words files s written r.after
-  serves_well c folder fs told k by h =
-      let a = answer_to load_answer c h.loaded in
-      let x = told_whole a s r h.tells memory write in
-      made words files written a s r.before r.after o x
-      (by a (comes_well folder c fs told h.loaded s memory x.0 k h.loads))
-
-  -- whatever ends without want of memory and faults is the outcome
-  pub ends_well : (folder : FolderRun) → Ends words folder s r → TellsFiles folder.file files → ReadsWell s folder
-      → IsOutcome words files s written r.after
-  ends_well folder (serving.NoCommand e t) told k =
-      made words files written (refusal_answer refusals.Usage) s r.before r.after o
-      (told_whole _ s r t memory write) (outcome.NoCommand e refl)
-  ends_well folder (serving.ByCommand c e h) told k =
-      serves_well c folder files told k (λ a x. outcome.ByCommand c e x) h
-  ends_well folder (serving.ByMaking seed n e h) told k =
-      serves_well (made_command seed n) (made_run seed n) (made_files seed n) (λ name. refl) (inr never_rose)
-      (λ a x. outcome.ByMaking seed n e x) h
+use Rattle.hp_top.specs.Touching.{InputRun, IsUntouched, Touches, TouchesNamed}
 
 -- ---- statuses
 
@@ -284,6 +92,222 @@ checks_answer None a h = h
 
 read_answers : (c : Command) (d : Domain) (p : Problem) → IsAnswer (answer_of_read c d p).1
 read_answers c d p = checks_answer (first_fault d p) (job_answer c.job d p) (job_answers c.job d p)
+
+pair_answers : (c : Command) (x : Domain × Problem) → IsAnswer (answer_of_pair c x).1
+pair_answers c x = read_answers c x.0 x.1
+
+listing_answers : (d : Domain) → IsAnswer (listing_answer d).1
+listing_answers d = checks_answer (first_of (domain_faults d)) (listing_text (compiled d.rules), status.Done) tt
+
+-- ---- what is loaded
+
+-- a fact of a told file is one of its text
+told_text : (P : List ℕ → Type 0) (f : ToldFile) (o : Option (List ℕ)) → f ≡ Some o → Holds P f
+    → (t : List ℕ) × (o ≡ Some t) × P t
+told_text P f None e h = absurd (subst (Holds P) e h)
+told_text P f (Some t) e h = (t, refl, subst (Holds P) e h)
+
+-- a file that is told to be missing isn't there
+missing : (f : ToldFile) (o : Option (List ℕ)) → f ≡ Some o → f ≡ Some None → o ≡ None
+missing f None e h = refl
+missing f (Some t) e h = let both : Some (Some t) ≡ Some None = sym e ∙ h in cc
+
+-- reading didn't fail: the status says so, or no count of faults rose
+abbrev pub ReadsWell : Status → FolderRun → Type 0
+ReadsWell s r = (s ≢ status.ReadFault) ⊎ ((w : Input) → Rose (r.before w) (r.now w) → ⊥)
+
+-- where reading didn't fail but an input is unread, its file is told to be missing
+unread_missing : (s : Status) (r : FolderRun) (which : Input) (f : ToldFile) (o : Option (List ℕ))
+    → s ≡ status.ReadFault → ReadsWell s r → f ≡ Some o → IsUnread which f r.before r.now → o ≡ None
+unread_missing s r which f o e (inl x) t u = absurd (x e)
+unread_missing s r which f o e (inr x) t (inl rose) = absurd (x which rose)
+unread_missing s r which f o e (inr x) t (inr m) = missing f o t m
+
+module _ (folder : FolderRun) where
+  -- what is known of what is loaded of the files of these names, or of why it isn't
+  data Known {X : Type 0} (names : Input → Option (List ℕ)) (loaded : Result X LoadError) : Type 0 where
+    ForMemory : loaded ≡ Err causes.NoMemory → Known names loaded
+    ForReading : (which : Input) (name : List ℕ) → loaded ≡ Err (causes.Refused (refusals.Read which))
+        → names which ≡ Some name → IsUnread which (folder.file name) folder.before folder.now → Known names loaded
+    ForText : (which : Input) (why : Why) → loaded ≡ Err (causes.Refused (refusal_of which why)) → Known names loaded
+    ForAnswer : (x : X) → loaded ≡ Ok x → Known names loaded
+
+  -- what stops at a file that is named
+  stop_known : {X A : Type 0} (names : Input → Option (List ℕ)) (which : Input) (form : Form A) (name : List ℕ)
+      (cause : LoadError) (loaded : Result X LoadError) → names which ≡ Some name
+      → StopsAt which form cause (folder.file name) folder.before folder.now → loaded ≡ Err cause → Known names loaded
+  stop_known names which form name cause loaded n (loading.StopsAt.WithoutMemory e) i = ForMemory (i ∙ ap Err e)
+  stop_known names which form name cause loaded n (loading.StopsAt.Unread e u) i =
+      ForReading which name (i ∙ ap Err e) n u
+  stop_known names which form name cause loaded n (loading.StopsAt.Unreadable why e h) i =
+      ForText which why (i ∙ ap Err e)
+
+  -- a cause is one that the files have: memory isn't wanting, and what is unread is missing
+  abbrev IsExact : Files → LoadError → Type 0
+  IsExact files cause =
+      (cause ≢ causes.NoMemory)
+      × ((which : Input) (name : List ℕ) → cause ≡ causes.Refused (refusals.Read which)
+      → IsUnread which (folder.file name) folder.before folder.now → files name ≡ None)
+
+  module _ (files : Files) (told : TellsFiles folder.file files) where
+    -- what is read of a told file is loaded of the file
+    good_exact : {A : Type 0} (which : Input) (form : Form A) (name : List ℕ) (x : A) → Reads form (folder.file name) x
+        → LoadsFile which form (files name) (Ok x)
+    good_exact which form name x h =
+        let t = told_text (λ t. IsRead form t x) (folder.file name) (files name) (told name) h in
+        outcome.LoadsFile.Good t.0 x t.1 t.2 refl
+
+    -- what stops at a told file refuses the file
+    bad_exact : {A : Type 0} (which : Input) (form : Form A) (name : List ℕ) (cause : LoadError) → IsExact files cause
+        → StopsAt which form cause (folder.file name) folder.before folder.now
+        → (r : Refusal) × LoadsFile which form (files name) (Err r) × (cause ≡ causes.Refused r)
+    bad_exact which form name cause p (loading.StopsAt.WithoutMemory e) = absurd (p.0 e)
+    bad_exact which form name cause p (loading.StopsAt.Unread e u) =
+        (refusals.Read which, outcome.LoadsFile.Missing (p.1 which name e u) refl, e)
+    bad_exact which form name cause p (loading.StopsAt.Unreadable why e h) =
+        let t = told_text (λ t. IsUnreadable form t why) (folder.file name) (files name) (told name) h in
+        (refusal_of which why, outcome.LoadsFile.Bad t.0 why t.1 t.2 refl, e)
+
+-- a refusal is a cause
+abbrev as_told : {X : Type 0} → Result X Refusal → Result X LoadError
+as_told (Ok x) = Ok x
+as_told (Err r) = Err (causes.Refused r)
+
+-- how what is loaded of a folder stands to what its files have, and to what is told
+record Loading {X : Type 0} (folder : FolderRun) (names : Input → Option (List ℕ))
+    (loads : Result X LoadError → Type 0) (from : Files → Result X Refusal → Type 0) (answer : X → Answer)
+    : Type 0 where
+  known : (loaded : Result X LoadError) → loads loaded → Known folder names loaded
+  exact : (files : Files) → TellsFiles folder.file files → (loaded : Result X LoadError)
+      → ((cause : LoadError) → loaded ≡ Err cause → IsExact folder files cause) → loads loaded
+      → (x : Result X Refusal) × from files x × (loaded ≡ as_told x)
+  answers : (x : X) → IsAnswer (answer x).1
+
+-- the files of a command
+command_loading : (folder : FolderRun) (c : Command)
+    → Loading folder (named c) (LoadsBoth folder c.domain c.problem) (λ files. LoadsFiles files c) (answer_of_pair c)
+command_loading folder c = record { known = known; exact = exact; answers = pair_answers c }
+  where
+    known : (loaded : Result (Domain × Problem) LoadError) → LoadsBoth folder c.domain c.problem loaded
+        → Known folder (named c) loaded
+    known loaded (outcome.Then.Stopped e h i) =
+        stop_known folder (named c) inputs.Domain domain_form c.domain e loaded refl h i
+    known loaded (outcome.Then.Went d h (outcome.Then.Stopped e k j)) =
+        stop_known folder (named c) inputs.Problem problem_form c.problem e loaded refl k j
+    known loaded (outcome.Then.Went d h (outcome.Then.Went p k j)) = ForAnswer (d, p) j
+
+    exact : (files : Files) → TellsFiles folder.file files → (loaded : Result (Domain × Problem) LoadError)
+        → ((cause : LoadError) → loaded ≡ Err cause → IsExact folder files cause)
+        → LoadsBoth folder c.domain c.problem loaded
+        → (x : Result (Domain × Problem) Refusal) × LoadsFiles files c x × (loaded ≡ as_told x)
+    exact files told loaded p (outcome.Then.Stopped e h i) =
+        let b = bad_exact folder files told inputs.Domain domain_form c.domain e (p e i) h in
+        (Err b.0, outcome.Then.Stopped b.0 b.1 refl, i ∙ ap Err b.2)
+    exact files told loaded p (outcome.Then.Went d h (outcome.Then.Stopped e k j)) =
+        let b = bad_exact folder files told inputs.Problem problem_form c.problem e (p e j) k in (
+          Err b.0,
+          outcome.Then.Went d (good_exact folder files told inputs.Domain domain_form c.domain d h)
+              (outcome.Then.Stopped b.0 b.1 refl),
+          j ∙ ap Err b.2,
+        )
+    exact files told loaded p (outcome.Then.Went d h (outcome.Then.Went q k j)) = (
+      Ok (d, q),
+      outcome.Then.Went d (good_exact folder files told inputs.Domain domain_form c.domain d h)
+          (outcome.Then.Went q (good_exact folder files told inputs.Problem problem_form c.problem q k) refl),
+      j,
+    )
+
+-- the file of a domain alone
+listing_loading : (folder : FolderRun) (name : List ℕ)
+    → Loading folder (file_named (Listing name)) (LoadsAlone folder name) (λ files. LoadsDomain files name)
+    listing_answer
+listing_loading folder name = record { known = known; exact = exact; answers = listing_answers }
+  where
+    known : (loaded : Result Domain LoadError) → LoadsAlone folder name loaded
+        → Known folder (file_named (Listing name)) loaded
+    known (Ok d) h = ForAnswer d refl
+    known (Err cause) h =
+        stop_known folder (file_named (Listing name)) inputs.Domain domain_form name cause (Err cause) refl h refl
+
+    exact : (files : Files) → TellsFiles folder.file files → (loaded : Result Domain LoadError)
+        → ((cause : LoadError) → loaded ≡ Err cause → IsExact folder files cause) → LoadsAlone folder name loaded
+        → (x : Result Domain Refusal) × LoadsDomain files name x × (loaded ≡ as_told x)
+    exact files told (Ok d) p h = (Ok d, good_exact folder files told inputs.Domain domain_form name d h, refl)
+    exact files told (Err cause) p h =
+        let b = bad_exact folder files told inputs.Domain domain_form name cause (p cause refl) h in
+        (Err b.0, b.1, ap Err b.2)
+
+module _ {X : Type 0} (answer : X → Answer) where
+  -- the status that something loaded comes to
+  abbrev status_to : Result X LoadError → Status
+  status_to loaded = (answer_to load_answer answer loaded).1
+
+  same_answer : (x : Result X Refusal) → answer_to load_answer answer (as_told x) ≡ answer_to refusal_answer answer x
+  same_answer (Ok x) = refl
+  same_answer (Err r) = refl
+
+module _ {X : Type 0} (folder : FolderRun) (names : Input → Option (List ℕ)) (loads : Result X LoadError → Type 0)
+    (from : Files → Result X Refusal → Type 0) (answer : X → Answer) (load : Loading folder names loads from answer)
+    (files : Files) (told : TellsFiles folder.file files) where
+  -- what is told of files comes to what they come to
+  comes_exact : (loaded : Result X LoadError)
+      → ((cause : LoadError) → loaded ≡ Err cause → IsExact folder files cause) → loads loaded
+      → Comes (from files) answer (answer_to load_answer answer loaded)
+  comes_exact loaded p h =
+      let x = load.exact files told loaded p h in
+      record { loaded = x.0; loads = x.1; comes = ap (answer_to load_answer answer) x.2 ∙ same_answer answer x.0 }
+
+  -- unless memory is wanting or reading failed
+  comes_well : (loaded : Result X LoadError) (s : Status) → s ≢ status.NoMemory → s ≡ status_to answer loaded
+      → ReadsWell s folder → loads loaded → Comes (from files) answer (answer_to load_answer answer loaded)
+  comes_well loaded s n x w =
+      comes_exact loaded
+      (λ cause i. (
+        λ e. n (x ∙ ap (status_to answer) (i ∙ ap Err e)),
+        λ which name e u.
+            unread_missing s folder which (folder.file name) (files name)
+            (x ∙ ap (status_to answer) (i ∙ ap Err e)) w (told name) u,
+      ))
+
+-- ---- what was told
+
+-- without want of memory and a write fault the answer's whole text was written, with its status
+told_whole : (a : Answer) (s : Status) (r : SinkRun) → Tells a s r → s ≢ status.NoMemory → s ≢ status.WriteFault
+    → (s ≡ a.1) × Wrote a.0 r.before r.after
+told_whole a s r (telling.WithoutMemory e f) n w = absurd (n e)
+told_whole a s r (telling.Unwritten e rose f) n w = absurd (w e)
+told_whole a s r (telling.Written e t) n w = (e, t)
+
+-- an outcome whose whole text was written is the outcome of the run
+made : (words : List (List ℕ)) (files : Files) (before : List ℕ) (a : Answer) (s : Status) (old new : Option (List ℕ))
+    → old ≡ Some before → (s ≡ a.1) × Wrote a.0 old new → Outcome words files a → IsOutcome words files s before new
+made words files before a s old new o w x = record {
+  text = a.0;
+  outcome = subst (λ s. Outcome words files (a.0, s)) (sym w.0) x;
+  written = subst (λ m. Wrote a.0 m new) o w.1;
+}
+
+never_rose : (which : Input) → Rose (no_faults which) (no_faults which) → ⊥
+never_rose which rose = absurd (omega (arith, rose))
+
+-- a file that is made is there
+made_there : (seed n : ℕ) (which : Input) (name : List ℕ) → named (made_command seed n) which ≡ Some name
+    → (made_run seed n).file name ≡ Some None → ⊥
+made_there seed n inputs.Domain name i m =
+    let e : codes "domain" ≡ name = cc in
+    let f : Some (Some domain_text) ≡ Some None = subst (λ x. (made_run seed n).file x ≡ Some None) (sym e) m in
+    cc
+made_there seed n inputs.Problem name i m =
+    let e : codes "problem" ≡ name = cc in
+    let f : Some (Some (problem_text seed n)) ≡ Some None =
+    subst (λ x. (made_run seed n).file x ≡ Some None) (sym e) m in
+    cc
+
+-- no file that is made is left unread
+made_read : (which : Input) (name : List ℕ) (seed n : ℕ) → named (made_command seed n) which ≡ Some name
+    → IsUnread which ((made_run seed n).file name) no_faults no_faults → ⊥
+made_read which name seed n i (inl rose) = never_rose which rose
+made_read which name seed n i (inr m) = made_there seed n which name i m
 
 -- a run that tells an answer ends in one of three ways, and what follows from each follows
 told_status : (a : Answer) (s : Status) (r : SinkRun) (P : Type 0) → Tells a s r
@@ -345,36 +369,36 @@ why_unread which w (InForm (Expected what s)) e = cc
 why_unread which w (InForm (SeveralPairs s)) e = cc
 
 -- what is served, whatever it comes to
-module _ (c : Command) (folder : FolderRun) (s : Status) (r : SinkRun) where
-  abbrev status_to : Loaded folder c → Status
-  status_to loaded = (answer_to load_answer c loaded).1
-
+module _ {X : Type 0} (folder : FolderRun) (names : Input → Option (List ℕ)) (loads : Result X LoadError → Type 0)
+    (from : Files → Result X Refusal → Type 0) (answer : X → Answer) (load : Loading folder names loads from answer)
+    (s : Status) (r : SinkRun) where
   -- what is loaded comes to no status but want of memory, a read fault and those of answers
-  never : (loaded : Loaded folder c) (u : Status) → (status.NoMemory ≡ u → ⊥) → (status.ReadFault ≡ u → ⊥)
-      → (IsAnswer u → ⊥) → Known folder c loaded → status_to loaded ≡ u → ⊥
-  never loaded u m f a (ForMemory e) i = m (sym (ap status_to e) ∙ i)
-  never loaded u m f a (ForReading which name e n h) i = f (sym (ap status_to e) ∙ i)
-  never loaded u m f a (ForText which why e) i = a (subst IsAnswer (sym (ap status_to e) ∙ i) (why_answers which why))
-  never loaded u m f a (ForAnswer x e) i = a (subst IsAnswer (sym (ap status_to e) ∙ i) (read_answers c x.0 x.1))
+  never : (loaded : Result X LoadError) (u : Status) → (status.NoMemory ≡ u → ⊥) → (status.ReadFault ≡ u → ⊥)
+      → (IsAnswer u → ⊥) → Known folder names loaded → status_to answer loaded ≡ u → ⊥
+  never loaded u m f a (ForMemory e) i = m (sym (ap (status_to answer) e) ∙ i)
+  never loaded u m f a (ForReading which name e n h) i = f (sym (ap (status_to answer) e) ∙ i)
+  never loaded u m f a (ForText which why e) i =
+      a (subst IsAnswer (sym (ap (status_to answer) e) ∙ i) (why_answers which why))
+  never loaded u m f a (ForAnswer x e) i =
+      a (subst IsAnswer (sym (ap (status_to answer) e) ∙ i) (load.answers x))
 
   -- what is served isn't refused as no command
-  serves_usage : Serves c folder s r → s ≡ status.Usage → ⊥
+  serves_usage : Serves loads answer s r → s ≡ status.Usage → ⊥
   serves_usage h u =
       told_status _ s r ⊥ h.tells (λ m f. other s _ _ (λ x. cc) m u) (λ m rose f. other s _ _ (λ x. cc) m u)
       (λ m w.
-      never h.loaded status.Usage (λ x. cc) (λ x. cc) (λ x. x) (known folder c h.loaded h.loads) (sym m ∙ u))
+      never h.loaded status.Usage (λ x. cc) (λ x. cc) (λ x. x) (load.known h.loaded h.loads) (sym m ∙ u))
 
   abbrev SinkRose : Type 0
   SinkRose = Rose r.faults_before r.faults_after
 
   -- a write fault comes only where the count of the sink rose
-  serves_write : Serves c folder s r → s ≡ status.WriteFault → SinkRose
+  serves_write : Serves loads answer s r → s ≡ status.WriteFault → SinkRose
   serves_write h u =
       told_status _ s r SinkRose h.tells (λ m f. absurd (other s _ _ (λ x. cc) m u)) (λ m rose f. rose)
       (λ m w.
       absurd
-      (never h.loaded status.WriteFault (λ x. cc) (λ x. cc) (λ x. x) (known folder c h.loaded h.loads)
-      (sym m ∙ u)))
+      (never h.loaded status.WriteFault (λ x. cc) (λ x. cc) (λ x. x) (load.known h.loaded h.loads) (sym m ∙ u)))
 
   -- the line of an input that couldn't be read was written, where it is one that a run may write
   record HasLine (MayWrite : List ℕ → Type 0) : Type 0 where
@@ -383,57 +407,57 @@ module _ (c : Command) (folder : FolderRun) (s : Status) (r : SinkRun) where
     written : Wrote line r.before r.after
 
   module _ (MayWrite : List ℕ → Type 0)
-      (unread : (which : Input) (name : List ℕ) → named c which ≡ Some name
+      (unread : (which : Input) (name : List ℕ) → names which ≡ Some name
       → IsUnread which (folder.file name) folder.before folder.now
-      → LoadsBoth folder c.domain c.problem (Err (causes.Refused (refusals.Read which)))
-      → MayWrite (refused_read which)) where
+      → loads (Err (causes.Refused (refusals.Read which))) → MayWrite (refused_read which)) where
     -- what is loaded comes to a read fault only where an input is unread
-    how_read : (loaded : Loaded folder c) → LoadsBoth folder c.domain c.problem loaded
-        → Known folder c loaded → status_to loaded ≡ status.ReadFault
-        → Wrote (answer_to load_answer c loaded).0 r.before r.after → HasLine MayWrite
-    how_read loaded l (ForMemory e) i w = let x : status.NoMemory ≡ status.ReadFault = sym (ap status_to e) ∙ i in cc
+    how_read : (loaded : Result X LoadError) → loads loaded → Known folder names loaded
+        → status_to answer loaded ≡ status.ReadFault
+        → Wrote (answer_to load_answer answer loaded).0 r.before r.after → HasLine MayWrite
+    how_read loaded l (ForMemory e) i w =
+        let x : status.NoMemory ≡ status.ReadFault = sym (ap (status_to answer) e) ∙ i in cc
     how_read loaded l (ForReading which name e n u) i w = record {
       line = refused_read which;
-      may = unread which name n u (subst (LoadsBoth folder c.domain c.problem) e l);
-      written = subst (λ x. Wrote (answer_to load_answer c x).0 r.before r.after) e w;
+      may = unread which name n u (subst loads e l);
+      written = subst (λ x. Wrote (answer_to load_answer answer x).0 r.before r.after) e w;
     }
     how_read loaded l (ForText which why e) i w =
-        absurd (subst IsAnswer (sym (ap status_to e) ∙ i) (why_answers which why))
+        absurd (subst IsAnswer (sym (ap (status_to answer) e) ∙ i) (why_answers which why))
     how_read loaded l (ForAnswer x e) i w =
-        absurd (subst IsAnswer (sym (ap status_to e) ∙ i) (read_answers c x.0 x.1))
+        absurd (subst IsAnswer (sym (ap (status_to answer) e) ∙ i) (load.answers x))
 
     -- a read fault is one of an unread input
-    serves_read : Serves c folder s r → s ≡ status.ReadFault → HasLine MayWrite
+    serves_read : Serves loads answer s r → s ≡ status.ReadFault → HasLine MayWrite
     serves_read h u =
         told_status _ s r (HasLine MayWrite) h.tells (λ m f. absurd (other s _ _ (λ x. cc) m u))
         (λ m rose f. absurd (other s _ _ (λ x. cc) m u))
-        (λ m w. how_read h.loaded h.loads (known folder c h.loaded h.loads) (sym m ∙ u) w)
+        (λ m w. how_read h.loaded h.loads (load.known h.loaded h.loads) (sym m ∙ u) w)
 
-    module _ (fs : Files) (told : TellsFiles folder.file fs) (come : (a : Answer) → Comes fs c a → MayWrite a.0)
+    module _ (fs : Files) (told : TellsFiles folder.file fs)
+        (come : (a : Answer) → Comes (from fs) answer a → MayWrite a.0)
         (some : (text : List ℕ) × MayWrite text) where
       abbrev ServesShort : Type 0
       ServesShort = (text : List ℕ) × MayWrite text × IsShort text s r
 
       -- an answer that the files come to is told up to a prefix
-      answer_short : (loaded : Loaded folder c)
-          → ((cause : LoadError) → loaded ≡ Err cause → IsExact folder c fs told cause)
-          → LoadsBoth folder c.domain c.problem loaded → IsAnswer (status_to loaded)
-          → Tells (answer_to load_answer c loaded) s r → ServesShort
+      answer_short : (loaded : Result X LoadError)
+          → ((cause : LoadError) → loaded ≡ Err cause → IsExact folder fs cause) → loads loaded
+          → IsAnswer (status_to answer loaded) → Tells (answer_to load_answer answer loaded) s r → ServesShort
       answer_short loaded p l i t =
-          let a = answer_to load_answer c loaded in (
+          let a = answer_to load_answer answer loaded in (
             a.0,
-            come a (comes_exact folder c fs told loaded p l),
+            come a (comes_exact folder names loads from answer load fs told loaded p l),
             told_short a s r (λ e. subst IsAnswer e i) (λ e. subst IsAnswer e i) t,
           )
 
-      how_short : (loaded : Loaded folder c) → LoadsBoth folder c.domain c.problem loaded
-          → Known folder c loaded → Tells (answer_to load_answer c loaded) s r → ServesShort
+      how_short : (loaded : Result X LoadError) → loads loaded → Known folder names loaded
+          → Tells (answer_to load_answer answer loaded) s r → ServesShort
       how_short loaded l (ForMemory e) t =
-          (some.0, some.1, nothing_short some.0 s r (subst (λ x. Tells (answer_to load_answer c x) s r) e t))
+          (some.0, some.1, nothing_short some.0 s r (subst (λ x. Tells (answer_to load_answer answer x) s r) e t))
       how_short loaded l (ForReading which name e n u) t = (
         refused_read which,
-        unread which name n u (subst (LoadsBoth folder c.domain c.problem) e l),
-        told_short _ s r (λ x. cc) (λ x. cc) (subst (λ x. Tells (answer_to load_answer c x) s r) e t),
+        unread which name n u (subst loads e l),
+        told_short _ s r (λ x. cc) (λ x. cc) (subst (λ x. Tells (answer_to load_answer answer x) s r) e t),
       )
       how_short loaded l (ForText which why e) t =
           answer_short loaded
@@ -442,39 +466,76 @@ module _ (c : Command) (folder : FolderRun) (s : Status) (r : SinkRun) where
                 let x : Err (causes.Refused (refusal_of which why)) ≡ Err causes.NoMemory = sym e ∙ (i ∙ ap Err m) in
                 cc,
             λ w name m u. absurd (why_unread which w why (same_refusal loaded _ _ e (i ∙ ap Err m))),
-          )) l (subst IsAnswer (sym (ap status_to e)) (why_answers which why)) t
+          )) l (subst IsAnswer (sym (ap (status_to answer) e)) (why_answers which why)) t
       how_short loaded l (ForAnswer x e) t =
           answer_short loaded (λ cause i. let y : Ok x ≡ Err cause = sym e ∙ i in cc) l
-          (subst IsAnswer (sym (ap status_to e)) (read_answers c x.0 x.1)) t
+          (subst IsAnswer (sym (ap (status_to answer) e)) (load.answers x)) t
 
       -- what is served has a text that a run may write, of which it wrote a prefix where it stopped short
-      serves_short : Serves c folder s r → ServesShort
-      serves_short h = how_short h.loaded h.loads (known folder c h.loaded h.loads) h.tells
+      serves_short : Serves loads answer s r → ServesShort
+      serves_short h = how_short h.loaded h.loads (load.known h.loaded h.loads) h.tells
+
+-- ---- what ends
+
+-- what is loaded for a problem that is made
+made_loading : (seed n : ℕ) → Loading (made_run seed n) (named (made_command seed n))
+    (LoadsBoth (made_run seed n) (made_command seed n).domain (made_command seed n).problem)
+    (λ files. LoadsFiles files (made_command seed n)) (answer_of_pair (made_command seed n))
+made_loading seed n = command_loading (made_run seed n) (made_command seed n)
+
+module _ (words : List (List ℕ)) (s : Status) (r : SinkRun) (files : Files) (written : List ℕ)
+    (o : r.before ≡ Some written) (memory : s ≢ status.NoMemory) (write : s ≢ status.WriteFault) where
+  -- what is served without want of memory and faults is an outcome, where what it comes to is one of the words
+  serves_well : {X : Type 0} (folder : FolderRun) (names : Input → Option (List ℕ))
+      (loads : Result X LoadError → Type 0) (from : Files → Result X Refusal → Type 0) (answer : X → Answer)
+      → Loading folder names loads from answer → (fs : Files) → TellsFiles folder.file fs → ReadsWell s folder
+      → ((a : Answer) → Comes (from fs) answer a → Outcome words files a) → Serves loads answer s r
+      → IsOutcome words files s written r.after
+  serves_well folder names loads from answer load fs told k by h =
+      let a = answer_to load_answer answer h.loaded in
+      let x = told_whole a s r h.tells memory write in
+      made words files written a s r.before r.after o x
+      (by a (comes_well folder names loads from answer load fs told h.loaded s memory x.0 k h.loads))
+
+  -- whatever ends without want of memory and faults is the outcome
+  pub ends_well : (folder : FolderRun) → Ends words folder s r → TellsFiles folder.file files → ReadsWell s folder
+      → IsOutcome words files s written r.after
+  ends_well folder (serving.NoCommand e t) told k =
+      made words files written (refusal_answer refusals.Usage) s r.before r.after o
+      (told_whole _ s r t memory write) (outcome.NoCommand e refl)
+  ends_well folder (serving.ByCommand c e h) told k =
+      serves_well folder _ _ _ _ (command_loading folder c) files told k (λ a x. outcome.ByCommand c e x) h
+  ends_well folder (serving.ByListing d e h) told k =
+      serves_well folder _ _ _ _ (listing_loading folder d) files told k (λ a x. outcome.ByListing d e x) h
+  ends_well folder (serving.ByMaking seed n e h) told k =
+      serves_well (made_run seed n) _ _ _ _ (made_loading seed n) (made_files seed n) (λ name. refl)
+      (inr never_rose) (λ a x. outcome.ByMaking seed n e x) h
 
 module _ (words : List (List ℕ)) (folder : FolderRun) (s : Status) (r : SinkRun) where
   -- words are refused only where they are no command
   pub ends_usage : Ends words folder s r → s ≡ status.Usage → accepts words ≡ None
   ends_usage (serving.NoCommand e t) u = e
-  ends_usage (serving.ByCommand c e h) u = absurd (serves_usage c folder s r h u)
+  ends_usage (serving.ByCommand c e h) u = absurd (serves_usage folder _ _ _ _ (command_loading folder c) s r h u)
+  ends_usage (serving.ByListing d e h) u = absurd (serves_usage folder _ _ _ _ (listing_loading folder d) s r h u)
   ends_usage (serving.ByMaking seed n e h) u =
-      absurd (serves_usage (made_command seed n) (made_run seed n) s r h u)
+      absurd (serves_usage (made_run seed n) _ _ _ _ (made_loading seed n) s r h u)
 
   -- a write fault comes only where the count of the sink rose
   pub ends_write : Ends words folder s r → s ≡ status.WriteFault → Rose r.faults_before r.faults_after
   ends_write (serving.NoCommand e t) u =
       told_status _ s r (Rose r.faults_before r.faults_after) t (λ m f. absurd (other s _ _ (λ x. cc) m u))
       (λ m rose f. rose) (λ m w. absurd (other s _ _ (λ x. cc) m u))
-  ends_write (serving.ByCommand c e h) u = serves_write c folder s r h u
+  ends_write (serving.ByCommand c e h) u = serves_write folder _ _ _ _ (command_loading folder c) s r h u
+  ends_write (serving.ByListing d e h) u = serves_write folder _ _ _ _ (listing_loading folder d) s r h u
   ends_write (serving.ByMaking seed n e h) u =
-      serves_write (made_command seed n) (made_run seed n) s r h u
+      serves_write (made_run seed n) _ _ _ _ (made_loading seed n) s r h u
 
-  -- the line of an unread input of a command
-  read_line : (c : Command) → accepts words ≡ Some (OnFiles c) → (which : Input) (name : List ℕ)
-      → named c which ≡ Some name → IsUnread which (folder.file name) folder.before folder.now
-      → LoadsBoth folder c.domain c.problem (Err (causes.Refused (refusals.Read which)))
-      → IsReadLine words folder (refused_read which)
-  read_line c e which name n u l = record {
-    command = c;
+  -- the line of an unread input of a request
+  read_line : (request : Request) → accepts words ≡ Some request → (which : Input) (name : List ℕ)
+      → file_named request which ≡ Some name → IsUnread which (folder.file name) folder.before folder.now
+      → IsStopped folder request (causes.Refused (refusals.Read which)) → IsReadLine words folder (refused_read which)
+  read_line request e which name n u l = record {
+    request = request;
     accepted = e;
     which = which;
     name = name;
@@ -491,10 +552,15 @@ module _ (words : List (List ℕ)) (folder : FolderRun) (s : Status) (r : SinkRu
       (told_status _ s r ⊥ t (λ m f. other s _ _ (λ x. cc) m u) (λ m rose f. other s _ _ (λ x. cc) m u)
       (λ m w. other s _ _ (λ x. cc) m u))
   ends_read (serving.ByCommand c e h) u =
-      let x = serves_read c folder s r (IsReadLine words folder) (read_line c e) h u in
+      let x = serves_read folder _ _ _ _ (command_loading folder c) s r (IsReadLine words folder)
+      (read_line (OnFiles c) e) h u in
+      record { line = x.line; cause = x.may; written = x.written }
+  ends_read (serving.ByListing d e h) u =
+      let x = serves_read folder _ _ _ _ (listing_loading folder d) s r (IsReadLine words folder)
+      (read_line (Listing d) e) h u in
       record { line = x.line; cause = x.may; written = x.written }
   ends_read (serving.ByMaking seed n e h) u =
-      let x = serves_read (made_command seed n) (made_run seed n) s r (λ line. ⊥)
+      let x = serves_read (made_run seed n) _ _ _ _ (made_loading seed n) s r (λ line. ⊥)
       (λ which name i q l. made_read which name seed n i q) h u in
       absurd x.may
 
@@ -513,10 +579,15 @@ module _ (words : List (List ℕ)) (folder : FolderRun) (s : Status) (r : SinkRu
     ends_short (serving.NoCommand e t) =
         (refused_usage, OfOutcome status.Usage (outcome.NoCommand e refl), told_short _ s r (λ x. cc) (λ x. cc) t)
     ends_short (serving.ByCommand c e h) =
-        serves_short c folder s r MayWrite (λ which name n u l. OfReading (read_line c e which name n u l))
+        serves_short folder _ _ _ _ (command_loading folder c) s r MayWrite
+        (λ which name n u l. OfReading (read_line (OnFiles c) e which name n u l))
         files told (λ a x. OfOutcome a.1 (outcome.ByCommand c e x)) any_text h
+    ends_short (serving.ByListing d e h) =
+        serves_short folder _ _ _ _ (listing_loading folder d) s r MayWrite
+        (λ which name n u l. OfReading (read_line (Listing d) e which name n u l))
+        files told (λ a x. OfOutcome a.1 (outcome.ByListing d e x)) any_text h
     ends_short (serving.ByMaking seed n e h) =
-        serves_short (made_command seed n) (made_run seed n) s r MayWrite
+        serves_short (made_run seed n) _ _ _ _ (made_loading seed n) s r MayWrite
         (λ which name i q l. absurd (made_read which name seed n i q)) (made_files seed n) (λ name. refl)
         (λ a x. OfOutcome a.1 (outcome.ByMaking seed n e x)) any_text h
 
@@ -547,6 +618,17 @@ pub touched_by_command : (words : List (List ℕ)) (file : List ℕ → ToldFile
     → TouchesNamed words file w r
 touched_by_command words file d p j w r e (inl kept) = inl kept
 touched_by_command words file d p j inputs.Domain r e (inr read) =
-    inr (record { command = make_command d p j; accepted = e; name = d; has_name = refl; read = read })
+    inr (record { request = on_files d p j; accepted = e; name = d; has_name = refl; read = read })
 touched_by_command words file d p j inputs.Problem r e (inr read) =
-    inr (record { command = make_command d p j; accepted = e; name = p; has_name = refl; read = read })
+    inr (record { request = on_files d p j; accepted = e; name = p; has_name = refl; read = read })
+
+-- so it is with what is done to the one input of a listing
+pub touched_by_listing : (words : List (List ℕ)) (file : List ℕ → ToldFile) (d : List ℕ) (w : Input) (r : InputRun)
+    → accepts words ≡ Some (Listing d) → (w ≡ inputs.Domain → Touches (file d) r)
+    → (w ≢ inputs.Domain → IsUntouched r) → TouchesNamed words file w r
+touched_by_listing words file d inputs.Problem r e touched others = inl (others (λ x. cc))
+touched_by_listing words file d inputs.Domain r e touched others = read (touched refl)
+  where
+    read : Touches (file d) r → TouchesNamed words file inputs.Domain r
+    read (inl kept) = inl kept
+    read (inr was) = inr (record { request = Listing d; accepted = e; name = d; has_name = refl; read = was })

@@ -113,15 +113,23 @@ pub record Command : Type 0 where
 abbrev pub make_command : List ℕ → List ℕ → Job → Command
 make_command d p j = record { domain = d; problem = p; job = j }
 
--- what words ask for: a command over files, or a problem that is made
+-- what words ask for: a command over two files, the listing of the code of a domain, or a problem that is made
 pub data Request : Type 0 where
   OnFiles : (command : Command) → Request
+  Listing : (domain : List ℕ) → Request
   Making : (seed packages : ℕ) → Request
 
 -- the file that a command names for an input
 abbrev pub named : Command → Input → Option (List ℕ)
 named c inputs.Domain = Some c.domain
 named c inputs.Problem = Some c.problem
+
+-- the file that a request names for an input
+abbrev pub file_named : Request → Input → Option (List ℕ)
+file_named (OnFiles c) which = named c which
+file_named (Listing d) inputs.Domain = Some d
+file_named (Listing d) inputs.Problem = None
+file_named (Making s n) which = None
 
 -- the job of a word that has two files behind it and nothing else
 abbrev pub job_by_word : List ℕ → Option Job
@@ -151,8 +159,10 @@ asked_by_three word x y =
     cond (bytes_eq word (codes "make")) (making (number_within 0 LARGEST_SEED x) (number_within 1 MOST_PACKAGES y))
     (option_map (on_files x y) (job_by_word word))
 
--- `plan DOMAIN PROBLEM K DEPTH` and then options, `check DOMAIN PROBLEM`, `show DOMAIN PROBLEM` and `make SEED N`
+-- `plan DOMAIN PROBLEM K DEPTH` and then options, `check DOMAIN PROBLEM`, `show DOMAIN PROBLEM`, `code DOMAIN` and
+-- `make SEED N`
 abbrev pub accepts : List (List ℕ) → Option Request
+accepts (word ∷ d ∷ []) = only_if (bytes_eq word (codes "code")) (Some (Listing d))
 accepts (word ∷ x ∷ y ∷ []) = asked_by_three word x y
 accepts (word ∷ d ∷ p ∷ k ∷ n ∷ more) =
     option_map (on_files d p)

@@ -93,13 +93,17 @@ abbrev pub LoadsTold : {A : Type 0} → Input → Form A → ToldFile → (Input
 LoadsTold which form file before now (Ok x) = Reads form file x
 LoadsTold which form file before now (Err cause) = StopsAt which form cause file before now
 
--- ---- both files
+-- ---- the files of a request
 
 -- a domain is loaded of the file of one name, and then a problem of that of another
 abbrev pub LoadsBoth : FolderRun → List ℕ → List ℕ → Result (Domain × Problem) LoadError → Type 0
 LoadsBoth folder domain problem loaded =
     Both (LoadsTold inputs.Domain domain_form (folder.file domain) folder.before folder.now)
     (LoadsTold inputs.Problem problem_form (folder.file problem) folder.before folder.now) loaded
+
+-- a domain is loaded of the file of one name
+abbrev pub LoadsAlone : FolderRun → List ℕ → Result Domain LoadError → Type 0
+LoadsAlone folder name = LoadsTold inputs.Domain domain_form (folder.file name) folder.before folder.now
 
 -- what was loaded into memory, as plain values
 abbrev pub plain_of : Result Loaded LoadError → Result (Domain × Problem) LoadError

@@ -2,6 +2,8 @@
 use Rattle.std.specs.Prelude.{◌≡◌, ℕ, List, [], ◌∷◌, ◌++◌, length, Option, Some, None, Result, Ok, Err}
 use Rattle.hp_io.specs.declared.folder.Input.{Input}
 use Rattle.hp_io.specs.declared.folder.Input.TheVariants as inputs
+use Rattle.hp_code.specs.CodeViews.{compiled}
+use Rattle.hp_code.specs.Listing.{listing_text}
 use Rattle.hp_out.specs.Lines.{text_of}
 use Rattle.hp_out.specs.RefusalTexts.{refusal_text}
 use Rattle.hp_out.specs.declared.refusal.Refusal.{Refusal}
@@ -23,7 +25,7 @@ use Rattle.hp_syntax.specs.TextForms.{Form, IsRead}
 use Rattle.hp_syntax.specs.Walk.{Visit, walk}
 use Rattle.hp_syntax.specs.Written.{domain_text, problem_text}
 use Rattle.hp_top.specs.CheckTexts.{check_text}
-use Rattle.hp_top.specs.Command.{Command, Job, Options, Planning, Checking, Showing, Summing, OnFiles, Making, accepts}
+use Rattle.hp_top.specs.Command.{Command, Job, Options, Planning, Checking, Showing, Summing, OnFiles, Listing, Making, accepts}
 use Rattle.hp_top.specs.Making.{made_files, made_command, made_answer}
 
 -- what each file holds, by its name; there may be no such file
@@ -101,6 +103,13 @@ first_fault d p = first_of (domain_faults d ++ problem_faults d p)
 abbrev pub answer_of_read : Command → Domain → Problem → Answer
 answer_of_read c d p = unless_faulty (first_fault d p) (job_answer c.job d p)
 
+abbrev pub answer_of_pair : Command → Domain × Problem → Answer
+answer_of_pair c x = answer_of_read c x.0 x.1
+
+-- what the listing of a domain comes to, once it is read
+abbrev pub listing_answer : Domain → Answer
+listing_answer d = unless_faulty (first_of (domain_faults d)) (listing_text (compiled d.rules), Done)
+
 -- ---- files
 
 -- what is loaded of a file: what its text is read as by a grammar, or the refusal that tells why it isn't
@@ -122,23 +131,37 @@ pub data Then {A B E : Type 0} (first : Result A E → Type 0) (second : A → R
 abbrev pub Both : {A B E : Type 0} → (Result A E → Type 0) → (Result B E → Type 0) → Result (A × B) E → Type 0
 Both first second loaded = Then first (λ x. Then second (λ y both. both ≡ Ok (x, y))) loaded
 
--- what a command comes to by what is loaded: the answer to that, or to what refuses it
-abbrev pub answer_to : {E : Type 0} → (E → Answer) → Command → Result (Domain × Problem) E → Answer
-answer_to refuse c (Err e) = refuse e
-answer_to refuse c (Ok x) = answer_of_read c x.0 x.1
+-- what is loaded of the files of a command: its domain, and then its problem
+abbrev pub LoadsFiles : Files → Command → Result (Domain × Problem) Refusal → Type 0
+LoadsFiles files c =
+    Both (LoadsFile inputs.Domain domain_form (files c.domain)) (LoadsFile inputs.Problem problem_form (files c.problem))
+
+-- and of the file of a domain alone
+abbrev pub LoadsDomain : Files → List ℕ → Result Domain Refusal → Type 0
+LoadsDomain files name = LoadsFile inputs.Domain domain_form (files name)
+
+-- what comes of what is loaded: the answer to that, or to what refuses it
+abbrev pub answer_to : {X E : Type 0} → (E → Answer) → (X → Answer) → Result X E → Answer
+answer_to refuse answer (Err e) = refuse e
+answer_to refuse answer (Ok x) = answer x
 
 -- ---- outcomes
 
--- what a command comes to with these files: its domain is loaded, and then its problem
-pub record Comes (files : Files) (c : Command) (a : Answer) : Type 0 where
-  pub loaded : Result (Domain × Problem) Refusal
-  pub loads : Both (LoadsFile inputs.Domain domain_form (files c.domain))
-      (LoadsFile inputs.Problem problem_form (files c.problem)) loaded
-  pub answer : a ≡ answer_to refusal_answer c loaded
+-- something is loaded, and this comes of it
+pub record Comes {X : Type 0} (loads : Result X Refusal → Type 0) (answer : X → Answer) (a : Answer) : Type 0 where
+  pub loaded : Result X Refusal
+  pub loads : loads loaded
+  pub comes : a ≡ answer_to refusal_answer answer loaded
+
+-- what a command comes to with these files
+abbrev pub CommandComes : Files → Command → Answer → Type 0
+CommandComes files c = Comes (LoadsFiles files c) (answer_of_pair c)
 
 -- what words come to with these files
 pub data Outcome (words : List (List ℕ)) (files : Files) (a : Answer) : Type 0 where
   NoCommand : accepts words ≡ None → a ≡ refusal_answer refusals.Usage → Outcome words files a
-  ByCommand : (c : Command) → accepts words ≡ Some (OnFiles c) → Comes files c a → Outcome words files a
+  ByCommand : (c : Command) → accepts words ≡ Some (OnFiles c) → CommandComes files c a → Outcome words files a
+  ByListing : (domain : List ℕ) → accepts words ≡ Some (Listing domain)
+      → Comes (LoadsDomain files domain) listing_answer a → Outcome words files a
   ByMaking : (seed packages : ℕ) → accepts words ≡ Some (Making seed packages)
-      → Comes (made_files seed packages) (made_command seed packages) a → Outcome words files a
+      → CommandComes (made_files seed packages) (made_command seed packages) a → Outcome words files a

@@ -3,10 +3,11 @@ use Rattle.std.specs.Prelude.{◌≡◌, ◌⊎◌, ℕ, List, ◌++◌, Option,
 use Rattle.hp_io.specs.declared.folder.Input.{Input}
 use Rattle.hp_syntax.specs.declared.status.Status.{Status}
 use Rattle.hp_syntax.specs.declared.status.Status.TheVariants as status
-use Rattle.hp_top.specs.Command.{Command, OnFiles, accepts, named}
+use Rattle.hp_top.specs.Command.{Request, OnFiles, Listing, Making, accepts, file_named}
 use Rattle.hp_top.specs.Outcome.{Files, Outcome}
-use Rattle.hp_top.specs.Loading.{ToldFile, FolderRun, IsUnread, LoadsBoth}
+use Rattle.hp_top.specs.Loading.{ToldFile, FolderRun, IsUnread, LoadsAlone, LoadsBoth}
 use Rattle.hp_out.specs.declared.refusal.Refusal.TheVariants as refusals
+use Rattle.hp_top.specs.declared.loading.LoadError.{LoadError}
 use Rattle.hp_top.specs.declared.loading.LoadError.TheVariants as causes
 use Rattle.hp_out.specs.Lines.{refused_usage, refused_read}
 use Rattle.hp_out.specs.Writing.{SinkRun, Wrote, WrotePrefix, WroteProperPrefix}
@@ -26,15 +27,21 @@ pub record IsOutcome (words : List (List ℕ)) (files : Files) (s : Status) (bef
 abbrev pub RefusesWords : Status → SinkRun → Type 0
 RefusesWords s r = ((s ≡ status.Usage) × Wrote refused_usage r.before r.after) ⊎ (s ≡ status.WriteFault)
 
+-- the files that a request names aren't loaded, for this cause
+abbrev pub IsStopped : FolderRun → Request → LoadError → Type 0
+IsStopped folder (OnFiles c) cause = LoadsBoth folder c.domain c.problem (Err cause)
+IsStopped folder (Listing domain) cause = LoadsAlone folder domain (Err cause)
+IsStopped folder (Making seed packages) cause = ⊥
+
 -- the line of an input that couldn't be read: the words name it, and what they name before it was loaded
 pub record IsReadLine (words : List (List ℕ)) (folder : FolderRun) (line : List ℕ) : Type 0 where
-  pub command : Command
-  pub accepted : accepts words ≡ Some (OnFiles command)
+  pub request : Request
+  pub accepted : accepts words ≡ Some request
   pub which : Input
   pub name : List ℕ
-  pub has_name : named command which ≡ Some name
+  pub has_name : file_named request which ≡ Some name
   pub unread : IsUnread which (folder.file name) folder.before folder.now
-  pub loads : LoadsBoth folder command.domain command.problem (Err (causes.Refused (refusals.Read which)))
+  pub loads : IsStopped folder request (causes.Refused (refusals.Read which))
   pub line_is : line ≡ refused_read which
 
 -- an input that the words name couldn't be read, and the one line says so

@@ -2,7 +2,7 @@
 use Rattle.std.specs.Prelude.{◌≡◌, ◌⊎◌, ℕ, ◌+◌, ◌≤◌, Bool, true, List, drop, Option, Some, None}
 use Rattle.hp_io.specs.declared.folder.Input.{Input}
 use Rattle.hp_syntax.specs.declared.limits.TheConstants.{LARGEST_TEXT}
-use Rattle.hp_top.specs.Command.{Command, OnFiles, accepts, named}
+use Rattle.hp_top.specs.Command.{Request, accepts, file_named}
 use Rattle.hp_top.specs.Loading.{ToldFile}
 
 -- what a call did to an input: whether it was begun, and what is left to read of it, before and after
@@ -38,10 +38,10 @@ Touches file r = IsUntouched r ⊎ WasRead file r
 -- the words are a command that names a file for the input, which was read
 pub record IsNamed (words : List (List ℕ)) (file : List ℕ → ToldFile) (which : Input)
     (r : InputRun) : Type 0 where
-  pub command : Command
-  pub accepted : accepts words ≡ Some (OnFiles command)
+  pub request : Request
+  pub accepted : accepts words ≡ Some request
   pub name : List ℕ
-  pub has_name : named command which ≡ Some name
+  pub has_name : file_named request which ≡ Some name
   pub read : WasRead (file name) r
 
 -- the input is as it was, or it was read by the name that the words have for it

@@ -2,7 +2,7 @@
 use Rattle.std.specs.Prelude.{ℕ, ◌<◌, ◌≤◌}
 use Rattle.hp_syntax.specs.declared.limits.TheConstants.{GREATEST_DEPTH, MOST_LEVELS}
 use Rattle.hp_top.specs.declared.words.TheConstants.{LARGEST_SEED, MOST_PACKAGES}
-use Rattle.hp_top.specs.Command.{Job, Options, Planning, Checking, Showing, Summing, Request, Making, on_files, options}
+use Rattle.hp_top.specs.Command.{Job, Options, Planning, Checking, Showing, Summing, Request, Listing, Making, on_files, options}
 use Rattle.hp_top.specs.declared.words.Asked.{Asked}
 use Rattle.hp_top.specs.declared.words.Job as asked
 use Rattle.hp_top.specs.declared.words.Options as asked_options
@@ -41,9 +41,11 @@ IsAsked (jobs.Sum seed packages) = IsMakeable seed packages
 
 abbrev pub IsRequested : asked_request.Request → Type 0
 IsRequested (requests.Files domain problem job) = IsAsked job
+IsRequested (requests.Code domain) = Unit {0}
 IsRequested (requests.Make seed packages) = IsMakeable seed packages
 
 -- a request, by the names of its files
 abbrev pub request_of : asked_request.Request → Request
 request_of (requests.Files domain problem job) = on_files domain.now problem.now (job_of job)
+request_of (requests.Code domain) = Listing domain.now
 request_of (requests.Make seed packages) = Making seed packages

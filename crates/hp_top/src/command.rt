@@ -15,6 +15,7 @@ ghost use Rattle.hp_out.specs.Writing.{sink_run};
 
 use crate::laws::every_run_has_an_outcome;
 use crate::loading::load;
+use crate::coding::serve_code;
 use crate::making::serve_made;
 use crate::refusing::{refuse, refuse_files};
 use crate::serving::serve_job;
@@ -66,6 +67,7 @@ fn serve<F: Folder, K: Sink>(alloc: Global, words: &[String], folder: &mut F, ou
 {
     match request_asked(words) {
         None => refuse(out, &Refusal::Usage),
+        Some(Request::Code { domain }) => serve_code(alloc, domain, folder, out),
         Some(Request::Make { seed, packages }) => serve_made(alloc, seed, packages, out),
         Some(
             Request::Files {
@@ -81,11 +83,12 @@ fn serve<F: Folder, K: Sink>(alloc: Global, words: &[String], folder: &mut F, ou
 /// as soon as it is found, and one ending line. Behind these words `--nest N` says how deep axioms may
 /// call one another (else 64), and `--states` has each plan told with the state that it leads to.
 /// `check DOMAIN PROBLEM` writes how many rules and atoms there are, a note for each task that no rule
-/// serves, and `accepted`. `show DOMAIN PROBLEM` writes both in canonical text. `make SEED N` reads no
-/// file: it makes a problem with N packages, plans it, and writes how many atoms its state has, the
-/// first line of its first plan, and the ending line.
+/// serves, and `accepted`. `show DOMAIN PROBLEM` writes both in canonical text. `code DOMAIN` writes the
+/// listing of the code that the domain is compiled to. `make SEED N` reads no file: it makes a problem
+/// with N packages, plans it, and writes how many atoms its state has, the first line of its first plan,
+/// and the ending line.
 ///
-/// The words don't hold the program's own name. Nothing is written before both files are read and
+/// The words don't hold the program's own name. Nothing is written before its files are read and
 /// accepted, but the one line of a refusal; after want of memory or a fault of the sink nothing
 /// more is written.
 pub fn run<F: Folder, K: Sink>(

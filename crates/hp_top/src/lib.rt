@@ -2,6 +2,7 @@
 #![tactic(auto)]
 
 mod checking;
+mod coding;
 mod command;
 pub mod laws;
 mod loading;

@@ -6,6 +6,7 @@ ghost use Rattle.hp_io.specs.declared.folder.Input.{Input};
 ghost use Rattle.hp_io.specs.declared.folder.Input.TheVariants as inputs;
 ghost use Rattle.hp_syntax.specs.Forest.{IsForest};
 ghost use Rattle.hp_syntax.specs.Grammar.{domain_form, problem_form};
+ghost use Rattle.hp_syntax.specs.Numbered.{IsNumberedDomain};
 ghost use Rattle.hp_syntax.specs.Views.{domain_of, problem_of};
 ghost use Rattle.hp_syntax.specs.TextForms.{IsRead};
 ghost use Rattle.hp_text.specs.Nodes.{forest_of};
@@ -79,6 +80,7 @@ fn forest_in(alloc: Global, bytes: Vec<u8>) -> Result<Forest, TextRefusal>
 /// The domain that a text is.
 pub fn domain_in(alloc: Global, bytes: Vec<u8>) -> Result<Domain, LoadError>
     ensures domain { IfOk result (λ d. IsRead domain_form bytes.items (domain_of d)) }
+    ensures numbered { IfOk result (λ d. IsNumberedDomain (domain_of d)) }
     ensures refused { IfErr result (IsRefusedFor inputs.Domain domain_form bytes.items) }
 {
     match forest_in(alloc, bytes) {
@@ -130,8 +132,13 @@ fn file_prefix<F: Folder>(
 }
 
 /// The domain in a file.
-fn load_domain<F: Folder>(alloc: Global, folder: &mut F, name: &str) -> Result<Domain, LoadError>
+pub fn load_domain<F: Folder>(
+    alloc: Global,
+    folder: &mut F,
+    name: &str,
+) -> Result<Domain, LoadError>
     ensures domain { IfOk result (λ d. Reads domain_form (F.file folder.old name.now) (domain_of d)) }
+    ensures numbered { IfOk result (λ d. IsNumberedDomain (domain_of d)) }
     ensures stops { IfErr result (λ e. StopsAt inputs.Domain domain_form e (F.file folder.old name.now)
         (F.faults folder.old) (F.faults folder.new)) }
     ensures touched { Touches (F.file folder.old name.now) (input_run

@@ -1,7 +1,7 @@
 //! The words of a command.
 
 ghost use Rattle.std.specs.List.{list_all};
-ghost use Rattle.std.specs.Prelude.{true, false, nat_le, IfSome, ◌≡◌, ◌≢◌, ◌^◌, ◌<◌, ◌≤◌, None, Some, length, map, string_bytes, slice_get, unwrap_or, [], option_map};
+ghost use Rattle.std.specs.Prelude.{true, false, nat_le, IfSome, ◌≡◌, ◌≢◌, ◌^◌, ◌<◌, ◌≤◌, None, Some, length, map, string_bytes, slice_get, unwrap_or, [], ◌∷◌, option_map};
 ghost use Rattle.hp_top.specs.Words.{IsPlanned, IsAsked, IsRequested, job_of, options_of, request_of};
 ghost use Rattle.hp_top.specs.Command.{accepts, only_if, planning, making, plan_options, job_by_word, asked_by_three, number_within, number_from, is_number};
 ghost use Rattle.hp_syntax.specs.Text.{is_digit};
@@ -47,6 +47,10 @@ pub enum Request<'a> {
         domain: &'a str,
         problem: &'a str,
         job: Job,
+    },
+    /// The listing of the code of a domain, by its name.
+    Code {
+        domain: &'a str,
     },
     /// The problem of a seed with so many packages.
     Make {
@@ -161,7 +165,8 @@ fn planned(plans: &[u8], depth: &[u8], more: &[String]) -> Option<Asked>
 
 /// What a command of five words and more asks for.
 fn plan_asked(words: &[String]) -> Option<Request<'_>>
-    requires { length words.now ≢ 3 }
+    requires two { length words.now ≢ 2 }
+    requires three { length words.now ≢ 3 }
     ensures asks { option_map request_of result ≡ accepts (map string_bytes words.now) }
     ensures some { IfSome result IsRequested }
 {
@@ -225,11 +230,22 @@ fn asked_by_three<'a>(word: &str, first: &'a str, second: &'a str) -> Option<Req
     }
 }
 
+/// What a word with one word behind it asks for.
+fn asked_by_two<'a>(word: &str, name: &'a str) -> Option<Request<'a>>
+    ensures spelled { option_map request_of result ≡ accepts (word.now ∷ name.now ∷ []) }
+    ensures some { IfSome result IsRequested }
+{
+    if word == "code" { Some(Request::Code { domain: name }) } else { None }
+}
+
 /// What words ask for, where they are a command.
 pub fn request_asked(words: &[String]) -> Option<Request<'_>>
     ensures asks { option_map request_of result ≡ accepts (map string_bytes words.now) }
     ensures some { IfSome result IsRequested }
 {
+    if let [word, name] = words {
+        return asked_by_two(word.as_str(), name.as_str());
+    }
     if let [word, first, second] = words {
         return asked_by_three(word.as_str(), first.as_str(), second.as_str());
     }

@@ -1,8 +1,9 @@
 use Rattle.std.proofs.Common.{◌≡◌, Some, refl, subst, sym, map, string_bytes}
 use Rattle.hp_top.specs.Command.{accepts, make_command}
-use Rattle.hp_top.specs.Serving.{ByCommand, ByMaking}
+use Rattle.hp_top.specs.Serving.{ByCommand, ByListing, ByMaking}
+use Rattle.hp_top.specs.Touching.{Touches, input_run}
 use Rattle.hp_top.specs.Words.{job_of, request_of}
-use Rattle.hp_top.proofs.RunSteps.{refused_words, touched_by_command}
+use Rattle.hp_top.proofs.RunSteps.{refused_words, touched_by_command, touched_by_listing}
 use Rattle.hp_top.proofs.command.serve.Goals as goal
 
 pub returns-in-None-clause-untouched : goal.returns-in-None-clause-untouched
@@ -31,3 +32,23 @@ returns-in-Some-Files-clause-touched g c = λ w.
     (subst (λ r. Some (request_of r) ≡ accepts (map string_bytes c.args.words.now)) c.in-Some-Files.field-0-is
     c.in-Some-Files.ensures.asks))
     (c.serve_command.ensures.touched w)
+
+pub returns-in-Some-Code-clause-ends : goal.returns-in-Some-Code-clause-ends
+returns-in-Some-Code-clause-ends g c =
+    ByListing c.in-Some-Code.domain.now
+    (sym
+    (subst (λ r. Some (request_of r) ≡ accepts (map string_bytes c.args.words.now)) c.in-Some-Code.field-0-is
+    c.in-Some-Code.ensures.asks))
+    c.serve_code.ensures.serves
+
+pub returns-in-Some-Code-clause-touched : goal.returns-in-Some-Code-clause-touched
+returns-in-Some-Code-clause-touched g c = λ w.
+    touched_by_listing _ (g.F.Folder.file c.args.folder.now) _ w _
+    (sym
+    (subst (λ r. Some (request_of r) ≡ accepts (map string_bytes c.args.words.now)) c.in-Some-Code.field-0-is
+    c.in-Some-Code.ensures.asks))
+    (λ is. subst (λ w. Touches (g.F.Folder.file c.args.folder.now c.in-Some-Code.domain.now) (input_run
+    (g.F.Folder.begun c.args.folder.now w) (g.F.Folder.begun c.serve_code.folder.new w)
+    (g.F.Folder.rest c.args.folder.now w) (g.F.Folder.rest c.serve_code.folder.new w))) (sym is)
+    c.serve_code.ensures.touched)
+    (c.serve_code.ensures.others w)
