@@ -195,7 +195,8 @@ terms-each (Grow n f) names = elim (term InRule n names) as (λ r. and_then r
 
 -- arguments that were read are the terms of a call
 pub terms_read : (nodes : List public.Node) (i : ℕ) (prefix : List Pat) (start names : Names) → length nodes ≤ i
-    → each (term InRule) (nodes_of nodes) start ≡ prepend (map pattern_of prefix) (from_here (term InRule) nodes i names)
+    → each (term InRule) (nodes_of nodes) start
+    ≡ prepend (map pattern_of prefix) (from_here (term InRule) nodes i names)
     → terms (nodes_of nodes) start ≡ Ok (patterns_of prefix, names)
 terms_read nodes i prefix start names h e =
     terms-each (nodes_of nodes) start
@@ -205,7 +206,8 @@ terms_read nodes i prefix start names h e =
 -- an argument that is refused refuses the terms of a call
 pub terms_refused : (nodes : List public.Node) (i : ℕ) (d : public.Node) (prefix : List Pat) (why : FormRefusal)
     (start names : Names) → i < length nodes
-    → each (term InRule) (nodes_of nodes) start ≡ prepend (map pattern_of prefix) (from_here (term InRule) nodes i names)
+    → each (term InRule) (nodes_of nodes) start
+    ≡ prepend (map pattern_of prefix) (from_here (term InRule) nodes i names)
     → d ≡ get_or nodes i d → Refuses why (term InRule (node_of d) names) → Refuses why (terms (nodes_of nodes) start)
 terms_refused nodes i d prefix why start names h e at r =
     refused_same why _ _ (terms-each (nodes_of nodes) start)
