@@ -1,4 +1,4 @@
--- What is found in expressions that stand far too deep doesn't depend on their level.
+-- The faults of expressions that stand far too deep don't depend on their level.
 use Rattle.std.proofs.Common.{◌≡◌, ℕ, ◌+◌, ◌-◌, ◌^◌, ◌<◌, min, Option, ◌++◌, ◌⊎◌, inl, inr, ap, ◌∙◌, refl, arith}
 use Rattle.std.proofs.lemmas.Bool.Decides.{nat_tests, leb_tells}
 use Rattle.hp_syntax.specs.declared.pattern.Span.{Span}

@@ -1,4 +1,4 @@
--- What a list is that is empty, or begins with a name other than `nil`: the line of the grammar that it chooses.
+-- An empty list, and one that begins with a name other than `nil`: the line of the grammar that it chooses.
 use Rattle.std.proofs.Common.{◌≡◌, refl, ap, sym, ◌∙◌, arith, ℕ, List, [], ◌∷◌, length, Result, Ok, true, false, bytes_eq, codes}
 use Rattle.std.specs.Global.{Global}
 use Rattle.std.specs.Prelude.{Vec}

@@ -1,4 +1,4 @@
--- What a search for the cheapest plan keeps from visit to visit.
+-- Facts that a search for the cheapest plan keeps from visit to visit.
 use Rattle.std.proofs.Common.{◌≡◌, ◌<◌, ◌≤◌, ◌⊎◌, inl, inr, ℕ, zero, Bool, true, false, cond, T, ℤ, ◌≤ℤ◌, List, [], ◌∷◌, length, ◌++◌, Option, Some, None, IfSome, refl, sym, ap, ◌∙◌, subst, arith}
 use Rattle.std.specs.Prelude.{Contains}
 use Rattle.std.specs.List.{All, AllPairs, Any}

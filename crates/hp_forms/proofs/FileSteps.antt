@@ -58,12 +58,12 @@ pub alone_value : {A : Type 0} (r : Result A Misform) (x : A) (rest : Forest) (n
 alone_value r x Bare names at h = ap (λ y. alone y Bare) at
 alone_value r x (Grow n rest) names at h = cc
 
--- what is taken and what is left, joined again
+-- the nodes that are taken and those that are left, joined again
 abbrev joined : Result ((Node × Forest) × Names) Misform → Forest
 joined (Ok p) = Grow p.0.0 p.0.1
 joined (Err e) = Bare
 
--- what has a next item is that item and what follows it
+-- a forest with a next item is that item and the rest
 pub next_is : (what : What) (end : Span) (f : Forest) (first : Node) (rest : Forest) (names : Names)
     → next what end f names ≡ Ok ((first, rest), names) → f ≡ Grow first rest
 next_is what end f first rest names h = sym (same f) ∙ ap joined h

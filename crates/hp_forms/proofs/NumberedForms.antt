@@ -1,4 +1,4 @@
--- What is read of a form that is numbered is numbered.
+-- The reading of a numbered form is numbered.
 use Rattle.std.proofs.Common.{◌≡◌, Result, Ok, Err, IfOk}
 use Rattle.hp_syntax.specs.Steps.{Misform}
 use Rattle.hp_terms.specs.declared.refusal.FormRefusal.{FormRefusal}

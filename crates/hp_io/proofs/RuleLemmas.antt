@@ -1,4 +1,4 @@
--- What a read takes from the rest.
+-- The bytes that a read takes from the rest.
 use Rattle.std.proofs.Common.{◌≡◌, ℕ, ◌+◌, ◌<◌, List, [], ◌∷◌, Option, Some, None, min, length, take, drop, slice_get, zero, suc, refl, sym, ◌∙◌, ap, arith}
 use Rattle.std.proofs.lemmas.List.{take-append-drop, drop-drop}
 use Rattle.hp_io.specs.declared.mem_folder.File.{File}

@@ -1,4 +1,4 @@
--- What choices derive is among the visits of a tree.
+-- Each derivation of choices is among the visits of a tree.
 use Rattle.std.proofs.Common.{◌≡◌, ℕ, zero, suc, ◌+◌, ◌-◌, ◌≤◌, Bool, true, false, ℤ, List, [], ◌∷◌, ◌++◌, length, Some, refl, sym, ◌∙◌, ap, subst, ⊎_elim, arith, append_assoc}
 use Rattle.std.specs.Prelude.{◌+ℤ◌, Contains, flat_map}
 use Rattle.std.specs.List.{Any}

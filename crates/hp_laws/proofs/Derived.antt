@@ -1,4 +1,4 @@
--- What a walk reaches is derived from its root.
+-- The visits of a walk are derived from its root.
 use Rattle.std.proofs.Common.{◌≡◌, ℕ, zero, suc, ◌+◌, true, cond, ℤ, List, [], ◌∷◌, ◌++◌, length, refl, sym, ◌∙◌, ap, subst, arith, append_assoc}
 use Rattle.std.specs.Prelude.{pos, ◌+ℤ◌, flat_map}
 use Rattle.std.specs.List.{All}

@@ -1,4 +1,4 @@
--- What is heard of a list: its elements up to and including the first of a kind.
+-- The heard part of a list: its elements up to and including the first of a kind.
 use Rattle.std.proofs.Common.{◌≡◌, ℕ, Bool, true, false, cond, List, [], ◌∷◌, map, refl, ◌∙◌, ap, subst}
 use Rattle.std.specs.List.{All}
 use Rattle.std.proofs.lemmas.Bool.{cond_both, cond-false}

@@ -1,4 +1,4 @@
--- What a forest is read as for a problem is plain: it holds no call, and nests hardly deeper than the forest.
+-- The reading of a forest for a problem is plain: it holds no call, and nests hardly deeper than the forest.
 use Rattle.std.proofs.Common.{◌≡◌, ℕ, ◌+◌, ◌-◌, ◌<◌, ◌≤◌, Bool, true, false, List, [], length, Option, bytes_eq, codes, refl, arith}
 use Rattle.std.specs.Prelude.{Ok}
 use Rattle.std.specs.List.{All}

@@ -1,4 +1,4 @@
--- What holds at a node and passes from the visits of its children holds of all visits.
+-- A fact of a node that passes from the visits of its children holds of all visits.
 use Rattle.std.proofs.Common.{◌≡◌, ℕ, zero, suc, false, cond, List, [], ◌∷◌, ◌++◌, refl}
 use Rattle.std.specs.Prelude.{Contains, flat_map}
 use Rattle.std.specs.List.{All}

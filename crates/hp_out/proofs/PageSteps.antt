@@ -29,7 +29,7 @@ put_kept text a b s p = record {
 pub put_nothing : (d : Desk) → Put [] d d
 put_nothing d = put_kept [] d d refl (sym (append-nil d.page))
 
--- what the sink took, and then the page and a text behind it, are what the page had, and both texts
+-- the bytes that the sink took, and then the page and a text behind it, are those that the page had, and both texts
 joined : (x y : List ℕ) (a b : Desk) (p : Put x a b) → p.taken ++ (b.page ++ y) ≡ a.page ++ (x ++ y)
 joined x y a b p =
     sym (append_assoc p.taken b.page y) ∙ ap (λ t. t ++ y) p.all ∙ append_assoc a.page x y

@@ -1,4 +1,4 @@
--- What is written of domains and problems is read as these again, up to spans.
+-- Written domains and problems are read as these again, up to spans.
 use Rattle.std.proofs.Common.{◌≡◌, ℕ, List, [], map, Ok, refl, subst, ap, bytes_eq, codes}
 use Rattle.std.proofs.lemmas.Slice.Eq.{bytes_eq-Decides}
 use Rattle.hp_syntax.specs.declared.pattern.Span.{Span}

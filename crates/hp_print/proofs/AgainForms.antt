@@ -1,4 +1,4 @@
--- What is written of expressions, preconditions, tasks and effects is read as these again, up to spans.
+-- Written expressions, preconditions, tasks and effects are read as these again, up to spans.
 use Rattle.std.proofs.Common.{◌≡◌, ℕ, Bool, true, false, ◌||◌, cond, List, map, Ok, refl, sym, subst, ap, Decides, bytes_eq, codes}
 use Rattle.std.proofs.lemmas.Slice.Eq.{bytes_eq-Decides}
 use Rattle.hp_syntax.specs.declared.pattern.Span.{Span}

@@ -1,4 +1,4 @@
--- What is written of rules is read as these again, up to spans.
+-- Written rules are read as these again, up to spans.
 use Rattle.std.proofs.Common.{◌≡◌, ℕ, Bool, true, false, List, [], ◌∷◌, map, Option, Some, None, Ok, refl, sym, subst, ◌∙◌, bytes_eq, codes}
 use Rattle.hp_syntax.specs.declared.pattern.Span.{Span}
 use Rattle.hp_syntax.specs.declared.form.What.TheVariants as wants

@@ -1,4 +1,4 @@
--- What is written of terms and atoms is read as these again, up to spans.
+-- Written terms and atoms are read as these again, up to spans.
 use Rattle.std.proofs.Common.{◌≡◌, ℕ, Bool, false, List, [], ◌∷◌, map, Option, None, Ok, refl, sym, subst, bytes_eq, codes}
 use Rattle.hp_syntax.specs.declared.pattern.Span.{Span}
 use Rattle.hp_syntax.specs.declared.pattern.Tail.{Tail}
@@ -301,7 +301,7 @@ module _ {all : Names} where
 
   -- ---- atoms
 
-  -- what holds of a value made of an atom follows from what is read again of its parts
+  -- a fact of a value made of an atom follows from those of its parts that are read again
   pub after_named : {B : Type 0} {Q : B → Names → Type 0} {names : Names} (setting : Setting) (s : Span) (text : List ℕ)
       (rest : Forest) (g : Atom → B)
       → ((x : Patterns × Option Tail) (end : Names) → ItemsAgain setting (CanSpellAll rest) names all x end

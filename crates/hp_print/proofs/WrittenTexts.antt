@@ -1,4 +1,4 @@
--- What is written, by its parts.
+-- Written texts, by their parts.
 use Rattle.std.proofs.Common.{◌≡◌, ℕ, ◌<◌, ◌++◌, List, [], ◌∷◌, length, codes, Result, Ok, Err, refl, append_assoc, ◌∙◌, arith}
 use Rattle.std.specs.Bool.{if◌then◌else◌}
 use Rattle.std.specs.Result.{OnOk, is_ok}

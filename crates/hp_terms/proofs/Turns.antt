@@ -1,4 +1,4 @@
--- Reading the items of a list one by one: what was read so far, and what a step gives for the rest.
+-- Reading the items of a list one by one: the items so far, and the result of a step for the rest.
 use Rattle.std.proofs.Common.{◌≡◌, ◌∙◌, sym, ap, refl, ℕ, ◌+◌, ◌<◌, ◌≤◌, List, [], ◌∷◌, ◌++◌, Result, Ok, Err, length, get_or, drop, map, append_assoc, append-nil}
 use Rattle.std.proofs.lemmas.List.{drop_more, drop_all, map-append, nil_from_length}
 use Rattle.std.proofs.lemmas.Option.{MatchOption-at_some, MatchOption-at_none}
@@ -14,7 +14,7 @@ use Rattle.hp_terms.specs.FormReads.{Refuses}
 use Rattle.hp_terms.specs.declared.refusal.FormRefusal.{FormRefusal}
 use Rattle.hp_terms.specs.declared.refusal.FormRefusal.TheVariants as refusals
 
--- what was read so far, before what is read from here on
+-- the items so far, before those that are read from here on
 abbrev pub prepend : {A : Type 0} → List A → Result (List A × Names) Misform → Result (List A × Names) Misform
 prepend prefix (Ok p) = Ok (prefix ++ p.0, p.1)
 prepend prefix (Err e) = Err e
@@ -24,7 +24,7 @@ pub prepend-nil : {A : Type 0} (r : Result (List A × Names) Misform) → r ≡ 
 prepend-nil (Ok p) = refl
 prepend-nil (Err e) = refl
 
--- an item that is read goes from the front of what is to be read to the end of what was
+-- an item that is read goes from the front of the rest to the end of the items so far
 pub prepend_more : {A : Type 0} (prefix : List A) (x : A) (r : Result (List A × Names) Misform)
     → prepend prefix (and_then r (λ xs. pure (x ∷ xs))) ≡ prepend (prefix ++ x ∷ []) r
 prepend_more prefix x (Ok p) = ap (λ xs. Ok (xs, p.1)) (sym (append_assoc prefix (x ∷ []) p.0))

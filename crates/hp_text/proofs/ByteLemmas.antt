@@ -1,4 +1,4 @@
--- What stands at an offset, by its byte and the comment that is open there.
+-- The kind at an offset, by its byte and the comment that is open there.
 use Rattle.std.proofs.Common.{◌≡◌, ℕ, ◌<◌, Bool, true, false, cond, List, length, slice_index, refl, sym, ◌∙◌, arith, ◌+◌}
 use Rattle.std.specs.Prelude.{◌||◌}
 use Rattle.std.proofs.lemmas.Bool.Decides.{nat_tests}
@@ -77,7 +77,7 @@ name_byte text i l q h =
     rw q (name_no_comment (slice_index text i) h) in
     kind_at-byte text i l e ∙ name_kind (slice_index text i) h
 
--- what isn't blank is what its byte is
+-- outside blanks the kind of an offset is that of its byte
 pub unblank_byte : (text : List ℕ) (i : ℕ) → i < length text → (kind_at text i ≡ Blank → ⊥)
     → kind_at text i ≡ byte_kind (slice_index text i)
 unblank_byte text i l h = kind_at-byte text i l (false_from_ne_true _ (λ e. h (kind_at-comment text i l e)))

@@ -1,4 +1,4 @@
--- What holds of a text in which nothing is refused.
+-- Facts of a text in which nothing is refused.
 use Rattle.std.proofs.Common.{◌≡◌, ℕ, ◌+◌, ◌-◌, ◌<◌, ◌≤◌, ◌⊎◌, List, [], ◌∷◌, length, slice_range, refl, sym, ◌∙◌, arith, ⊎_elim, None}
 use Rattle.std.proofs.lemmas.Bool.{cases_lt}
 use Rattle.hp_syntax.specs.declared.limits.TheConstants.{LARGEST_TEXT}

@@ -1,4 +1,4 @@
--- What is refused at an offset of a scan, and what is known behind it.
+-- The refusal at an offset of a scan, and the state behind it.
 use Rattle.std.proofs.Common.{◌≡◌, ℕ, ◌+◌, ◌-◌, ◌<◌, ◌≤◌, true, false, List, [], ◌∷◌, length, slice_range, reverse, refl, sym, ◌∙◌, ap, arith, ⊎_elim, Option, Some, None, IfNone, IfSome}
 use Rattle.std.specs.Prelude.{◌==◌}
 use Rattle.std.proofs.lemmas.Bool.{lt-ltb, le-ltb, cases_lt}

@@ -72,7 +72,7 @@ module _ (s t : Standing) (gone : t ≡ gone_on s) where
   pub cut_next : steps.Cut ≡ step_or_end (next_of s.rest) → IsNext s t CutHere
   cut_next a = cut_from s.rest refl a
 
--- what holds of all that is left holds of what is left behind a visit
+-- a fact of all the visits that are left holds of those behind the first
 left_keeps : (P : Visit → Type 0) (x : Sight) (v : Visit) (vs : List Visit) → v.sight ≡ x → All P vs
     → All P (left_after v vs)
 left_keeps P Did v vs h a = rw h a

@@ -120,7 +120,7 @@ module _ (detail : Detail) (k : ℕ) where
       subst (λ t. Wrote t.0 a c) (sym h.rest)
       (wrote_both h.text (ending_text (ending_of x) q.plans q.expansions) a b c h.written w)
 
-  -- what stops the telling of what is left stops the whole telling
+  -- a stop of the telling of the rest is one of the whole telling
   pub halted_midway : (p q : Progress) (us vs : List Visit) (h : Halt) (f g m : ℕ) (a b c : Option (List ℕ))
       → f ≤ g → Goes detail k p q us vs a b
       → Halts h (left detail k q vs).0 (sink_run g m b c) → Halts h (left detail k p us).0 (sink_run f m a c)
@@ -153,7 +153,7 @@ module _ (detail : Detail) (k : ℕ) where
             (ending_text e.ending e.tally.plans e.tally.expansions),
       )
 
-  -- what stops the text of a plan stops what is left to tell from that plan on
+  -- a stop of the text of a plan is one of the telling from that plan on
   pub halted_plan : {T : Type 0} (p : Progress) (v : Visit) (vs ws : List Visit) (o : Result T Halt) (r : SinkRun)
       → vs ≡ v ∷ ws → v.sight ≡ Plan → IfErr o (λ h. Halts h (telling detail (p.plans + 1) v) r)
       → IfErr o (λ h. Halts h (left detail k p vs).0 r)

@@ -145,7 +145,7 @@ module _ (folder : FolderRun) (c : Command) where
     same_answer (Ok x) = refl
     same_answer (Err r) = refl
 
-    -- what is told of files comes to what they come to
+    -- the answer to told files is the answer to the files
     comes_exact : (loaded : Loaded) → ((cause : LoadError) → loaded ≡ Err cause → IsExact cause)
         → LoadsBoth folder c.domain c.problem loaded
         → Comes files c (answer_to load_answer c loaded)
@@ -208,7 +208,7 @@ made_read which name seed n i (inr m) = made_there seed n which name i m
 
 module _ (words : List (List ℕ)) (s : Status) (r : SinkRun) (files : Files) (written : List ℕ)
     (o : r.before ≡ Some written) (memory : s ≢ status.NoMemory) (write : s ≢ status.WriteFault) where
-  -- what is served without want of memory and faults is an outcome, where what it comes to is one of the words
+  -- an answer served without want of memory and faults is an outcome, where it is one of the words
   serves_well : (c : Command) (folder : FolderRun) (fs : Files) → TellsFiles folder.file fs → ReadsWell s folder
       → ((a : Answer) → Comes fs c a → Outcome words files a) → Serves c folder s r
       → IsOutcome words files s written r.after
@@ -447,7 +447,7 @@ module _ (c : Command) (folder : FolderRun) (s : Status) (r : SinkRun) where
           answer_short loaded (λ cause i. let y : Ok x ≡ Err cause = sym e ∙ i in cc) l
           (subst IsAnswer (sym (ap status_to e)) (read_answers c x.0 x.1)) t
 
-      -- what is served has a text that a run may write, of which it wrote a prefix where it stopped short
+      -- a served command has a text that a run may write, of which it wrote a prefix where it stopped short
       serves_short : Serves c folder s r → ServesShort
       serves_short h = how_short h.loaded h.loads (known folder c h.loaded h.loads) h.tells
 

@@ -1,4 +1,4 @@
--- What the texts of the samples are read as.
+-- The readings of the texts of the samples.
 use Rattle.std.proofs.Common.{◌≡◌, ℕ, false, List, [], length, Some, Result, Ok, Err, refl, sym, codes}
 use Rattle.hp_samples.proofs.Computed.{the_language}
 use Rattle.hp_syntax.specs.Checks as checks

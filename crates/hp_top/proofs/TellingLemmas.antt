@@ -1,4 +1,4 @@
--- What stops the telling of a text stops that of a longer one.
+-- A stop of the telling of a text is one of a longer text.
 use Rattle.std.proofs.Common.{ℕ, ◌≤◌, List, ◌++◌, Option, Result, Ok, Err, OnOk, IfErr, arith}
 use Rattle.hp_io.specs.Rules.{Rose}
 use Rattle.hp_top.specs.declared.telling.Halt.{Halt}
@@ -28,7 +28,7 @@ halts_after NoMemory x y f g k a b c e w h = prefix_after x y a b c w h
 halts_after Failed x y f g k a b c e w h =
     let rose : Rose g k = h.0 in (omega arith, proper_after x y a b c w h.1)
 
--- what a call writes behind a text that was written, and what stops it there, is so of both
+-- a call behind a text that was written writes both texts, or stops in them
 module _ {A : Type 0} (r : Result A Halt) (x y : List ℕ) (f g k : ℕ) (a b c : Option (List ℕ)) (w : Wrote x a b) where
   pub ok_after : OnOk r (Wrote y b c) → OnOk r (Wrote (x ++ y) a c)
   ok_after h = on_ok_weaker r _ _ h (λ v. wrote_both x y a b c w v)

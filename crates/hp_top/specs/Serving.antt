@@ -15,7 +15,7 @@ use Rattle.hp_top.specs.Outcome.{refusal_answer, answer_to}
 use Rattle.hp_top.specs.Loading.{FolderRun, folder_run, LoadsBoth}
 use Rattle.hp_top.specs.Telling.{Tells}
 
--- what is written where the files aren't read, and the status
+-- the answer where the files aren't read
 abbrev pub load_answer : LoadError → Answer
 load_answer causes.NoMemory = (codes "", status.NoMemory)
 load_answer (causes.Refused r) = refusal_answer r
