@@ -1,13 +1,13 @@
 -- Bytes without comments spell the nodes that are laid out in them.
-use Rattle.std.proofs.Common.{◌≡◌, ℕ, ◌+◌, ◌-◌, ◌<◌, ◌≤◌, Bool, true, false, List, [], ◌∷◌, ◌++◌, length, refl, sym, ◌∙◌, ap, ap₂, arith, subst, ⊎_elim}
-use Rattle.std.specs.Prelude.{slice_index, slice_range, drop, take, ◌==◌, ◌||◌, not, cond, ℤ}
+use Rattle.std.proofs.Common.{◌≡◌, ℕ, ◌+◌, ◌-◌, ◌<◌, ◌≤◌, true, false, List, [], ◌∷◌, ◌++◌, length, refl, sym, ◌∙◌, ap, ap₂, arith, subst, ⊎_elim}
+use Rattle.std.specs.Prelude.{slice_index, slice_range, drop, take, ◌==◌, not, ℤ}
 use Rattle.std.specs.List.{list_all}
 use Rattle.std.specs.Fmt.{signed_decimal}
 use Rattle.std.proofs.lemmas.Bool.{and_parts, and_right, ne_eqb, cases_eq, false≢true}
 use Rattle.std.proofs.lemmas.List.{append_assoc, drop_more, length-drop, take_at}
 use Rattle.hp_syntax.specs.declared.limits.TheConstants.{LONGEST_TOKEN}
 use Rattle.hp_syntax.specs.declared.pattern.Span.{Span}
-use Rattle.hp_syntax.specs.Text.{Blank, Opening, Closing, NameByte, Bad, is_blank, is_name_byte, byte_kind, comment_after, in_comment, kind_at, IsOutside, IsToken, IsGap, Spelling, AName, ANumber, spelling_of}
+use Rattle.hp_syntax.specs.Text.{Blank, Opening, NameByte, is_name_byte, byte_kind, comment_after, in_comment, kind_at, IsOutside, IsToken, IsGap, Spelling, AName, ANumber, spelling_of}
 use Rattle.hp_syntax.specs.Forest.{Node, Word, Numeral, Group, Forest, Bare, Grow, span_of, IsSpelled, SpellsNode, Spells, longest_token, longest_token_of_node}
 use Rattle.hp_syntax.specs.Unplaced as unplaced
 use Rattle.hp_syntax.specs.Written.{nowhere, node_text, rest_text, lines}

@@ -7,7 +7,7 @@ use Rattle.hp_out.specs.declared.ending.Ending.{Ending}
 use Rattle.hp_out.specs.declared.ending.Ending.TheVariants as endings
 use Rattle.hp_out.proofs.WriteSteps.{wrote_both}
 use Rattle.hp_syntax.specs.Report as base
-use Rattle.hp_syntax.specs.Report.{Tally, tally, with_plan, ended, ending_text, status_of, answer_at, behind, plan_texts, end_of, report}
+use Rattle.hp_syntax.specs.Report.{Tally, tally, ended, ending_text, status_of, answer_at, behind, plan_texts, end_of}
 use Rattle.hp_syntax.specs.Walk.{Did, Plan, Visit}
 use Rattle.hp_syntax.specs.declared.status.Status.{Status}
 use Rattle.hp_top.specs.declared.planning.Detail.{Detail}

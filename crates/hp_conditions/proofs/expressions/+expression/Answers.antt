@@ -5,7 +5,7 @@ use Rattle.hp_syntax.specs.Grammar as grammar
 use Rattle.hp_syntax.specs.Steps.{and_then, pure}
 use Rattle.hp_syntax.specs.Syntax.{Or, Not, Test, Holds}
 use Rattle.hp_syntax.specs.ViewLaws.{expression_of-atom, expression_of-call, expression_of-not, expression_of-or}
-use Rattle.hp_syntax.specs.Views.{expression_of, pattern_of, atom_of}
+use Rattle.hp_syntax.specs.Views.{expression_of}
 use Rattle.hp_text.specs.Nodes.{nodes_of}
 use Rattle.hp_terms.proofs.Turns.{one_viewed, refused_next, refused_same}
 use Rattle.hp_terms.proofs.PartSteps.{expressions_read, expressions_refused, reads_same, conjunction-list}
