@@ -9,7 +9,7 @@ use Rattle.hp_laws.specs.TreeLaws.{IsFaultless}
 use Rattle.hp_syntax.specs.Walk.{is_fault_here, root, visits, walk}
 
 module _ {A : Type 0} (is_last : A → Bool) where
-  -- what holds of all elements holds of those up to the first of a kind
+  -- a fact of all elements is one of those up to the first of a kind
   pub all_up_to : (P : A → Type 0) (xs : List A) → All P xs → All P (up_to is_last xs)
   all_up_to P [] a = a
   all_up_to P (x ∷ xs) a =

@@ -71,7 +71,7 @@ mutual
       gives_chain (items_are_plain most end rest (omega arith)) (λ others k.
       gives_pure (record { call_free = (h.call_free, k.call_free); shallow = omega arith }))))
 
-  -- what stands behind a dot is read as plain terms
+  -- the tail behind a dot is read as plain terms
   dotted_is_plain : (most : ℕ) (end : Span) (f : Forest) → nesting f < most
       → Gives (PlainParts most) (dotted InProblem end f)
   dotted_is_plain most end Bare l = gives_refusal _

@@ -26,7 +26,7 @@ pub begins_through : {xs ys zs : Names} → Begins xs ys → Begins ys zs → Be
 begins_through {xs} {ys} {zs} a b =
     record { rest = a.rest ++ b.rest; whole = rw (b.whole, a.whole, append_assoc) refl }
 
--- what stands behind the first of some names stands one place further
+-- a name behind the first of some names stands one place further
 name_behind : (text x : List ℕ) (xs more : Names) (b : Bool) (i : ℕ)
     → name_of (cond b xs (xs ++ text ∷ []) ++ more) i ≡ text
     → name_of (cond b (x ∷ xs) (x ∷ (xs ++ text ∷ [])) ++ more) (1 + i) ≡ text
@@ -221,13 +221,13 @@ module _ {all : Names} where
       → After all names P p → ((x : A) (end : Names) → P x end → Q (g x) end) → After all names Q (g <$> p)
   after_made g h k = after_chain h (λ x mid. after_pure (k x mid))
 
-  -- what holds behind both steps holds behind a choice of them
+  -- a fact behind both steps holds behind a choice of them
   pub after_choice : {A : Type 0} {P : A → Names → Type 0} {names : Names} (b : Bool) {p q : Parse A}
       → (b ≡ true → After all names P p) → (b ≡ false → After all names P q) → After all names P (cond b p q)
   after_choice true h k = h refl
   after_choice false h k = k refl
 
-  -- what holds by any first name holds by that of a list
+  -- a fact by any first name holds by that of a list
   pub after_begun : {A : Type 0} {P : A → Names → Type 0} {names : Names} (n : Node)
       {by_name : List ℕ → Forest → Parse A} (m : Misform)
       → ((text : List ℕ) (rest : Forest) → (CanSpell n → IsName text × CanSpellAll rest)
@@ -269,7 +269,7 @@ module _ {A : Type 0} (w : A → Node) (ws : List A → Forest) (u : A → A) (i
         spells = λ k. rw more (b.spells k.0, a.spells k.1);
       })))
 
--- what holds for all names behind a step from no names holds for the names at its end
+-- a fact for all names behind a step from no names holds for the names at its end
 pub after_none : {A : Type 0} (P : Names → A → Names → Type 0) (Q : A → Type 0) {p : Parse A}
     → ((all : Names) → After all [] (P all) p) → ((x : A) (names : Names) → P names x names → Q x)
     → {names : Names} → Still names Q (by_itself p)

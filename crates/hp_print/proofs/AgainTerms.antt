@@ -42,7 +42,7 @@ still_list what (Word s text) = still_choice (is_nil text) (λ e. still_pure (λ
 still_list what (Numeral s n) = still_refusal _
 still_list what (Group s parts) = still_pure (λ h. h)
 
--- what holds of a name holds of whatever name is equal to it
+-- a fact of a name is one of each name that is equal to it
 named : {x text : List ℕ} (P : List ℕ → Type 0) → x ≡ text → P text → P x
 named P e h = subst P (sym e) h
 
@@ -76,7 +76,7 @@ call_as_term setting s n rest names writing v end h = record {
   no_dot = subst (λ (m : Node). is_word (codes ".") m ≡ false) (sym h.is) refl;
 }
 
--- what is written of parts and a tail
+-- the written parts and tail of a list
 abbrev pub written_parts : Names → Patterns × Option Tail → Forest
 written_parts all x = written.items all x.0 x.1
 
@@ -240,7 +240,7 @@ module _ {all : Names} where
           spells = λ c. (h.again.spells c.0, k.spells c.1);
         }))))
 
-    -- what stands behind a dot is read again in its place
+    -- the tail behind a dot is read again in its place
     again_dotted : {names : Names} (setting : Setting) (end : Span) (f : Forest)
         → After all names (ItemsAgain setting (CanSpellAll f) names all) (dotted setting end f)
     again_dotted setting end Bare = after_refusal _

@@ -35,7 +35,7 @@ token_bytes text a b t = list_all-from_AllPass is_name_byte (slice_range text a 
         ∙ (get_or-take (b - a) (drop a text) i 0 (omega arith) ∙ get_or-drop a text i 0) in
         ap is_name_byte e ∙ name_byte_only text (a + i) (t.run (a + i) (omega arith) (omega arith))
 
--- what a text spells without long tokens can be spelled
+-- a forest that a text spells without long tokens can be spelled
 mutual
   node_can_spell : (text : List ℕ) (n : Node) → SpellsNode text n → longest_token_of_node n ≤ LONGEST_TOKEN → CanSpell n
   node_can_spell text (Word s name) h l =

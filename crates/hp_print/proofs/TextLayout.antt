@@ -106,7 +106,7 @@ module _ (text : List ℕ) where
         ap₂ take n s.rest ∙ take_at xs rest (length xs) refl,
       )
 
-  -- what a token that stands at an offset spells is spelled by its span
+  -- the spelling of a token that stands at an offset is that of its span
   spelled_placed : (xs rest : List ℕ) (a : ℕ) (x : Spelling) → list_all is_name_byte xs ≡ true → 0 < length xs
       → spelling_of xs ≡ x → IsOutside text a → Stands text a (xs ++ rest) → Breaks rest
       → IsSpelled text (record { from = a; to = a + length xs }) x
@@ -135,7 +135,7 @@ module _ (text : List ℕ) where
             λ i l m. ⊎_elim (λ e. ap (kind_at text) (sym e) ∙ k) (λ n. g.blank i (omega arith) m) (cases_eq a i);
       }
 
-  -- what is spelled from behind a blank on is spelled from the blank on
+  -- a forest that is spelled from behind a blank on is spelled from the blank on
   wider : (a e : ℕ) (f : Forest) → kind_at text a ≡ Blank → Spells text (a + 1) e f → Spells text a e f
   wider a e Bare k h = wider_gap a e k h
   wider a e (Grow n f) k h = (wider_gap a (span_of n).from k h.0, h.1, h.2)

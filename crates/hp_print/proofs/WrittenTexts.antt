@@ -21,7 +21,7 @@ pub ended : {T E : Type 0} (r : Result T E) (new done kept whole : List ℕ)
 ended (Ok x) new done kept whole h e = h ∙ e
 ended (Err x) new done kept whole h e = tt
 
--- what was written where a write went well is any text that equals it
+-- the text that was written where a write went well is any text that equals it
 pub written_as : {T E : Type 0} (r : Result T E) (new a b : List ℕ) → OnOk r (new ≡ a) → a ≡ b → OnOk r (new ≡ b)
 written_as (Ok x) new a b h e = h ∙ e
 written_as (Err x) new a b h e = tt

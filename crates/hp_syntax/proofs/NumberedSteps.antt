@@ -21,7 +21,7 @@ pub record Leaves {A : Type 0} (most : ℕ) (P : A → Names → Type 0) (step :
 abbrev pub Keeps : {A : Type 0} → ℕ → (A → Type 0) → Parse A → Type 0
 Keeps most P step = Leaves most (λ x names. P x) step
 
--- what a step leaves behind another one is left by both
+-- the names that a step leaves behind another one are left by both
 then_left : {A B : Type 0} (most : ℕ) (P : A → Type 0) (Q : B → Names → Type 0) (names : Names) (p : A × Names)
     (r : Result (B × Names) Misform)
     → LeavesResult most (λ x _. P x) names (Ok p) → LeavesResult most (λ y after. P p.0 → Q y after) p.1 r
@@ -136,7 +136,7 @@ pub leaves_names : {A : Type 0} {most : ℕ} {P : A → Names → Type 0} {f : N
     → Leaves most P (names_so_far >>= (λ names. pure (f names)))
 leaves_names h = record { left = λ names l. (l, h names) }
 
--- what is left for each count of names holds for the count at the end
+-- a fact that is left for each count of names holds for the count at the end
 pub leaves_all : {A : Type 0} (P : ℕ → A → Names → Type 0) (Q : A → Type 0) {p : Parse A}
     → ((most : ℕ) → Leaves most (P most) p)
     → ((x : A) (names : Names) → P (length names) x names → Q x) → (most : ℕ) → Keeps most Q p

@@ -30,7 +30,7 @@ pub kind_at-end : (text : List ℕ) (i : ℕ) → length text ≤ i → kind_at 
 unfolding kind_at
 kind_at-end text i l = rw (le-ltb i (length text) l)
 
--- what isn't the end is a byte of the text
+-- an offset that isn't the end has a byte of the text
 pub kind_within : (text : List ℕ) (i : ℕ) → (kind_at text i ≡ End → ⊥) → i < length text
 kind_within text i h = ⊎_elim (λ l. l) (λ l. absurd (h (kind_at-end text i l))) (cases_lt i (length text))
 
@@ -155,7 +155,7 @@ token_start-run text from (suc i) l o r =
     (token_start-run text from i (omega arith) o (λ j x y. r j x (omega arith))))
     (cases_eq from (suc i))
 
--- what is clear up to an offset at which nothing is refused is clear beyond it
+-- a text that is clear up to an offset at which nothing is refused is clear beyond it
 pub clear_more : (text : List ℕ) (i : ℕ) → IsClear text i → refusal_at text i ≡ None → IsClear text (i + 1)
 clear_more text i c h = λ j l. ⊎_elim (λ e. ap (refusal_at text) e ∙ h) (λ n. c j (omega arith)) (cases_eq j i)
 

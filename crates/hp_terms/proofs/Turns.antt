@@ -30,7 +30,7 @@ pub prepend_more : {A : Type 0} (prefix : List A) (x : A) (r : Result (List A ×
 prepend_more prefix x (Ok p) = ap (λ xs. Ok (xs, p.1)) (sym (append_assoc prefix (x ∷ []) p.0))
 prepend_more prefix x (Err e) = refl
 
--- what refuses the step that comes next refuses all
+-- a refusal of the next step is one of all
 pub refused_next : {A B : Type 0} (e : FormRefusal) (r : Result (A × Names) Misform) (f : A → Parse B)
     → Refuses e r → Refuses e (and_then r f)
 refused_next (refusals.Expected what span) r f h = ap (λ x. and_then x f) h
@@ -43,7 +43,7 @@ refused_behind (refusals.Expected what span) prefix r h = ap (prepend prefix) h
 refused_behind (refusals.SeveralPairs span) prefix r h = ap (prepend prefix) h
 refused_behind refusals.NoMemory prefix r h = h
 
--- what refuses a result refuses an equal one
+-- a refusal of a result is one of an equal result
 pub refused_same : {A : Type 0} (e : FormRefusal) (r s : Result A Misform) → r ≡ s → Refuses e s → Refuses e r
 refused_same (refusals.Expected what span) r s same h = same ∙ h
 refused_same (refusals.SeveralPairs span) r s same h = same ∙ h
@@ -102,7 +102,7 @@ one_viewed view item nodes i d prefix x before after all h e r =
     one_read item nodes i d (map view prefix) (view x) before after all h e r
     ∙ ap (λ xs. prepend xs (from_here item nodes (i + 1) after)) (sym (map-append view prefix (x ∷ [])))
 
--- what an iterator over nodes takes is the first of those that are left
+-- the node that an iterator takes is the first of those that are left
 pub first_taken : {Z : Type 0} (old new : IntoIter Node Z) (r : Option Node) (n : Node)
     → r ≡ Some n → into_iter_steps old r new → into_iter_items old ≡ n ∷ into_iter_items new
 first_taken old new r n is h = (MatchOption-at_some _ _ n is h).0

@@ -103,7 +103,7 @@ unread_since : (which : Input) (told file : ToldFile) (before mid now : Input �
 unread_since which told file before mid now h q (inl r) = inl (rose_since (before which) (mid which) (now which) h r)
 unread_since which told file before mid now h q (inr r) = inr (sym q ∙ r)
 
--- what stops a run at a file since a later moment does since an earlier one
+-- a cause that stops a run at a file since a later moment does so since an earlier one
 pub stops_since : {A : Type 0} (which : Input) (form : Form A) (cause : LoadError) (told file : ToldFile)
     (before mid now : Input → ℕ) → ((w : Input) → before w ≤ mid w) → told ≡ file
     → StopsAt which form cause told mid now → StopsAt which form cause file before now

@@ -31,7 +31,7 @@ one_pair [] x one e = absurd (omega (arith, one))
 one_pair (p ∷ []) x one e = ap (λ y. pair_of y ∷ []) (sym e)
 one_pair (p ∷ q ∷ ps) x one e = absurd (omega (arith, one))
 
--- what holds of each pair of a list holds of its first where it is the only one
+-- a fact of each pair of a list is one of its first where it is the only one
 pub held_by_first : (P : plain.Pair → Type 0) (ps : List Pair) (x : Pair) → length (map pair_of ps) ≡ 1
     → x ≡ get_or ps 0 x → All P (map pair_of ps) → P (pair_of x)
 held_by_first P ps x one e h =
@@ -70,7 +70,7 @@ unfolding plan_report
 plans_left detail states k vs ws d e =
     ap (λ tell. report tell k nothing_seen vs) d ∙ report_left (plan_of states) k vs ws e
 
--- what was told, or stopped, of one answer is of an equal one
+-- the telling of an answer, whole or stopped, is that of an equal one
 pub tells_equal : (a b : Answer) (o : Result Status Halt) (s : Status) (r : SinkRun) → a ≡ b → s ≡ status_told o
     → OnOk o (Wrote a.0 r.before r.after) → IfOk o (λ s. s ≡ a.1) → IfErr o (λ h. Halts h a.0 r) → Tells b s r
 tells_equal a b o s r e same w t h =

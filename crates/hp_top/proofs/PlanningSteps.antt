@@ -23,7 +23,7 @@ pub wrote_nothing : (b : Option (List ℕ)) → Wrote [] b b
 wrote_nothing None = refl
 wrote_nothing (Some b) = ap Some (sym (append-nil b))
 
--- what holds whatever is answered holds on Ok
+-- a fact of any answer holds on Ok
 pub holds_on_ok : {A E : Type 0} (r : Result A E) (P : Type 0) → P → OnOk r P
 holds_on_ok (Ok x) P h = h
 holds_on_ok (Err e) P h = tt
@@ -128,7 +128,7 @@ module _ (detail : Detail) (k : ℕ) where
       subst (λ t. Halts h t.0 (sink_run f m a c)) (sym w.rest)
       (halts_after h w.text (left detail k q vs).0 f g m a b c e w.written x)
 
-  -- what stops the ending line stops the whole telling
+  -- a stop of the ending line is one of the whole telling
   pub halted_at_end : {T : Type 0} (p q : Progress) (us : List Visit) (x : Ending) (o : Result T Halt) (f g m : ℕ)
       (a b c : Option (List ℕ)) → f ≤ g → Closes detail k p q us x a b
       → IfErr o (λ h. Halts h (ending_text (ending_of x) q.plans q.expansions) (sink_run g m b c))

@@ -72,7 +72,7 @@ module _ (folder : FolderRun) (c : Command) where
     ForText : (which : Input) (why : Why) → loaded ≡ Err (causes.Refused (refusal_of which why)) → Known loaded
     ForAnswer : (x : Domain × Problem) → loaded ≡ Ok x → Known loaded
 
-  -- what stops at a file that the command names
+  -- a stop at a file that the command names
   stop_known : {A : Type 0} (which : Input) (form : Form A) (name : List ℕ) (cause : LoadError) (loaded : Loaded)
       → named c which ≡ Some name → StopsAt which form cause (folder.file name) folder.before folder.now
       → loaded ≡ Err cause → Known loaded
@@ -94,14 +94,14 @@ module _ (folder : FolderRun) (c : Command) where
         × ((which : Input) (name : List ℕ) → cause ≡ causes.Refused (refusals.Read which)
         → IsUnread which (folder.file name) folder.before folder.now → files name ≡ None)
 
-    -- what is read of a told file is loaded of the file
+    -- the reading of a told file is the load of the file
     good_exact : {A : Type 0} (which : Input) (form : Form A) (name : List ℕ) (x : A) → Reads form (folder.file name) x
         → LoadsFile which form (files name) (Ok x)
     good_exact which form name x h =
         let t = told_text (λ t. IsRead form t x) (folder.file name) (files name) (told name) h in
         outcome.LoadsFile.Good t.0 x t.1 t.2 refl
 
-    -- what stops at a told file refuses the file
+    -- a stop at a told file refuses the file
     bad_exact : {A : Type 0} (which : Input) (form : Form A) (name : List ℕ) (cause : LoadError) → IsExact cause
         → StopsAt which form cause (folder.file name) folder.before folder.now
         → (r : Refusal) × LoadsFile which form (files name) (Err r) × (cause ≡ causes.Refused r)
@@ -298,7 +298,7 @@ told_status a s r P (telling.Written e h) m w t = t e h
 other : (s t u : Status) → (t ≡ u → ⊥) → s ≡ t → s ≡ u → ⊥
 other s t u n e f = n (sym e ∙ f)
 
--- what a run that tells an answer wrote where it stopped short
+-- the text of a run that tells an answer and stopped short
 record IsShort (text : List ℕ) (s : Status) (r : SinkRun) : Type 0 where
   prefix : s ≡ status.NoMemory → WrotePrefix text r.before r.after
   proper : s ≡ status.WriteFault → WroteProperPrefix text r.before r.after
@@ -349,7 +349,7 @@ module _ (c : Command) (folder : FolderRun) (s : Status) (r : SinkRun) where
   abbrev status_to : Loaded folder c → Status
   status_to loaded = (answer_to load_answer c loaded).1
 
-  -- what is loaded comes to no status but want of memory, a read fault and those of answers
+  -- a load ends in no status but want of memory, a read fault and those of answers
   never : (loaded : Loaded folder c) (u : Status) → (status.NoMemory ≡ u → ⊥) → (status.ReadFault ≡ u → ⊥)
       → (IsAnswer u → ⊥) → Known folder c loaded → status_to loaded ≡ u → ⊥
   never loaded u m f a (ForMemory e) i = m (sym (ap status_to e) ∙ i)
@@ -357,7 +357,7 @@ module _ (c : Command) (folder : FolderRun) (s : Status) (r : SinkRun) where
   never loaded u m f a (ForText which why e) i = a (subst IsAnswer (sym (ap status_to e) ∙ i) (why_answers which why))
   never loaded u m f a (ForAnswer x e) i = a (subst IsAnswer (sym (ap status_to e) ∙ i) (read_answers c x.0 x.1))
 
-  -- what is served isn't refused as no command
+  -- a served command isn't refused as none
   serves_usage : Serves c folder s r → s ≡ status.Usage → ⊥
   serves_usage h u =
       told_status _ s r ⊥ h.tells (λ m f. other s _ _ (λ x. cc) m u) (λ m rose f. other s _ _ (λ x. cc) m u)
@@ -387,7 +387,7 @@ module _ (c : Command) (folder : FolderRun) (s : Status) (r : SinkRun) where
       → IsUnread which (folder.file name) folder.before folder.now
       → LoadsBoth folder c.domain c.problem (Err (causes.Refused (refusals.Read which)))
       → MayWrite (refused_read which)) where
-    -- what is loaded comes to a read fault only where an input is unread
+    -- a load ends in a read fault only where an input is unread
     how_read : (loaded : Loaded folder c) → LoadsBoth folder c.domain c.problem loaded
         → Known folder c loaded → status_to loaded ≡ status.ReadFault
         → Wrote (answer_to load_answer c loaded).0 r.before r.after → HasLine MayWrite
@@ -541,7 +541,7 @@ refused_words s r n t =
     told_status (refusal_answer refusals.Usage) s r (RefusesWords s r) t (λ m f. absurd (has_memory s n m))
     (λ m rose f. inr m) (λ m w. inl (m, w))
 
--- what is done to an input under the name that a command has for it is done under the name that the words have
+-- the run of an input under the name that a command has for it is that under the name that the words have
 pub touched_by_command : (words : List (List ℕ)) (file : List ℕ → ToldFile) (d p : List ℕ) (j : Job) (w : Input)
     (r : InputRun) → accepts words ≡ Some (on_files d p j) → Touches (file (by_input w d p)) r
     → TouchesNamed words file w r
