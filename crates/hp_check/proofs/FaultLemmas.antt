@@ -32,7 +32,7 @@ none_before false true false a m b n c o h k = cc
 none_before false false true a m b n c o h k = grind (arith, nat_tests)
 none_before false false false a m b n c o h k = grind (arith, nat_tests)
 
--- what comes before a fault comes before each fault that the fault comes before
+-- a fault before another one comes before each fault behind that one
 pub comes_before-trans : (f g h : CheckFault) → comes_before g f ≡ true → comes_before h g ≡ true
     → comes_before h f ≡ true
 comes_before-trans f g h e k =

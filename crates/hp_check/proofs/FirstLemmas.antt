@@ -1,4 +1,4 @@
--- What the first of many faults is.
+-- The first of many faults.
 use Rattle.std.proofs.Common.{◌≡◌, ◌↔◌, ℕ, Bool, subst, true, false, cond, Option, Some, None, List, [], ◌∷◌, ap, refl, arith}
 use Rattle.std.specs.List.{All, Contains}
 use Rattle.std.proofs.lemmas.List.Elements.{All-weaker, All-cons, All-nil, All-same, Contains-append_left, Contains-append_right, Contains-push}

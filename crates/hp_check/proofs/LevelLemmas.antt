@@ -1,4 +1,4 @@
--- What is found in expressions that stand far too deep doesn't depend on their level.
+-- The faults of expressions that stand far too deep don't depend on their level.
 use Rattle.std.proofs.Common.{◌≡◌, ℕ, ◌+◌, ◌-◌, ◌^◌, ◌<◌, min, Option, ◌++◌, ◌⊎◌, inl, inr, ap, ◌∙◌, refl, arith}
 use Rattle.std.proofs.lemmas.Bool.Decides.{nat_tests, leb_tells}
 use Rattle.hp_syntax.specs.declared.pattern.Span.{Span}
@@ -56,14 +56,14 @@ all_faults-next level n es h =
       | inr k ↦ all_below_levels n (level + 1) k.0 k.1 es
     ]
 
--- what was seen of an expression at a level that is counted up to the end of its type was seen at the next level
+-- the fault of an expression at a level that is counted up to the end of its type is that at the next level
 pub seen_next : (a b : Option CheckFault) (level n : ℕ) (d e : Expression) → n ≡ min (level + 1) (2 ^ 64 - 1)
     → d ≡ e → b ≡ earlier a (first_of (expression_faults n d))
     → b ≡ earlier a (first_of (expression_faults (level + 1) e))
 seen_next a b level n d e h k m =
     m ∙ ap (λ fs. earlier a (first_of fs)) (ap (expression_faults n) k ∙ faults-next level n e h)
 
--- what was seen of many expressions at a level counted up to the end of its type was seen at the next level
+-- the fault of many expressions at a level counted up to the end of its type is that at the next level
 pub all_seen_next : (a b : Option CheckFault) (level n : ℕ) (ds es : Expressions) → n ≡ min (level + 1) (2 ^ 64 - 1)
     → ds ≡ es → b ≡ earlier a (first_of (expressions_faults n ds))
     → b ≡ earlier a (first_of (expressions_faults (level + 1) es))

@@ -6,7 +6,7 @@ use Rattle.hp_syntax.specs.Notes.{Note}
 use Rattle.hp_syntax.specs.Syntax.{Atom}
 use Rattle.hp_syntax.proofs.ListLemmas.{made_on}
 
--- once the notes of one more part are there, they and those of what is left are together what they were before
+-- the notes of one more part leave the whole, of the notes so far and those that are left, as it was
 pub noted_on : {X : Type 0} (notes_on : Atom → List Note) (atoms : List X → List Atom) (part : X → List Atom)
     (xs : List X) (i : ℕ) (x : X) (old new whole : List Note)
     → ((y : X) (ys : List X) → atoms (y ∷ ys) ≡ part y ++ atoms ys) → i < length xs → x ≡ get_or xs i x

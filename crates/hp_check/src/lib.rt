@@ -42,7 +42,7 @@ impl Drop for Note {
     }
 }
 
-/// What a user may want to know of an accepted domain and problem.
+/// The notes on an accepted domain and problem.
 pub struct Notes {
     pub list: Vec<Note>,
 }

@@ -13,7 +13,7 @@ ghost use Rattle.hp_code.specs.NodeViews.{laid_of, operation_of};
 use crate::code::Code;
 use crate::node::{CodeNode, Op};
 use hp_print::{atom_pat_text, pat_text, tasks_text};
-use hp_print::words::{order_word, push_all, push_variable};
+use hp_print::words::{order_word, push_all, variable_name};
 use hp_syntax::{AtomPat, Name, NetPat, Pat, SortKey};
 use hp_tables::Kind;
 use itoa::Buffer;
@@ -78,9 +78,15 @@ fn push_key(text: &mut Vec<u8>, vars: &[Name], key: &SortKey) -> Result<(), Allo
     ensures { OnOk result (text.new.items ≡ text.old.items ++ codes "sort " ++ name_of vars.now key.now.var
         ++ codes " " ++ order_word (key_of key.now).order) }
 {
-    text.extend_from_slice(b"sort ")?;
-    push_variable(text, vars, key.var)?;
-    push_all(text, &[b" ", order_word(&key.order)])
+    push_all(
+        text,
+        &[
+            b"sort ",
+            variable_name(vars, key.var),
+            b" ",
+            order_word(&key.order),
+        ],
+    )
 }
 
 // What gives a variable a value.
@@ -94,8 +100,7 @@ fn push_assign(
     ensures { OnOk result (text.new.items ≡ text.old.items ++ codes "assign " ++ name_of vars.now v
         ++ codes " " ++ pattern_text vars.now (pattern_of value.now)) }
 {
-    text.extend_from_slice(b"assign ")?;
-    push_variable(text, vars, v)?;
+    push_all(text, &[b"assign ", variable_name(vars, v)])?;
     push_pattern(text, alloc, vars, b" ", value)
 }
 

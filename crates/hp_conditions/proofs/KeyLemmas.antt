@@ -1,4 +1,4 @@
--- What a list is that is empty, or begins with a name other than `nil`: the line of the grammar that it chooses.
+-- An empty list, and one that begins with a name other than `nil`: the line of the grammar that it chooses.
 use Rattle.std.proofs.Common.{◌≡◌, refl, ap, sym, ◌∙◌, arith, ℕ, List, [], ◌∷◌, length, Result, Ok, true, false, bytes_eq, codes}
 use Rattle.std.specs.Global.{Global}
 use Rattle.std.specs.Prelude.{Vec}
@@ -68,7 +68,8 @@ module _ (s t : Span) (key : List ℕ) (rest : Forest) (names : Names) (no_nil :
     unfolding list_expression
     by_assign no_forall h = rw (no_nil, no_and, no_or, no_not, no_imply, no_forall, h) refl
 
-    module _ (no_forall : bytes_eq key (codes "forall") ≡ false) (no_assign : bytes_eq key (codes "assign") ≡ false) where
+    module _ (no_forall : bytes_eq key (codes "forall") ≡ false)
+        (no_assign : bytes_eq key (codes "assign") ≡ false) where
       pub by_call : bytes_eq key (codes "call") ≡ true
           → list_expression s (Grow (Word t key) rest) names ≡ (Test s <$> called InRule s rest) names
       unfolding list_expression

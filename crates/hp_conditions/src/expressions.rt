@@ -76,7 +76,7 @@ fn conjunction(scope: &mut Scope, span: Span, nodes: &[Node]) -> Result<ExprKind
     Ok(ExprKind::And(expressions(scope, nodes)?))
 }
 
-/// What a list is that begins with a name other than `nil`.
+/// A list that begins with a name other than `nil`, by that name.
 #[cycle(expression)]
 #[tactic(auto, unfolding(hp_syntax::specs::Grammar::list_expression, hp_syntax::specs::Views::expression_of))]
 fn keyed(scope: &mut Scope, span: Span, key: &Name, rest: &[Node]) -> Result<ExprKind, FormRefusal>

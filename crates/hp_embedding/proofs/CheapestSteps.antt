@@ -1,4 +1,4 @@
--- What a search for the cheapest plan keeps from visit to visit.
+-- Facts that a search for the cheapest plan keeps from visit to visit.
 use Rattle.std.proofs.Common.{◌≡◌, ◌<◌, ◌≤◌, ◌⊎◌, inl, inr, ℕ, zero, Bool, true, false, cond, T, ℤ, ◌≤ℤ◌, List, [], ◌∷◌, length, ◌++◌, Option, Some, None, IfSome, refl, sym, ap, ◌∙◌, subst, arith}
 use Rattle.std.specs.Prelude.{Contains}
 use Rattle.std.specs.List.{All, AllPairs, Any}
@@ -57,7 +57,7 @@ skip_one o p c r w ws rest dear false e =
     let same : skip p (w ∷ ws) ≡ w ∷ ws = rw e refl in
     ap (least_cost o) same
 
--- what lies at or below a node may be left out where it costs no less than the best so far
+-- the visits at or below a node may be left out where it costs no less than the best so far
 least_skip : (o : Option ℤ) (p : List ℕ) (c : ℤ) → reaches o c ≡ true → (vs : List Visit) → All (IsDear p c) vs
     → least_cost o (skip p vs) ≡ least_cost o vs
 least_skip o p c r [] a = refl
@@ -92,7 +92,7 @@ no_longer (x ∷ xs) ys = let h = no_longer xs ys in omega (arith, h)
 
 -- ---- one visit
 
--- what costs no less below an earlier visit
+-- a visit that costs no less than an earlier one above it
 abbrev IsNoCheaper : Visit → Visit → Type 0
 IsNoCheaper v w = begins v.path w.path ≡ true → v.node.cost ≤ℤ w.node.cost
 
@@ -149,14 +149,14 @@ goes_down a v vs t r e d p true h k =
     subst (Goes a a vs) (sym left) (goes_pruned a v vs t.rest e d h)
 goes_down a v vs t r e d p false h k = subst (Goes a a vs) (sym (ap (λ s. s.rest) k)) (goes_did a v vs t.rest e d)
 
--- what holds of all that is left holds of it where a part is left out
+-- a fact of all the visits that are left holds of them where a part is left out
 pub at_left : (P : Visit → Type 0) (t r : Standing) (b : Bool) → r ≡ cond b (pruned t) t → All P t.rest → All P r.rest
 at_left P t r true k a =
     let rest = skip_rest t.path t.rest in
     subst (All P) (sym (ap (λ s. s.rest) k)) (all_right P rest.0 (skip t.path t.rest) (subst (All P) rest.1 a))
 at_left P t r false k a = subst (All P) (sym (ap (λ s. s.rest) k)) a
 
--- what was found at a node is the plan of the first visit
+-- the plan that was found at a node is that of the first visit
 found_first : (b : Option CheapestPlan) (v : Visit) (vs ws : List Visit) → vs ≡ v ∷ ws → v.sight ≡ Plan
     → IfSome b (λ f. IsAt f v.node v.path) → IfSome b (λ f. Any (IsOf f) vs)
 found_first None v vs ws e d h = tt
@@ -173,7 +173,7 @@ goes_plan a b v vs ws e d low kept =
     ap (λ o. least_cost o ws) low ∙ sym (ap (least_cost (cost_of a)) e ∙ one))
     (elim kept [ inl same ↦ inl same | inr h ↦ inr (found_first b v vs ws e d h) ])
 
--- what is seen at a visit that is answered as a fault
+-- the sight at a visit that is answered as a fault
 fault_seen : (f : RunFault) (x : Sight) (v : Visit) → v.sight ≡ x → steps.Fault f ≡ step_or_end (Some v)
     → v.sight ≡ FaultHere f
 fault_seen f Did v h e = let g : steps.Fault f ≡ steps.Did = e ∙ (rw h refl) in cc
@@ -189,7 +189,7 @@ fault_left f (v ∷ vs) e = (zero, v, omega arith, refl, fault_seen f v.sight v 
 
 -- ---- the whole search
 
--- what is known of a search midway, of the visits at its beginning and of those left
+-- the state of a search midway, by the visits at its beginning and those left
 pub record Searched (best : Option CheapestPlan) (all left : List Visit) : Type 0 where
   pub among : All (Contains all) left
   pub falls : NeverFalls all → NeverFalls left
@@ -205,7 +205,7 @@ searched_none best all e = record {
   plan = subst (λ o. IfSome o (λ f. Any (IsOf f) all)) (sym e) tt;
 }
 
--- what holds of some of the visits left holds of some of all
+-- a fact of some of the visits left is one of some of all
 any_among : (P : Visit → Type 0) (all left : List Visit) → All (Contains all) left → Any P left → Any P all
 any_among P all left a h =
     let c : Contains all h.1 = All-contains (Contains all) left h.1 a (h.0, h.2, h.3) in

@@ -31,13 +31,13 @@ least_cost best (v ∷ vs) =
 abbrev pub cost_of : Option CheapestPlan → Option ℤ
 cost_of o = option_map (λ f. f.cost) o
 
--- what was found is the plan of a node
+-- the plan that was found is that of a node
 pub record IsAt (f : CheapestPlan) (n : Node) (p : List ℕ) : Type 0 where
   pub cost : f.cost ≡ n.cost
   pub path : f.path.items ≡ told p
   pub text : f.text.items ≡ told_plan false 1 n
 
--- what was found is the plan of a visit
+-- the plan that was found is that of a visit
 abbrev pub IsOf : CheapestPlan → Visit → Type 0
 IsOf f v = (v.sight ≡ Plan) × IsAt f v.node v.path
 
@@ -46,7 +46,7 @@ abbrev pub Explains : SearchError → List Visit → Type 0
 Explains errors.NoMemory vs = Unit {0}
 Explains (errors.Fault f) vs = Any (λ v. v.sight ≡ FaultHere f) vs
 
--- after one visit fewer are left, and the cheapest plan of what was left is the cheapest of what is
+-- after one visit fewer are left, and the cheapest plan of those before is the cheapest of these
 pub record Goes (a b : Option CheapestPlan) (vs ws : List Visit) : Type 0 where
   pub shorter : length ws < length vs
   pub among : All (Contains vs) ws

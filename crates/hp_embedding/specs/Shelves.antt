@@ -1,4 +1,4 @@
--- What a shelf tells.
+-- The views of a shelf.
 use Rattle.std.specs.Prelude.{ℕ, Bool, cond, List, Option, Some, None, option_map, is_some, bytes_eq, codes}
 use Rattle.hp_io.specs.Inputs.{by_input}
 use Rattle.hp_io.specs.declared.folder.Input.{Input}
@@ -13,7 +13,7 @@ texts domain problem n =
 abbrev pub text_named : Shelf → List ℕ → Option (List ℕ)
 text_named s n = texts s.domain.now s.problem.now n
 
--- what is left to read of an input that was begun
+-- the bytes of a begun input that are left to read
 abbrev pub left_of : Shelf → Input → Option (List ℕ)
 left_of s which = by_input which (option_map (λ t. t.now) s.domain_left) (option_map (λ t. t.now) s.problem_left)
 

@@ -2,7 +2,7 @@
 use crate::planning::plan;
 use std::alloc::{AllocError, Global};
 
-/// What a way costs are its minutes.
+/// The cost of a way is its minutes.
 pub const DOMAIN: &str = "(defdomain courier (
   (:operator (!ride ?from ?to)
     ((at ?from) (street ?from ?to ?minutes)) ((at ?from)) ((at ?to) (seen ?to)) ?minutes)

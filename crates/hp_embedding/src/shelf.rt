@@ -11,7 +11,7 @@ use hp_io::{BeginError, Failed, Folder, Input};
 pub struct Shelf<'a> {
     domain: &'a [u8],
     problem: &'a [u8],
-    /// What is left to read of each input, once it was begun.
+    /// The bytes of each input that are left to read, once it was begun.
     domain_left: Option<&'a [u8]>,
     problem_left: Option<&'a [u8]>,
 }
@@ -40,7 +40,7 @@ impl<'a> Shelf<'a> {
         }
     }
 
-    /// What is left to read of an input that was begun, and nothing of another.
+    /// The bytes of a begun input that are left to read.
     fn left(&self, which: Input) -> &'a [u8]
         requires { is_begun self.now which ≡ true }
         ensures { left_of self.now which ≡ Some result.now }

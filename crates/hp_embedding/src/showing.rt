@@ -1,4 +1,4 @@
-//! What is shown of a walk.
+//! The parts of a walk that are shown.
 ghost use Rattle.std.specs.Prelude.{◌≡◌, true};
 ghost use Rattle.std.specs.List.{All};
 ghost use Rattle.hp_top.specs.Telling.{IsAtItsNode};
@@ -10,7 +10,7 @@ use hp_net::Walk;
 use hp_out::Pen;
 use std::alloc::Global;
 
-/// What is shown.
+/// The parts of a run that are shown.
 #[derive(Clone, Copy)]
 pub enum Shown {
     Cheapest,
@@ -19,7 +19,7 @@ pub enum Shown {
     WayBack,
 }
 
-/// What a plan costs, where it was found, and its lines.
+/// The cost of a plan, the place where it was found, and its lines.
 fn print_found(rt: &impl Print, found: &CheapestPlan) -> anyhow::Result<()> {
     println!(rt;
         "the cheapest costs {}, at path {:?}",

@@ -32,14 +32,14 @@ unfolding file
 file-alone what node len f n rest at =
     ap (λ g. from_no_names (file what node len g)) at ∙ value_alone (node n []) rest
 
--- what refuses the node refuses the file
+-- a refusal of the node is one of the file
 pub alone_refused : {A : Type 0} (e : FormRefusal) (r : Result A Misform) (rest : Forest)
     → Refuses e r → Refuses e (alone r rest)
 alone_refused (refusals.Expected what span) r rest h = ap (λ x. alone x rest) h
 alone_refused (refusals.SeveralPairs span) r rest h = ap (λ x. alone x rest) h
 alone_refused refusals.NoMemory r rest h = h
 
--- what refuses that nothing follows refuses the file
+-- a refusal of a second node is one of the file
 pub alone_left : {A : Type 0} (e : FormRefusal) (r : Result A Misform) (x : A) (rest : Forest) (names : Names)
     → r ≡ Ok x → Refuses e (ended rest names) → Refuses e (alone r rest)
 alone_left e r x rest names at h = refused_same e (alone r rest) (alone (Ok x) rest) (ap (λ y. alone y rest) at)
@@ -58,12 +58,12 @@ pub alone_value : {A : Type 0} (r : Result A Misform) (x : A) (rest : Forest) (n
 alone_value r x Bare names at h = ap (λ y. alone y Bare) at
 alone_value r x (Grow n rest) names at h = cc
 
--- what is taken and what is left, joined again
+-- the nodes that are taken and those that are left, joined again
 abbrev joined : Result ((Node × Forest) × Names) Misform → Forest
 joined (Ok p) = Grow p.0.0 p.0.1
 joined (Err e) = Bare
 
--- what has a next item is that item and what follows it
+-- a forest with a next item is that item and the rest
 pub next_is : (what : What) (end : Span) (f : Forest) (first : Node) (rest : Forest) (names : Names)
     → next what end f names ≡ Ok ((first, rest), names) → f ≡ Grow first rest
 next_is what end f first rest names h = sym (same f) ∙ ap joined h
@@ -73,7 +73,7 @@ next_is what end f first rest names h = sym (same f) ∙ ap joined h
     same (Grow n g) = refl
 
 module _ {A : Type 0} (what : What) (key : List ℕ) (parts : Span → Forest → Parse A) (s : Span) (names : Names) where
-  -- what refuses that a list has a first item refuses the list
+  -- a refusal of a list's first item is one of the list
   pub list_refused : (e : FormRefusal) (f : Forest) → Refuses e (next what s f names)
       → Refuses e (file_list what key parts (Group s f) names)
   unfolding file_list
@@ -99,7 +99,7 @@ module _ {A : Type 0} (what : What) (key : List ℕ) (parts : Span → Forest �
   list_unnamed (Numeral t n) rest h = refl
   list_unnamed (Group t f) rest h = refl
 
--- what has no parts begins with no word
+-- a node without parts begins with no word
 pub partless_refused : {A : Type 0} (what : What) (key : List ℕ) (parts : Span → Forest → Parse A) (n : Node)
     (names : Names) → parts_of n ≡ None → file_list what key parts n names ≡ Err (Expected what (span_of n))
 unfolding file_list
@@ -142,20 +142,20 @@ list_behind what key parts (Group s (Grow (Word t text) rest)) names = elim (byt
     (λ b. cond b (parts s rest) (expected what s) names
     ≡ and_then (cond b (pure rest) (expected what s) names) (parts s)) [ true ↦ refl | false ↦ refl ]
 
--- what reading gives of a step it gives of one that gives the same
+-- a result of reading a step is one of reading a step that gives the same
 pub reads_same : {X Y : Type 0} (view : X → Y) (r : Result X FormRefusal) (one other : Parse Y) (before after : Names)
     → one before ≡ other before → Reads view r other before after → Reads view r one before after
 reads_same view (Ok x) one other before after same h = same ∙ h
 reads_same view (Err why) one other before after same h = refused_same why _ _ same h
 
--- what refuses a step refuses its value
+-- a refusal of a step is one of its value
 pub value_refused : {A : Type 0} (e : FormRefusal) (r : Result (A × Names) Misform) → Refuses e r
     → Refuses e (value_in r)
 value_refused (refusals.Expected what span) r h = ap value_in h
 value_refused (refusals.SeveralPairs span) r h = ap value_in h
 value_refused refusals.NoMemory r h = h
 
--- what gives a result gives an equal one
+-- a value that gives a result gives an equal one
 pub gives_same : {X Y : Type 0} (view : X → Y) (x : Result X FormRefusal) (r s : Result Y Misform) → r ≡ s
     → Gives view x s → Gives view x r
 gives_same view (Ok x) r s same h = same ∙ h

@@ -193,7 +193,7 @@ own_refusal : {A : Type 0} (r : Result (A × Names) Misform) (m : Misform) (name
 own_refusal (Ok p) m names h = cc
 own_refusal (Err e) m names h = cc
 
--- what gives the value of a step reads the step with variables of its own
+-- a value of a step reads the step with variables of its own
 pub reads_by_itself : {X A : Type 0} (view : X → A) (r : Result X FormRefusal) (p : Parse A) (names : Names)
     → Gives view r (value_in (p [])) → Reads view r (by_itself p) names names
 reads_by_itself view (Ok x) p names h = own_value (p []) (view x) names h
@@ -201,7 +201,7 @@ reads_by_itself view (Err (refusals.Expected what span)) p names h = own_refusal
 reads_by_itself view (Err (refusals.SeveralPairs span)) p names h = own_refusal (p []) (SeveralPairs span) names h
 reads_by_itself view (Err refusals.NoMemory) p names h = h
 
--- what gives a result gives an equal one
+-- a value that gives a result gives an equal one
 pub gives_same : {X A : Type 0} (view : X → A) (r : Result X FormRefusal) (p q : Result A Misform) → q ≡ p
     → Gives view r p → Gives view r q
 gives_same view (Ok x) p q same h = same ∙ h

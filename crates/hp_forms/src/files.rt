@@ -54,7 +54,7 @@ fn into_list(alloc: Global, what: What, node: Node) -> Result<Vec<Node>, FormRef
     }
 }
 
-/// What follows the word in a list that begins with it; else this is wanted.
+/// The nodes behind the word in a list that begins with it; else this is wanted.
 fn behind_word(what: What, word: &[u8], node: Node) -> Result<Vec<Node>, FormRefusal>
     ensures { (names : Names) → Reads (λ rest. nodes_of rest.items) result
         (grammar.file_list what word.now (λ span rest. pure rest) (node_of node)) names names }

@@ -62,7 +62,7 @@ fn opening<'a>(
     Ok((head, pre, rest))
 }
 
-/// What an operator deletes and adds, and what follows.
+/// The effects of an operator, its deletes and its adds, and the nodes behind them.
 #[tactic(auto, unfolding(crate::specs::Operators::changes))]
 fn changes<'a>(
     scope: &mut Scope,

@@ -103,7 +103,7 @@ fn ordered(scope: &mut Scope, setting: Setting, nodes: &[Node]) -> Result<NetPat
     Ok(NetPat::Ordered(task_list(scope, setting, nodes)?))
 }
 
-/// What a list is that begins with a name other than `nil`.
+/// A list that begins with a name other than `nil`, by that name.
 #[cycle(tasks)]
 #[tactic(auto, unfolding(hp_syntax::specs::Grammar::list_tasks, hp_syntax::specs::Views::tasks_of))]
 fn keyed(

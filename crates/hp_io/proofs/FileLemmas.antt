@@ -25,7 +25,7 @@ first_found [] n i first = absurd (omega (arith, first.0))
 first_found (f ∷ fs) n zero first = grind arith
 first_found (f ∷ fs) n (suc i) first = grind (arith, first_found fs n i)
 
--- what isn't true is false
+-- a test that isn't true is false
 refuted : (b : Bool) → (b ≡ true → ⊥) → b ≡ false
 refuted true never = absurd (never refl)
 refuted false _ = refl

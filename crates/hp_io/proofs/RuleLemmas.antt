@@ -1,4 +1,4 @@
--- What a read takes from the rest.
+-- The bytes that a read takes from the rest.
 use Rattle.std.proofs.Common.{◌≡◌, ℕ, ◌+◌, ◌<◌, List, [], ◌∷◌, Option, Some, None, min, length, take, drop, slice_get, zero, suc, refl, sym, ◌∙◌, ap, arith}
 use Rattle.std.proofs.lemmas.List.{take-append-drop, drop-drop}
 use Rattle.hp_io.specs.declared.mem_folder.File.{File}
@@ -17,7 +17,7 @@ taken_prefix : (n room : ℕ) (buf old : List ℕ) (new : Option (List ℕ)) →
 taken_prefix n room buf old new count prefix rest =
     (drop n old, rest, rw prefix (sym (take-append-drop n old)), at_end old n room count)
 
--- what stands in a file from a later place on is the rest without its first bytes
+-- the bytes of a file from a later place on are the rest without its first bytes
 further : (f : Option File) (at' n : ℕ) → bytes_at f (at' + n) ≡ drop n (bytes_at f at')
 further None at' zero = refl
 further None at' (suc n) = refl

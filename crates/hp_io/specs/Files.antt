@@ -1,4 +1,4 @@
--- What a folder in memory holds, and which of its calls fail.
+-- The files of a folder in memory, its inputs, and its calls that fail.
 use Rattle.std.specs.Prelude.{◌≡◌, ℕ, ◌<◌, Bool, true, false, cond, List, [], ◌∷◌, length, take, drop, Option, Some, None, is_some, slice_get, bytes_eq, string_bytes}
 use Rattle.hp_io.specs.declared.folder.Input.{Input}
 use Rattle.hp_io.specs.declared.mem_folder.File.{File}
@@ -26,16 +26,16 @@ is_named n (Some f) = has_name n f
 abbrev pub IsFirst : List File → List ℕ → ℕ → Type 0
 IsFirst fs n i = (i < length fs) × (file_of (take i fs) n ≡ None) × (is_named n (slice_get fs i) ≡ true)
 
--- what stands in a file from there on
+-- the bytes of a file from an offset on
 abbrev pub bytes_at : Option File → ℕ → List ℕ
 bytes_at None at' = []
 bytes_at (Some f) at' = drop at' f.bytes.items
 
--- what is kept of an input
+-- the record of an input
 abbrev pub input_of : MemFolder → Input → MemInput
 input_of folder which = by_input which folder.domain folder.problem
 
--- what stands in the files from a place on
+-- the bytes of the files from a place on
 abbrev pub rest_from : List File → Option Place → Option (List ℕ)
 rest_from fs None = None
 rest_from fs (Some p) = Some (bytes_at (slice_get fs p.file) p.at)
@@ -44,7 +44,7 @@ rest_from fs (Some p) = Some (bytes_at (slice_get fs p.file) p.at)
 abbrev pub contents : MemFolder → List ℕ → Option (List ℕ)
 contents folder n = file_of folder.files.items n
 
--- what is left to read of an input that was begun
+-- the bytes of a begun input that are left to read
 abbrev pub rest_of : MemFolder → Input → Option (List ℕ)
 rest_of folder which = rest_from folder.files.items (input_of folder which).place
 

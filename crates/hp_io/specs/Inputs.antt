@@ -1,4 +1,4 @@
--- What is kept for each input.
+-- The parts of a folder that are kept for each input.
 use Rattle.hp_io.specs.declared.folder.Input.{Input}
 use Rattle.hp_io.specs.declared.folder.Input.TheVariants.{Domain, Problem}
 

@@ -1,4 +1,4 @@
--- What a sink in memory took, what it can still take, and which of its writes fail.
+-- The bytes that a sink in memory took, its room, and its writes that fail.
 use Rattle.std.specs.Prelude.{ℕ, Bool, List}
 use Rattle.hp_io.specs.declared.mem_sink.MemSink.{MemSink}
 use Rattle.hp_io.specs.Schedules.{is_listed}

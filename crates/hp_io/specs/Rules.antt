@@ -1,4 +1,4 @@
--- What folders and sinks do to the bytes that they tell, and when they fail.
+-- The effects of reads and writes on the bytes that folders and sinks tell, and their faults.
 use Rattle.std.specs.Prelude.{◌≡◌, ℕ, ◌+◌, ◌-◌, ◌^◌, ◌<◌, ◌≤◌, min, List, [], ◌++◌, take, Option, Some, None}
 
 -- one more, where the count doesn't stand at its end

@@ -31,7 +31,7 @@ pub trait Folder {
     // A file's bytes or that there is none, where the folder tells.
     ghost file: { Self → List ℕ → Option (Option (List ℕ)) };
 
-    // What is left to read of an input, where the folder tells.
+    // The bytes of an input that are left to read, where the folder tells.
     ghost rest: { Self → Input → Option (List ℕ) };
 
     ghost begun: { Self → Input → Bool };

@@ -247,7 +247,7 @@ fn find(files: &[File], name: &str) -> Option<usize>
     None
 }
 
-/// What stands in a file from that place on.
+/// The bytes of a file from that place on.
 fn rest_at(files: &[File], place: Place) -> &[u8]
     ensures rest { result.now ≡ bytes_at (slice_get files.now place.file) place.at }
     ensures fits { place.at + length result.now ≤ usize.MAX }

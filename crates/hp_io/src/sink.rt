@@ -3,7 +3,7 @@ ghost use Rattle.hp_io.specs.Rules.{Rose, Appended};
 
 use crate::folder::Failed;
 
-/// What bytes are written to.
+/// A target of written bytes.
 pub trait Sink {
     // All that it took, where it tells.
     ghost bytes: { Self → Option (List ℕ) };

@@ -7,14 +7,14 @@ use Rattle.std.proofs.lemmas.List.{length-set}
 use Rattle.hp_syntax.specs.Terms.{Term}
 use Rattle.hp_syntax.specs.Values.{Bindings, bound, flat_option, Extends}
 
--- what was set at a place stands there
+-- the value that was set at a place stands there
 pub slice_get-set_same : {X : Type 0} (xs : List X) (i : ℕ) (x : X) → i < length xs
     → slice_get (slice_set xs i x) i ≡ Some x
 slice_get-set_same [] i x l = absurd (omega arith)
 slice_get-set_same (y ∷ xs) zero x l = refl
 slice_get-set_same (y ∷ xs) (suc i) x l = slice_get-set_same xs i x (omega arith)
 
--- what stands at another place stays
+-- the element at another place stays
 pub slice_get-set_other : {X : Type 0} (xs : List X) (i j : ℕ) (x : X) → i ≢ j
     → slice_get (slice_set xs i x) j ≡ slice_get xs j
 slice_get-set_other [] i j x n = refl

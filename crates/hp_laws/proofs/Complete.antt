@@ -1,4 +1,4 @@
--- What choices derive is among the visits of a tree.
+-- Each derivation of choices is among the visits of a tree.
 use Rattle.std.proofs.Common.{◌≡◌, ℕ, zero, suc, ◌+◌, ◌-◌, ◌≤◌, Bool, true, false, ℤ, List, [], ◌∷◌, ◌++◌, length, Some, refl, sym, ◌∙◌, ap, subst, ⊎_elim, arith, append_assoc}
 use Rattle.std.specs.Prelude.{◌+ℤ◌, Contains, flat_map}
 use Rattle.std.specs.List.{Any}
@@ -60,7 +60,7 @@ module _ (rules : List Rule) (nest : ℕ) where
       (flat_map (child_visits (visits_within rules nest d) n p) (numbered_children 0 (children rules nest n))) e))
       (contains_first (visit p n Plan) [])
 
-  -- what is seen below a child is seen below its parent
+  -- a visit below a child is one below its parent
   seen_above : (d : ℕ) (n m : Node) (p : List ℕ) (i : ℕ) (v : Visit) → is_empty n.network ≡ false
       → Contains (numbered_children 0 (children rules nest n)) (i, DidChild m)
       → Contains (visits_within rules nest d m (p ++ i ∷ [])) v → Contains (visits_within rules nest (suc d) n p) v
@@ -108,7 +108,7 @@ module _ (rules : List Rule) (nest : ℕ) where
         },
       )
 
-  -- what choices derive is found
+  -- each derivation of choices is found
   found : {cs : List Choosing} {before after : Situation} {steps : List Term} {cost : ℤ}
       → Derives rules nest cs before steps cost after → after.network ≡ Empty → (d : ℕ) (n : Node) (p : List ℕ)
       → situation_at n ≡ before → length cs ≤ d
@@ -140,7 +140,7 @@ module _ (rules : List Rule) (nest : ℕ) where
       (next_not_empty n before c.candidate f.place f.task q f.next)
       refl refl (λ r. found h e d m r refl (omega arith))
 
-  -- what choices derive from a pair's first situation is a plan of its tree
+  -- a derivation of choices from a pair's first situation is a plan of its tree
   pub derived_is_found : (pair : Pair) (depth : ℕ) (cs : List Choosing) (steps : List Term) (cost : ℤ)
       (after : Situation) → Derives rules nest cs (first_situation pair) steps cost after → after.network ≡ Empty
       → length cs ≤ depth

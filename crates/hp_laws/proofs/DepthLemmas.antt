@@ -117,7 +117,7 @@ module _ (k : ℕ) (n : Node) where
         ∙ sym (map_join (λ p. task_children rules nest n p (part_at n.network p)) (child_at_depth (k - 1))
         (candidates n.network n.focus))
 
--- what a list of numbered children contains is one of the children
+-- an element of a list of numbered children is one of the children
 pub contained_child : (i j : ℕ) (c : Child) (cs : List Child) → Contains (numbered_children i cs) (j, c) → Contains cs c
 contained_child i j c [] h = absurd (contains_none (j, c) h)
 contained_child i j c (x ∷ cs) h =

@@ -1,4 +1,4 @@
--- What a walk reaches is derived from its root.
+-- The visits of a walk are derived from its root.
 use Rattle.std.proofs.Common.{◌≡◌, ℕ, zero, suc, ◌+◌, true, cond, ℤ, List, [], ◌∷◌, ◌++◌, length, refl, sym, ◌∙◌, ap, subst, arith, append_assoc}
 use Rattle.std.specs.Prelude.{pos, ◌+ℤ◌, flat_map}
 use Rattle.std.specs.List.{All}
@@ -42,7 +42,7 @@ module _ (rules : List Rule) (nest : ℕ) where
     path = omega arith;
   }
 
-  -- what is derived from the node that a choice leads to is derived from the node before it
+  -- a derivation from the node that a choice leads to is one from the node before it
   derived_before : (n m : Node) (p : List ℕ) (i : ℕ) (v : Visit) (c : Choosing) → Leads rules nest c n m
       → IsDerived m (p ++ i ∷ []) v → IsDerived n p v
   derived_before n m p i v c (ByStep s t k f q) d =
@@ -100,7 +100,7 @@ module _ (rules : List Rule) (nest : ℕ) where
         omega arith,
       )
 
-  -- what is reached in a walk is derived from the first situation of its pair
+  -- a visit of a walk is derived from the first situation of its pair
   pub walk_is_derived : (pair : Pair) (depth : ℕ) → All (IsDerivedFrom pair) (walk rules nest pair depth)
   unfolding walk
   walk_is_derived pair depth =

@@ -9,11 +9,11 @@ use Rattle.hp_syntax.specs.Preconditions.{precondition_events}
 use Rattle.hp_syntax.specs.Applying.{Now}
 use Rattle.hp_laws.specs.Derivations.{Situation, Choosing, Performs, Derives, Nothing, ByOperator, ByMethod, PlanStep, Executes}
 
--- what stands at a number is contained
+-- the element at a number is contained
 contains_at : {X : Type 0} (xs : List X) (k : ℕ) (x : X) → slice_get xs k ≡ Some x → Contains xs x
 contains_at xs k x e = (k, slice_get_within xs k x e, get_or_from_slice_get xs k x x e)
 
--- what holds and is protected in a situation
+-- the state of a situation and its protections
 abbrev held : Situation → State × List Term
 held s = (s.state, s.guards)
 

@@ -156,7 +156,7 @@ module _ (q : Goal) (e : Bindings) where
   matched_extends : (t : Term) → AllExtend e (sat_if (match_goal q t e))
   matched_extends t = sat_if_extends e (match_goal q t e) (goal_extends q t e)
 
-  -- what an axiom concludes extends the goal's bindings, whatever its own are
+  -- the conclusion of an axiom extends the goal's bindings, whatever its own are
   concluded_extends : (h : Atom) (b : Bindings) → AllExtend e (concluded h b q e)
   concluded_extends h b =
       cond_both (parts_bound h.args b && tail_is_bound h.tail b) (concluded_value (atom_value h b) q e)
@@ -208,7 +208,7 @@ sat_extends axioms (suc n) s E e =
 -- ---- preconditions
 
 module _ (P : ℤ × Bindings → Type 0) (before : ℤ → ℤ → Bool) where
-  -- what holds of all satisfiers and of one more holds of all with this one put in
+  -- a fact of all satisfiers and of one more is one of all with this one put in
   all_put_in : (x : ℤ × Bindings) (ys : List (ℤ × Bindings)) → P x → All P ys → All P (put_in before x ys)
   all_put_in x [] h a = all_one P x h
   all_put_in x (y ∷ ys) h a =
@@ -216,7 +216,7 @@ module _ (P : ℤ × Bindings → Type 0) (before : ℤ → ℤ → Bool) where
       (λ k. All-cons P y (put_in before x ys) (All-head P y ys a) (all_put_in x ys h (All-tail P y ys a)))
       (λ k. All-cons P x (y ∷ ys) h a)
 
-  -- what holds of all satisfiers holds of all once they are sorted
+  -- a fact of all satisfiers is one of all once they are sorted
   all_sorted : (xs : List (ℤ × Bindings)) → All P xs → All P (sorted before xs)
   all_sorted [] a = a
   all_sorted (x ∷ xs) a = all_put_in x (sorted before xs) (All-head P x xs a) (all_sorted xs (All-tail P x xs a))

@@ -73,7 +73,7 @@ pub record IsOpen {A B : Type 0} (known : A → B) (bound : Bool) (v : Result A 
   pub no_value : (x : A) → v ≡ Ok x → ⊥
   pub not_known : (x : A) → f ≡ Ok (known x) → ⊥
 
--- what is filled is the value, or open
+-- a filled pattern is the value, or open
 abbrev pub Fills : {A B : Type 0} → (A → B) → Bool → Result A RunFault → Result B RunFault → Type 0
 Fills known bound v f = (f ≡ on_ok v (λ x. Ok (known x))) ⊎ IsOpen known bound v f
 
@@ -184,7 +184,7 @@ mutual
       before_filled (all_bound p e) (parts_bound ps e) (tail_is_bound tail e) (value p e) (fill p e)
       (values ps tail e) (fill_parts ps tail e) (pattern_filled p e) (parts_filled ps tail e)
 
--- what is filled is known where there is a value
+-- a filled pattern is known where there is a value
 pub value_known : {A B : Type 0} (known : A → B) (b : Bool) (v : Result A RunFault) (f : Result B RunFault) (x : A)
     → Fills known b v f → v ≡ Ok x → f ≡ Ok (known x)
 value_known known b v f x (inl q) h = q ∙ ap (λ r. on_ok r (λ y. Ok (known y))) h
@@ -198,7 +198,7 @@ known_value known b v f x same (inl q) h =
     a.1 ∙ ap Ok (same a.0 x (same_Ok (known a.0) (known x) a.2))
 known_value known b v f x same (inr n) h = absurd (n.not_known x h)
 
--- what is filled is the value where each variable stands for something
+-- a filled pattern is the value where each variable stands for something
 pub bound_filled : {A B : Type 0} (known : A → B) (b : Bool) (v : Result A RunFault) (f : Result B RunFault)
     → Fills known b v f → b ≡ true → f ≡ on_ok v (λ x. Ok (known x))
 bound_filled known b v f (inl q) h = q

@@ -36,7 +36,7 @@ pub alike_through : (xs ys : List Event) (f : Bindings → List Event) → AreHe
     → AreHeardAlike (through xs f) (through ys f)
 alike_through xs ys f h = sym (heard_through xs f) ∙ (ap (λ us. heard (through us f)) h ∙ heard_through ys f)
 
--- what is heard of a list decides its negation
+-- the heard part of a list decides its negation
 heard_decides : (xs : List Event) → finding (heard xs) ≡ finding xs
 heard_decides [] = refl
 heard_decides (plain.Sat e ∷ xs) = refl

@@ -1,4 +1,4 @@
--- What is heard of a list: its elements up to and including the first of a kind.
+-- The heard part of a list: its elements up to and including the first of a kind.
 use Rattle.std.proofs.Common.{◌≡◌, ℕ, Bool, true, false, cond, List, [], ◌∷◌, map, refl, ◌∙◌, ap, subst}
 use Rattle.std.specs.List.{All}
 use Rattle.std.proofs.lemmas.Bool.{cond_both, cond-false}
@@ -9,7 +9,7 @@ use Rattle.hp_laws.specs.TreeLaws.{IsFaultless}
 use Rattle.hp_syntax.specs.Walk.{is_fault_here, root, visits, walk}
 
 module _ {A : Type 0} (is_last : A → Bool) where
-  -- what holds of all elements holds of those up to the first of a kind
+  -- a fact of all elements is one of those up to the first of a kind
   pub all_up_to : (P : A → Type 0) (xs : List A) → All P xs → All P (up_to is_last xs)
   all_up_to P [] a = a
   all_up_to P (x ∷ xs) a =

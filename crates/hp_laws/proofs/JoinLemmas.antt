@@ -7,16 +7,16 @@ use Rattle.std.proofs.lemmas.List.Elements.{All-nil, All-cons, All-append, All-w
 use Rattle.std.proofs.lemmas.List.Kept.{AllPairs-cons}
 use Rattle.std.proofs.lemmas.List.Concat.{flat_map-append}
 
--- what holds of everything holds of each element
+-- a fact of everything is one of each element
 pub all_from : {X : Type 0} (P : X → Type 0) → ((x : X) → P x) → (xs : List X) → All P xs
 all_from P h [] = All-nil P
 all_from P h (x ∷ xs) = All-cons P x xs (h x) (all_from P h xs)
 
--- what holds of one element holds of each element of the list of it
+-- a fact of one element is one of each element of the list of it
 pub all_one : {X : Type 0} (P : X → Type 0) (x : X) → P x → All P (x ∷ [])
 all_one P x h = All-cons P x [] h (All-nil P)
 
--- what is passed on to each element that a list contains holds of all elements
+-- a fact that is passed on to each element of a list holds of all elements
 pub all_from_contains : {X : Type 0} (P : X → Type 0) (xs : List X) → ((x : X) → Contains xs x → P x) → All P xs
 all_from_contains P xs h = All-weaker (Contains xs) P h xs (All-contains_itself xs)
 
@@ -28,7 +28,7 @@ contains_first x xs = (zero, omega arith, refl)
 pub contains_later : {X : Type 0} (x y : X) (xs : List X) → Contains xs y → Contains (x ∷ xs) y
 contains_later x y xs c = (suc c.0, (let l = c.1 in omega arith), c.2)
 
--- what a list contains is its first element or is in its rest
+-- an element of a list is its first or is in its rest
 pub contains_cases : {X : Type 0} (x y : X) (xs : List X) → Contains (x ∷ xs) y → (x ≡ y) ⊎ Contains xs y
 contains_cases x y xs (zero, l, e) = inl e
 contains_cases x y xs (suc k, l, e) = inr (k, omega arith, e)
@@ -37,7 +37,7 @@ contains_cases x y xs (suc k, l, e) = inr (k, omega arith, e)
 pub contains_none : {X : Type 0} (y : X) → Contains [] y → ⊥
 contains_none y c = let l = c.1 in omega arith
 
--- what holds of the elements of two lists holds of those of each
+-- a fact of the elements of two lists is one of those of each
 pub all_left : {X : Type 0} (P : X → Type 0) (xs ys : List X) → All P (xs ++ ys) → All P xs
 all_left P [] ys a = All-nil P
 all_left P (x ∷ xs) ys a =
@@ -47,28 +47,28 @@ pub all_right : {X : Type 0} (P : X → Type 0) (xs ys : List X) → All P (xs +
 all_right P [] ys a = a
 all_right P (x ∷ xs) ys a = all_right P xs ys (All-tail P x (xs ++ ys) a)
 
--- what holds of each mapped element holds of each element, mapped
+-- a fact of each mapped element is one of each element, mapped
 pub all_unmapped : {X Y : Type 0} (P : X → Type 0) (f : Y → X) (ys : List Y) → All P (map f ys) → All (λ y. P (f y)) ys
 all_unmapped P f [] a = All-nil (λ y. P (f y))
 all_unmapped P f (y ∷ ys) a =
     All-cons (λ y. P (f y)) y ys (All-head P (f y) (map f ys) a) (all_unmapped P f ys (All-tail P (f y) (map f ys) a))
 
 module _ {X A : Type 0} (f : X → List A) where
-  -- what holds of all that is joined holds of the join
+  -- a fact of all joined lists is one of the join
   pub all_join : (P : A → Type 0) (xs : List X) → All (λ x. All P (f x)) xs → All P (flat_map f xs)
   all_join P [] h = All-nil P
   all_join P (x ∷ xs) h =
       All-append P (f x) (flat_map f xs) (All-head (λ x. All P (f x)) x xs h)
       (all_join P xs (All-tail (λ x. All P (f x)) x xs h))
 
-  -- what holds of a join holds of all that is joined
+  -- a fact of a join is one of all joined lists
   pub all_joined : (P : A → Type 0) (xs : List X) → All P (flat_map f xs) → All (λ x. All P (f x)) xs
   all_joined P [] a = All-nil (λ x. All P (f x))
   all_joined P (x ∷ xs) a =
       All-cons (λ x. All P (f x)) x xs (all_left P (f x) (flat_map f xs) a)
       (all_joined P xs (all_right P (f x) (flat_map f xs) a))
 
-  -- what holds of all that each contained element gives
+  -- a fact of all lists that the contained elements give
   pub all_join_contains : (P : A → Type 0) (xs : List X) → ((x : X) → Contains xs x → All P (f x))
       → All P (flat_map f xs)
   all_join_contains P xs h = all_join P xs (all_from_contains (λ x. All P (f x)) xs h)
@@ -81,7 +81,7 @@ module _ {X A : Type 0} (f : X → List A) where
       (λ e. Contains-append_left (f z) (flat_map f xs) y (rw (← e) at d))
       (λ k. Contains-append_right (f z) (flat_map f xs) y (contains_join xs x y k d)) (contains_cases z x xs c)
 
-  -- what a join contains is given by an element
+  -- each element of a join is given by an element of the list
   pub joined_from : (xs : List X) (y : A) → Contains (flat_map f xs) y
       → (x : X) × Contains xs x × Contains (f x) y
   joined_from [] y c = absurd (contains_none y c)
@@ -136,12 +136,12 @@ pairs_head R x xs h = λ k d l. h 0 (suc k) d (omega arith) (omega arith)
 pub pairs_tail : {X : Type 0} (R : X → X → Type 0) (x : X) (xs : List X) → AllPairs R (x ∷ xs) → AllPairs R xs
 pairs_tail R x xs h = λ i j d l m. h (suc i) (suc j) d (omega arith) (omega arith)
 
--- what follows of each pair holds of all pairs
+-- a consequence for each pair holds of all pairs
 pub pairs_weaker : {X : Type 0} (R S : X → X → Type 0) → ((x y : X) → R x y → S x y) → (xs : List X)
     → AllPairs R xs → AllPairs S xs
 pairs_weaker R S h xs a = λ i j d l m. h _ _ (a i j d l m)
 
--- what holds of the pairs of two lists and across them holds of those of both
+-- a fact of the pairs of two lists and across them is one of those of both
 pub pairs_append : {X : Type 0} (R : X → X → Type 0) (xs ys : List X) → AllPairs R xs → AllPairs R ys
     → All (λ x. All (R x) ys) xs → AllPairs R (xs ++ ys)
 pairs_append R [] ys a b c = b
@@ -150,7 +150,7 @@ pairs_append R (x ∷ xs) ys a b c =
     (All-append (R x) xs ys (pairs_head R x xs a) (All-head (λ x. All (R x) ys) x xs c))
     (pairs_append R xs ys (pairs_tail R x xs a) b (All-tail (λ x. All (R x) ys) x xs c))
 
--- what holds of the pairs of all that is joined and across them holds of those of the join
+-- a fact of the pairs of all joined lists and across them is one of those of the join
 pub pairs_join : {X A : Type 0} (f : X → List A) (R : A → A → Type 0) (xs : List X)
     → All (λ x. AllPairs R (f x)) xs → AllPairs (λ x y. All (λ a. All (R a) (f y)) (f x)) xs
     → AllPairs R (flat_map f xs)

@@ -9,7 +9,7 @@ use Rattle.hp_syntax.specs.Walk.{Node, Child, DidChild}
 use Rattle.hp_laws.proofs.JoinLemmas.{contains_first, contains_later, contains_cases, contains_none, pairs_head, pairs_tail, pairs_append}
 
 module _ {X Y : Type 0} (h : X → Y) where
-  -- what is in a list is mapped with it
+  -- an element of a list is mapped with it
   pub map_has : (xs : List X) (x : X) → Contains xs x → Contains (map h xs) (h x)
   map_has [] x c = absurd (contains_none x c)
   map_has (y ∷ xs) x c = ⊎_elim
@@ -17,7 +17,7 @@ module _ {X Y : Type 0} (h : X → Y) where
       (λ d. contains_later (h y) (h x) (map h xs) (map_has xs x d))
       (contains_cases y x xs c)
 
-  -- what is in a list that was mapped comes from it
+  -- an element of a mapped list comes from the list
   pub has_mapped : (xs : List X) (z : Y) → Contains (map h xs) z → (x : X) × Contains xs x × (h x ≡ z)
   has_mapped [] z c = absurd (contains_none z c)
   has_mapped (x ∷ xs) z c = ⊎_elim

@@ -168,7 +168,7 @@ no_parts p ps tail d h =
     let q : More a.0 c.0 ≡ NoTerm = c.2 in
     cc
 
--- what reads as a list of parts is a list
+-- a term that reads as a list of parts is a list
 listed_only : (o : Option Terms) (t : Term) → option_map Listed o ≡ Some t → (ts : Terms) × (t ≡ Listed ts)
 listed_only o t h = let a = map_some Listed o t h in (a.0, sym a.2)
 

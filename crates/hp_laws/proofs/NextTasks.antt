@@ -67,7 +67,7 @@ some_immediate net ps l =
     cond_both (list_any (λ p. is_immediate (part_at net p)) ps) _ _ (λ qs. 0 < length qs)
     (λ h. some_kept (λ p. is_immediate (part_at net p)) ps h) (λ h. l)
 
--- what holds of places holds of those that are left
+-- a fact of places is one of those that are left
 pub all_immediate : (P : Place → Type 0) (net : Network) (ps : List Place) → All P ps → All P (immediate_first net ps)
 all_immediate P net ps a =
     cond_both (list_any (λ p. is_immediate (part_at net p)) ps) _ _ (All P)

@@ -32,12 +32,12 @@ differs n e f = let g : is_empty n ≡ true = ap is_empty f in absurd cc
 unfocused : (n : Network) → IsNormal (normal n) None
 unfocused n = record { form = normal-normal n; place = tt }
 
--- what is left once a task is done is normal
+-- the network that is left once a task is done is normal
 pub finish_normal : (net : Network) (p : Place) → IsNormalPair (finish net p)
 unfolding finish
 finish_normal net p = unfocused (with_part net p Empty)
 
--- what is left once a task is decomposed is normal
+-- the network that is left once a task is decomposed is normal
 pub expand_normal : (net : Network) (p : Place) (n sub : Network) → normal net ≡ net → part_at net p ≡ Some n
     → IsNormalPair (expand net p (normal sub))
 unfolding expand

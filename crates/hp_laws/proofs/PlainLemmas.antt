@@ -1,4 +1,4 @@
--- What a forest is read as for a problem is plain: it holds no call, and nests hardly deeper than the forest.
+-- The reading of a forest for a problem is plain: it holds no call, and nests hardly deeper than the forest.
 use Rattle.std.proofs.Common.{◌≡◌, ℕ, ◌+◌, ◌-◌, ◌<◌, ◌≤◌, Bool, true, false, List, [], length, Option, bytes_eq, codes, refl, arith}
 use Rattle.std.specs.Prelude.{Ok}
 use Rattle.std.specs.List.{All}
@@ -71,7 +71,7 @@ mutual
       gives_chain (items_are_plain most end rest (omega arith)) (λ others k.
       gives_pure (record { call_free = (h.call_free, k.call_free); shallow = omega arith }))))
 
-  -- what stands behind a dot is read as plain terms
+  -- the tail behind a dot is read as plain terms
   dotted_is_plain : (most : ℕ) (end : Span) (f : Forest) → nesting f < most
       → Gives (PlainParts most) (dotted InProblem end f)
   dotted_is_plain most end Bare l = gives_refusal _

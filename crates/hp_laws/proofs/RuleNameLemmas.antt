@@ -33,7 +33,7 @@ module _ {X Y : Type 0} (f : X → List Y) where
   kept_give x true kept xs none later = ap (λ ys. f x ++ ys) later
   kept_give x false kept xs none later = later ∙ ap (λ ys. ys ++ flat_map f xs) (sym (none refl))
 
-  -- where what a filter leaves out gives nothing, what it keeps gives the same
+  -- where the elements that a filter leaves out give nothing, the others give the same
   filter_gives : (keeps : X → Bool) → ((x : X) → keeps x ≡ false → f x ≡ []) → (xs : List X)
       → flat_map f (filter keeps xs) ≡ flat_map f xs
   filter_gives keeps none [] = refl

@@ -44,7 +44,7 @@ abbrev pub for_goal : (Bindings → List Selection) → State → Bindings → R
 for_goal f s e (Err x) = []
 for_goal f s e (Ok q) = from_place f q e 0 s
 
--- what is no atom is matched nowhere
+-- a term that is no atom is matched nowhere
 abbrev pub for_first : (Bindings → List Selection) → State → Bindings → Expression → List Selection
 for_first f s e (Holds span a) = for_goal f s e (fill_goal a e)
 for_first f s e _ = []
@@ -225,7 +225,7 @@ abbrev when_matched : (Bindings → List Event) → Option Bindings → List Eve
 when_matched k None = []
 when_matched k (Some b) = k b
 
--- what takes the place of an atom's satisfier are the events where it has matched
+-- the events in the place of an atom's satisfier are those where it has matched
 in_place_if : (k : Bindings → List Event) (o : Option Bindings)
     → flat_map (in_place k) (sat_if o) ≡ when_matched k o
 in_place_if k None = refl

@@ -1,4 +1,4 @@
--- What holds of the values that the grammar's steps give.
+-- Facts of the values that the grammar's steps give.
 use Rattle.std.proofs.Common.{◌≡◌, ℕ, ◌<◌, ◌≤◌, Bool, true, false, cond, List, [], subst, arith}
 use Rattle.std.specs.Prelude.{Result, Ok, Err}
 use Rattle.std.specs.List.{All}
@@ -21,7 +21,7 @@ pub record Gives {A : Type 0} (P : A → Type 0) (step : Parse A) : Type 0 where
 abbrev pub Any : {A : Type 0} → A → Type 0
 Any x = Unit {0}
 
--- what is done with a value gives what it gives for each value that the result before may have
+-- a step behind another gives a fact that it gives for each value of the other
 and_then_gives : {A B : Type 0} (P : A → Type 0) (Q : B → Type 0) (r : Result (A × Names) Misform) (f : A → Parse B)
     → GivesResult P r → ((x : A) → P x → Gives Q (f x)) → GivesResult Q (and_then r f)
 and_then_gives P Q (Ok p) f h k = (k p.0 h).given p.1
@@ -53,7 +53,7 @@ gives_pure h = record { given = λ names. h }
 pub gives_refusal : {A : Type 0} {P : A → Type 0} (m : Misform) → Gives P (refuse m)
 gives_refusal m = record { given = λ names. tt }
 
--- a step that makes its value of another gives what follows from what holds of that other
+-- a step that makes its value of another gives each fact that follows from one of the other
 pub gives_made : {A B : Type 0} {P : A → Type 0} {Q : B → Type 0} (g : A → B) {p : Parse A}
     → Gives P p → ((x : A) → P x → Q (g x)) → Gives Q (g <$> p)
 gives_made g h k = gives_chain h (λ x l. gives_pure (k x l))

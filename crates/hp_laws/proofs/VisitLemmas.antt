@@ -1,4 +1,4 @@
--- What holds at a node and passes from the visits of its children holds of all visits.
+-- A fact of a node that passes from the visits of its children holds of all visits.
 use Rattle.std.proofs.Common.{◌≡◌, ℕ, zero, suc, false, cond, List, [], ◌∷◌, ◌++◌, refl}
 use Rattle.std.specs.Prelude.{Contains, flat_map}
 use Rattle.std.specs.List.{All}
@@ -33,7 +33,7 @@ module _ (rules : List Rule) (nest : ℕ) (P : ℕ → Node → List ℕ → Vis
   of_child d n p i (FaultChild f) deep e c =
       all_one (P (suc d) n p) (visit p n (FaultHere f)) (here (suc d) n p (FaultHere f))
 
-  -- what holds at each node, of the depth below it, and passes to the node above holds of all visits
+  -- a fact of each node and the depth below it that passes to the node above holds of all visits
   pub all_visits_by_depth : (d : ℕ) (n : Node) (p : List ℕ) → All (P d n p) (visits_within rules nest d n p)
   unfolding visits_within
   all_visits_by_depth zero n p =
@@ -53,7 +53,7 @@ module _ (rules : List Rule) (nest : ℕ) (P : Node → List ℕ → Visit → T
     (step : (n m : Node) (p : List ℕ) (i : ℕ) (v : Visit)
     → Contains (numbered_children 0 (children rules nest n)) (i, DidChild m) → is_empty n.network ≡ false
     → P m (p ++ i ∷ []) v → P n p v) where
-  -- what holds at each node and passes to the node above holds of all visits
+  -- a fact of each node that passes to the node above holds of all visits
   pub all_visits_within : (d : ℕ) (n : Node) (p : List ℕ) → All (P n p) (visits_within rules nest d n p)
   all_visits_within d n p =
       all_visits_by_depth rules nest (λ d. P) (λ d. here) (λ d n m p i v c e h. step n m p i v c e h) d n p

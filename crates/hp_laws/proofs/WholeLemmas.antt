@@ -113,7 +113,7 @@ module _ (rules : List Rule) (nest : ℕ) where
       ∙ sym (ap (map without_depth) (visits_of_children e k n p h))))))
       (cases_Bool (is_empty n.network))
 
--- what is no cut and no fault is no fault
+-- an event that is no cut and no fault is no fault
 reached_faultless : (s : Sight) → IsReached s → IsFaultless s
 reached_faultless Did h = refl
 reached_faultless Plan h = refl

@@ -1,4 +1,4 @@
--- What it is to do a problem's tasks, said of states and networks and not of the tree.
+-- Derivations: the tasks of a problem done, said of states and networks and not of the tree.
 use Rattle.std.specs.Prelude.{◌≡◌, ◌⊎◌, ◌<◌, ◌-◌, ℕ, ℤ, pos, ◌+ℤ◌, Bool, List, [], ◌∷◌, ◌++◌, length, slice_get, Option, Some, Ok, Contains}
 use Rattle.hp_syntax.specs.Syntax.{Operator, Branch, Method, Rule, Does, Refines, Pair}
 use Rattle.hp_syntax.specs.Terms.{Term}
@@ -11,7 +11,7 @@ use Rattle.hp_syntax.specs.Changes.{Changes, Went, apply, effects}
 use Rattle.hp_syntax.specs.Applying.{Now}
 use Rattle.hp_syntax.specs.Walk.{Node, root, chosen_branch}
 
--- what holds and is protected, what is left to do, and where the newest subtasks stand
+-- a state and its protections, the network that is left to do, and the place of the newest subtasks
 pub record Situation : Type 0 where
   pub state : State
   pub guards : List Term

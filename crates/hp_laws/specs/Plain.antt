@@ -1,4 +1,4 @@
--- What a problem's parts are as they are read: they hold no call, and what they say nests no deeper than a bound.
+-- Plain parts, as those of a problem are read: they hold no call, and their terms nest no deeper than a bound.
 use Rattle.std.specs.Prelude.{ℕ, ◌≤◌}
 use Rattle.std.specs.List.{All}
 use Rattle.hp_syntax.specs.GroundPatterns.{term_said, terms_said, atom_said}

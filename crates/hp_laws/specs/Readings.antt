@@ -1,4 +1,4 @@
--- What a pattern says under bindings, apart from faults and limits: words for the laws of matching, values and goals.
+-- Readings of patterns under bindings, apart from faults and limits: words for the laws of matching, values and goals.
 use Rattle.std.specs.Prelude.{◌≡◌, ◌⊎◌, ℕ, Option, Some, None, option_map}
 use Rattle.std.specs.Option.{option_and_then}
 use Rattle.hp_syntax.specs.declared.pattern.Tail.{Tail}

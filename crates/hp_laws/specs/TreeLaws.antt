@@ -24,7 +24,7 @@ pub record IsNormal (net : Network) (focus : Option Place) : Type 0 where
   pub form : normal net ≡ net
   pub place : IsFocus net focus
 
--- what is seen is no fault
+-- the sight is no fault
 abbrev pub IsFaultless : Sight → Type 0
 IsFaultless x = is_fault_here x ≡ false
 
@@ -58,7 +58,7 @@ IsPrefix {A} xs ys = (rest : List A) × (xs ++ rest ≡ ys)
 abbrev pub first_plans : ℕ → List Visit → List Visit
 first_plans k vs = take k (filter (λ v. is_plan v.sight) (heard_visits vs))
 
--- what is told of visits, one after another, of which the first has this number
+-- the texts of visits, one after another, of which the first has this number
 abbrev pub numbered_texts : (ℕ → Visit → List ℕ) → ℕ → List Visit → List ℕ
 numbered_texts tell i [] = []
 numbered_texts tell i (v ∷ vs) = tell i v ++ numbered_texts tell (i + 1) vs

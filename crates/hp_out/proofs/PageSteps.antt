@@ -17,7 +17,7 @@ wrote_nothing : (b : Option (List ℕ)) → Wrote [] b b
 wrote_nothing None = refl
 wrote_nothing (Some b) = ap Some (sym (append-nil b))
 
--- what was kept on the page was put
+-- a text that was kept on the page was put
 pub put_kept : (text : List ℕ) (a b : Desk) → b.sink ≡ a.sink → b.page ≡ a.page ++ text → Put text a b
 put_kept text a b s p = record {
   taken = [];
@@ -29,7 +29,7 @@ put_kept text a b s p = record {
 pub put_nothing : (d : Desk) → Put [] d d
 put_nothing d = put_kept [] d d refl (sym (append-nil d.page))
 
--- what the sink took, and then the page and a text behind it, are what the page had, and both texts
+-- the bytes that the sink took, and then the page and a text behind it, are those that the page had, and both texts
 joined : (x y : List ℕ) (a b : Desk) (p : Put x a b) → p.taken ++ (b.page ++ y) ≡ a.page ++ (x ++ y)
 joined x y a b p =
     sym (append_assoc p.taken b.page y) ∙ ap (λ t. t ++ y) p.all ∙ append_assoc a.page x y
@@ -51,7 +51,7 @@ put_both x y a b c p q = record {
 
 -- ---- where writing failed
 
--- what a failed call did
+-- the run of a failed call
 abbrev pub FailedIn : List ℕ → Desk → Desk → Type 0
 FailedIn text a b = WroteProperPrefix (a.page ++ text) a.sink b.sink
 
@@ -100,7 +100,7 @@ pub rest_put : {A E : Type 0} (r : Result A E) (x y text : List ℕ) (a b c : De
     → x ++ y ≡ text → Puts r text a c
 rest_put r x y text a b c p w e = subst (λ t. Puts r t a c) e (puts_both r x y a b c p w)
 
--- what stood on the page was written, and then a call writes the text itself
+-- the page was written, and then a call writes the text itself
 pub put_behind : {A E : Type 0} (r : Result A E) (text page left : List ℕ) (a b c : Option (List ℕ)) → left ≡ []
     → Wrote page a b → Writes r text b c → Puts r text (desk a page) (desk c left)
 put_behind (Ok x) text page left a b c e w v = record {

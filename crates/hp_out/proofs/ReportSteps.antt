@@ -92,13 +92,13 @@ ending_parts x plans expansions h =
 
 -- ---- a value that there is
 
--- what follows of a value, where there is one
+-- a consequence of a fact of a value, where there is a value
 pub for_one : {A : Type 0} (o : Option A) (P R : A → Type 0) → MatchOption o ⊥ P → ((x : A) → P x → R x)
     → MatchOption o ⊥ R
 for_one None P R p f = p
 for_one (Some x) P R p f = f x p
 
--- what follows of two facts of a value, where there is one
+-- a consequence of two facts of a value, where there is a value
 pub for_two : {A : Type 0} (o : Option A) (P Q R : A → Type 0) → MatchOption o ⊥ P → MatchOption o ⊥ Q
     → ((x : A) → P x → Q x → R x) → MatchOption o ⊥ R
 for_two None P Q R p q f = p

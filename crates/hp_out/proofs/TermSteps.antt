@@ -21,7 +21,7 @@ use Rattle.hp_world.proofs.StageLemmas.{live_joined}
 
 -- ---- terms
 
--- what is shown of the term that a cell names
+-- the view of the term that a cell names
 abbrev pub IsShown : List Term → ℕ → View → Type 0
 IsShown terms cell v = (t : Term) → slice_get terms cell ≡ Some t → Shows terms v t
 
@@ -34,7 +34,7 @@ pub cons_shown : (terms : List Term) (cell head tail : ℕ) → NamesList terms 
     → IsCons terms head tail (term_at terms cell)
 cons_shown terms cell head tail n s = shown_at terms cell (Cons head tail) (list_within terms cell n) s
 
--- what follows in the list that a cell names
+-- the rest of the text of the list that a cell names
 abbrev pub rest_at : List Term → ℕ → List ℕ
 rest_at terms cell = terms_text (parts_of (term_at terms cell))
 
@@ -51,7 +51,7 @@ module _ (terms : List Term) (cell head tail : ℕ) (c : IsCons terms head tail 
   cons_text =
       rw (at_named terms head c.first c.head_names, at_named terms tail (Listed c.rest) c.tail_names, c.whole) refl
 
-  -- what follows in a list is the text of its first part and then that of the others
+  -- the rest of a list's text is the text of its first part and then that of the others
   pub parts_text : codes " " ++ (term_text (term_at terms head) ++ rest_at terms tail) ≡ rest_at terms cell
   parts_text =
       rw (at_named terms head c.first c.head_names, at_named terms tail (Listed c.rest) c.tail_names, c.whole) refl
@@ -108,7 +108,7 @@ pub one_line : (terms : List Term) (cells : List ℕ) (i cell : ℕ) → cell �
 one_line terms cells i cell e =
     ap (λ c. cells_text terms (c ∷ [])) (sym e) ∙ append-nil (line_at terms cell)
 
--- what stands at one place among others
+-- the text of one place among others
 pub one_place : (terms : List Term) (places : List (Option ℕ)) (i : ℕ) (place : Option ℕ)
     → slice_get places i ≡ Some place → places_text terms (get_or places i place ∷ []) ≡ places_text terms (place ∷ [])
 one_place terms places i place e =

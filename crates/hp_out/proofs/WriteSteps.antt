@@ -17,7 +17,7 @@ write_step text done n (Some old) mid new a t =
     let t' = subst (λ m. Appended n (drop done text) m new) a t in
     t' ∙ rw (take-add, append_assoc) refl
 
--- what a list comes to is what its prefix comes to, then its i-th element, and then what is behind
+-- the texts of a list are those of its prefix, of its i-th element, and of the elements behind
 pub seam : {X A : Type 0} (f : X → List A) (xs : List X) (i : ℕ) (d : X) → i < length xs
     → flat_map f xs ≡ (flat_map f (take i xs) ++ f (slice_index_or xs i d)) ++ flat_map f (drop (suc i) xs)
 seam f [] i d h = absurd (omega (arith, h))

@@ -1,7 +1,7 @@
--- What is written.
+-- Texts that are written to a sink.
 use Rattle.std.specs.Prelude.{◌≡◌, ℕ, ◌<◌, ◌≤◌, List, ◌++◌, length, take, Option, Some, None, Result, Ok, Err}
 
--- what a call did to a sink: its count of faults, and all that it took, where it tells, before and after
+-- the run of a sink through a call: its count of faults, and all that it took, where it tells, before and after
 pub record SinkRun : Type 0 where
   pub faults_before : ℕ
   pub faults_after : ℕ

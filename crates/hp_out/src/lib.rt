@@ -1,4 +1,4 @@
-//! What is written: the lines of a run, through a sink.
+//! The lines of a run, written through a sink.
 #![tactic(auto)]
 
 mod ending;

@@ -12,7 +12,7 @@ pub enum Refusal {
     Read(Input),
     /// The text spells nothing; told with a byte offset.
     Text(Input, TextKind, u32),
-    /// What the text spells has no form: something else was wanted at the span.
+    /// The forest of the text has no form: something else was wanted at the span.
     Form(Input, What, Span),
     /// The problem has a second pair of a state and a task list, which stands there.
     Several(Span),

@@ -1,4 +1,4 @@
--- What is written of domains and problems is read as these again, up to spans.
+-- Written domains and problems are read as these again, up to spans.
 use Rattle.std.proofs.Common.{◌≡◌, ℕ, List, [], map, Ok, refl, subst, ap, bytes_eq, codes}
 use Rattle.std.proofs.lemmas.Slice.Eq.{bytes_eq-Decides}
 use Rattle.hp_syntax.specs.declared.pattern.Span.{Span}
@@ -18,11 +18,11 @@ use Rattle.hp_print.proofs.AgainTerms.{still_name, reads_name, still_list, again
 use Rattle.hp_print.proofs.AgainForms.{again_tasks}
 use Rattle.hp_print.proofs.AgainRules.{still_rule}
 
--- what follows the word `defdomain`
+-- the nodes behind the word `defdomain`
 abbrev domain_parts : Domain → Forest
 domain_parts d = two (word d.name) (group (written.rules d.rules))
 
--- what follows the word `defproblem`, of a problem whose variables have these names
+-- the nodes behind the word `defproblem`, of a problem whose variables have these names
 abbrev problem_parts : Names → Problem → Forest
 problem_parts all p = Grow (word p.name) (Grow (word p.domain) (written.pairs all p.pairs))
 
@@ -157,11 +157,11 @@ domain_node = file_list wants.Domain (codes "defdomain") domain_list
 abbrev problem_node : Node → Parse Problem
 problem_node = file_list wants.Problem (codes "defproblem") problem_list
 
--- what is written of a domain
+-- the written forest of a domain
 abbrev written_domain : Domain → Node
 written_domain d = worded (codes "defdomain") (domain_parts d)
 
--- what is written of a problem whose variables have these names
+-- the written forest of a problem whose variables have these names
 abbrev written_problem : Names → Problem → Node
 written_problem all p = worded (codes "defproblem") (problem_parts all p)
 
@@ -192,12 +192,12 @@ domain_file len f d e =
     let h = value_after _ d (λ all. again_domain_file len f) e in
     (ap value_in h.1.1.reads, λ c. (h.1.1.spells c).0)
 
--- what is written of the form of a forest as a domain is read as this domain again, up to spans
+-- the written domain of a forest is read as this domain again, up to spans
 pub domain_again : (len : ℕ) (f : Forest) (d : Domain) → domain_form len f ≡ Ok d
     → domain_form 0 (one (written.domain d)) ≡ Ok (unplaced.domain d)
 domain_again len f d e = (domain_file len f d e).0
 
--- what is written of the form of a forest as a domain can be spelled if the forest can
+-- the written domain of a forest can be spelled if the forest can
 pub domain_can_spell : (len : ℕ) (f : Forest) (d : Domain) → domain_form len f ≡ Ok d → CanSpellAll f
     → CanSpell (written.domain d)
 domain_can_spell len f d e = (domain_file len f d e).1
@@ -218,12 +218,12 @@ problem_file len f p e =
       λ c. subst CanSpell own (h.1.1.spells c).0,
     )
 
--- what is written of the form of a forest as a problem is read as this problem again, up to spans
+-- the written problem of a forest is read as this problem again, up to spans
 pub problem_again : (len : ℕ) (f : Forest) (p : Problem) → problem_form len f ≡ Ok p
     → problem_form 0 (one (written.problem p)) ≡ Ok (unplaced.problem p)
 problem_again len f p e = (problem_file len f p e).0
 
--- what is written of the form of a forest as a problem can be spelled if the forest can
+-- the written problem of a forest can be spelled if the forest can
 pub problem_can_spell : (len : ℕ) (f : Forest) (p : Problem) → problem_form len f ≡ Ok p → CanSpellAll f
     → CanSpell (written.problem p)
 problem_can_spell len f p e = (problem_file len f p e).1

@@ -1,4 +1,4 @@
--- What is written of expressions, preconditions, tasks and effects is read as these again, up to spans.
+-- Written expressions, preconditions, tasks and effects are read as these again, up to spans.
 use Rattle.std.proofs.Common.{◌≡◌, ℕ, Bool, true, false, ◌||◌, cond, List, map, Ok, refl, sym, subst, ap, Decides, bytes_eq, codes}
 use Rattle.std.proofs.lemmas.Slice.Eq.{bytes_eq-Decides}
 use Rattle.hp_syntax.specs.declared.pattern.Span.{Span}
@@ -16,7 +16,7 @@ use Rattle.hp_print.proofs.WrittenWords.{call_name, and_name, or_name, not_name,
 use Rattle.hp_print.proofs.AgainSteps.{reads_true, reads_false, reads_chain, Again, again_from, still_ended, still_next, After, after_chain, after_still, after_pure, after_refusal, after_so, after_made, after_choice, after_begun, after_each}
 use Rattle.hp_print.proofs.AgainTerms.{still_list, CallAgain, reads_named, again_variable, again_variables, again_term, again_called, after_named, again_headed, again_atoms}
 
--- what begins an expression begins no other precondition
+-- the first word of an expression begins no other precondition
 abbrev pub BeginsExpression : Node → Type 0
 BeginsExpression (Group s Bare) = Unit {0}
 BeginsExpression (Group s (Grow (Word t key) rest)) =
@@ -154,7 +154,7 @@ pub record PreconditionAgain (H : Type 0) (names : Names) (writing : Node) (p : 
   pub spells : H → CanSpell writing
   pub unnamed : begins_named writing ≡ false
 
--- what begins an expression is read as a precondition as the expression is
+-- a list with the first word of an expression is read as a precondition as the expression is
 plain_reads : (n : Node) (names : Names) → BeginsExpression n
     → precondition n names ≡ (Plain <$> expression n) names
 unfolding precondition list_precondition expression
@@ -165,7 +165,7 @@ plain_reads (Group s (Grow (Word t key) rest)) names h = reads_false _ _ h.0 (re
 plain_reads (Group s (Grow (Numeral t n) rest)) names h = absurd h
 plain_reads (Group s (Grow (Group t parts) rest)) names h = absurd h
 
--- what begins an expression is no name
+-- the first word of an expression is no name
 pub unnamed_expression : (n : Node) → BeginsExpression n → begins_named n ≡ false
 unnamed_expression (Word s text) h = absurd h
 unnamed_expression (Numeral s n) h = refl

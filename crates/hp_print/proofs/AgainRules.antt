@@ -1,4 +1,4 @@
--- What is written of rules is read as these again, up to spans.
+-- Written rules are read as these again, up to spans.
 use Rattle.std.proofs.Common.{◌≡◌, ℕ, Bool, true, false, List, [], ◌∷◌, map, Option, Some, None, Ok, refl, sym, subst, ◌∙◌, bytes_eq, codes}
 use Rattle.hp_syntax.specs.declared.pattern.Span.{Span}
 use Rattle.hp_syntax.specs.declared.form.What.TheVariants as wants
@@ -22,7 +22,7 @@ rule_names (Does o) = o.vars
 rule_names (Refines m) = m.vars
 rule_names (Concludes a) = a.vars
 
--- what is written of a rule whose variables have these names
+-- the written forest of a rule whose variables have these names
 abbrev rule_at : Names → Rule → Node
 rule_at all (Does o) = written.operator (record o { vars = all })
 rule_at all (Refines m) = written.method (record m { vars = all })
@@ -62,7 +62,7 @@ keyed_rule_again H r names h =
       spells = λ c. subst CanSpell (sym is) (h.spells c);
     }
 
--- what is written of an operator whose variables have these names, behind its first word
+-- the written parts of an operator whose variables have these names, behind its first word
 abbrev operator_parts : Names → Atom → Precondition → List Effect → List Effect → Pattern → Forest
 operator_parts all head pre dels adds price =
     Grow (written.atom all head) (Grow (written.precondition all pre)
@@ -100,7 +100,7 @@ record BranchTasksAgain (H : Type 0) (names all : Names) (text : Option (List �
       ≡ Ok (map unplaced.branch (make_branch text p first ∷ others), end)
   spells : H → CanSpell (written.tasks all first) × CanSpellAll (written.branches all others)
 
--- what follows the name of a branch is read again
+-- the nodes behind the name of a branch are read again
 record NamedBranchAgain (H : Type 0) (names all : Names) (text : List ℕ) (bs : List Branch) (end : Names) : Type 0
   where
     pre : Precondition
@@ -118,7 +118,7 @@ abbrev BranchesAgain : Bool → Type 0 → Names → Names → List Branch → N
 BranchesAgain is_first H names all bs end =
     Again (branches nowhere is_first) CanSpellAll (map unplaced.branch) H names (written.branches all bs) bs end
 
--- what follows the name of a branch of an axiom is read again
+-- the nodes behind the name of a branch of an axiom are read again
 record NamedClauseAgain (H : Type 0) (names all : Names) (text : List ℕ) (cs : List Clause) (end : Names) : Type 0
   where
     first : Expression
@@ -207,7 +207,7 @@ module _ {all : Names} where
           spells = λ c. (k.spells c.0, h.spells c.1);
         }))))
 
-    -- what follows the name of a branch is read again
+    -- the nodes behind the name of a branch are read again
     again_named_branch : {names : Names} (end : Span) (text : List ℕ) (f : Forest)
         → After all names (NamedBranchAgain (CanSpellAll f) names all text) (named_branch end text f)
     again_named_branch end text Bare = after_refusal _
@@ -281,7 +281,7 @@ module _ {all : Names} where
           spells = λ c. (h.spells c.0, k.spells c.1);
         }))))
 
-    -- what follows the name of a branch of an axiom is read again
+    -- the nodes behind the name of a branch of an axiom are read again
     again_named_clause : {names : Names} (end : Span) (text : List ℕ) (f : Forest)
         → After all names (NamedClauseAgain (CanSpellAll f) names all text) (named_clause end text f)
     again_named_clause end text Bare = after_refusal _

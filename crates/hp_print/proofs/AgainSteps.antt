@@ -26,7 +26,7 @@ pub begins_through : {xs ys zs : Names} → Begins xs ys → Begins ys zs → Be
 begins_through {xs} {ys} {zs} a b =
     record { rest = a.rest ++ b.rest; whole = rw (b.whole, a.whole, append_assoc) refl }
 
--- what stands behind the first of some names stands one place further
+-- a name behind the first of some names stands one place further
 name_behind : (text x : List ℕ) (xs more : Names) (b : Bool) (i : ℕ)
     → name_of (cond b xs (xs ++ text ∷ []) ++ more) i ≡ text
     → name_of (cond b (x ∷ xs) (x ∷ (xs ++ text ∷ [])) ++ more) (1 + i) ≡ text
@@ -57,7 +57,7 @@ begins_numbered text names = at (list_any (bytes_eq text) names)
     at true = begins_itself names
     at false = record { rest = text ∷ []; whole = refl }
 
--- ---- what is read of what is written
+-- ---- values that are read of written forests
 
 -- a choice reads as its first step where its test holds
 pub reads_true : {A : Type 0} {b : Bool} (p q : Parse A) {names : Names} {r : Result (A × Names) Misform}
@@ -148,7 +148,7 @@ module _ (all : Names) where
     pub after : AfterResult P names (step names)
 
 module _ {all : Names} where
-  -- what holds behind two results, where it needs what holds behind the first
+  -- a fact behind two results, from the one behind the first
   then_after : {A B : Type 0} (P : A → Names → Type 0) (Q : B → Names → Type 0) (names : Names) (x : A × Names)
       (r : Result (B × Names) Misform)
       → AfterResult all P names (Ok x) → AfterResult all (λ y end. P x.0 x.1 → Q y end) x.1 r
@@ -157,7 +157,7 @@ module _ {all : Names} where
       (begins_through h.0 k.0, λ (b : Begins y.1 all). k.1 b (h.1 (begins_through k.0 b)))
   then_after P Q names x (Err m) h k = tt
 
-  -- what holds behind a chain is what holds behind its last step, given what holds behind the one before
+  -- a fact behind a chain is one behind its last step, given one behind the step before
   pub after_chain : {A B : Type 0} {P : A → Names → Type 0} {Q : B → Names → Type 0} {names : Names} {p : Parse A}
       {f : A → Parse B}
       → After all names P p → ((x : A) (mid : Names) → After all mid (λ y end. P x mid → Q y end) (f x))
@@ -206,7 +206,7 @@ module _ {all : Names} where
           (begins_itself names, λ b. k x.0 u.1)
       left (Err m) u = tt
 
-  -- what follows from what holds behind a step holds behind it
+  -- each consequence of a fact behind a step holds behind it
   pub after_so : {A : Type 0} {P Q : A → Names → Type 0} {names : Names} {p : Parse A} → After all names P p
       → ((x : A) (end : Names) → P x end → Q x end) → After all names Q p
   after_so {A} {P} {Q} {names} {p} h k = record { after = so (p names) h.after }
@@ -215,19 +215,19 @@ module _ {all : Names} where
       so (Ok x) u = (u.0, λ b. k x.0 x.1 (u.1 b))
       so (Err m) u = tt
 
-  -- what holds of a value made of another follows from what holds of the other
+  -- a fact of a value made of another follows from one of the other
   pub after_made : {A B : Type 0} {P : A → Names → Type 0} {Q : B → Names → Type 0} {names : Names} (g : A → B)
       {p : Parse A}
       → After all names P p → ((x : A) (end : Names) → P x end → Q (g x) end) → After all names Q (g <$> p)
   after_made g h k = after_chain h (λ x mid. after_pure (k x mid))
 
-  -- what holds behind both steps holds behind a choice of them
+  -- a fact behind both steps holds behind a choice of them
   pub after_choice : {A : Type 0} {P : A → Names → Type 0} {names : Names} (b : Bool) {p q : Parse A}
       → (b ≡ true → After all names P p) → (b ≡ false → After all names P q) → After all names P (cond b p q)
   after_choice true h k = h refl
   after_choice false h k = k refl
 
-  -- what holds by any first name holds by that of a list
+  -- a fact by any first name holds by that of a list
   pub after_begun : {A : Type 0} {P : A → Names → Type 0} {names : Names} (n : Node)
       {by_name : List ℕ → Forest → Parse A} (m : Misform)
       → ((text : List ℕ) (rest : Forest) → (CanSpell n → IsName text × CanSpellAll rest)
@@ -269,7 +269,7 @@ module _ {A : Type 0} (w : A → Node) (ws : List A → Forest) (u : A → A) (i
         spells = λ k. rw more (b.spells k.0, a.spells k.1);
       })))
 
--- what holds for all names behind a step from no names holds for the names at its end
+-- a fact for all names behind a step from no names holds for the names at its end
 pub after_none : {A : Type 0} (P : Names → A → Names → Type 0) (Q : A → Type 0) {p : Parse A}
     → ((all : Names) → After all [] (P all) p) → ((x : A) (names : Names) → P names x names → Q x)
     → {names : Names} → Still names Q (by_itself p)
@@ -280,7 +280,7 @@ after_none {A} P Q {p} h k {names} = record { still = at (p []) (λ all. (h all)
     at (Ok x) h = (refl, k x.0 x.1 ((h x.1).1 (begins_itself x.1)))
     at (Err m) h = tt
 
--- what holds for all names of what a step gives from no names holds for the names at its end
+-- a fact of a step's value from no names on, for all names, holds for the names at its end
 pub value_after : {A : Type 0} (P : Names → A → Names → Type 0) {p : Parse A} (x : A)
     → ((all : Names) → After all [] (P all) p) → from_no_names p ≡ Ok x → (end : Names) × P end x end
 value_after {A} P {p} x h e = at (p []) (λ all. (h all).after) e

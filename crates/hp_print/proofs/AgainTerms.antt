@@ -1,4 +1,4 @@
--- What is written of terms and atoms is read as these again, up to spans.
+-- Written terms and atoms are read as these again, up to spans.
 use Rattle.std.proofs.Common.{◌≡◌, ℕ, Bool, false, List, [], ◌∷◌, map, Option, None, Ok, refl, sym, subst, bytes_eq, codes}
 use Rattle.hp_syntax.specs.declared.pattern.Span.{Span}
 use Rattle.hp_syntax.specs.declared.pattern.Tail.{Tail}
@@ -42,7 +42,7 @@ still_list what (Word s text) = still_choice (is_nil text) (λ e. still_pure (λ
 still_list what (Numeral s n) = still_refusal _
 still_list what (Group s parts) = still_pure (λ h. h)
 
--- what holds of a name holds of whatever name is equal to it
+-- a fact of a name is one of each name that is equal to it
 named : {x text : List ℕ} (P : List ℕ → Type 0) → x ≡ text → P text → P x
 named P e h = subst P (sym e) h
 
@@ -76,7 +76,7 @@ call_as_term setting s n rest names writing v end h = record {
   no_dot = subst (λ (m : Node). is_word (codes ".") m ≡ false) (sym h.is) refl;
 }
 
--- what is written of parts and a tail
+-- the written parts and tail of a list
 abbrev pub written_parts : Names → Patterns × Option Tail → Forest
 written_parts all x = written.items all x.0 x.1
 
@@ -240,7 +240,7 @@ module _ {all : Names} where
           spells = λ c. (h.again.spells c.0, k.spells c.1);
         }))))
 
-    -- what stands behind a dot is read again in its place
+    -- the tail behind a dot is read again in its place
     again_dotted : {names : Names} (setting : Setting) (end : Span) (f : Forest)
         → After all names (ItemsAgain setting (CanSpellAll f) names all) (dotted setting end f)
     again_dotted setting end Bare = after_refusal _
@@ -301,7 +301,7 @@ module _ {all : Names} where
 
   -- ---- atoms
 
-  -- what holds of a value made of an atom follows from what is read again of its parts
+  -- a fact of a value made of an atom follows from those of its parts that are read again
   pub after_named : {B : Type 0} {Q : B → Names → Type 0} {names : Names} (setting : Setting) (s : Span) (text : List ℕ)
       (rest : Forest) (g : Atom → B)
       → ((x : Patterns × Option Tail) (end : Names) → ItemsAgain setting (CanSpellAll rest) names all x end

@@ -1,4 +1,4 @@
--- What is written stands nowhere yet: without its places it is the same.
+-- Written forests stand nowhere yet: without their places they are the same.
 use Rattle.std.proofs.Common.{◌≡◌, ℕ, true, false, List, [], ◌∷◌, Some, None, refl, ap, ap₂}
 use Rattle.std.specs.Prelude.{Option, codes}
 use Rattle.hp_syntax.specs.declared.pattern.Tail.{Tail}

@@ -52,7 +52,7 @@ digits_are_names (d ∷ ds) h =
     let p = and_parts (is_digit d) (list_all is_digit ds) h in
     and_from (is_name_byte d) (list_all is_name_byte ds) (digit_is_name d p.0) (digits_are_names ds p.1)
 
--- what begins with a digit begins as a numeral without a sign
+-- bytes that begin with a digit begin as a numeral without a sign
 begins_by_digit : (d : ℕ) (ds : List ℕ) → is_digit d ≡ true → begins_unsigned (d ∷ ds) ≡ true
 begins_by_digit d [] h = h
 begins_by_digit d (c ∷ cs) h = rw h refl
@@ -136,7 +136,7 @@ in_range true zero l = omega arith
 in_range true (suc v) l = omega arith
 in_range false v l = l
 
--- what spells a number is in range, and the number is that of its digits
+-- a spelled number is in range, and is that of its digits
 number_told : (a b c : Bool) (m n : ℤ)
     → cond a (cond b (cond c (ANumber m) OutOfRange) NoNumber) AName ≡ ANumber n → (c ≡ true) × (m ≡ n)
 number_told true true true m n e = (refl, cc)

@@ -1,4 +1,4 @@
--- What the samples are written as.
+-- The canonical texts of the samples.
 use Rattle.std.proofs.Common.{◌≡◌, Some, ◌++◌, codes, option_map, refl}
 use Rattle.std.specs.Fmt.{digits}
 use Rattle.std.specs.Result.{result_ok}

@@ -1,12 +1,12 @@
 -- Each node that a text spells can be spelled.
-use Rattle.std.proofs.Common.{◌≡◌, ℕ, ◌+◌, ◌-◌, ◌<◌, ◌≤◌, Bool, true, false, cond, List, length, get_or, refl, sym, ◌∙◌, ap, arith, subst}
-use Rattle.std.specs.Prelude.{slice_index, slice_range, drop, nat_lt, ◌==◌}
+use Rattle.std.proofs.Common.{◌≡◌, ℕ, ◌+◌, ◌-◌, ◌<◌, ◌≤◌, true, List, length, get_or, sym, ◌∙◌, ap, arith, subst}
+use Rattle.std.specs.Prelude.{slice_range, drop}
 use Rattle.std.specs.List.{list_all}
 use Rattle.std.proofs.lemmas.List.{get_or-take, get_or-drop, length-take, length-drop}
 use Rattle.std.proofs.lemmas.List.Sums.{list_all-from_AllPass}
 use Rattle.std.proofs.lemmas.List.{get_or_default}
 use Rattle.hp_syntax.specs.declared.limits.TheConstants.{LONGEST_TOKEN}
-use Rattle.hp_syntax.specs.Text.{Blank, Opening, Closing, NameByte, Bad, End, is_blank, is_name_byte, comment_after, in_comment, kind_at, IsToken}
+use Rattle.hp_syntax.specs.Text.{is_name_byte, IsToken}
 use Rattle.hp_syntax.specs.Forest.{Node, Word, Numeral, Group, Forest, Bare, Grow, span_of, SpellsNode, Spells, IsForest, longest_token, longest_token_of_node}
 use Rattle.hp_syntax.proofs.TextLemmas.{kind_within, name_byte_only}
 use Rattle.hp_syntax.proofs.LimitLemmas.{forest_keeps_limits}
@@ -35,7 +35,7 @@ token_bytes text a b t = list_all-from_AllPass is_name_byte (slice_range text a 
         ∙ (get_or-take (b - a) (drop a text) i 0 (omega arith) ∙ get_or-drop a text i 0) in
         ap is_name_byte e ∙ name_byte_only text (a + i) (t.run (a + i) (omega arith) (omega arith))
 
--- what a text spells without long tokens can be spelled
+-- a forest that a text spells without long tokens can be spelled
 mutual
   node_can_spell : (text : List ℕ) (n : Node) → SpellsNode text n → longest_token_of_node n ≤ LONGEST_TOKEN → CanSpell n
   node_can_spell text (Word s name) h l =

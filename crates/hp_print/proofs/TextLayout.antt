@@ -1,13 +1,13 @@
 -- Bytes without comments spell the nodes that are laid out in them.
-use Rattle.std.proofs.Common.{◌≡◌, ℕ, ◌+◌, ◌-◌, ◌<◌, ◌≤◌, Bool, true, false, List, [], ◌∷◌, ◌++◌, length, refl, sym, ◌∙◌, ap, ap₂, arith, subst, ⊎_elim}
-use Rattle.std.specs.Prelude.{slice_index, slice_range, drop, take, ◌==◌, ◌||◌, not, cond, ℤ}
+use Rattle.std.proofs.Common.{◌≡◌, ℕ, ◌+◌, ◌-◌, ◌<◌, ◌≤◌, true, false, List, [], ◌∷◌, ◌++◌, length, refl, sym, ◌∙◌, ap, ap₂, arith, subst, ⊎_elim}
+use Rattle.std.specs.Prelude.{slice_index, slice_range, drop, take, ◌==◌, not, ℤ}
 use Rattle.std.specs.List.{list_all}
 use Rattle.std.specs.Fmt.{signed_decimal}
 use Rattle.std.proofs.lemmas.Bool.{and_parts, and_right, ne_eqb, cases_eq, false≢true}
 use Rattle.std.proofs.lemmas.List.{append_assoc, drop_more, length-drop, take_at}
 use Rattle.hp_syntax.specs.declared.limits.TheConstants.{LONGEST_TOKEN}
 use Rattle.hp_syntax.specs.declared.pattern.Span.{Span}
-use Rattle.hp_syntax.specs.Text.{Blank, Opening, Closing, NameByte, Bad, is_blank, is_name_byte, byte_kind, comment_after, in_comment, kind_at, IsOutside, IsToken, IsGap, Spelling, AName, ANumber, spelling_of}
+use Rattle.hp_syntax.specs.Text.{Blank, Opening, NameByte, is_name_byte, byte_kind, comment_after, in_comment, kind_at, IsOutside, IsToken, IsGap, Spelling, AName, ANumber, spelling_of}
 use Rattle.hp_syntax.specs.Forest.{Node, Word, Numeral, Group, Forest, Bare, Grow, span_of, IsSpelled, SpellsNode, Spells, longest_token, longest_token_of_node}
 use Rattle.hp_syntax.specs.Unplaced as unplaced
 use Rattle.hp_syntax.specs.Written.{nowhere, node_text, rest_text, lines}
@@ -106,7 +106,7 @@ module _ (text : List ℕ) where
         ap₂ take n s.rest ∙ take_at xs rest (length xs) refl,
       )
 
-  -- what a token that stands at an offset spells is spelled by its span
+  -- the spelling of a token that stands at an offset is that of its span
   spelled_placed : (xs rest : List ℕ) (a : ℕ) (x : Spelling) → list_all is_name_byte xs ≡ true → 0 < length xs
       → spelling_of xs ≡ x → IsOutside text a → Stands text a (xs ++ rest) → Breaks rest
       → IsSpelled text (record { from = a; to = a + length xs }) x
@@ -135,7 +135,7 @@ module _ (text : List ℕ) where
             λ i l m. ⊎_elim (λ e. ap (kind_at text) (sym e) ∙ k) (λ n. g.blank i (omega arith) m) (cases_eq a i);
       }
 
-  -- what is spelled from behind a blank on is spelled from the blank on
+  -- a forest that is spelled from behind a blank on is spelled from the blank on
   wider : (a e : ℕ) (f : Forest) → kind_at text a ≡ Blank → Spells text (a + 1) e f → Spells text a e f
   wider a e Bare k h = wider_gap a e k h
   wider a e (Grow n f) k h = (wider_gap a (span_of n).from k h.0, h.1, h.2)

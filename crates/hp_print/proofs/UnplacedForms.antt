@@ -104,7 +104,7 @@ mutual
       moves_chain _ (moved_items setting end rest) (λ others.
       moves_pure (Before first others.0, others.1))))
 
-  -- what stands behind a dot is the same without places
+  -- the tail behind a dot is the same without places
   moved_dotted : (setting : Setting) (end : Span) (f : Forest)
       → Moves unplaced_parts (dotted setting end f) (dotted setting nowhere (unplaced.forest f))
   moved_dotted setting end Bare = moves_refusal _

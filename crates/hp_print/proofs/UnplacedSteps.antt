@@ -13,7 +13,7 @@ abbrev pub misform : Misform → Misform
 misform (Expected what s) = Expected what nowhere
 misform (SeveralPairs s) = SeveralPairs nowhere
 
--- what a step gives, with the value made another and a refusal without its place
+-- the result of a step, with the value made another and a refusal without its place
 abbrev pub moved : {A : Type 0} → (A → A) → Result (A × Names) Misform → Result (A × Names) Misform
 moved u (Ok x) = Ok (u x.0, x.1)
 moved u (Err m) = Err (misform m)

@@ -6,7 +6,7 @@ use Rattle.std.proofs.lemmas.List.{at_drop_all}
 use Rattle.hp_syntax.proofs.ListLemmas.{made_on}
 use Rattle.hp_print.proofs.WrittenTexts.{ended}
 
--- once one more part is written behind a space, the text and what is left of the list are what they were before
+-- one more part that is written behind a space leaves the whole, of the text and the parts that are left, as it was
 pub spaced_on : {X : Type 0} (rest : List X → List ℕ) (part : X → List ℕ) (xs : List X) (i : ℕ) (x : X)
     (text spaced new whole : List ℕ)
     → ((y : X) (ys : List X) → rest (y ∷ ys) ≡ codes " " ++ part y ++ rest ys)

@@ -1,4 +1,4 @@
--- What is written, by its parts.
+-- Written texts, by their parts.
 use Rattle.std.proofs.Common.{◌≡◌, ℕ, ◌<◌, ◌++◌, List, [], ◌∷◌, length, codes, Result, Ok, Err, refl, append_assoc, ◌∙◌, arith}
 use Rattle.std.specs.Bool.{if◌then◌else◌}
 use Rattle.std.specs.Result.{OnOk, is_ok}
@@ -21,7 +21,7 @@ pub ended : {T E : Type 0} (r : Result T E) (new done kept whole : List ℕ)
 ended (Ok x) new done kept whole h e = h ∙ e
 ended (Err x) new done kept whole h e = tt
 
--- what was written where a write went well is any text that equals it
+-- the text that was written where a write went well is any text that equals it
 pub written_as : {T E : Type 0} (r : Result T E) (new a b : List ℕ) → OnOk r (new ≡ a) → a ≡ b → OnOk r (new ≡ b)
 written_as (Ok x) new a b h e = h ∙ e
 written_as (Err x) new a b h e = tt

@@ -6,8 +6,8 @@ ghost use Rattle.hp_syntax.specs.Written as written;
 ghost use Rattle.hp_syntax.specs.Written.{name_of, node_text, rest_text};
 
 use crate::terms::{push_atom, push_begun_forall, push_pattern};
-use crate::words::{push_all, push_begun, variable_name};
-use hp_syntax::{Expr, ExprKind, Name, Pat, Pre, SortKey, SortOrder};
+use crate::words::{order_word, push_all, push_begun, variable_name};
+use hp_syntax::{Expr, ExprKind, Name, Pat, Pre, SortKey};
 use std::alloc::AllocError;
 
 /// `(assign VARIABLE term)`
@@ -85,17 +85,6 @@ fn push_expressions(text: &mut Vec<u8>, vars: &[Name], parts: &[Expr]) -> Result
         push_expression(text, vars, part)?;
     }
     text.extend_from_slice(b")")
-}
-
-/// The name of an order.
-fn order_word(order: &SortOrder) -> &[u8]
-    ensures { result.now ≡ written.order_word (order_of order.now) }
-{
-    match order {
-        SortOrder::Up => b"<",
-        SortOrder::Down => b">",
-        SortOrder::Unknown(name, _) => name.bytes(),
-    }
 }
 
 /// The beginning of what is sorted: `(:sort-by VARIABLE order `

@@ -1,4 +1,4 @@
-//! What is known of all texts that are written.
+//! Laws on all texts that are written.
 
 ghost use Rattle.std.specs.Prelude.{◌≤◌, ℕ, List, length};
 ghost use Rattle.hp_syntax.specs.declared.limits.TheConstants.{LARGEST_TEXT, DEEPEST_NESTING};
@@ -10,7 +10,7 @@ ghost use Rattle.hp_syntax.specs.Unplaced as unplaced;
 ghost use Rattle.hp_syntax.specs.Written as written;
 ghost use Rattle.hp_print.specs.ReadBack.{ReadsBack};
 
-/// What a text is read as, written and read again, is the same up to spans, as long as the written text and the
+/// The reading of a text, written and read again, is the same up to spans, as long as the written text and the
 /// brackets in it keep the limits of a text.
 pub fn written_texts_read_back()
     ensures domain { (text : List ℕ) (d : Domain) → IsRead domain_form text d

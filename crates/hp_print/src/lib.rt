@@ -21,7 +21,7 @@ mod rules;
 pub mod samples;
 mod tasks;
 mod terms;
-mod words;
+pub mod words;
 
 use hp_syntax::{AtomPat, Domain, Ground, Name, NetPat, Pat, Problem};
 use std::alloc::{AllocError, Global};

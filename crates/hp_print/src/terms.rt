@@ -62,7 +62,7 @@ fn push_list(
     }
 }
 
-/// What follows in a list: its parts, its tail and the closing bracket.
+/// The rest of a list: its parts, its tail and the closing bracket.
 #[cycle(pattern)]
 #[tactic(auto, unfolding(hp_syntax::specs::Written::pattern, hp_syntax::specs::Written::rest_text))]
 pub fn push_items(

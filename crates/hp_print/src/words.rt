@@ -3,9 +3,10 @@
 ghost use Rattle.std.specs.Prelude.{◌≡◌, ◌++◌, [], OnOk, codes};
 ghost use Rattle.std.specs.Fmt.{signed_decimal};
 ghost use Rattle.std.specs.List.{flat_map};
-ghost use Rattle.hp_syntax.specs.Written.{name_of};
+ghost use Rattle.hp_syntax.specs.Views.{order_of};
+ghost use Rattle.hp_syntax.specs.Written.{name_of, order_word};
 
-use hp_syntax::Name;
+use hp_syntax::{Name, SortOrder};
 use itoa::Buffer;
 use std::alloc::AllocError;
 
@@ -42,6 +43,17 @@ pub fn push_variable(text: &mut Vec<u8>, vars: &[Name], v: u32) -> Result<(), Al
     ensures { OnOk result (text.new.items ≡ text.old.items ++ name_of vars.now v) }
 {
     text.extend_from_slice(variable_name(vars, v))
+}
+
+/// The name of an order.
+pub fn order_word(order: &SortOrder) -> &[u8]
+    ensures { result.now ≡ order_word (order_of order.now) }
+{
+    match order {
+        SortOrder::Up => b"<",
+        SortOrder::Down => b">",
+        SortOrder::Unknown(name, _) => name.bytes(),
+    }
 }
 
 /// The beginning of a list that begins with a word.

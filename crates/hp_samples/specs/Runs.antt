@@ -1,4 +1,4 @@
--- What a run on two texts comes to by the definitions alone.
+-- The outcome of a run on two texts by the definitions alone.
 use Rattle.std.specs.Prelude.{◌≡◌, ℕ, Bool, List, [], ◌∷◌, length, Result, Ok, Err}
 use Rattle.hp_syntax.specs.Forest.{Forest, IsForest}
 use Rattle.hp_syntax.specs.Grammar.{domain_form, problem_form}
@@ -7,7 +7,7 @@ use Rattle.hp_syntax.specs.Steps.{Misform}
 use Rattle.hp_syntax.specs.Syntax.{Domain, Pair, Problem, Rule}
 use Rattle.hp_syntax.specs.Walk.{walk}
 
--- what is asked of a run: so many plans, down to a depth, with so many axiom levels, with states or without
+-- a request for a run: so many plans, down to a depth, with so many axiom levels, with states or without
 pub record Asked : Type 0 where
   pub plans : ℕ
   pub depth : ℕ

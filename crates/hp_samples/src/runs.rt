@@ -42,7 +42,7 @@ pub fn changed_states_keep_their_order()
         ++ codes "expansions 5\n") }
 {}
 
-/// What is protected can't be deleted, until each of its protections is cancelled by one of its own.
+/// A protected atom can't be deleted, until each of its protections is cancelled by one of its own.
 pub fn protected_atoms_stay()
     ensures guarded { Writes (asked 9 9 64 true) guard_domain guarded_problem
         (codes "plan 1 cost 2 steps 2\n(!kill)\n(!guard)\nstate 0\nprotections 1\n(p)\nend plans 1 "

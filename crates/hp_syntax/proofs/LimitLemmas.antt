@@ -1,4 +1,4 @@
--- What a text spells is clear exactly where the limits are kept.
+-- A text that spells a forest is clear exactly where the limits are kept.
 use Rattle.std.proofs.Common.{◌≡◌, ℕ, ◌+◌, ◌-◌, ◌<◌, ◌≤◌, Bool, true, false, cond, List, length, None, refl, sym, ◌∙◌, ap, arith, subst, ⊎_elim}
 use Rattle.std.specs.Prelude.{slice_range}
 use Rattle.std.proofs.lemmas.Bool.{cases_lt, cases_eq, lt-ltb, le-ltb}
@@ -119,7 +119,7 @@ module _ (text : List ℕ) (fits : length text ≤ LARGEST_TEXT) where
         passes_both text a (span_of n).from e (gap_passes a (span_of n).from h.0)
         (passes_both text (span_of n).from (span_of n).to e x y)
 
-  -- what a text spells within the limits is its forest
+  -- a forest that a text spells within the limits is its forest
   pub limits_clear : (f : Forest) → Spells text 0 (length text) f → longest_token f ≤ LONGEST_TOKEN
       → nesting f ≤ DEEPEST_NESTING → IsForest text f
   unfolding Passes open_before
@@ -157,7 +157,7 @@ module _ (text : List ℕ) (clear : IsClear text (length text + 1)) where
           let q = rw (k, m) at (nothing_refused text a (clear a (omega arith))) in
           cc
 
-  -- what a clear text spells keeps the limits
+  -- the forest of a clear text keeps the limits
   mutual
     node_keeps : (n : Node) → SpellsNode text n → length (open_before text (span_of n).from) ≤ DEEPEST_NESTING
         → (longest_token_of_node n ≤ LONGEST_TOKEN)

@@ -4,7 +4,7 @@ use Rattle.std.proofs.lemmas.List.{drop_more}
 use Rattle.std.proofs.lemmas.Grind.{common_steps}
 
 module _ {X A : Type 0} (rest : List X → List A) (part : X → List A) (xs : List X) (i : ℕ) (x : X) where
-  -- once one more part is made, what is made and what is left are what they were together before
+  -- one more part that is made leaves the whole, of the made parts and the parts that are left, as it was
   pub made_on : (old new whole : List A) → ((y : X) (ys : List X) → rest (y ∷ ys) ≡ part y ++ rest ys)
       → i < length xs → x ≡ get_or xs i x → old ++ rest (drop i xs) ≡ whole → new ≡ old ++ part x
       → new ++ rest (drop (i + 1) xs) ≡ whole

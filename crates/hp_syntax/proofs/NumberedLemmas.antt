@@ -25,7 +25,7 @@ rule_names (Does o) = o.vars
 rule_names (Refines m) = m.vars
 rule_names (Concludes a) = a.vars
 
--- what a rule is made of is numbered
+-- the parts of a rule are numbered
 abbrev RuleBelow : ℕ → Rule → Type 0
 RuleBelow count (Does o) =
     AtomBelow count o.head × PreconditionBelow count o.pre × All (EffectBelow count) o.dels
@@ -118,7 +118,7 @@ module _ (most : ℕ) where
         (keeps_chain (numbered_term setting n)
         (λ first. keeps_chain (numbered_items setting end rest) (λ others. keeps_pure (λ h k. ((k, h.0), h.1)))))
 
-    -- what stands behind a dot is numbered
+    -- the tail behind a dot is numbered
     numbered_dotted : (setting : Setting) (end : Span) (f : Forest)
         → Keeps most (PartsBelow most) (dotted setting end f)
     numbered_dotted setting end Bare = keeps_refusal _

@@ -1,4 +1,4 @@
--- What steps keep: where the names after a step are at most so many, so were the names before.
+-- Facts that steps keep: where the names after a step are at most so many, so were the names before.
 use Rattle.std.proofs.Common.{◌≡◌, ℕ, ◌+◌, ◌<◌, ◌≤◌, Bool, true, false, ◌||◌, not, cond, List, [], ◌∷◌, ◌++◌, length, length-append, Option, Some, None, refl, subst, arith, bytes_eq}
 use Rattle.std.specs.Prelude.{Result, Ok, Err}
 use Rattle.std.specs.List.{All, list_any, position_or_len}
@@ -21,7 +21,7 @@ pub record Leaves {A : Type 0} (most : ℕ) (P : A → Names → Type 0) (step :
 abbrev pub Keeps : {A : Type 0} → ℕ → (A → Type 0) → Parse A → Type 0
 Keeps most P step = Leaves most (λ x names. P x) step
 
--- what a step leaves behind another one is left by both
+-- the names that a step leaves behind another one are left by both
 then_left : {A B : Type 0} (most : ℕ) (P : A → Type 0) (Q : B → Names → Type 0) (names : Names) (p : A × Names)
     (r : Result (B × Names) Misform)
     → LeavesResult most (λ x _. P x) names (Ok p) → LeavesResult most (λ y after. P p.0 → Q y after) p.1 r
@@ -29,7 +29,7 @@ then_left : {A B : Type 0} (most : ℕ) (P : A → Type 0) (Q : B → Names → 
 then_left most P Q names p (Ok q) h k = λ l. (let b = k l in let a = h b.0 in (a.0, b.1 a.1))
 then_left most P Q names p (Err e) h k = tt
 
--- a result and what is done with it leave what the latter leaves
+-- a result and a step behind it leave the names that the step leaves
 and_then_left : {A B : Type 0} (most : ℕ) (P : A → Type 0) (Q : B → Names → Type 0) (names : Names)
     (r : Result (A × Names) Misform) (f : A → Parse B)
     → LeavesResult most (λ x _. P x) names r → ((x : A) → Leaves most (λ y after. P x → Q y after) (f x))
@@ -51,7 +51,7 @@ keeps_pure h = record { left = λ names l. (l, h) }
 pub keeps_refusal : {A : Type 0} {most : ℕ} {P : A → Names → Type 0} (m : Misform) → Leaves most P (refuse m)
 keeps_refusal m = record { left = λ names. tt }
 
--- a value made of another keeps what follows from what the other keeps
+-- a value made of another keeps each fact that follows from one that the other keeps
 pub keeps_made : {A B : Type 0} {most : ℕ} {P : A → Type 0} {Q : B → Type 0} (g : A → B) {p : Parse A}
     → Keeps most P p → ((x : A) → P x → Q (g x)) → Keeps most Q (g <$> p)
 keeps_made g h k = keeps_chain h (λ x. keeps_pure (k x))
@@ -136,7 +136,7 @@ pub leaves_names : {A : Type 0} {most : ℕ} {P : A → Names → Type 0} {f : N
     → Leaves most P (names_so_far >>= (λ names. pure (f names)))
 leaves_names h = record { left = λ names l. (l, h names) }
 
--- what is left for each count of names holds for the count at the end
+-- a fact that is left for each count of names holds for the count at the end
 pub leaves_all : {A : Type 0} (P : ℕ → A → Names → Type 0) (Q : A → Type 0) {p : Parse A}
     → ((most : ℕ) → Leaves most (P most) p)
     → ((x : A) (names : Names) → P (length names) x names → Q x) → (most : ℕ) → Keeps most Q p
@@ -157,7 +157,7 @@ keeps_by_itself {A} {most} {P} {p} h = record { left = λ names. own names (p []
     own names (Ok x) k = λ l. (l, (k (length x.1) (omega arith)).1)
     own names (Err e) k = tt
 
--- what a step gives from no names on has what the step keeps
+-- the value of a step from no names on has each fact that the step keeps
 pub kept_value : {A : Type 0} (P : A → Type 0) (p : Parse A) (x : A) → ((n : ℕ) → Keeps n P p) → from_no_names p ≡ Ok x
     → P x
 kept_value {A} P p x h e = value (p []) (λ n. (h n).left []) e

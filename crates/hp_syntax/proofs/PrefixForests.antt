@@ -26,7 +26,7 @@ spelled_order text a b (Grow n f) h =
     let l = spelled_order text (span_of n).to b f h.2 in
     omega arith
 
--- what is spelled from the offset on is beyond it
+-- nodes that are spelled from the offset on are beyond it
 mutual
   node_beyond : (at : ℕ) (text : List ℕ) (n : Node) → SpellsNode text n → at ≤ (span_of n).from → NodeBeyond at n
   node_beyond at text (Word s name) h l = let o = h.0.token.some in omega arith

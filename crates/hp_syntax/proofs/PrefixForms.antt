@@ -111,7 +111,7 @@ module _ {at : ℕ} where
         (both_then (reads_term setting n)
         (λ first. reads_last _ _ (reads_items setting s t l f) (λ others. late_pure))))
 
-    -- what stands behind a dot is read alike
+    -- the tail behind a dot is read alike
     reads_dotted : (setting : Setting) (s t : Span) → at < s.to → (f : Forest)
         → ReadsAlike at f (dotted setting s) (dotted setting t)
     reads_dotted setting s t l Bare = reads_late (late_refusal l)

@@ -1,4 +1,4 @@
--- What is refused at an offset is decided by a prefix of the text.
+-- The refusal at an offset is decided by a prefix of the text.
 use Rattle.std.proofs.Common.{◌≡◌, ℕ, zero, suc, ◌+◌, ◌-◌, ◌<◌, ◌≤◌, List, [], ◌∷◌, length, take, drop, refl, sym, ◌∙◌, ap, ap₂, arith, subst, ⊎_elim}
 use Rattle.std.specs.Prelude.{slice_index, slice_range, nat_lt}
 use Rattle.std.proofs.lemmas.Bool.{cases_lt, lt-ltb, le-ltb}

@@ -30,7 +30,7 @@ mutual
   pub data NodeAlikeUpTo (at : ℕ) : Node → Node → Type 0 where
     OpenNode : {s t : Span} {p q : Forest} → at < s.to → AlikeUpTo at p q → NodeAlikeUpTo at (Group s p) (Group t q)
 
--- what a step refuses it refuses behind the offset
+-- each refusal of a step is behind the offset
 abbrev pub LateResult : {A : Type 0} → ℕ → Result (A × Names) Misform → Type 0
 LateResult at (Ok x) = Unit {0}
 LateResult at (Err e) = at < (misform_span e).to
@@ -38,7 +38,7 @@ LateResult at (Err e) = at < (misform_span e).to
 pub record IsLate {A : Type 0} (at : ℕ) (p : Parse A) : Type 0 where
   pub late : (names : Names) → LateResult at (p names)
 
--- what a step refuses up to the offset another step refuses alike
+-- each refusal of a step up to the offset is one of another step
 abbrev pub AlikeResult : {A : Type 0} → ℕ → Result (A × Names) Misform → Result (A × Names) Misform → Type 0
 AlikeResult at (Ok x) r = Unit {0}
 AlikeResult at (Err e) r = (misform_span e).to ≤ at → r ≡ Err e

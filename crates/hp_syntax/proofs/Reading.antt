@@ -47,7 +47,7 @@ longer_gap text a b k g =
       blank = λ i l m. ⊎_elim (λ e. ap (kind_at text) (sym e) ∙ k) (λ n. g.blank i (omega arith) m) (cases_eq a i);
     }
 
--- what is spelled behind a blank is spelled before it
+-- a forest that is spelled behind a blank is spelled before it
 longer_spelled : (text : List ℕ) (a e : ℕ) (f : Forest) → kind_at text a ≡ Blank → Spells text (a + 1) e f
     → Spells text a e f
 longer_spelled text a e Bare k h = longer_gap text a e k h
@@ -166,7 +166,7 @@ module _ (text : List ℕ) (clear : IsClear text (length text + 1)) where
       let g = goes_on text a (record { within = w; between = o; clear = λ i m. clear i (omega arith) }) in
       read_on a g.0 w g.1 (λ b m x y. read d b (omega arith) x y)
 
-  -- what is spelled from the start ends with the text, since no bracket is open there
+  -- a forest that is spelled from the start ends with the text, since no bracket is open there
   ends_with_text : (r : SpelledFrom text 0) → kind_at text r.end ≡ End
   unfolding open_before
   ends_with_text r = ⊎_elim (λ c. absurd (extra c)) (λ e. e) (ends_before (kind_at text r.end) r.ends)
@@ -178,7 +178,7 @@ module _ (text : List ℕ) (clear : IsClear text (length text + 1)) where
           let q = rw (c, o) at (nothing_refused text r.end (clear r.end (omega arith))) in
           cc
 
-  -- what is spelled from the start is the forest of the text
+  -- a forest that is spelled from the start is that of the text
   whole : (r : SpelledFrom text 0) → IsForest text r.forest
   whole r =
       let l = r.within in

@@ -1,4 +1,4 @@
--- What is refused first in a text, and what a token is in which nothing is refused.
+-- The first refusal in a text, and tokens in which nothing is refused.
 use Rattle.std.proofs.Common.{◌≡◌, ℕ, zero, suc, ◌+◌, ◌-◌, ◌<◌, ◌≤◌, List, length, Option, Some, None, refl, arith, add-one, subst, ◌⊎◌, inl, inr, ⊎_elim}
 use Rattle.std.specs.Prelude.{slice_range}
 use Rattle.std.proofs.lemmas.Bool.{cases_lt, lt-ltb, le-ltb, eq-eqb}
@@ -35,7 +35,7 @@ clear_token_short text a b t c = ⊎_elim (λ l. absurd (long l)) (λ l. l) (cas
         let e = rw (le-ltb i i (omega arith), eq-eqb i i refl) at (clear_token text a b i t c (omega arith) l) in
         cc
 
--- what a clear token spells isn't refused
+-- the spelling of a clear token isn't refused
 pub clear_token_spelling : (text : List ℕ) (a b : ℕ) → IsToken text a b → IsClear text b
     → numeral_refusal (spelling_of (slice_range text a b)) a ≡ None
 clear_token_spelling text a b t c =

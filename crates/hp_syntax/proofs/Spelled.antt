@@ -138,7 +138,7 @@ module _ (text : List ℕ) (ks : List Kind) (same : (i : ℕ) → get_or ks i En
       let n : a + (i - a) ≡ i = omega arith in
       sym (same_kind-true k (get_or part (i - a) End) t ∙ (e ∙ (ap (λ j. get_or ks j End) n ∙ same i)))
 
-  -- what is seen to be a gap is one
+  -- bytes that are seen to be a gap are one
   tested_gap : (a b : ℕ) → gap_test ks a b ≡ true → IsGap text a b
   tested_gap a b h =
       let p = and_parts (nat_le a b) _ h in
@@ -152,7 +152,7 @@ module _ (text : List ℕ) (ks : List Kind) (same : (i : ℕ) → get_or ks i En
   tested_end : (b : ℕ) → not (same_kind NameByte (get_or ks b End)) ≡ true → kind_at text b ≡ NameByte → ⊥
   tested_end b h n = let q = rw (same b, n) at h in absurd cc
 
-  -- what a token is seen to spell it spells
+  -- a token has the spelling that it is seen to have
   tested_spelled : (s : Span) (x : Spelling) → spelled_test text ks s x ≡ true → IsSpelled text s x
   tested_spelled s x h =
       let p = and_parts (token_test ks s.from s.to) _ h in
@@ -169,7 +169,7 @@ module _ (text : List ℕ) (ks : List Kind) (same : (i : ℕ) → get_or ks i En
         spells = same_spelling-true _ x p.1;
       }
 
-  -- what the text is seen to spell it spells
+  -- a text spells the forest that it is seen to spell
   mutual
     tested_node : (n : Node) → node_test text ks n ≡ true → SpellsNode text n
     tested_node (Word s name) h =
@@ -193,7 +193,7 @@ module _ (text : List ℕ) (ks : List Kind) (same : (i : ℕ) → get_or ks i En
         let q = and_parts (node_test text ks n) _ p.1 in
         (tested_gap from (span_of n).from p.0, tested_node n q.0, tested_forest (span_of n).to to f q.1)
 
--- what passes the test is the forest of the text
+-- a forest that passes the test is that of the text
 pub tested : (text : List ℕ) (f : Forest) → whole_test text f ≡ true → IsForest text f
 tested text f h =
     let p = and_parts (forest_test text (kinds false text) 0 (length text) f) _ h in

@@ -1,4 +1,4 @@
--- What stands at the offsets of a text, and what is refused there.
+-- The kinds at the offsets of a text, and the refusals there.
 use Rattle.std.proofs.Common.{◌≡◌, ℕ, zero, suc, ◌+◌, ◌<◌, ◌≤◌, Bool, true, false, cond, List, ◌∷◌, length, None, refl, sym, ◌∙◌, ap, subst, arith, add-one, ⊎_elim}
 use Rattle.std.specs.Prelude.{slice_index, drop, nat_lt, ◌==◌, ◌&&◌, ◌||◌}
 use Rattle.std.proofs.lemmas.Bool.{lt-ltb, le-ltb, eq-eqb, cases_lt, cases_eq, false_from_ne_true, ne_eqb, and_right, cases_cond}
@@ -30,7 +30,7 @@ pub kind_at-end : (text : List ℕ) (i : ℕ) → length text ≤ i → kind_at 
 unfolding kind_at
 kind_at-end text i l = rw (le-ltb i (length text) l)
 
--- what isn't the end is a byte of the text
+-- an offset that isn't the end has a byte of the text
 pub kind_within : (text : List ℕ) (i : ℕ) → (kind_at text i ≡ End → ⊥) → i < length text
 kind_within text i h = ⊎_elim (λ l. l) (λ l. absurd (h (kind_at-end text i l))) (cases_lt i (length text))
 
@@ -155,11 +155,11 @@ token_start-run text from (suc i) l o r =
     (token_start-run text from i (omega arith) o (λ j x y. r j x (omega arith))))
     (cases_eq from (suc i))
 
--- what is clear up to an offset at which nothing is refused is clear beyond it
+-- a text that is clear up to an offset at which nothing is refused is clear beyond it
 pub clear_more : (text : List ℕ) (i : ℕ) → IsClear text i → refusal_at text i ≡ None → IsClear text (i + 1)
 clear_more text i c h = λ j l. ⊎_elim (λ e. ap (refusal_at text) e ∙ h) (λ n. c j (omega arith)) (cases_eq j i)
 
--- within the limit what is refused follows from what stands there
+-- within the limit the refusal at an offset is that of its kind
 pub refusal_at-within : (text : List ℕ) (i : ℕ) → i < LARGEST_TEXT
     → refusal_at text i ≡ kind_refusal text i (kind_at text i) (open_before text i)
 unfolding refusal_at

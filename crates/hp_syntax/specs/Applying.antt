@@ -10,7 +10,7 @@ pub record ChangesOf (A : Type 0) : Type 0 where
   pub add : List A
   pub guard : List A
 
--- what applying changes gives: what holds and what is protected then, or the protected atom that forbids it
+-- the result of applying changes: the new state and protections, or the protected atom that forbids them
 pub data AppliedOf (A : Type 0) : Type 0 where
   Now : (state : List A) → (guards : List A) → AppliedOf A
   Guarded : (atom : A) → AppliedOf A

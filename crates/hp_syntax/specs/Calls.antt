@@ -15,7 +15,7 @@ fault_at kind span = record { kind = kind; span = span }
 abbrev pub fits : ℤ → Bool
 fits n = int_le (negsuc (2 ^ 63 - 1)) n && int_le n (pos (2 ^ 63 - 1))
 
--- what a call gives: a number that must fit, `t` or the empty list
+-- the result of a call: a number that must fit, `t` or the empty list
 abbrev pub number : Span → ℤ → Result Term RunFault
 number s n = cond (fits n) (Ok (Number n)) (Err (fault_at Overflow s))
 
@@ -94,7 +94,7 @@ takes One n = n == 1
 takes Two n = n == 2
 takes TwoOrMore n = nat_le 2 n
 
--- what no domain has that the checks accept: a name that the table lacks, or another number of arguments
+-- a call that no accepted domain has: with a name that the table lacks, or another number of arguments
 abbrev pub no_call : Result Term RunFault
 no_call = Ok (Listed NoTerm)
 

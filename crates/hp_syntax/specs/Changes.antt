@@ -1,4 +1,4 @@
--- What an operator does to a state and its protections, and what it costs.
+-- The changes of an operator to a state and its protections, and its cost.
 use Rattle.std.specs.Prelude.{ℕ, ℤ, List, [], ◌∷◌, ◌++◌, Result, Ok, Err}
 use Rattle.hp_syntax.specs.declared.pattern.Span.{Span}
 use Rattle.hp_syntax.specs.declared.fault.RunFault.{RunFault}
@@ -23,7 +23,7 @@ Applied = AppliedOf Term
 abbrev pub added : State → List Term → State
 added s atoms = with_added same_term s atoms
 
--- what applying changes to a state and its protections gives
+-- the result of changes to a state and its protections
 unfoldable pub apply : State → List Term → Changes → Applied
 apply s g c = applied same_term s g c
 
@@ -57,7 +57,7 @@ values_for_each as' (Fault f ∷ xs) = Failed f
 values_for_each as' (Sat e ∷ xs) =
     and_go (atom_values as' e) (λ ts. and_go (values_for_each as' xs) (λ us. Went (ts ++ us)))
 
--- what a list of effects comes to: atoms, and atoms of protections
+-- the atoms of a list of effects, and its atoms of protections
 pub record Gathered : Type 0 where
   pub atoms : List Term
   pub protections : List Term

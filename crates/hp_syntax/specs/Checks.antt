@@ -1,4 +1,4 @@
--- What the checks find in a domain and a problem that have their forms, and which of it is told.
+-- The faults of a domain and a problem that have their forms, and the one that is told.
 use Rattle.std.specs.Prelude.{ℕ, ◌+◌, ◌≤◌, Bool, true, false, ◌&&◌, ◌||◌, cond, nat_lt, ◌==◌, List, [], ◌∷◌, ◌++◌, length, Option, Some, None, bytes_eq}
 use Rattle.std.specs.List.{flat_map}
 use Rattle.hp_syntax.specs.declared.pattern.Span.{Span}

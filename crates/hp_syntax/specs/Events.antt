@@ -66,7 +66,7 @@ chosen_events (Some c) = c.1
 
 -- ---- negation
 
--- what decides a negation: a satisfier before any fault, a fault, a cut, or nothing
+-- the event that decides a negation: a satisfier before any fault, a fault, a cut, or none
 pub data Finding : Type 0 where
   Satisfied : Finding
   Faulty : (f : RunFault) → Finding
@@ -158,7 +158,7 @@ unfoldable mutual
   parts_bound NoPattern b = true
   parts_bound (Before p ps) b = all_bound p b && parts_bound ps b
 
--- what an axiom concludes, once its head is valued
+-- the conclusion of an axiom, once its head is valued
 abbrev pub concluded_value : Result Term RunFault → Goal → Bindings → List Event
 concluded_value (Err f) q e = Fault f ∷ []
 concluded_value (Ok t) q e = sat_if (match_goal q t e)
@@ -188,7 +188,7 @@ abbrev pub branch_events : Below → Axiom → Bindings → List Event
 branch_events None x b = Cut ∷ []
 branch_events (Some below) x b = chosen_events (chosen (λ c. below c.body b) x.clauses)
 
--- what each Sat of an axiom's branches concludes, where its head started
+-- the conclusions of an axiom's branches, one for each Sat, where its head started
 abbrev pub started_events : Below → Axiom → Option Bindings → Goal → Bindings → List Event
 started_events below x None q e = []
 started_events below x (Some b) q e = through (branch_events below x b) (λ d. concluded x.head d q e)

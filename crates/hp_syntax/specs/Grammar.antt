@@ -91,7 +91,7 @@ unfoldable mutual
         others ← items setting end rest
         pure (Before first others.0, others.1))
 
-  -- what stands behind a dot
+  -- the tail behind a dot
   pub dotted : Setting → Span → Forest → Parse (Patterns × Option Tail)
   dotted setting end Bare = expected wants.Tail end
   dotted setting end (Grow n rest) = do
@@ -515,7 +515,7 @@ file what node len f = do
   ended x.1
   pure value
 
--- what domain, or what problem, the forest of a text of this length is the form of
+-- the domain, or the problem, whose form is the forest of a text of this length
 abbrev pub domain_form : ℕ → Forest → Result Domain Misform
 domain_form len f =
     from_no_names (file wants.Domain (file_list wants.Domain (codes "defdomain") domain_list) len f)

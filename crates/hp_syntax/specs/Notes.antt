@@ -1,4 +1,4 @@
--- What a user may want to know of an accepted domain and problem: the tasks that no rule serves.
+-- Notes on an accepted domain and problem: the tasks that no rule serves.
 use Rattle.std.specs.Prelude.{ℕ, Bool, true, false, cond, List, [], ◌∷◌, ◌++◌, bytes_eq}
 use Rattle.std.specs.List.{list_any, flat_map}
 use Rattle.hp_syntax.specs.declared.pattern.Span.{Span}

@@ -1,4 +1,4 @@
--- What is written of a place in a text.
+-- The text of a place in a text.
 use Rattle.std.specs.Prelude.{ℕ, List, ◌++◌, codes, decimal}
 use Rattle.hp_syntax.specs.declared.pattern.Span.{Span}
 

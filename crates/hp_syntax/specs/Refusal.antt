@@ -47,7 +47,7 @@ token_refusal text from i =
     (cond (is_name (kind_at text (i + 1))) None (numeral_refusal (spelling_of (slice_range text from (i + 1))) from))
     (cond (i == from + LONGEST_TOKEN) (refused TokenLong from) None)
 
--- what is refused at an offset, where so many brackets are open before it
+-- the refusal at an offset of a kind, where these brackets are open before it
 abbrev pub kind_refusal : List ℕ → ℕ → Kind → List ℕ → Option Refusal
 kind_refusal text i Blank open' = None
 kind_refusal text i Opening open' = cond (nat_lt (length open') DEEPEST_NESTING) None (refused TooNested i)

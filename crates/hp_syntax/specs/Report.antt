@@ -1,4 +1,4 @@
--- What is written of a walk, and how a run of it ends.
+-- The report of a walk: its plans, its ending, and the status of its run.
 use Rattle.std.specs.Prelude.{ℕ, ◌+◌, ◌-◌, ◌^◌, min, Bool, true, false, cond, nat_le, nat_lt, ℤ, List, [], ◌∷◌, ◌++◌, length, codes, decimal, flat_map}
 use Rattle.hp_syntax.specs.declared.fault.RunFault.{RunFault}
 use Rattle.hp_syntax.specs.declared.fault.FaultKind.{FaultKind}
@@ -25,7 +25,7 @@ plan_line i cost steps =
 abbrev pub plan_text : ℕ → Node → List ℕ
 plan_text i n = plan_line i n.cost (length n.steps) ++ lines_text n.steps
 
--- what holds and what is protected at the end of a plan
+-- the state at the end of a plan, and its protections
 unfoldable pub state_text : Node → List ℕ
 state_text n =
     codes "state " ++ decimal (length n.state) ++ codes "\n" ++ lines_text n.state
@@ -78,7 +78,7 @@ status_of AtEnd p = cond (nat_lt 0 p) status.Done status.NoPlan
 
 -- ---- the report
 
--- what was seen of a walk: how many plans and decompositions, and whether a cut
+-- a tally of visits: how many plans and decompositions were seen, and whether a cut
 pub record Tally : Type 0 where
   pub plans : ℕ
   pub expansions : ℕ

@@ -83,7 +83,7 @@ abbrev pub value_in : {A : Type 0} → Result (A × Names) Misform → Result A 
 value_in (Ok x) = Ok x.0
 value_in (Err e) = Err e
 
--- what a step gives from no names on
+-- the result of a step from no names on
 abbrev pub from_no_names : {A : Type 0} → Parse A → Result A Misform
 from_no_names p = value_in (p [])
 

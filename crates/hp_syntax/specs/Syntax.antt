@@ -65,7 +65,7 @@ mutual
     NoTasks : TaskList
     Then : (first : Tasks) → (rest : TaskList) → TaskList
 
--- what an operator deletes or adds
+-- an effect of an operator: an atom that it deletes or adds, a protection, or such atoms for each satisfier
 pub data Effect : Type 0 where
   Change : (atom : Atom) → Effect
   Protection : (atom : Atom) → Effect

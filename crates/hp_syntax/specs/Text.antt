@@ -1,4 +1,4 @@
--- What each byte of a text is to a reader, and the tokens and gaps of a text.
+-- The kind of each byte of a text, and the tokens and gaps of a text.
 use Rattle.std.specs.Prelude.{◌≡◌, ℕ, zero, suc, ◌+◌, ◌^◌, ◌<◌, ◌≤◌, Bool, false, ◌||◌, ◌&&◌, not, cond, nat_lt, nat_le, ◌==◌, ℤ, List, [], ◌∷◌, length, slice_index}
 use Rattle.std.specs.List.{list_all}
 use Rattle.std.specs.Str.Parse.{digits_value, starts_with_minus, without_leading_sign, signed_digits_value}
@@ -14,7 +14,7 @@ is_name_byte b = nat_le 33 b && nat_le b 126 && not (b == 40 || b == 41 || b == 
 abbrev pub is_digit : ℕ → Bool
 is_digit b = nat_le 48 b && nat_le b 57
 
--- what stands at an offset of a text. A byte of a comment is as good as a blank
+-- the kinds of bytes, and the end of a text. A byte of a comment is as good as a blank
 pub data Kind : Type 0 where
   Blank : Kind
   Opening : Kind
@@ -23,7 +23,7 @@ pub data Kind : Type 0 where
   Bad : Kind
   End : Kind
 
--- what a byte is outside a comment
+-- the kind of a byte outside a comment
 abbrev pub byte_kind : ℕ → Kind
 byte_kind b =
     cond (is_blank b) Blank (cond (b == 40) Opening (cond (b == 41) Closing (cond (is_name_byte b) NameByte Bad)))
@@ -37,7 +37,7 @@ abbrev pub in_comment : List ℕ → ℕ → Bool
 in_comment text zero = false
 in_comment text (suc i) = comment_after (in_comment text i) (slice_index text i)
 
--- what stands at an offset, behind which a comment is open or not
+-- the kind at an offset, behind which a comment is open or not
 unfoldable pub kind_at : List ℕ → ℕ → Kind
 kind_at text i =
     cond (nat_lt i (length text))
@@ -81,7 +81,7 @@ abbrev pub is_in_range : List ℕ → Bool
 is_in_range token =
     nat_lt (digits_value 10 (without_leading_sign token)) (cond (starts_with_minus token) (2 ^ 63 + 1) (2 ^ 63))
 
--- what a token spells: a name, a number, or no number though it begins like one
+-- the spelling of a token: a name, a number, or no number though it begins like one
 pub data Spelling : Type 0 where
   AName : Spelling
   ANumber : (n : ℤ) → Spelling

@@ -1,4 +1,4 @@
--- What a text is read as by a grammar.
+-- The reading of a text by a grammar.
 use Rattle.std.specs.Prelude.{◌≡◌, ℕ, List, length, Result, Ok}
 use Rattle.hp_syntax.specs.Forest.{Forest, IsForest}
 use Rattle.hp_syntax.specs.Steps.{Misform}

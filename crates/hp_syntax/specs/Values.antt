@@ -10,7 +10,7 @@ use Rattle.hp_syntax.specs.Syntax as syntax
 use Rattle.hp_syntax.specs.Terms.{Term, Terms, Symbol, Number, Listed, NoTerm, More, term_nesting}
 use Rattle.hp_syntax.specs.Calls.{fault_at, call}
 
--- what each variable of a rule stands for, by number, where it stands for a term
+-- bindings: the term of each variable of a rule, by number, where it stands for one
 abbrev pub Bindings : Type 0
 Bindings = List (Option Term)
 
@@ -22,7 +22,7 @@ abbrev pub flat_option : {A : Type 0} → Option (Option A) → Option A
 flat_option None = None
 flat_option (Some x) = x
 
--- what a variable stands for
+-- the term of a variable
 abbrev pub bound : Bindings → ℕ → Option Term
 bound e v = flat_option (slice_get e v)
 
@@ -50,7 +50,7 @@ parts_of s (Number n) = Err (fault_at NotList s)
 abbrev pub list_of : Span → Terms → Result Term RunFault
 list_of s ts = cond (nat_lt DEEPEST_TERM (term_nesting (Listed ts))) (Err (fault_at TooDeep s)) (Ok (Listed ts))
 
--- what stands behind the parts of a list: nothing, or the parts of the tail's term
+-- the parts behind those of a list: none, or those of the tail's term
 abbrev pub tail_value : Option Tail → Bindings → Result Terms RunFault
 tail_value None e = Ok NoTerm
 tail_value (Some t) e = on_ok (value_of_variable t.span (bound e t.var)) (parts_of t.span)

@@ -1,4 +1,4 @@
--- What patterns, expressions and task lists stand for, variant by variant.
+-- The views of patterns, expressions and task lists, variant by variant.
 use Rattle.std.specs.Prelude.{◌≡◌, ℕ, ℤ, Option, Vec, Box}
 use Rattle.std.specs.Global.{Global}
 use Rattle.std.proofs.Common.{ap, ◌∙◌}

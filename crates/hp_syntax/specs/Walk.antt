@@ -27,7 +27,7 @@ pub record Node : Type 0 where
 
 -- ---- children
 
--- what stands in a node's list of children
+-- an entry of a node's list of children
 pub data Child : Type 0 where
   DidChild : (node : Node) → Child
   CutChild : Child
@@ -114,7 +114,7 @@ module _ (rules : List Rule) (nest : ℕ) where
 
 -- ---- visits
 
--- what is seen at a visit
+-- the sight at a visit
 pub data Sight : Type 0 where
   Did : Sight
   Plan : Sight
@@ -159,7 +159,7 @@ abbrev pub numbered_children : ℕ → List Child → List (ℕ × Child)
 numbered_children i [] = []
 numbered_children i (c ∷ cs) = (i, c) ∷ numbered_children (number_after i c) cs
 
--- what is seen by a child of a node, and below it
+-- the visits at a child of a node and below it
 abbrev pub child_visits : (Node → List ℕ → List Visit) → Node → List ℕ → ℕ × Child → List Visit
 child_visits below n p (i, DidChild m) = visit (p ++ i ∷ []) m Did ∷ below m (p ++ i ∷ [])
 child_visits below n p (i, CutChild) = visit p n CutHere ∷ []

@@ -1,6 +1,6 @@
 use crate::pattern::Span;
 
-/// What a check finds. The numbers are those by which the kinds are known.
+/// The kinds of faults that the checks find. The numbers are those by which they are known.
 #[derive(Clone, Copy, Debug, PartialEq, Eq)]
 pub enum CheckKind {
     /// The problem names another domain; told with that name.

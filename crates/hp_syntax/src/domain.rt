@@ -33,7 +33,7 @@ impl Drop for Clause {
     }
 }
 
-/// What an operator deletes or adds.
+/// An effect of an operator: an atom that it deletes or adds, a protection, or such atoms for each satisfier.
 pub enum Effect {
     Atom(AtomPat),
     Protection(AtomPat),
@@ -109,7 +109,7 @@ impl Drop for Method {
     }
 }
 
-/// What follows from a state.
+/// A rule that concludes its head from a state.
 pub struct Axiom {
     pub span: Span,
     pub vars: Vec<Name>,

@@ -16,7 +16,7 @@ impl Drop for Expr {
     }
 }
 
-/// What kind of logical expression.
+/// The kind of a logical expression, with its parts.
 #[cycle(expr)]
 pub enum ExprKind {
     Atom(AtomPat),

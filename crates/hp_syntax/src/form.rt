@@ -21,7 +21,7 @@ pub enum What {
     Variable,
     /// A term.
     Term,
-    /// What stands behind a dot: a variable or a list.
+    /// A tail behind a dot: a variable or a list.
     Tail,
     /// A list that begins with a plain name.
     Atom,

@@ -29,7 +29,7 @@ impl Drop for Pat {
     }
 }
 
-/// What kind of term.
+/// The kind of a term, with its parts.
 #[cycle(pat)]
 pub enum PatKind {
     Var(u32),

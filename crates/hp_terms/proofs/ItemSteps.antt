@@ -1,4 +1,4 @@
--- Reading terms one by one: what was read so far, and what a step gives for the rest.
+-- Reading terms one by one: the terms so far, and the result of a step for the rest.
 use Rattle.std.proofs.Common.{◌≡◌, ◌∙◌, sym, ap, refl, true, false, List, [], ◌∷◌, ◌++◌, Option, None, Result, Ok, Err, codes, append_assoc, append-nil, subst, ℕ, ◌<◌, ◌≤◌, length, get_or, arith}
 use Rattle.std.proofs.lemmas.List.{map-append}
 use Rattle.std.specs.Prelude.{map}
@@ -58,7 +58,7 @@ refused_below (refusals.Expected what span) prefix r h = ap (put_before prefix) 
 refused_below (refusals.SeveralPairs span) prefix r h = ap (put_before prefix) h
 refused_below refusals.NoMemory prefix r h = h
 
--- Parts were added to a list, and are what a step gives, but for what another step gives from here on.
+-- Parts were added to a list, and are the result of a step but for that of another step from here on.
 pub record SoFar (all next : Parse (Patterns × Option Tail)) (old new : List Pat) (start names : Names) : Type 0 where
   pub more : List Pat
   pub parts : new ≡ old ++ more
@@ -92,7 +92,7 @@ pub refused : (all next : Parse (Patterns × Option Tail)) (old new : List Pat) 
 refused all next old new start before e so_far h =
     refused_same e (all start) _ so_far.read (refused_below e (map pattern_of so_far.more) (next before) h)
 
--- what the step adds from here on is added to what was added before
+-- the parts of the step from here on go behind those that were added before
 pub added : (r : Result (Option Tail) FormRefusal) (all next : Parse (Patterns × Option Tail)) (old mid new : List Pat)
     (start before after : Names) → SoFar all next old mid start before → Adds r next mid new before after
     → Adds r all old new start after
@@ -148,7 +148,7 @@ item_refused setting end all old new start before rest others first e split dotl
     refused all (items setting end (nodes_of rest)) old new start before e so_far
     (refused_same e _ _ is_next (refused_next e (term setting (node_of first) before) _ r))
 
--- what a dot and a tail add is added to what was added before
+-- the parts of a dot and a tail go behind those that were added before
 pub tail_added : (setting : Setting) (end : Span) (all : Parse (Patterns × Option Tail))
     (r : Result (Option Tail) FormRefusal)
     (old mid new : List Pat) (start before after : Names) (rest others : List public.Node) (first : public.Node)
@@ -195,7 +195,8 @@ terms-each (Grow n f) names = elim (term InRule n names) as (λ r. and_then r
 
 -- arguments that were read are the terms of a call
 pub terms_read : (nodes : List public.Node) (i : ℕ) (prefix : List Pat) (start names : Names) → length nodes ≤ i
-    → each (term InRule) (nodes_of nodes) start ≡ prepend (map pattern_of prefix) (from_here (term InRule) nodes i names)
+    → each (term InRule) (nodes_of nodes) start
+    ≡ prepend (map pattern_of prefix) (from_here (term InRule) nodes i names)
     → terms (nodes_of nodes) start ≡ Ok (patterns_of prefix, names)
 terms_read nodes i prefix start names h e =
     terms-each (nodes_of nodes) start
@@ -205,7 +206,8 @@ terms_read nodes i prefix start names h e =
 -- an argument that is refused refuses the terms of a call
 pub terms_refused : (nodes : List public.Node) (i : ℕ) (d : public.Node) (prefix : List Pat) (why : FormRefusal)
     (start names : Names) → i < length nodes
-    → each (term InRule) (nodes_of nodes) start ≡ prepend (map pattern_of prefix) (from_here (term InRule) nodes i names)
+    → each (term InRule) (nodes_of nodes) start
+    ≡ prepend (map pattern_of prefix) (from_here (term InRule) nodes i names)
     → d ≡ get_or nodes i d → Refuses why (term InRule (node_of d) names) → Refuses why (terms (nodes_of nodes) start)
 terms_refused nodes i d prefix why start names h e at r =
     refused_same why _ _ (terms-each (nodes_of nodes) start)

@@ -162,7 +162,7 @@ pub word_first : (nodes rest : List public.Node) (first : public.Node) (name : N
 word_first nodes rest first name split at =
     ap nodes_of split ∙ ap (λ n. Grow n (nodes_of rest)) (node_of-name first name at)
 
--- what reads a step reads one that gives the same
+-- a result that reads a step reads one that gives the same
 pub reads_same : {X Y : Type 0} (view : X → Y) (r : Result X FormRefusal) (p q : Parse Y) (before after : Names)
     → q before ≡ p before → Reads view r p before after → Reads view r q before after
 reads_same view (Ok x) p q before after same h = same ∙ h

@@ -1,4 +1,4 @@
--- Reading the items of a list one by one: what was read so far, and what a step gives for the rest.
+-- Reading the items of a list one by one: the items so far, and the result of a step for the rest.
 use Rattle.std.proofs.Common.{◌≡◌, ◌∙◌, sym, ap, refl, ℕ, ◌+◌, ◌<◌, ◌≤◌, List, [], ◌∷◌, ◌++◌, Result, Ok, Err, length, get_or, drop, map, append_assoc, append-nil}
 use Rattle.std.proofs.lemmas.List.{drop_more, drop_all, map-append, nil_from_length}
 use Rattle.std.proofs.lemmas.Option.{MatchOption-at_some, MatchOption-at_none}
@@ -14,7 +14,7 @@ use Rattle.hp_terms.specs.FormReads.{Refuses}
 use Rattle.hp_terms.specs.declared.refusal.FormRefusal.{FormRefusal}
 use Rattle.hp_terms.specs.declared.refusal.FormRefusal.TheVariants as refusals
 
--- what was read so far, before what is read from here on
+-- the items so far, before those that are read from here on
 abbrev pub prepend : {A : Type 0} → List A → Result (List A × Names) Misform → Result (List A × Names) Misform
 prepend prefix (Ok p) = Ok (prefix ++ p.0, p.1)
 prepend prefix (Err e) = Err e
@@ -24,13 +24,13 @@ pub prepend-nil : {A : Type 0} (r : Result (List A × Names) Misform) → r ≡ 
 prepend-nil (Ok p) = refl
 prepend-nil (Err e) = refl
 
--- an item that is read goes from the front of what is to be read to the end of what was
+-- an item that is read goes from the front of the rest to the end of the items so far
 pub prepend_more : {A : Type 0} (prefix : List A) (x : A) (r : Result (List A × Names) Misform)
     → prepend prefix (and_then r (λ xs. pure (x ∷ xs))) ≡ prepend (prefix ++ x ∷ []) r
 prepend_more prefix x (Ok p) = ap (λ xs. Ok (xs, p.1)) (sym (append_assoc prefix (x ∷ []) p.0))
 prepend_more prefix x (Err e) = refl
 
--- what refuses the step that comes next refuses all
+-- a refusal of the next step is one of all
 pub refused_next : {A B : Type 0} (e : FormRefusal) (r : Result (A × Names) Misform) (f : A → Parse B)
     → Refuses e r → Refuses e (and_then r f)
 refused_next (refusals.Expected what span) r f h = ap (λ x. and_then x f) h
@@ -43,7 +43,7 @@ refused_behind (refusals.Expected what span) prefix r h = ap (prepend prefix) h
 refused_behind (refusals.SeveralPairs span) prefix r h = ap (prepend prefix) h
 refused_behind refusals.NoMemory prefix r h = h
 
--- what refuses a result refuses an equal one
+-- a refusal of a result is one of an equal result
 pub refused_same : {A : Type 0} (e : FormRefusal) (r s : Result A Misform) → r ≡ s → Refuses e s → Refuses e r
 refused_same (refusals.Expected what span) r s same h = same ∙ h
 refused_same (refusals.SeveralPairs span) r s same h = same ∙ h
@@ -102,7 +102,7 @@ one_viewed view item nodes i d prefix x before after all h e r =
     one_read item nodes i d (map view prefix) (view x) before after all h e r
     ∙ ap (λ xs. prepend xs (from_here item nodes (i + 1) after)) (sym (map-append view prefix (x ∷ [])))
 
--- what an iterator over nodes takes is the first of those that are left
+-- the node that an iterator takes is the first of those that are left
 pub first_taken : {Z : Type 0} (old new : IntoIter Node Z) (r : Option Node) (n : Node)
     → r ≡ Some n → into_iter_steps old r new → into_iter_items old ≡ n ∷ into_iter_items new
 first_taken old new r n is h = (MatchOption-at_some _ _ n is h).0

@@ -1,4 +1,4 @@
--- What reading gives: a value that stands for what a step of the grammar gives, or its refusal.
+-- The results of reading: a value whose view is the result of a step of the grammar, or its refusal.
 use Rattle.std.specs.Prelude.{◌≡◌, List, ◌++◌, Option, Result, Ok, Err}
 use Rattle.hp_syntax.specs.declared.pattern.Pat.{Pat}
 use Rattle.hp_syntax.specs.declared.pattern.Tail.{Tail}

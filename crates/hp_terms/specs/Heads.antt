@@ -1,4 +1,4 @@
--- What a name must be at the head of an atom of each kind.
+-- The names that may stand at the head of an atom of each kind.
 use Rattle.std.specs.Prelude.{ℕ, Bool, List}
 use Rattle.hp_syntax.specs.Names.{is_plain, is_primitive, is_compound}
 use Rattle.hp_terms.specs.declared.names.HeadKind.{HeadKind}

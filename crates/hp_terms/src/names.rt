@@ -76,7 +76,7 @@ pub fn is_branch_name(name: &Name) -> bool
         || is(name, b"assign")
 }
 
-/// What a name must be to stand at the head of an atom.
+/// The kinds of names that may stand at the head of an atom.
 #[derive(Clone, Copy)]
 pub enum HeadKind {
     Plain,

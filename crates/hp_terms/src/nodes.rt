@@ -66,7 +66,7 @@ pub fn is_word(node: &Node, word: &[u8]) -> bool
     }
 }
 
-/// What follows the word that nodes begin with, where it is this word.
+/// The nodes behind the word that they begin with, where it is this word.
 pub fn behind<'a>(word: &[u8], nodes: &'a [Node]) -> Option<&'a [Node]>
     ensures { option_map (λ rest. nodes_of rest.now) result ≡ behind word.now (nodes_of nodes.now) }
 {

@@ -49,6 +49,7 @@ fn place_among(names: &[Name], name: &Name) -> Option<usize>
 }
 
 impl Scope {
+    /// A scope without names, which takes no memory before the first name.
     pub fn new(alloc: Global) -> Scope
         ensures { result.names.keys ≡ [] }
     {

@@ -69,7 +69,7 @@ fn list_term(
     if let Some(rest) = behind(b"call", nodes) {
         return called(scope, setting, span, rest);
     }
-    // What is no call has the parts and the tail that it would have behind a dot.
+    // A list that is no call has the parts and the tail that it would have behind a dot.
     let mut parts = Vec::with_capacity(scope.alloc, parts_room(nodes))?;
     let tail = list_tail(scope, setting, span, nodes, &mut parts)?;
     Ok(Pat {
@@ -110,7 +110,7 @@ fn items(
     Ok(None)
 }
 
-/// What stands behind a dot.
+/// The tail behind a dot.
 #[cycle(term)]
 #[tactic(auto, unfolding(hp_syntax::specs::Grammar::dotted))]
 fn dotted(

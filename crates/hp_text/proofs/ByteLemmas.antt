@@ -1,4 +1,4 @@
--- What stands at an offset, by its byte and the comment that is open there.
+-- The kind at an offset, by its byte and the comment that is open there.
 use Rattle.std.proofs.Common.{◌≡◌, ℕ, ◌<◌, Bool, true, false, cond, List, length, slice_index, refl, sym, ◌∙◌, arith, ◌+◌}
 use Rattle.std.specs.Prelude.{◌||◌}
 use Rattle.std.proofs.lemmas.Bool.Decides.{nat_tests}
@@ -53,7 +53,7 @@ comment_byte text i l q =
 pub quiet_behind_line : (text : List ℕ) (i : ℕ) → slice_index text i ≡ 10 → in_comment text (i + 1) ≡ false
 quiet_behind_line text i e = in_comment-next text i ∙ rw e refl
 
--- what is neither blank nor a semicolon begins no gap
+-- a byte that is neither blank nor a semicolon begins no gap
 no_gap_begins : (b : ℕ) → is_blank b ≡ false → (b ≡ 59 → ⊥) → (comment_after false b || is_blank b) ≡ false
 no_gap_begins b h n = grind (arith, nat_tests)
 
@@ -77,7 +77,7 @@ name_byte text i l q h =
     rw q (name_no_comment (slice_index text i) h) in
     kind_at-byte text i l e ∙ name_kind (slice_index text i) h
 
--- what isn't blank is what its byte is
+-- outside blanks the kind of an offset is that of its byte
 pub unblank_byte : (text : List ℕ) (i : ℕ) → i < length text → (kind_at text i ≡ Blank → ⊥)
     → kind_at text i ≡ byte_kind (slice_index text i)
 unblank_byte text i l h = kind_at-byte text i l (false_from_ne_true _ (λ e. h (kind_at-comment text i l e)))
@@ -86,17 +86,17 @@ unblank_byte text i l h = kind_at-byte text i l (false_from_ne_true _ (λ e. h (
 pub opening_within : (text : List ℕ) (i : ℕ) → kind_at text i ≡ Opening → i < length text
 opening_within text i e = kind_within text i (λ h. let k : Opening ≡ End = sym e ∙ h in cc)
 
--- what opens a list is the byte of an opening bracket
+-- the start of a list is the byte of an opening bracket
 pub opening_byte : (text : List ℕ) (i : ℕ) → kind_at text i ≡ Opening → slice_index text i ≡ 40
 opening_byte text i e = eqb-true (slice_index text i) 40 (kind_shows text i Opening (opening_within text i e) e)
 
--- what closes a list is the byte of a closing bracket
+-- the end of a list is the byte of a closing bracket
 pub closing_byte : (text : List ℕ) (i : ℕ) → kind_at text i ≡ Closing → slice_index text i ≡ 41
 closing_byte text i e =
     let l : i < length text = kind_within text i (λ h. let k : Closing ≡ End = sym e ∙ h in cc) in
     eqb-true (slice_index text i) 41 (kind_shows text i Closing l e)
 
--- what is nothing else is a name byte
+-- a byte of no other kind is a name byte
 pub name_left : (k : Kind) → (k ≡ Blank → ⊥) → (k ≡ Opening → ⊥) → (k ≡ Closing → ⊥) → (k ≡ Bad → ⊥) → (k ≡ End → ⊥)
     → k ≡ NameByte
 name_left Blank a b c d e = absurd (a refl)
@@ -110,7 +110,7 @@ name_left NameByte a b c d e = refl
 pub within_no_end : (text : List ℕ) (i : ℕ) → i < length text → kind_at text i ≡ End → ⊥
 within_no_end text i l h = kind_shows text i End l h
 
--- what is nothing else is bad
+-- a byte of no other kind is bad
 bad_left : (k : Kind) → (k ≡ Blank → ⊥) → (k ≡ Opening → ⊥) → (k ≡ Closing → ⊥) → (k ≡ NameByte → ⊥) → (k ≡ End → ⊥)
     → k ≡ Bad
 bad_left Blank a b c d e = absurd (a refl)
@@ -120,7 +120,7 @@ bad_left NameByte a b c d e = absurd (d refl)
 bad_left End a b c d e = absurd (e refl)
 bad_left Bad a b c d e = refl
 
--- what is no bracket and no name byte is bad where it isn't blank
+-- a byte that is no bracket and no name byte is bad where it isn't blank
 pub bad_byte : (text : List ℕ) (i : ℕ) → i < length text → (kind_at text i ≡ Blank → ⊥)
     → (slice_index text i ≡ 40 → ⊥) → (slice_index text i ≡ 41 → ⊥) → is_name_byte (slice_index text i) ≡ false
     → kind_at text i ≡ Bad

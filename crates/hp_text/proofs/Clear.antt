@@ -1,4 +1,4 @@
--- What holds of a text in which nothing is refused.
+-- Facts of a text in which nothing is refused.
 use Rattle.std.proofs.Common.{◌≡◌, ℕ, ◌+◌, ◌-◌, ◌<◌, ◌≤◌, ◌⊎◌, List, [], ◌∷◌, length, slice_range, refl, sym, ◌∙◌, arith, ⊎_elim, None}
 use Rattle.std.proofs.lemmas.Bool.{cases_lt}
 use Rattle.hp_syntax.specs.declared.limits.TheConstants.{LARGEST_TEXT}
@@ -59,7 +59,7 @@ refused_spelling : (token : List ℕ) (from : ℕ) (s t : Spelling) → plain_sp
     → numeral_refusal (spelling_of token) from ≡ None → s ≡ t → numeral_refusal (plain_spelling t) from ≡ None
 refused_spelling token from s t e c same = rw (← same, e) c
 
--- what is neither a name nor a number is refused
+-- a token that is neither a name nor a number is refused
 pub no_other_spelling : (token : List ℕ) (from : ℕ) (s : Spelling) → plain_spelling s ≡ spelling_of token
     → numeral_refusal (spelling_of token) from ≡ None → (s ≡ rust.NoNumber) ⊎ (s ≡ rust.OutOfRange) → ⊥
 no_other_spelling token from s e c h =

@@ -5,7 +5,7 @@ use Rattle.std.proofs.lemmas.List.{map-append}
 use Rattle.hp_syntax.specs.Text.{Opening, Closing, NameByte, Blank, kind_at, IsGap, IsToken, AName, ANumber, spelling_of}
 use Rattle.hp_syntax.specs.Refusal.{open_before}
 use Rattle.hp_syntax.specs.Forest as plain
-use Rattle.hp_syntax.specs.Forest.{span_of, Spells, SpellsNode}
+use Rattle.hp_syntax.specs.Forest.{span_of}
 use Rattle.hp_syntax.proofs.TextLemmas.{level_over_token, level_over_list}
 use Rattle.hp_syntax.specs.declared.name.Name.{Name}
 use Rattle.hp_text.specs.declared.forest.Node.{Node}

@@ -45,7 +45,7 @@ read_more text from at' to ns n r begins ends spelled same gap = record {
   brackets = level_over_gap text (span_of n).to to gap ∙ same ∙ r.brackets;
 }
 
--- what was read is spelled up to there
+-- the nodes that were read are spelled up to there
 pub read_spelled : (text : List ℕ) (from to : ℕ) (ns : List Node) → AreRead text from to ns
     → Spells text from to (grown ns)
 read_spelled text from to ns r = rw (← joined_bare ns) (r.spelled to Bare (gap_none text to to refl))

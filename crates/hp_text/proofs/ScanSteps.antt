@@ -1,4 +1,4 @@
--- What is refused at an offset of a scan, and what is known behind it.
+-- The refusal at an offset of a scan, and the state behind it.
 use Rattle.std.proofs.Common.{◌≡◌, ℕ, ◌+◌, ◌-◌, ◌<◌, ◌≤◌, true, false, List, [], ◌∷◌, length, slice_range, reverse, refl, sym, ◌∙◌, ap, arith, ⊎_elim, Option, Some, None, IfNone, IfSome}
 use Rattle.std.specs.Prelude.{◌==◌}
 use Rattle.std.proofs.lemmas.Bool.{lt-ltb, le-ltb, cases_lt}
@@ -33,7 +33,7 @@ token_long text from i e =
     let same : i == from + LONGEST_TOKEN ≡ true = grind (arith, nat_tests) in
     rw (le-ltb i (from + LONGEST_TOKEN) l, same) refl
 
--- what is refused at a byte of some kind
+-- the refusal at a byte of some kind
 refusal_of_kind : (text : List ℕ) (i : ℕ) (k : Kind) → i < LARGEST_TEXT → kind_at text i ≡ k
     → refusal_at text i ≡ kind_refusal text i k (open_before text i)
 refusal_of_kind text i k l h = refusal_at-within text i l ∙ ap (λ x. kind_refusal text i x (open_before text i)) h
@@ -80,13 +80,13 @@ pub clear_behind : (text : List ℕ) (i : ℕ) (r : Option FirstRefusal) → IsC
 clear_behind text i None clear same = clear_more text i clear (sym same)
 clear_behind text i (Some x) clear same = tt
 
--- what is clear stays so over a gap
+-- a clear text stays clear over a gap
 pub clear_over_gap : (text : List ℕ) (a b : ℕ) → IsGap text a b → b ≤ LARGEST_TEXT → IsClear text a → IsClear text b
 clear_over_gap text a b g l clear = λ i m.
     ⊎_elim (λ below. clear i below)
     (λ above. refusal_at-blank text i (omega arith) (g.blank i above m)) (cases_lt i a)
 
--- what is known behind a gap within the scan
+-- the state of the text behind a gap within the scan
 pub scanned_over_gap : (text : List ℕ) (end to : ℕ) (s t : State) → IsScanned text end s → end ≤ LARGEST_TEXT
     → to ≤ end → t.at ≡ to → t.brackets ≡ s.brackets → IsGap text s.at to → (to < end → IsBetween text to)
     → IsScanned text end t
@@ -97,7 +97,7 @@ scanned_over_gap text end to s t known small l here same g place = record {
   brackets = rw (same, here) (known.brackets ∙ sym (level_over_gap text s.at to g));
 }
 
--- what is known behind a bracket
+-- the state of the text behind a bracket
 pub scanned_behind : (text : List ℕ) (end : ℕ) (s t : State) (r : Option FirstRefusal) (k : Kind)
     → IsScanned text end s → s.at < end → end ≤ length text → kind_at text s.at ≡ k → (k ≡ NameByte → ⊥)
     → (k ≡ Blank → ⊥) → plain_refusal r ≡ refusal_at text s.at
@@ -127,7 +127,7 @@ clear_in_token text from to n t small short l clear = λ i m.
         (sym (token_start-run text from i o t.begins (λ j u v. t.run j u (omega arith))))
         ∙ token_on text from i (omega arith) (ap is_name (t.run (i + 1) (omega arith) (omega arith)))
 
--- what is refused at the last byte of a token
+-- the refusal at the last byte of a token
 refusal_at-token : (text : List ℕ) (from to i : ℕ) → IsToken text from to → i + 1 ≡ to → i < LARGEST_TEXT
     → i < from + LONGEST_TOKEN
     → refusal_at text i ≡ numeral_refusal (spelling_of (slice_range text from to)) from
@@ -157,13 +157,13 @@ pub cut_token_clear : (text : List ℕ) (from to end : ℕ) → IsToken text fro
     → end ≤ from + LONGEST_TOKEN → IsClear text from → IsClear text end
 cut_token_clear text from to end t l small short clear = clear_in_token text from to end t small short l clear
 
--- what is clear up to one of two ends is clear up to the first of them
+-- a text that is clear up to one of two ends is clear up to the first of them
 clear_to_both : (text : List ℕ) (to end : ℕ) (r : Option FirstRefusal) → IfNone r (IsClear text to)
     → IfNone r ((i : ℕ) → i < to → i < end → refusal_at text i ≡ None)
 clear_to_both text to end None clear = λ i l m. clear i l
 clear_to_both text to end (Some x) clear = tt
 
--- what a token spells is told first where it is refused
+-- the refusal of a token's spelling is the first where there is one
 pub token_told : (text : List ℕ) (from to end : ℕ) (r : Option FirstRefusal) → IsToken text from to → to ≤ length text
     → to ≤ LARGEST_TEXT → to ≤ from + LONGEST_TOKEN → IsClear text from
     → plain_refusal r ≡ numeral_refusal (spelling_of (slice_range text from to)) from
@@ -184,7 +184,7 @@ level_in_token : (text : List ℕ) (from to n : ℕ) → IsToken text from to �
 level_in_token text from to n t o l =
     level_over text from n o (λ i u v. ap (λ k. opened k i (open_before text i)) (t.run i u (omega arith)))
 
--- what is known behind a token that is refused nothing
+-- the state of the text behind a token that is refused nothing
 pub scanned_behind_token : (text : List ℕ) (end to : ℕ) (s t : State) (r : Option FirstRefusal)
     → IsScanned text end s → s.at < end → IsToken text s.at to → IsBetween text to → t.at ≤ to → t.at ≤ end
     → (t.at < end → t.at ≡ to) → s.at < t.at → t.brackets ≡ s.brackets

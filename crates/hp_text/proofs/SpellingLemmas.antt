@@ -31,7 +31,7 @@ digits_told [] h = tt
 digits_told (d ∷ ds) h =
     let p = and_parts (is_digit d) (list_all is_digit ds) h in (digit_below_ten d p.0, digits_told ds p.1)
 
--- what is spelled as a number has digits behind its sign
+-- a number's spelling has digits behind its sign
 pub whole_numeral : (token : List ℕ) → is_whole token ≡ true → IsNumeral 10 (without_leading_sign token)
 whole_numeral token h =
     let ds = without_leading_sign token in
@@ -53,7 +53,7 @@ ascii_behind_sign (b ∷ bs) h =
     let plus : b == 43 ≡ true → b < 128 = λ e. grind (arith, nat_tests) in
     ascii_behind (b == 45) (b == 43) b bs minus plus h
 
--- what is spelled as a number is text
+-- a number's spelling is text
 pub whole_text : (token : List ℕ) → is_whole token ≡ true → IsUtf8 token
 whole_text token h = IsUtf8-from_ascii token (ascii_behind_sign token (IsAscii-from_digits _ (whole_numeral token h).1))
 
@@ -67,7 +67,7 @@ fits_in false n h = let l : n < 2 ^ 63 = grind (arith, nat_tests) in omega (arit
 pub fits_from_range : (token : List ℕ) → is_in_range token ≡ true → FitsSigned w64 (signed_digits_value 10 token)
 fits_from_range token h = fits_in (starts_with_minus token) (digits_value 10 (without_leading_sign token)) h
 
--- what the standard library doesn't read is out of range
+-- digits that the standard library doesn't read are out of range
 pub out_of_range : {E : Type 0} (token digits : List ℕ) (r : Result ℤ E) (o : Option ℤ) → digits ≡ token
     → is_whole token ≡ true → ParsesSigned w64 10 digits r → o ≡ result_ok r → IfNone o (is_in_range token ≡ false)
 out_of_range token digits (Ok n) o same h p e = rw e tt
@@ -76,7 +76,7 @@ out_of_range token digits (Err f) o same h p e =
     → ⊥ = rw same at p in
     rw e (false_from_ne_true (is_in_range token) (λ k. not_both (whole_numeral token h, fits_from_range token k)))
 
--- what is left out of bytes makes them no longer
+-- bytes of which some are left out are no longer
 dropped_length : (s t : Bool) (b : ℕ) (bs : List ℕ)
     → length (cond s (drop 1 (b ∷ bs)) (drop (cond t 1 0) (b ∷ bs))) ≤ length (b ∷ bs)
 dropped_length true t b bs = omega arith
@@ -102,7 +102,7 @@ small_in_range token h short =
     let most : 10 ^ length ds ≤ 10 ^ 18 = pow-le-pow_right (omega arith) fewer in
     small_fits (starts_with_minus token) (digits_value 10 ds) (omega arith)
 
--- what begins as no numeral is not refused
+-- a token that begins as no numeral is not refused
 pub no_numeral_passes : (token : List ℕ) (from : ℕ) → is_numeral token ≡ false
     → numeral_refusal (spelling_of token) from ≡ None
 unfolding spelling_of

@@ -1,4 +1,4 @@
--- What a node stands for, variant by variant.
+-- The views of nodes, variant by variant.
 use Rattle.std.specs.Prelude.{◌≡◌, ℤ, Vec, Some}
 use Rattle.std.specs.Global.{Global}
 use Rattle.std.proofs.Common.{ap, sym, refl, ◌∙◌}
@@ -60,7 +60,7 @@ stepped-parts (AName name) s f h = cc
 stepped-parts (ANum z) s f h = cc
 stepped-parts (AList nodes) s f h = cc
 
--- what has parts is a group of them
+-- a node with parts is a group of them
 pub node_of-parts : (n : Node) (f : plain.Forest) → parts_of (node_of n) ≡ Some f → node_of n ≡ plain.Group n.span f
 node_of-parts n f h =
     let seen = by_kind n (out-NodeKind n.kind) refl in

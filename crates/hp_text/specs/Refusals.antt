@@ -1,4 +1,4 @@
--- What an answer says of a text.
+-- The views of the reader's answers on a text.
 use Rattle.std.specs.Prelude.{ℕ, List, Option, Some, None}
 use Rattle.hp_syntax.specs.Refusal.{Refusal, IsRefused}
 use Rattle.hp_text.specs.declared.scan.FirstRefusal.{FirstRefusal}

@@ -1,4 +1,4 @@
--- What is known of a text while it is scanned.
+-- The state of a text while it is scanned.
 use Rattle.std.specs.Prelude.{◌≡◌, ℕ, ◌<◌, ◌≤◌, List, reverse}
 use Rattle.hp_syntax.specs.Refusal.{open_before, IsClear}
 use Rattle.hp_text.specs.declared.scan.State.{State}

@@ -1,4 +1,4 @@
--- What a spelling stands for.
+-- The views of spellings.
 use Rattle.hp_syntax.specs.Text as text
 use Rattle.hp_text.specs.declared.spelling.Spelling.{Spelling}
 use Rattle.hp_text.specs.declared.spelling.Spelling.TheVariants.{Name, Number, NoNumber, OutOfRange}

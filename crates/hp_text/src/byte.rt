@@ -1,4 +1,4 @@
-//! What a byte of a text is to a reader.
+//! The kinds of a text's bytes.
 
 ghost use Rattle.std.specs.Prelude.{◌≡◌};
 ghost use Rattle.hp_syntax.specs.Text as text;

@@ -6,7 +6,7 @@ ghost use Rattle.hp_text.specs.declared.forest.TextRefusal.TheVariants.{NoMemory
 use hp_syntax::{Name, Span, TextKind};
 use std::alloc::AllocError;
 
-/// What a whole text spells: its outermost nodes, in order.
+/// The forest of a whole text: its outermost nodes, in order.
 #[derive(Drop)]
 pub struct Forest {
     pub nodes: Vec<Node>,
@@ -29,7 +29,7 @@ impl Drop for Node {
     }
 }
 
-/// What a part of a text is. The span of a list goes from its opening bracket to the byte past its
+/// The kind of a node. The span of a list goes from its opening bracket to the byte past its
 /// closing one.
 #[cycle(node)]
 pub enum NodeKind {

@@ -63,7 +63,7 @@ fn numeral_refusal(token: &[u8], from: usize) -> Option<FirstRefusal>
     spelling_refusal(spelling_of(token), from)
 }
 
-// What is refused first in a token, of which only what stands before `end` is looked at. A numeral
+// The first refusal in a token, of which only the bytes before `end` are looked at. A numeral
 // is looked at once.
 #[inline(always)]
 fn token_refusal(bytes: &[u8], from: usize, to: usize, end: usize) -> Option<FirstRefusal>
@@ -147,7 +147,7 @@ impl State {
         token_refusal(bytes, from, to, end)
     }
 
-    // What is refused at the end of the text.
+    // The refusal at the end of the text.
     fn end_refusal(&self) -> Option<FirstRefusal>
         ensures { plain_refusal result ≡ text.kind_refusal [] 0 End (reverse self.now.brackets.items) }
     {

@@ -1,4 +1,4 @@
-//! What a token spells.
+//! The spelling of a token.
 
 ghost use Rattle.std.specs.List.{list_all};
 ghost use Rattle.std.specs.Prelude.{◌≡◌, ◌≤◌, length, true, false, IfSome, IfNone, IsTrue};
@@ -11,7 +11,7 @@ use std::str;
 /// Numbers of so few bytes are in range.
 const SMALL: usize = 18;
 
-/// What a token spells: a name, a number, or no number though it begins like one.
+/// The spelling of a token: a name, a number, or no number though it begins like one.
 #[derive(Clone, Copy, Debug, PartialEq, Eq)]
 pub enum Spelling {
     Name,
@@ -103,7 +103,7 @@ fn number(token: &[u8]) -> Option<i64>
     }
 }
 
-// What a numeral spells.
+// The spelling of a numeral.
 #[inline(never)]
 #[tactic(auto, unfolding(hp_syntax::specs::Text::spelling_of))]
 fn numeral_spelling(token: &[u8]) -> Spelling
@@ -119,7 +119,7 @@ fn numeral_spelling(token: &[u8]) -> Spelling
     }
 }
 
-/// What a token spells.
+/// The spelling of a token.
 #[inline(always)]
 #[tactic(auto, unfolding(hp_syntax::specs::Text::spelling_of))]
 pub fn spelling_of(token: &[u8]) -> Spelling

@@ -49,7 +49,7 @@ module _ (refused_whole : (text : List ℕ) (r : Refusal) → IsRefused (take (L
       take_all (LARGEST_TEXT + 1) text (omega arith)
 
   module _ {A : Type 0} (form : Form A) where
-    -- what the prefix is read as the whole text is
+    -- a reading of the prefix is one of the whole text
     read_whole : (text : List ℕ) (x : A) → IsRead form (take (LARGEST_TEXT + 1) text) x → IsRead form text x
     read_whole text x h = subst (λ t. IsRead form t x) (prefix_is_whole text h.forest h.spelled) h
 
@@ -60,7 +60,7 @@ module _ (refused_whole : (text : List ℕ) (r : Refusal) → IsRefused (take (L
     unreadable_whole text why (outcome.ByForm f m s k e) =
         subst (λ t. IsUnreadable form t why) (prefix_is_whole text f s) (outcome.ByForm f m s k e)
 
-    -- what the prefix of a file is read as the told file is
+    -- a reading of the prefix of a told file is one of the file
     pub reads_file : (bytes : List ℕ) (file : ToldFile) (x : A) → ReadsFile bytes file
         → IsRead form bytes x → Reads form file x
     reads_file bytes None x r h = tt
@@ -103,7 +103,7 @@ unread_since : (which : Input) (told file : ToldFile) (before mid now : Input �
 unread_since which told file before mid now h q (inl r) = inl (rose_since (before which) (mid which) (now which) h r)
 unread_since which told file before mid now h q (inr r) = inr (sym q ∙ r)
 
--- what stops a run at a file since a later moment does since an earlier one
+-- a cause that stops a run at a file since a later moment does so since an earlier one
 pub stops_since : {A : Type 0} (which : Input) (form : Form A) (cause : LoadError) (told file : ToldFile)
     (before mid now : Input → ℕ) → ((w : Input) → before w ≤ mid w) → told ≡ file
     → StopsAt which form cause told mid now → StopsAt which form cause file before now

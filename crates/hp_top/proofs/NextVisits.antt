@@ -14,21 +14,21 @@ pub record IsNext (s t : Standing) (x : Sight) : Type 0 where
   pub sight : visit.sight ≡ x
   pub path : t.path ≡ visit.path
 
--- what is seen at a visit that is answered as a Did
+-- the sight at a visit that is answered as a Did
 did_seen : (x : Sight) (v : Visit) → v.sight ≡ x → steps.Did ≡ step_or_end (Some v) → v.sight ≡ Did
 did_seen Did v h e = h
 did_seen Plan v h e = let f : steps.Did ≡ steps.Plan = e ∙ (rw h refl) in cc
 did_seen CutHere v h e = let f : steps.Did ≡ steps.Cut = e ∙ (rw h refl) in cc
 did_seen (FaultHere g) v h e = let f : steps.Did ≡ steps.Fault g = e ∙ (rw h refl) in cc
 
--- what is seen at a visit that is answered as a Plan
+-- the sight at a visit that is answered as a Plan
 plan_seen : (x : Sight) (v : Visit) → v.sight ≡ x → steps.Plan ≡ step_or_end (Some v) → v.sight ≡ Plan
 plan_seen Plan v h e = h
 plan_seen Did v h e = let f : steps.Plan ≡ steps.Did = e ∙ (rw h refl) in cc
 plan_seen CutHere v h e = let f : steps.Plan ≡ steps.Cut = e ∙ (rw h refl) in cc
 plan_seen (FaultHere g) v h e = let f : steps.Plan ≡ steps.Fault g = e ∙ (rw h refl) in cc
 
--- what is seen at a visit that is answered as a cut
+-- the sight at a visit that is answered as a cut
 cut_seen : (x : Sight) (v : Visit) → v.sight ≡ x → steps.Cut ≡ step_or_end (Some v) → v.sight ≡ CutHere
 cut_seen CutHere v h e = h
 cut_seen Did v h e = let f : steps.Cut ≡ steps.Did = e ∙ (rw h refl) in cc
@@ -72,7 +72,7 @@ module _ (s t : Standing) (gone : t ≡ gone_on s) where
   pub cut_next : steps.Cut ≡ step_or_end (next_of s.rest) → IsNext s t CutHere
   cut_next a = cut_from s.rest refl a
 
--- what holds of all that is left holds of what is left behind a visit
+-- a fact of all the visits that are left holds of those behind the first
 left_keeps : (P : Visit → Type 0) (x : Sight) (v : Visit) (vs : List Visit) → v.sight ≡ x → All P vs
     → All P (left_after v vs)
 left_keeps P Did v vs h a = rw h a
@@ -95,7 +95,7 @@ pub at_kept : (t u : Tree) (s r : Standing) → u ≡ t → r ≡ gone_on s → 
 at_kept t u s r same gone a =
     subst (λ w. All (IsAtItsNode w) r.rest) (sym same) (gone_on_keeps (IsAtItsNode t) s.rest s r refl gone a)
 
--- what is known of the visit of the node reached is known of the visit that was just made
+-- a fact of the visit of the node reached is one of the visit that was just made
 pub at_visit : (t u : Tree) (s r : Standing) (x : Sight) (next : IsNext s r x) (P : Visit → Type 0) → u ≡ t
     → All (IsAtItsNode t) s.rest → MatchOption (node_reached u r) ⊥ (λ n. P (visit r.path n x)) → P next.visit
 at_visit t u s r x next P same a h =

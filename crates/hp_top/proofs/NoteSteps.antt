@@ -24,7 +24,7 @@ flat_map-take f (x ∷ xs) (suc i) d h =
     ∙ sym (append_assoc (f x) (flat_map f (take i xs)) (f (slice_index_or xs i d)))
 
 module _ {X Y : Type 0} (text : Y → List ℕ) (of : X → Y) (xs : List X) (i : ℕ) (d : X) (within : i < length xs) where
-  -- what stops the text of one element, behind those before it, stops the text of all
+  -- a stop of the text of one element, behind those before it, is one of the text of all
   pub halts_within : (h : Halt) (f g k : ℕ) (a b c : Option (List ℕ)) → f ≤ g
       → Wrote (flat_map text (map of (take i xs))) a b
       → Halts h (text (of (slice_index_or xs i d))) (sink_run g k b c)

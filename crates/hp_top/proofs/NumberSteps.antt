@@ -20,7 +20,7 @@ over_most bs i n m most e h k over =
     let g : m ≤ number_from 0 bs = omega (arith, number_from_grows m (drop (i + 1) bs)) in
     rw (lt-leb (number_from 0 bs) most (omega arith)) refl
 
--- what is given where a number is up to a limit is up to the limit
+-- a number that is given within a limit is up to the limit
 up_to_most : (b : Bool) (m most n : ℕ) → b ≡ nat_le m most → Some n ≡ only_if b (Some m) → n ≤ most
 up_to_most true m most n b e = grind (arith, nat_tests)
 up_to_most false m most n b e = absurd cc

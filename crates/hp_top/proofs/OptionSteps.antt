@@ -3,7 +3,7 @@ use Rattle.std.proofs.Common.{◌≡◌, ◌≢◌, ℕ, Bool, true, false, ◌&
 use Rattle.std.proofs.lemmas.Slice.Eq.{bytes_eq-Decides}
 use Rattle.std.specs.Option.{option_and_then}
 use Rattle.hp_syntax.specs.declared.limits.TheConstants.{MOST_LEVELS, USUAL_LEVELS}
-use Rattle.hp_top.specs.Command.{CommandOption, Nest, States, Options, options, only_if, number_within, options_spelled, is_named_in, are_named_once, are_allowed, levels_in, has_states, options_in, plan_options}
+use Rattle.hp_top.specs.Command.{CommandOption, Nest, States, Options, options, only_if, number_within, options_spelled, is_named_in, are_allowed, levels_in, has_states, options_in, plan_options}
 
 -- the options that words ask for behind those that were read
 abbrev pub options_after : Option ℕ → Bool → List (List ℕ) → Option Options
@@ -20,7 +20,7 @@ abbrev may_follow : Option ℕ → Bool → List CommandOption → Bool
 may_follow levels states os =
     not (states && has_states os) && (not (is_some levels && is_named_in (codes "--nest") os) && are_named_once os)
 
--- what options come to behind those that were read, where they may stand there
+-- the options behind those that were read, where they may stand there
 abbrev options_behind : Option ℕ → Bool → List CommandOption → Option Options
 options_behind levels states os =
     only_if (may_follow levels states os)
@@ -98,7 +98,7 @@ allowed_once : (a b : Bool) (os : List CommandOption) → a ≡ true
 allowed_once a true os e = rw e refl
 allowed_once a false os e = rw e refl
 
--- what options come to where none was read
+-- the options where none was read
 none_read : (spelled : Option (List CommandOption))
     → option_and_then (options_behind None false) spelled
     ≡ option_map options_in
@@ -112,7 +112,7 @@ none_read (Some os) =
 pub first_read : (ws : List (List ℕ)) → options_after None false ws ≡ plan_options ws
 first_read ws = one_by_one ws None false ∙ none_read (options_spelled ws)
 
--- what is no fact isn't found to be one
+-- a proposition that is no fact isn't found to be one
 unlike : {P : Type 0} (b : Bool) → (b ≡ true → P) → (P → ⊥) → b ≡ false
 unlike true h n = absurd (n (h refl))
 unlike false h n = refl

@@ -70,7 +70,7 @@ module _ (one : (t : List ℕ) (f g : Forest) → IsForest t f → IsForest t g 
     why_one v w (outcome.ByForm f m h j e) (outcome.ByForm g n k l i) =
         e ∙ (ap InForm (one_err (form (length t) f) m n j (form_of f g (Err n) h k l)) ∙ sym i)
 
-  -- what is loaded of a file is one thing
+  -- a file has one load
   load_one : {A : Type 0} (which : Input) (form : Form A) (o : Option (List ℕ)) (x y : Result A Refusal)
       → LoadsFile which form o x → LoadsFile which form o y → x ≡ y
   load_one which form o x y (outcome.Missing h e) (outcome.Missing k f) = e ∙ sym f

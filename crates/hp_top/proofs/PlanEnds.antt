@@ -1,4 +1,4 @@
--- What is told of the walk of the one pair of a problem.
+-- The report of the walk of the one pair of a problem.
 use Rattle.std.proofs.Common.{◌≡◌, ℕ, Bool, false, List, [], ◌∷◌, length, map, get_or, Some, None, Result, Ok, Err, OnOk, IfOk, IfErr, refl, ap, sym, ◌∙◌, subst, arith}
 use Rattle.std.specs.List.{All}
 use Rattle.std.proofs.lemmas.List.Elements.{All-head}
@@ -31,7 +31,7 @@ one_pair [] x one e = absurd (omega (arith, one))
 one_pair (p ∷ []) x one e = ap (λ y. pair_of y ∷ []) (sym e)
 one_pair (p ∷ q ∷ ps) x one e = absurd (omega (arith, one))
 
--- what holds of each pair of a list holds of its first where it is the only one
+-- a fact of each pair of a list is one of its first where it is the only one
 pub held_by_first : (P : plain.Pair → Type 0) (ps : List Pair) (x : Pair) → length (map pair_of ps) ≡ 1
     → x ≡ get_or ps 0 x → All P (map pair_of ps) → P (pair_of x)
 held_by_first P ps x one e h =
@@ -45,7 +45,7 @@ all_at rules nest n t s tree stands h =
     subst (λ t. All (IsAtItsNode t) s.rest) (sym tree)
     (subst (λ s. All (λ v. node_at rules nest n v.path ≡ Some v.node) s.rest) (sym stands) h)
 
--- what follows from a fact of what is given follows where it is given
+-- a consequence of a fact of each Ok value follows for an Ok value
 pub ok_weaker : {T E : Type 0} (P Q : T → Type 0) (r : Result T E) → IfOk r P → ((x : T) → P x → Q x) → IfOk r Q
 ok_weaker P Q (Ok x) p f = f x p
 ok_weaker P Q (Err e) p f = tt
@@ -58,7 +58,7 @@ unfolding walk
 walk_left rules nest depth p ps vs only all =
     ap heard_visits all ∙ sym (ap (λ qs. walk_of_pairs rules nest qs depth) only)
 
--- what is told of visits is told of what is heard of them
+-- the report of visits is that of the visits that are heard
 pub report_left : (tell : ℕ → Visit → List ℕ) (k : ℕ) (vs ws : List Visit) → heard_visits vs ≡ ws
     → report tell k nothing_seen vs ≡ report tell k nothing_seen ws
 report_left tell k vs ws e = sym (report_heard tell k nothing_seen vs) ∙ ap (report tell k nothing_seen) e
@@ -70,13 +70,13 @@ unfolding plan_report
 plans_left detail states k vs ws d e =
     ap (λ tell. report tell k nothing_seen vs) d ∙ report_left (plan_of states) k vs ws e
 
--- what was told, or stopped, of one answer is of an equal one
+-- the telling of an answer, whole or stopped, is that of an equal one
 pub tells_equal : (a b : Answer) (o : Result Status Halt) (s : Status) (r : SinkRun) → a ≡ b → s ≡ status_told o
     → OnOk o (Wrote a.0 r.before r.after) → IfOk o (λ s. s ≡ a.1) → IfErr o (λ h. Halts h a.0 r) → Tells b s r
 tells_equal a b o s r e same w t h =
     subst (λ s. Tells b s r) (sym same) (subst (λ a. Tells a (status_told o) r) e (tells_told a o r w t h))
 
--- where the checks find no fault, what is told of the job is told of what the command comes to
+-- where the checks find no fault, telling the answer of the job is telling that of the command
 pub tells_read : (d : plain.Domain) (p : plain.Problem) (job j : Job) (s : Status) (r : SinkRun)
     → first_fault d p ≡ None → job ≡ j → Tells (job_answer j d p) s r
     → (domain problem : List ℕ) → Tells (answer_of_read (make_command domain problem job) d p) s r

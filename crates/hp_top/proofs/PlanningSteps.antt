@@ -7,7 +7,7 @@ use Rattle.hp_out.specs.declared.ending.Ending.{Ending}
 use Rattle.hp_out.specs.declared.ending.Ending.TheVariants as endings
 use Rattle.hp_out.proofs.WriteSteps.{wrote_both}
 use Rattle.hp_syntax.specs.Report as base
-use Rattle.hp_syntax.specs.Report.{Tally, tally, with_plan, ended, ending_text, status_of, answer_at, behind, plan_texts, end_of, report}
+use Rattle.hp_syntax.specs.Report.{Tally, tally, ended, ending_text, status_of, answer_at, behind, plan_texts, end_of}
 use Rattle.hp_syntax.specs.Walk.{Did, Plan, Visit}
 use Rattle.hp_syntax.specs.declared.status.Status.{Status}
 use Rattle.hp_top.specs.declared.planning.Detail.{Detail}
@@ -23,7 +23,7 @@ pub wrote_nothing : (b : Option (List ℕ)) → Wrote [] b b
 wrote_nothing None = refl
 wrote_nothing (Some b) = ap Some (sym (append-nil b))
 
--- what holds whatever is answered holds on Ok
+-- a fact of any answer holds on Ok
 pub holds_on_ok : {A E : Type 0} (r : Result A E) (P : Type 0) → P → OnOk r P
 holds_on_ok (Ok x) P h = h
 holds_on_ok (Err e) P h = tt
@@ -120,7 +120,7 @@ module _ (detail : Detail) (k : ℕ) where
       subst (λ t. Wrote t.0 a c) (sym h.rest)
       (wrote_both h.text (ending_text (ending_of x) q.plans q.expansions) a b c h.written w)
 
-  -- what stops the telling of what is left stops the whole telling
+  -- a stop of the telling of the rest is one of the whole telling
   pub halted_midway : (p q : Progress) (us vs : List Visit) (h : Halt) (f g m : ℕ) (a b c : Option (List ℕ))
       → f ≤ g → Goes detail k p q us vs a b
       → Halts h (left detail k q vs).0 (sink_run g m b c) → Halts h (left detail k p us).0 (sink_run f m a c)
@@ -128,7 +128,7 @@ module _ (detail : Detail) (k : ℕ) where
       subst (λ t. Halts h t.0 (sink_run f m a c)) (sym w.rest)
       (halts_after h w.text (left detail k q vs).0 f g m a b c e w.written x)
 
-  -- what stops the ending line stops the whole telling
+  -- a stop of the ending line is one of the whole telling
   pub halted_at_end : {T : Type 0} (p q : Progress) (us : List Visit) (x : Ending) (o : Result T Halt) (f g m : ℕ)
       (a b c : Option (List ℕ)) → f ≤ g → Closes detail k p q us x a b
       → IfErr o (λ h. Halts h (ending_text (ending_of x) q.plans q.expansions) (sink_run g m b c))
@@ -153,7 +153,7 @@ module _ (detail : Detail) (k : ℕ) where
             (ending_text e.ending e.tally.plans e.tally.expansions),
       )
 
-  -- what stops the text of a plan stops what is left to tell from that plan on
+  -- a stop of the text of a plan is one of the telling from that plan on
   pub halted_plan : {T : Type 0} (p : Progress) (v : Visit) (vs ws : List Visit) (o : Result T Halt) (r : SinkRun)
       → vs ≡ v ∷ ws → v.sight ≡ Plan → IfErr o (λ h. Halts h (telling detail (p.plans + 1) v) r)
       → IfErr o (λ h. Halts h (left detail k p vs).0 r)

@@ -5,7 +5,7 @@ use Rattle.std.proofs.lemmas.List.{take_all}
 use Rattle.hp_io.specs.Rules.{Taken}
 use Rattle.hp_top.specs.Reading.{ReadsTo, Left, TakesUpTo, Grows}
 
--- what was read up to the limit is the prefix of the rest, up to one byte past it
+-- bytes that were read up to the limit are the prefix of the rest, up to one byte past it
 pub full : (most : ℕ) (bytes : List ℕ) (old now : Option (List ℕ)) → Left bytes old now
     → length bytes ≡ most + 1 → ReadsTo most bytes old
 full most bytes None now a h = omega arith
@@ -16,7 +16,7 @@ no_more : (xs ys zs : List ℕ) → zs ≡ xs ++ ys → length zs ≡ length xs 
 no_more xs [] zs e h = e ∙ append-nil xs
 no_more xs (y ∷ ys) zs e h = absurd (omega (arith, ap length e, length-append xs (y ∷ ys)))
 
--- what was read until nothing more came is the whole rest
+-- bytes that were read until nothing more came are the whole rest
 pub ended : (most : ℕ) (before after : List ℕ) (n : ℕ) (old mid new : Option (List ℕ)) → Left before old mid
     → Grows n before after mid new → n ≡ 0 → length after ≡ length before + n
     → length before ≤ most + 1 → ReadsTo most after old
@@ -28,7 +28,7 @@ ended most before after n (Some old) mid new a t z e h =
     let short : after ≡ before = no_more before t'.1 after t'.4 (omega arith) in
     short ∙ sym (ap (take (most + 1)) same ∙ take_all (most + 1) before h)
 
--- what is left after some bytes were read is left after that many were taken from the front
+-- bytes that are left after some were read are left after that many were taken from the front
 pub left_takes : (most : ℕ) (bytes : List ℕ) (old now : Option (List ℕ)) → Left bytes old now
     → length bytes ≤ most → TakesUpTo most old now
 left_takes most bytes None now a h = a

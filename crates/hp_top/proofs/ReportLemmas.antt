@@ -87,7 +87,7 @@ report_saturates tell k vs p n cut = ends_alike (plan_texts tell k p vs) k vs p 
 
 -- ---- one visit
 
--- what holds of a visit at which so much is seen holds of each at which it is
+-- a fact of a visit with this sight is one of each visit with it
 pub as_seen : (v : Visit) (x : Sight) (P : Visit → Type 0) → v.sight ≡ x → P (visit v.path v.node x) → P v
 as_seen v x P h p = subst P (sym (ap (visit v.path v.node) h)) p
 

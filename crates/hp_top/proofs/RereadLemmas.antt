@@ -106,7 +106,7 @@ module _ {A : Type 0} (form : Form A) (without : A → A) (text_of : A → List 
     → IsWithinLimits (text_of x) (node_of x))
     (back : (t : List ℕ) (x : A) → IsRead form t x → length (text_of x) ≤ LARGEST_TEXT
     → nesting_of_node (node_of x) ≤ DEEPEST_NESTING → ReadsBack form without (text_of x) x) where
-  -- what the canonical text of a value is read as is the value up to spans
+  -- the reading of a value's canonical text is the value up to spans
   same_again : (t : List ℕ) (x y : A) → IsRead form t x → IsRead form (text_of x) y → without y ≡ without x
   same_again t x y r s =
       let k = within t x s.forest r s.spelled in
@@ -125,7 +125,7 @@ module _ (one : (t : List ℕ) (f g : Forest) → IsForest t f → IsForest t g 
   module _ (back : (t : List ℕ) (d : Domain) → IsRead domain_form t d
       → length (written.domain_text d) ≤ LARGEST_TEXT → nesting_of_node (written.domain d) ≤ DEEPEST_NESTING
       → ReadsBack domain_form unplaced.domain (written.domain_text d) d) where
-    -- what the canonical text of a domain is read as is the domain up to spans
+    -- the reading of a domain's canonical text is the domain up to spans
     pub domain_again : (t : List ℕ) (d e : Domain) → IsRead domain_form t d
         → IsRead domain_form (written.domain_text d) e → unplaced.domain e ≡ unplaced.domain d
     domain_again =
@@ -143,7 +143,7 @@ module _ (one : (t : List ℕ) (f g : Forest) → IsForest t f → IsForest t g 
   module _ (back : (t : List ℕ) (p : Problem) → IsRead problem_form t p
       → length (written.problem_text p) ≤ LARGEST_TEXT → nesting_of_node (written.problem p) ≤ DEEPEST_NESTING
       → ReadsBack problem_form unplaced.problem (written.problem_text p) p) where
-    -- what the canonical text of a problem is read as is the problem up to spans
+    -- the reading of a problem's canonical text is the problem up to spans
     pub problem_again : (t : List ℕ) (p q : Problem) → IsRead problem_form t p
         → IsRead problem_form (written.problem_text p) q → unplaced.problem q ≡ unplaced.problem p
     problem_again =

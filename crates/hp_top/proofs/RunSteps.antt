@@ -124,7 +124,7 @@ unread_missing s r which f o e (inr x) t (inl rose) = absurd (x which rose)
 unread_missing s r which f o e (inr x) t (inr m) = missing f o t m
 
 module _ (folder : FolderRun) where
-  -- what is known of what is loaded of the files of these names, or of why it isn't
+  -- the result of a load of the files of these names, and its cause
   data Known {X : Type 0} (names : Input → Option (List ℕ)) (loaded : Result X LoadError) : Type 0 where
     ForMemory : loaded ≡ Err causes.NoMemory → Known names loaded
     ForReading : (which : Input) (name : List ℕ) → loaded ≡ Err (causes.Refused (refusals.Read which))
@@ -132,7 +132,7 @@ module _ (folder : FolderRun) where
     ForText : (which : Input) (why : Why) → loaded ≡ Err (causes.Refused (refusal_of which why)) → Known names loaded
     ForAnswer : (x : X) → loaded ≡ Ok x → Known names loaded
 
-  -- what stops at a file that is named
+  -- a stop at a file that is named
   stop_known : {X A : Type 0} (names : Input → Option (List ℕ)) (which : Input) (form : Form A) (name : List ℕ)
       (cause : LoadError) (loaded : Result X LoadError) → names which ≡ Some name
       → StopsAt which form cause (folder.file name) folder.before folder.now → loaded ≡ Err cause → Known names loaded
@@ -150,14 +150,14 @@ module _ (folder : FolderRun) where
       → IsUnread which (folder.file name) folder.before folder.now → files name ≡ None)
 
   module _ (files : Files) (told : TellsFiles folder.file files) where
-    -- what is read of a told file is loaded of the file
+    -- the reading of a told file is the load of the file
     good_exact : {A : Type 0} (which : Input) (form : Form A) (name : List ℕ) (x : A) → Reads form (folder.file name) x
         → LoadsFile which form (files name) (Ok x)
     good_exact which form name x h =
         let t = told_text (λ t. IsRead form t x) (folder.file name) (files name) (told name) h in
         outcome.LoadsFile.Good t.0 x t.1 t.2 refl
 
-    -- what stops at a told file refuses the file
+    -- a stop at a told file refuses the file
     bad_exact : {A : Type 0} (which : Input) (form : Form A) (name : List ℕ) (cause : LoadError) → IsExact files cause
         → StopsAt which form cause (folder.file name) folder.before folder.now
         → (r : Refusal) × LoadsFile which form (files name) (Err r) × (cause ≡ causes.Refused r)
@@ -173,7 +173,7 @@ abbrev as_told : {X : Type 0} → Result X Refusal → Result X LoadError
 as_told (Ok x) = Ok x
 as_told (Err r) = Err (causes.Refused r)
 
--- how what is loaded of a folder stands to what its files have, and to what is told
+-- a way to load files of a folder: the causes that stop it, and the same of told files
 record Loading {X : Type 0} (folder : FolderRun) (names : Input → Option (List ℕ))
     (loads : Result X LoadError → Type 0) (from : Files → Result X Refusal → Type 0) (answer : X → Answer)
     : Type 0 where
@@ -238,7 +238,7 @@ listing_loading folder name = record { known = known; exact = exact; answers = l
         (Err b.0, b.1, ap Err b.2)
 
 module _ {X : Type 0} (answer : X → Answer) where
-  -- the status that something loaded comes to
+  -- the status of the answer to a load
   abbrev status_to : Result X LoadError → Status
   status_to loaded = (answer_to load_answer answer loaded).1
 
@@ -249,7 +249,7 @@ module _ {X : Type 0} (answer : X → Answer) where
 module _ {X : Type 0} (folder : FolderRun) (names : Input → Option (List ℕ)) (loads : Result X LoadError → Type 0)
     (from : Files → Result X Refusal → Type 0) (answer : X → Answer) (load : Loading folder names loads from answer)
     (files : Files) (told : TellsFiles folder.file files) where
-  -- what is told of files comes to what they come to
+  -- the answer to told files is the answer to the files
   comes_exact : (loaded : Result X LoadError)
       → ((cause : LoadError) → loaded ≡ Err cause → IsExact folder files cause) → loads loaded
       → Comes (from files) answer (answer_to load_answer answer loaded)
@@ -322,7 +322,7 @@ told_status a s r P (telling.Written e h) m w t = t e h
 other : (s t u : Status) → (t ≡ u → ⊥) → s ≡ t → s ≡ u → ⊥
 other s t u n e f = n (sym e ∙ f)
 
--- what a run that tells an answer wrote where it stopped short
+-- the text of a run that tells an answer and stopped short
 record IsShort (text : List ℕ) (s : Status) (r : SinkRun) : Type 0 where
   prefix : s ≡ status.NoMemory → WrotePrefix text r.before r.after
   proper : s ≡ status.WriteFault → WroteProperPrefix text r.before r.after
@@ -368,11 +368,11 @@ why_unread which w (InText r) e = cc
 why_unread which w (InForm (Expected what s)) e = cc
 why_unread which w (InForm (SeveralPairs s)) e = cc
 
--- what is served, whatever it comes to
+-- served requests
 module _ {X : Type 0} (folder : FolderRun) (names : Input → Option (List ℕ)) (loads : Result X LoadError → Type 0)
     (from : Files → Result X Refusal → Type 0) (answer : X → Answer) (load : Loading folder names loads from answer)
     (s : Status) (r : SinkRun) where
-  -- what is loaded comes to no status but want of memory, a read fault and those of answers
+  -- a load ends in no status but want of memory, a read fault and those of answers
   never : (loaded : Result X LoadError) (u : Status) → (status.NoMemory ≡ u → ⊥) → (status.ReadFault ≡ u → ⊥)
       → (IsAnswer u → ⊥) → Known folder names loaded → status_to answer loaded ≡ u → ⊥
   never loaded u m f a (ForMemory e) i = m (sym (ap (status_to answer) e) ∙ i)
@@ -382,7 +382,7 @@ module _ {X : Type 0} (folder : FolderRun) (names : Input → Option (List ℕ))
   never loaded u m f a (ForAnswer x e) i =
       a (subst IsAnswer (sym (ap (status_to answer) e) ∙ i) (load.answers x))
 
-  -- what is served isn't refused as no command
+  -- a served request isn't refused as no command
   serves_usage : Serves loads answer s r → s ≡ status.Usage → ⊥
   serves_usage h u =
       told_status _ s r ⊥ h.tells (λ m f. other s _ _ (λ x. cc) m u) (λ m rose f. other s _ _ (λ x. cc) m u)
@@ -410,7 +410,7 @@ module _ {X : Type 0} (folder : FolderRun) (names : Input → Option (List ℕ))
       (unread : (which : Input) (name : List ℕ) → names which ≡ Some name
       → IsUnread which (folder.file name) folder.before folder.now
       → loads (Err (causes.Refused (refusals.Read which))) → MayWrite (refused_read which)) where
-    -- what is loaded comes to a read fault only where an input is unread
+    -- a load ends in a read fault only where an input is unread
     how_read : (loaded : Result X LoadError) → loads loaded → Known folder names loaded
         → status_to answer loaded ≡ status.ReadFault
         → Wrote (answer_to load_answer answer loaded).0 r.before r.after → HasLine MayWrite
@@ -471,13 +471,13 @@ module _ {X : Type 0} (folder : FolderRun) (names : Input → Option (List ℕ))
           answer_short loaded (λ cause i. let y : Ok x ≡ Err cause = sym e ∙ i in cc) l
           (subst IsAnswer (sym (ap (status_to answer) e)) (load.answers x)) t
 
-      -- what is served has a text that a run may write, of which it wrote a prefix where it stopped short
+      -- a served request has a text that a run may write, of which it wrote a prefix where it stopped short
       serves_short : Serves loads answer s r → ServesShort
       serves_short h = how_short h.loaded h.loads (load.known h.loaded h.loads) h.tells
 
 -- ---- what ends
 
--- what is loaded for a problem that is made
+-- the load of a problem that is made
 made_loading : (seed n : ℕ) → Loading (made_run seed n) (named (made_command seed n))
     (LoadsBoth (made_run seed n) (made_command seed n).domain (made_command seed n).problem)
     (λ files. LoadsFiles files (made_command seed n)) (answer_of_pair (made_command seed n))
@@ -485,7 +485,7 @@ made_loading seed n = command_loading (made_run seed n) (made_command seed n)
 
 module _ (words : List (List ℕ)) (s : Status) (r : SinkRun) (files : Files) (written : List ℕ)
     (o : r.before ≡ Some written) (memory : s ≢ status.NoMemory) (write : s ≢ status.WriteFault) where
-  -- what is served without want of memory and faults is an outcome, where what it comes to is one of the words
+  -- an answer served without want of memory and faults is an outcome, where it is one of the words
   serves_well : {X : Type 0} (folder : FolderRun) (names : Input → Option (List ℕ))
       (loads : Result X LoadError → Type 0) (from : Files → Result X Refusal → Type 0) (answer : X → Answer)
       → Loading folder names loads from answer → (fs : Files) → TellsFiles folder.file fs → ReadsWell s folder
@@ -612,7 +612,7 @@ refused_words s r n t =
     told_status (refusal_answer refusals.Usage) s r (RefusesWords s r) t (λ m f. absurd (has_memory s n m))
     (λ m rose f. inr m) (λ m w. inl (m, w))
 
--- what is done to an input under the name that a command has for it is done under the name that the words have
+-- the run of an input under the name that a command has for it is that under the name that the words have
 pub touched_by_command : (words : List (List ℕ)) (file : List ℕ → ToldFile) (d p : List ℕ) (j : Job) (w : Input)
     (r : InputRun) → accepts words ≡ Some (on_files d p j) → Touches (file (by_input w d p)) r
     → TouchesNamed words file w r
@@ -622,7 +622,7 @@ touched_by_command words file d p j inputs.Domain r e (inr read) =
 touched_by_command words file d p j inputs.Problem r e (inr read) =
     inr (record { request = on_files d p j; accepted = e; name = p; has_name = refl; read = read })
 
--- so it is with what is done to the one input of a listing
+-- so it is with the one input of a listing
 pub touched_by_listing : (words : List (List ℕ)) (file : List ℕ → ToldFile) (d : List ℕ) (w : Input) (r : InputRun)
     → accepts words ≡ Some (Listing d) → (w ≡ inputs.Domain → Touches (file d) r)
     → (w ≢ inputs.Domain → IsUntouched r) → TouchesNamed words file w r

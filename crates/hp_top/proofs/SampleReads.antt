@@ -1,4 +1,4 @@
--- What the texts of the samples are read as.
+-- The readings of the texts of the samples.
 use Rattle.std.proofs.Common.{◌≡◌, ℕ, false, List, [], length, Some, Result, Ok, Err, refl, sym, codes}
 use Rattle.hp_samples.proofs.Computed.{the_language}
 use Rattle.hp_syntax.specs.Checks as checks
@@ -23,15 +23,15 @@ problem_or_none (Ok p) = p
 problem_or_none (Err m) =
     record { name = []; domain = []; domain_span = record { from = 0; to = 0 }; vars = []; pairs = [] }
 
--- what the text of the sample basic is read as
+-- the reading of the text of the sample basic
 unfoldable pub basic_read : Domain
 basic_read = domain_or_none (domain_form (length basic_text) basic_forest)
 
--- what the text of the sample swap is read as
+-- the reading of the text of the sample swap
 unfoldable pub swap_read : Problem
 swap_read = problem_or_none (problem_form (length swap_text) swap_forest)
 
--- what the text of the sample empty is read as
+-- the reading of the text of the sample empty
 unfoldable pub empty_read : Problem
 empty_read = problem_or_none (problem_form (length empty_text) empty_forest)
 

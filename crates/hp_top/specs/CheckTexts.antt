@@ -1,4 +1,4 @@
--- What is written of an accepted domain and problem that are checked.
+-- The text of `check` on an accepted domain and problem.
 use Rattle.std.specs.Prelude.{ℕ, ◌+◌, Bool, true, false, List, [], ◌∷◌, ◌++◌, length, codes, decimal}
 use Rattle.std.specs.List.{flat_map, count_by}
 use Rattle.hp_syntax.specs.Notes.{Note, notes}

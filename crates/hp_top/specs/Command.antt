@@ -96,7 +96,7 @@ plan_options words = option_map options_in (options_of_words (codes "--states" �
 
 -- ---- commands
 
--- what is done with two files: plans are looked for, so many and down to this depth; or they are checked, or shown; or
+-- a job over two files: plans are looked for, so many and down to this depth; or they are checked, or shown; or
 -- the first plan is summed up, where the files were made from a seed with so many packages
 pub data Job : Type 0 where
   Planning : (plans depth : ℕ) → (options : Options) → Job
@@ -104,7 +104,7 @@ pub data Job : Type 0 where
   Showing : Job
   Summing : (seed packages : ℕ) → Job
 
--- what is asked
+-- a command over files
 pub record Command : Type 0 where
   pub domain : List ℕ
   pub problem : List ℕ
@@ -113,7 +113,7 @@ pub record Command : Type 0 where
 abbrev pub make_command : List ℕ → List ℕ → Job → Command
 make_command d p j = record { domain = d; problem = p; job = j }
 
--- what words ask for: a command over two files, the listing of the code of a domain, or a problem that is made
+-- a request in words: a command over two files, the listing of the code of a domain, or a problem that is made
 pub data Request : Type 0 where
   OnFiles : (command : Command) → Request
   Listing : (domain : List ℕ) → Request
@@ -143,17 +143,17 @@ planning (Some k) (Some n) None = None
 planning (Some k) None o = None
 planning None n o = None
 
--- what a job over two files asks for
+-- the request of a job over two files
 abbrev pub on_files : List ℕ → List ℕ → Job → Request
 on_files d p j = OnFiles (make_command d p j)
 
--- what a seed and a number of packages ask for
+-- the request of a seed and a number of packages
 abbrev pub making : Option ℕ → Option ℕ → Option Request
 making (Some s) (Some n) = Some (Making s n)
 making (Some s) None = None
 making None n = None
 
--- what a word with two words behind it asks for, and nothing else
+-- the request of a word with two words behind it, and nothing else
 abbrev pub asked_by_three : List ℕ → List ℕ → List ℕ → Option Request
 asked_by_three word x y =
     cond (bytes_eq word (codes "make")) (making (number_within 0 LARGEST_SEED x) (number_within 1 MOST_PACKAGES y))

@@ -1,4 +1,4 @@
--- What is known of two files that are read, and why a run goes no further.
+-- The load of two files, and the causes for which a run goes no further.
 use Rattle.std.specs.Prelude.{◌≡◌, ◌⊎◌, ℕ, ◌+◌, List, Option, Some, None, Result, Ok, Err, take}
 use Rattle.hp_io.specs.declared.folder.Input.{Input}
 use Rattle.hp_io.specs.declared.folder.Input.TheVariants as inputs
@@ -18,11 +18,11 @@ use Rattle.hp_syntax.specs.Views.{domain_of, problem_of}
 use Rattle.hp_syntax.specs.TextForms.{Form, IsRead}
 use Rattle.hp_top.specs.Outcome.{Why, IsUnreadable, refusal_of, Both}
 
--- what a folder tells of a file: nothing, that there is none, or its bytes
+-- a file as a folder tells it: nothing, that there is none, or its bytes
 abbrev pub ToldFile : Type 0
 ToldFile = Option (Option (List ℕ))
 
--- what a call did to a folder: its files, which stay as they are told, and the count of faults of each input before
+-- the run of a folder through a call: its files, which stay as they are told, and each input's count of faults before
 -- and after
 pub record FolderRun : Type 0 where
   pub file : List ℕ → ToldFile
@@ -87,7 +87,7 @@ pub data StopsAt {A : Type 0} (which : Input) (form : Form A) (cause : LoadError
   Unreadable : (why : Why) → cause ≡ cause_of which why → Holds (λ text. IsUnreadable form text why) file
       → StopsAt which form cause file before now
 
--- what is loaded of a told file: what it is read as, or why it is read as nothing
+-- the load of a told file: its reading, or the cause for which there is none
 abbrev pub LoadsTold : {A : Type 0} → Input → Form A → ToldFile → (Input → ℕ) → (Input → ℕ) → Result A LoadError
     → Type 0
 LoadsTold which form file before now (Ok x) = Reads form file x
@@ -105,7 +105,7 @@ LoadsBoth folder domain problem loaded =
 abbrev pub LoadsAlone : FolderRun → List ℕ → Result Domain LoadError → Type 0
 LoadsAlone folder name = LoadsTold inputs.Domain domain_form (folder.file name) folder.before folder.now
 
--- what was loaded into memory, as plain values
+-- the view of a load in memory
 abbrev pub plain_of : Result Loaded LoadError → Result (Domain × Problem) LoadError
 plain_of (Ok l) = Ok (domain_of l.domain, problem_of l.problem)
 plain_of (Err cause) = Err cause

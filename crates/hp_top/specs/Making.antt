@@ -17,12 +17,12 @@ made_files seed packages name =
 abbrev pub made_command : ℕ → ℕ → Command
 made_command seed packages = make_command (codes "domain") (codes "problem") (Summing seed packages)
 
--- what was made, and how many atoms its state has as they are written
+-- the lines of a made problem: its seed and packages, and how many atoms its state has as they are written
 unfoldable pub made_lines : ℕ → ℕ → Problem → List ℕ
 made_lines seed packages p =
     codes "made seed " ++ decimal seed ++ codes " packages " ++ decimal packages
     ++ codes "\nstate atoms " ++ decimal (atoms_written p.pairs) ++ codes "\n"
 
--- what is told of a problem that was made, and of the walk of which one plan is asked: its line and the ending line
+-- the answer to a made problem and the walk of which one plan is asked: their lines and the ending line
 abbrev pub made_answer : ℕ → ℕ → Problem → List Visit → Answer
 made_answer seed packages p walk = behind (made_lines seed packages p) (report line_of 1 nothing_seen walk)

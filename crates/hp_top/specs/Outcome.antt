@@ -1,4 +1,4 @@
--- What the words and the files of a run come to: the text that is written, and the status.
+-- The outcome of the words and the files of a run: the text that is written, and the status.
 use Rattle.std.specs.Prelude.{◌≡◌, ℕ, List, [], ◌∷◌, ◌++◌, length, Option, Some, None, Result, Ok, Err}
 use Rattle.hp_io.specs.declared.folder.Input.{Input}
 use Rattle.hp_io.specs.declared.folder.Input.TheVariants as inputs
@@ -28,7 +28,7 @@ use Rattle.hp_top.specs.CheckTexts.{check_text}
 use Rattle.hp_top.specs.Command.{Command, Job, Options, Planning, Checking, Showing, Summing, OnFiles, Listing, Making, accepts}
 use Rattle.hp_top.specs.Making.{made_files, made_command, made_answer}
 
--- what each file holds, by its name; there may be no such file
+-- the bytes of each file, by its name; there may be no such file
 abbrev pub Files : Type 0
 Files = List ℕ → Option (List ℕ)
 
@@ -77,13 +77,13 @@ abbrev pub walk_of_pairs : List Rule → ℕ → List Pair → ℕ → List Visi
 walk_of_pairs rules nest [] depth = []
 walk_of_pairs rules nest (pair ∷ more) depth = walk rules nest pair depth
 
--- what so many plans down to a depth come to
+-- the answer to a request for so many plans down to a depth
 abbrev pub plan_answer : ℕ → ℕ → Options → Domain → Problem → Answer
 plan_answer k n o d p = plan_report k o.states (walk_of_pairs d.rules o.levels p.pairs n)
 
 -- ---- a domain and a problem that are read
 
--- what is done with a domain and a problem in which the checks find no fault
+-- the answer of a job to a domain and a problem in which the checks find no fault
 abbrev pub job_answer : Job → Domain → Problem → Answer
 job_answer (Planning k n o) d p = plan_answer k n o d p
 job_answer Checking d p = (check_text d p, Done)
@@ -99,20 +99,20 @@ unless_faulty None a = a
 abbrev pub first_fault : Domain → Problem → Option CheckFault
 first_fault d p = first_of (domain_faults d ++ problem_faults d p)
 
--- what a command comes to, once its domain and its problem are read
+-- the answer to a command, once its domain and its problem are read
 abbrev pub answer_of_read : Command → Domain → Problem → Answer
 answer_of_read c d p = unless_faulty (first_fault d p) (job_answer c.job d p)
 
 abbrev pub answer_of_pair : Command → Domain × Problem → Answer
 answer_of_pair c x = answer_of_read c x.0 x.1
 
--- what the listing of a domain comes to, once it is read
+-- the answer to a domain that is read and is to be listed
 abbrev pub listing_answer : Domain → Answer
 listing_answer d = unless_faulty (first_of (domain_faults d)) (listing_text (compiled d.rules), Done)
 
 -- ---- files
 
--- what is loaded of a file: what its text is read as by a grammar, or the refusal that tells why it isn't
+-- the load of a file: the reading of its text by a grammar, or the refusal that tells why there is none
 pub data LoadsFile {A : Type 0} (which : Input) (form : Form A) (file : Option (List ℕ))
     (loaded : Result A Refusal) : Type 0 where
   Missing : file ≡ None → loaded ≡ Err (refusals.Read which) → LoadsFile which form file loaded
@@ -131,33 +131,33 @@ pub data Then {A B E : Type 0} (first : Result A E → Type 0) (second : A → R
 abbrev pub Both : {A B E : Type 0} → (Result A E → Type 0) → (Result B E → Type 0) → Result (A × B) E → Type 0
 Both first second loaded = Then first (λ x. Then second (λ y both. both ≡ Ok (x, y))) loaded
 
--- what is loaded of the files of a command: its domain, and then its problem
+-- the load of the files of a command: its domain, and then its problem
 abbrev pub LoadsFiles : Files → Command → Result (Domain × Problem) Refusal → Type 0
 LoadsFiles files c =
     Both (LoadsFile inputs.Domain domain_form (files c.domain)) (LoadsFile inputs.Problem problem_form (files c.problem))
 
--- and of the file of a domain alone
+-- the load of the file of a domain alone
 abbrev pub LoadsDomain : Files → List ℕ → Result Domain Refusal → Type 0
 LoadsDomain files name = LoadsFile inputs.Domain domain_form (files name)
 
--- what comes of what is loaded: the answer to that, or to what refuses it
+-- the answer to a load, or to the cause that refuses it
 abbrev pub answer_to : {X E : Type 0} → (E → Answer) → (X → Answer) → Result X E → Answer
 answer_to refuse answer (Err e) = refuse e
 answer_to refuse answer (Ok x) = answer x
 
 -- ---- outcomes
 
--- something is loaded, and this comes of it
+-- the answer to something that is loaded
 pub record Comes {X : Type 0} (loads : Result X Refusal → Type 0) (answer : X → Answer) (a : Answer) : Type 0 where
   pub loaded : Result X Refusal
   pub loads : loads loaded
   pub comes : a ≡ answer_to refusal_answer answer loaded
 
--- what a command comes to with these files
+-- the answer to a command with these files
 abbrev pub CommandComes : Files → Command → Answer → Type 0
 CommandComes files c = Comes (LoadsFiles files c) (answer_of_pair c)
 
--- what words come to with these files
+-- the answer to words with these files
 pub data Outcome (words : List (List ℕ)) (files : Files) (a : Answer) : Type 0 where
   NoCommand : accepts words ≡ None → a ≡ refusal_answer refusals.Usage → Outcome words files a
   ByCommand : (c : Command) → accepts words ≡ Some (OnFiles c) → CommandComes files c a → Outcome words files a

@@ -11,7 +11,7 @@ use Rattle.hp_top.specs.declared.rereading.RereadError.TheVariants as errors
 abbrev pub IsPastLimits : List ℕ → Node → Type 0
 IsPastLimits text n = (LARGEST_TEXT < length text) ⊎ (DEEPEST_NESTING < nesting_of_node n)
 
--- what is told where a text is read as nothing for this cause
+-- the error for a text that is read as nothing for this cause
 abbrev pub cause_unless_memory : LoadError → RereadError → RereadError
 cause_unless_memory causes.NoMemory error = errors.NoMemory
 cause_unless_memory (causes.Refused refusal) error = error

@@ -14,7 +14,7 @@ use Rattle.hp_top.specs.Outcome.{refusal_answer, answer_of_pair, answer_to, list
 use Rattle.hp_top.specs.Loading.{FolderRun, folder_run, LoadsAlone, LoadsBoth}
 use Rattle.hp_top.specs.Telling.{Tells}
 
--- what is written where the files aren't read, and the status
+-- the answer where the files aren't read
 abbrev pub load_answer : LoadError → Answer
 load_answer causes.NoMemory = (codes "", status.NoMemory)
 load_answer (causes.Refused r) = refusal_answer r

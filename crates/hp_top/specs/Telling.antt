@@ -1,4 +1,4 @@
--- What telling a walk has written, and what is left to tell.
+-- The report of a walk while it is told: the part that is written, and the part that is left.
 use Rattle.std.specs.Prelude.{◌≡◌, ℕ, ◌+◌, ◌<◌, ◌==◌, cond, List, Option, Some, None, Result, Ok, Err, false, true, length}
 use Rattle.hp_io.specs.Rules.{Rose}
 use Rattle.hp_net.specs.Standings.{Tree}
@@ -20,17 +20,17 @@ use Rattle.hp_top.specs.declared.telling.Halt.TheVariants.{NoMemory, Failed}
 abbrev pub IsAtItsNode : Tree → Visit → Type 0
 IsAtItsNode t v = node_at t.rules t.nest t.root v.path ≡ Some v.node
 
--- what is told of a plan
+-- the text that tells a plan
 abbrev pub telling : Detail → ℕ → Visit → List ℕ
 telling details.Line = line_of
 telling details.Steps = plan_of false
 telling details.State = plan_of true
 
--- what was seen so far
+-- the tally so far
 abbrev pub tally_of : Progress → Tally
 tally_of p = tally p.plans p.expansions p.is_cut
 
--- what is left to tell of a walk of which k plans are asked
+-- the report that is left of a walk of which k plans are asked
 abbrev pub left : Detail → ℕ → Progress → List Visit → Answer
 left detail k p vs = report (telling detail) k (tally_of p) vs
 

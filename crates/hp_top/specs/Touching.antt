@@ -1,11 +1,11 @@
--- What a run does to the inputs of a folder.
+-- The effects of a run on the inputs of a folder.
 use Rattle.std.specs.Prelude.{◌≡◌, ◌⊎◌, ℕ, ◌+◌, ◌≤◌, Bool, true, List, drop, Option, Some, None}
 use Rattle.hp_io.specs.declared.folder.Input.{Input}
 use Rattle.hp_syntax.specs.declared.limits.TheConstants.{LARGEST_TEXT}
 use Rattle.hp_top.specs.Command.{Request, accepts, file_named}
 use Rattle.hp_top.specs.Loading.{ToldFile}
 
--- what a call did to an input: whether it was begun, and what is left to read of it, before and after
+-- the run of an input through a call: whether it was begun, and its bytes that are left, before and after
 pub record InputRun : Type 0 where
   pub begun_before : Bool
   pub begun_after : Bool
@@ -20,7 +20,7 @@ pub record IsUntouched (r : InputRun) : Type 0 where
   pub begun : r.begun_after ≡ r.begun_before
   pub rest : r.after ≡ r.before
 
--- what is left of a told file of which at most one byte more than the longest text was read;
+-- the rest of a told file of which at most one byte more than the longest text was read;
 -- one that is told to be missing can't be read
 abbrev pub IsLeft : ToldFile → Option (List ℕ) → Type 0
 IsLeft None rest = Unit {0}

@@ -1,4 +1,4 @@
--- What a command asks.
+-- The views of requests.
 use Rattle.std.specs.Prelude.{ℕ, ◌<◌, ◌≤◌}
 use Rattle.hp_syntax.specs.declared.limits.TheConstants.{GREATEST_DEPTH, MOST_LEVELS}
 use Rattle.hp_top.specs.declared.words.TheConstants.{LARGEST_SEED, MOST_PACKAGES}
@@ -10,7 +10,7 @@ use Rattle.hp_top.specs.declared.words.Job.TheVariants as jobs
 use Rattle.hp_top.specs.declared.words.Request as asked_request
 use Rattle.hp_top.specs.declared.words.Request.TheVariants as requests
 
--- what is done with the files
+-- the options of a command
 abbrev pub options_of : asked_options.Options → Options
 options_of o = options o.levels o.states
 
@@ -32,7 +32,7 @@ pub record IsMakeable (seed packages : ℕ) : Type 0 where
   pub some : 1 ≤ packages
   pub few : packages ≤ MOST_PACKAGES
 
--- what is asked for may be asked
+-- a job that may be asked for
 abbrev pub IsAsked : asked.Job → Type 0
 IsAsked (jobs.Plan a) = IsPlanned a
 IsAsked jobs.Check = Unit {0}

@@ -1,4 +1,4 @@
-//! What is written of a domain and a problem that are checked and accepted.
+//! The text of `check` on a domain and a problem that are accepted.
 
 ghost use Rattle.std.specs.Prelude.{◌≡◌, ◌≤◌, ◌++◌, ◌<◌, IfOk, OnOk, IfErr, codes, decimal, map};
 ghost use Rattle.std.specs.List.{count_by};

@@ -15,7 +15,7 @@ use hp_net::{Step, Walk};
 use hp_out::{Ending, Pen};
 use hp_syntax::Status;
 
-/// What is told of a plan.
+/// The detail in which a plan is told.
 #[derive(Clone, Copy)]
 pub enum Detail {
     /// Its line alone.

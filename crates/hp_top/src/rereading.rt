@@ -64,7 +64,7 @@ impl Drop for RereadProblem {
     }
 }
 
-/// What is told where a text is read as nothing, unless memory is wanting.
+/// The error for a text that is read as nothing, unless memory is wanting.
 fn unless_memory(cause: LoadError, error: RereadError) -> RereadError
     ensures { result ≡ cause_unless_memory cause error }
 {

@@ -1,4 +1,4 @@
-//! What the words and the files of the sample `basic` come to, by the definitions alone.
+//! The outcome of the words and the files of the sample `basic`, by the definitions alone.
 
 ghost use Rattle.std.specs.Prelude.{◌≡◌, ◌++◌, [], ◌∷◌, Some, None, true, false, codes};
 ghost use Rattle.hp_syntax.specs.Samples.{swap_text, empty_text};

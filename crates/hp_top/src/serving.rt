@@ -1,4 +1,4 @@
-//! What is done with a domain and a problem that are read: the checks first, and then the job.
+//! A domain and a problem that are read, served: the checks first, and then the job.
 
 ghost use Rattle.std.specs.List.{All};
 ghost use Rattle.std.specs.Prelude.{◌≡◌, ◌≤◌, ℕ, List, IfOk, None, true};
@@ -75,7 +75,7 @@ fn walk_of(
     )
 }
 
-/// What is told of a plan, with its state or without.
+/// The detail in which a plan is told, with its state or without.
 fn detail_of(states: bool) -> Detail
     ensures { telling result ≡ plan_of states }
 {

@@ -1,4 +1,4 @@
-//! What is told of a problem that was made, and of its first plan.
+//! The summary of a problem that was made, and of its first plan.
 
 ghost use Rattle.std.specs.List.{All};
 ghost use Rattle.std.specs.Prelude.{◌≡◌, ◌≤◌, ◌++◌, IfErr, IfOk, OnOk, codes, decimal, true};
@@ -15,7 +15,7 @@ use hp_net::Walk;
 use hp_syntax::{Problem, Status};
 use std::alloc::{AllocError, Global};
 
-/// What was made: by which seed, and with how many packages.
+/// The line of a made problem: its seed, and how many packages it has.
 fn push_making(text: &mut Vec<u8>, seed: u32, packages: u32) -> Result<(), AllocError>
     ensures { OnOk result (text.new.items ≡ text.old.items
         ++ codes "made seed " ++ decimal seed ++ codes " packages " ++ decimal packages) }
@@ -24,7 +24,7 @@ fn push_making(text: &mut Vec<u8>, seed: u32, packages: u32) -> Result<(), Alloc
     push_count(text, b" packages ", u128::from(packages))
 }
 
-/// What was made, and how many atoms its state has.
+/// The lines of a made problem, with how many atoms its state has.
 #[tactic(auto, unfolding(crate::specs::Making::made_lines))]
 fn push_made(
     text: &mut Vec<u8>,

@@ -21,7 +21,7 @@ pub struct Options {
     pub states: bool,
 }
 
-/// What a search for plans is asked for: how many plans, down to which depth, and how.
+/// A request for plans: how many, down to which depth, and how.
 #[derive(Clone, Copy)]
 pub struct Asked {
     pub plans: u64,
@@ -29,7 +29,7 @@ pub struct Asked {
     pub options: Options,
 }
 
-/// What a command does with its two files.
+/// The job of a command with its two files.
 #[derive(Clone, Copy)]
 pub enum Job {
     Plan(Asked),
@@ -39,7 +39,7 @@ pub enum Job {
     Sum { seed: u32, packages: u32 },
 }
 
-/// What words ask for.
+/// The request of a command's words.
 #[derive(Clone, Copy)]
 pub enum Request<'a> {
     /// A job with two files, by their names.
@@ -163,7 +163,7 @@ fn planned(plans: &[u8], depth: &[u8], more: &[String]) -> Option<Asked>
     })
 }
 
-/// What a command of five words and more asks for.
+/// The request of a command of five words and more.
 fn plan_asked(words: &[String]) -> Option<Request<'_>>
     requires two { length words.now ≢ 2 }
     requires three { length words.now ≢ 3 }
@@ -198,7 +198,7 @@ fn job_by_word(word: &str) -> Option<Job>
     }
 }
 
-/// What a seed and a number of packages ask for.
+/// The request of a seed and a number of packages.
 fn make_asked<'a>(seed: &[u8], packages: &[u8]) -> Option<Request<'a>>
     ensures spelled { option_map request_of result
         ≡ making (number_within 0 LARGEST_SEED seed.now) (number_within 1 MOST_PACKAGES packages.now) }
@@ -212,7 +212,7 @@ fn make_asked<'a>(seed: &[u8], packages: &[u8]) -> Option<Request<'a>>
     })
 }
 
-/// What a word with two words behind it asks for.
+/// The request of a word with two words behind it.
 fn asked_by_three<'a>(word: &str, first: &'a str, second: &'a str) -> Option<Request<'a>>
     ensures spelled { option_map request_of result ≡ asked_by_three word.now first.now second.now }
     ensures some { IfSome result IsRequested }
@@ -238,7 +238,7 @@ fn asked_by_two<'a>(word: &str, name: &'a str) -> Option<Request<'a>>
     if word == "code" { Some(Request::Code { domain: name }) } else { None }
 }
 
-/// What words ask for, where they are a command.
+/// The request of words, where they are a command.
 pub fn request_asked(words: &[String]) -> Option<Request<'_>>
     ensures asks { option_map request_of result ≡ accepts (map string_bytes words.now) }
     ensures some { IfSome result IsRequested }

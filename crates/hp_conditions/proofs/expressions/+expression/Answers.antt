@@ -5,7 +5,7 @@ use Rattle.hp_syntax.specs.Grammar as grammar
 use Rattle.hp_syntax.specs.Steps.{and_then, pure}
 use Rattle.hp_syntax.specs.Syntax.{Or, Not, Test, Holds}
 use Rattle.hp_syntax.specs.ViewLaws.{expression_of-atom, expression_of-call, expression_of-not, expression_of-or}
-use Rattle.hp_syntax.specs.Views.{expression_of, pattern_of, atom_of}
+use Rattle.hp_syntax.specs.Views.{expression_of}
 use Rattle.hp_text.specs.Nodes.{nodes_of}
 use Rattle.hp_terms.proofs.Turns.{one_viewed, refused_next, refused_same}
 use Rattle.hp_terms.proofs.PartSteps.{expressions_read, expressions_refused, reads_same, conjunction-list}
@@ -72,21 +72,26 @@ pub keyed-returns-then-is-4 : goal.keyed-returns-then-is-4
 keyed-returns-then-is-4 t c = λ s.
     reads_same _ c.implied.result _ _ _ _
     (by_imply c.args.span s c.args.key.now (nodes_of c.args.rest.now) c.args.scope.now.names.keys c.requires
-    (sym c.is.ensures ∙ c.if-is.false) (sym c.is-else-is.ensures ∙ c.if-is-2.false) (sym c.is-else-is-2.ensures ∙ c.if-is-3.false) (sym c.is-else-is-3.ensures ∙ c.if-is-4.true))
+    (sym c.is.ensures ∙ c.if-is.false) (sym c.is-else-is.ensures ∙ c.if-is-2.false)
+    (sym c.is-else-is-2.ensures ∙ c.if-is-3.false) (sym c.is-else-is-3.ensures ∙ c.if-is-4.true))
     c.implied.ensures
 
 pub keyed-returns-then-is-5 : goal.keyed-returns-then-is-5
 keyed-returns-then-is-5 t c = λ s.
     reads_same _ c.quantified.result _ _ _ _
     (by_forall c.args.span s c.args.key.now (nodes_of c.args.rest.now) c.args.scope.now.names.keys c.requires
-    (sym c.is.ensures ∙ c.if-is.false) (sym c.is-else-is.ensures ∙ c.if-is-2.false) (sym c.is-else-is-2.ensures ∙ c.if-is-3.false) (sym c.is-else-is-3.ensures ∙ c.if-is-4.false) (sym c.is-else-is-4.ensures ∙ c.if-is-5.true))
+    (sym c.is.ensures ∙ c.if-is.false) (sym c.is-else-is.ensures ∙ c.if-is-2.false)
+    (sym c.is-else-is-2.ensures ∙ c.if-is-3.false) (sym c.is-else-is-3.ensures ∙ c.if-is-4.false)
+    (sym c.is-else-is-4.ensures ∙ c.if-is-5.true))
     c.quantified.ensures
 
 pub keyed-returns-then-is-6 : goal.keyed-returns-then-is-6
 keyed-returns-then-is-6 t c = λ s.
     reads_same _ c.assigned.result _ _ _ _
     (by_assign c.args.span s c.args.key.now (nodes_of c.args.rest.now) c.args.scope.now.names.keys c.requires
-    (sym c.is.ensures ∙ c.if-is.false) (sym c.is-else-is.ensures ∙ c.if-is-2.false) (sym c.is-else-is-2.ensures ∙ c.if-is-3.false) (sym c.is-else-is-3.ensures ∙ c.if-is-4.false) (sym c.is-else-is-4.ensures ∙ c.if-is-5.false) (sym c.is-else-is-5.ensures ∙ c.if-is-6.true))
+    (sym c.is.ensures ∙ c.if-is.false) (sym c.is-else-is.ensures ∙ c.if-is-2.false)
+    (sym c.is-else-is-2.ensures ∙ c.if-is-3.false) (sym c.is-else-is-3.ensures ∙ c.if-is-4.false)
+    (sym c.is-else-is-4.ensures ∙ c.if-is-5.false) (sym c.is-else-is-5.ensures ∙ c.if-is-6.true))
     c.assigned.ensures
 
 pub keyed-returns-in_ok-expressions : goal.keyed-returns-in_ok-expressions
@@ -101,7 +106,8 @@ pub keyed-returns-in_ok-new : goal.keyed-returns-in_ok-new
 keyed-returns-in_ok-new t c = λ s.
     let not = c.in_ok-new.field-0 in
     by_not c.args.span s c.args.key.now (nodes_of c.args.rest.now) c.args.scope.now.names.keys c.requires
-    (sym c.is.ensures ∙ c.if-is.false) (sym c.is-else-is.ensures ∙ c.if-is-2.false) (sym c.is-else-is-2.ensures ∙ c.if-is-3.true)
+    (sym c.is.ensures ∙ c.if-is.false) (sym c.is-else-is.ensures ∙ c.if-is-2.false)
+    (sym c.is-else-is-2.ensures ∙ c.if-is-3.true)
     ∙ seen_as (Not c.args.span) _ _ _ _ (rw c.closing.ensures at c.in_ok-part.ensures)
     (sym (expression_of-not (record { span = c.args.span; kind = exprs.Not not }) not refl
     ∙ ap (λ e. Not c.args.span (expression_of e)) c.in_ok-new.ensures.ok))
@@ -110,7 +116,10 @@ pub keyed-returns-in_ok-called : goal.keyed-returns-in_ok-called
 keyed-returns-in_ok-called t c = λ s.
     let call = c.in_ok-called.field-0 in
     by_call c.args.span s c.args.key.now (nodes_of c.args.rest.now) c.args.scope.now.names.keys c.requires
-    (sym c.is.ensures ∙ c.if-is.false) (sym c.is-else-is.ensures ∙ c.if-is-2.false) (sym c.is-else-is-2.ensures ∙ c.if-is-3.false) (sym c.is-else-is-3.ensures ∙ c.if-is-4.false) (sym c.is-else-is-4.ensures ∙ c.if-is-5.false) (sym c.is-else-is-5.ensures ∙ c.if-is-6.false) (sym c.is-else-is-6.ensures ∙ c.if-is-7.true)
+    (sym c.is.ensures ∙ c.if-is.false) (sym c.is-else-is.ensures ∙ c.if-is-2.false)
+    (sym c.is-else-is-2.ensures ∙ c.if-is-3.false) (sym c.is-else-is-3.ensures ∙ c.if-is-4.false)
+    (sym c.is-else-is-4.ensures ∙ c.if-is-5.false) (sym c.is-else-is-5.ensures ∙ c.if-is-6.false)
+    (sym c.is-else-is-6.ensures ∙ c.if-is-7.true)
     ∙ seen_as (Test c.args.span) _ _ _ _ c.in_ok-called.ensures
     (sym (expression_of-call (record { span = c.args.span; kind = exprs.Call call }) call refl))
 
@@ -120,14 +129,20 @@ keyed-returns-in_err-called t c = λ s.
     let p = err_from_is_err_and c.from_residual-in_err-called.result c.from_residual-in_err-called.ensures.1 in
     rw (p.1, p.2) (refused_same why _ _
     (by_call c.args.span s c.args.key.now (nodes_of c.args.rest.now) c.args.scope.now.names.keys c.requires
-    (sym c.is.ensures ∙ c.if-is.false) (sym c.is-else-is.ensures ∙ c.if-is-2.false) (sym c.is-else-is-2.ensures ∙ c.if-is-3.false) (sym c.is-else-is-3.ensures ∙ c.if-is-4.false) (sym c.is-else-is-4.ensures ∙ c.if-is-5.false) (sym c.is-else-is-5.ensures ∙ c.if-is-6.false) (sym c.is-else-is-6.ensures ∙ c.if-is-7.true))
+    (sym c.is.ensures ∙ c.if-is.false) (sym c.is-else-is.ensures ∙ c.if-is-2.false)
+    (sym c.is-else-is-2.ensures ∙ c.if-is-3.false) (sym c.is-else-is-3.ensures ∙ c.if-is-4.false)
+    (sym c.is-else-is-4.ensures ∙ c.if-is-5.false) (sym c.is-else-is-5.ensures ∙ c.if-is-6.false)
+    (sym c.is-else-is-6.ensures ∙ c.if-is-7.true))
     (refused_next why _ _ c.in_err-called.ensures))
 
 pub keyed-returns-in_ok-named_atom : goal.keyed-returns-in_ok-named_atom
 keyed-returns-in_ok-named_atom t c = λ s.
     let atom = c.in_ok-named_atom.field-0 in
     by_name c.args.span s c.args.key.now (nodes_of c.args.rest.now) c.args.scope.now.names.keys c.requires
-    (sym c.is.ensures ∙ c.if-is.false) (sym c.is-else-is.ensures ∙ c.if-is-2.false) (sym c.is-else-is-2.ensures ∙ c.if-is-3.false) (sym c.is-else-is-3.ensures ∙ c.if-is-4.false) (sym c.is-else-is-4.ensures ∙ c.if-is-5.false) (sym c.is-else-is-5.ensures ∙ c.if-is-6.false) (sym c.is-else-is-6.ensures ∙ c.if-is-7.false) (sym c.is_plain.ensures ∙ c.if-is_plain.true)
+    (sym c.is.ensures ∙ c.if-is.false) (sym c.is-else-is.ensures ∙ c.if-is-2.false)
+    (sym c.is-else-is-2.ensures ∙ c.if-is-3.false) (sym c.is-else-is-3.ensures ∙ c.if-is-4.false)
+    (sym c.is-else-is-4.ensures ∙ c.if-is-5.false) (sym c.is-else-is-5.ensures ∙ c.if-is-6.false)
+    (sym c.is-else-is-6.ensures ∙ c.if-is-7.false) (sym c.is_plain.ensures ∙ c.if-is_plain.true)
     ∙ seen_as (Holds c.args.span) _ _ _ _ c.in_ok-named_atom.ensures
     (sym (expression_of-atom (record { span = c.args.span; kind = exprs.Atom atom }) atom refl))
 
@@ -137,12 +152,20 @@ keyed-returns-in_err-named_atom t c = λ s.
     let p = err_from_is_err_and c.from_residual-in_err-named_atom.result c.from_residual-in_err-named_atom.ensures.1 in
     rw (p.1, p.2) (refused_same why _ _
     (by_name c.args.span s c.args.key.now (nodes_of c.args.rest.now) c.args.scope.now.names.keys c.requires
-    (sym c.is.ensures ∙ c.if-is.false) (sym c.is-else-is.ensures ∙ c.if-is-2.false) (sym c.is-else-is-2.ensures ∙ c.if-is-3.false) (sym c.is-else-is-3.ensures ∙ c.if-is-4.false) (sym c.is-else-is-4.ensures ∙ c.if-is-5.false) (sym c.is-else-is-5.ensures ∙ c.if-is-6.false) (sym c.is-else-is-6.ensures ∙ c.if-is-7.false) (sym c.is_plain.ensures ∙ c.if-is_plain.true))
+    (sym c.is.ensures ∙ c.if-is.false) (sym c.is-else-is.ensures ∙ c.if-is-2.false)
+    (sym c.is-else-is-2.ensures ∙ c.if-is-3.false) (sym c.is-else-is-3.ensures ∙ c.if-is-4.false)
+    (sym c.is-else-is-4.ensures ∙ c.if-is-5.false) (sym c.is-else-is-5.ensures ∙ c.if-is-6.false)
+    (sym c.is-else-is-6.ensures ∙ c.if-is-7.false) (sym c.is_plain.ensures ∙ c.if-is_plain.true))
     (refused_next why _ _ c.in_err-named_atom.ensures))
 
 pub keyed-returns-else-is_plain : goal.keyed-returns-else-is_plain
-keyed-returns-else-is_plain t c = λ s. rw c.expected.ensures (by_no_name c.args.span s c.args.key.now (nodes_of c.args.rest.now) c.args.scope.now.names.keys c.requires
-    (sym c.is.ensures ∙ c.if-is.false) (sym c.is-else-is.ensures ∙ c.if-is-2.false) (sym c.is-else-is-2.ensures ∙ c.if-is-3.false) (sym c.is-else-is-3.ensures ∙ c.if-is-4.false) (sym c.is-else-is-4.ensures ∙ c.if-is-5.false) (sym c.is-else-is-5.ensures ∙ c.if-is-6.false) (sym c.is-else-is-6.ensures ∙ c.if-is-7.false) (sym c.is_plain.ensures ∙ c.if-is_plain.false))
+keyed-returns-else-is_plain t c = λ s.
+    rw c.expected.ensures (by_no_name c.args.span s c.args.key.now (nodes_of c.args.rest.now)
+    c.args.scope.now.names.keys c.requires
+    (sym c.is.ensures ∙ c.if-is.false) (sym c.is-else-is.ensures ∙ c.if-is-2.false)
+    (sym c.is-else-is-2.ensures ∙ c.if-is-3.false) (sym c.is-else-is-3.ensures ∙ c.if-is-4.false)
+    (sym c.is-else-is-4.ensures ∙ c.if-is-5.false) (sym c.is-else-is-5.ensures ∙ c.if-is-6.false)
+    (sym c.is-else-is-6.ensures ∙ c.if-is-7.false) (sym c.is_plain.ensures ∙ c.if-is_plain.false))
 
 -- the first of some nodes is smaller than all of them
 pub one_expression-expression-requires : goal.one_expression-expression-requires

@@ -5,7 +5,7 @@ use Rattle.hp_text.specs.Nodes.{nodes_of}
 use Rattle.hp_terms.proofs.Turns.{prepend}
 use Rattle.hp_forms.proofs.rules.clauses.Given as goal
 
--- what was read so far, and what is read from here on, is what is read of all
+-- the branches so far and those from here on are the branches of all nodes
 abbrev pub invariant-loop-clauses : goal.invariant-loop-clauses
 invariant-loop-clauses l =
     grammar.clauses l.end true (nodes_of l.nodes) l.initial.scope.names.keys

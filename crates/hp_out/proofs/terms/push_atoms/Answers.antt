@@ -12,7 +12,7 @@ push_place-requires g c = λ a e.
     let read : get_or places i None ≡ Some a = get_or_from_slice_get places i c.at.result None c.at.ensures ∙ e in
     atom_below (length c.args.cells.now) places i a c.requires.atoms read
 
--- what stands at the earlier places was put, and what stands at this one couldn't be
+-- the lines of the earlier places were put, and that of this one couldn't be
 pub returns-in_err-push_place-clause-puts : goal.returns-in_err-push_place-clause-puts
 returns-in_err-push_place-clause-puts g c =
     let terms = c.args.cells.now in

@@ -121,7 +121,7 @@ dotted-tail-requires-in-len2-up t c =
     let smaller = item-smaller c.args.nodes.now 0 c.first-item.result some c.first-item.is in
     search rules
 
--- what stands behind the first item of a list is smaller than the list
+-- the items behind the first of a list are smaller than the list
 pub list_tail-items-requires : goal.list_tail-items-requires
 list_tail-items-requires t c =
     let smaller = rest-smaller c.args.nodes.now c.in-len1-up.len_at_least in

@@ -36,7 +36,7 @@ decreases-call l = 2 * forest_size (nodes_of l.nodes.now)
 abbrev pub decreases-terms : goal.decreases-terms
 decreases-terms l = 2 * forest_size (nodes_of l.nodes.now)
 
--- what was added so far, and what is read from here on, is what is read of all
+-- the parts so far and those from here on are the parts of all nodes
 abbrev pub invariant-items-loop-first : goal.invariant-items-loop-first
 invariant-items-loop-first l =
     let items = grammar.items (setting_of l.setting) l.end in

@@ -76,7 +76,7 @@ node-list-requires t c =
       ),
     )
 
--- what else stands there is a name byte
+-- each other kind is that of a name byte
 pub node-word-requires-clause-byte : goal.node-word-requires-clause-byte
 node-word-requires-clause-byte t c =
     let text = c.args.bytes.now in
@@ -153,7 +153,7 @@ nodes-loop-end-preserved t c =
       );
     }
 
--- what others have pending isn't moved
+-- the pending nodes of others aren't moved
 pub nodes-split_off-requires : goal.nodes-split_off-requires
 nodes-split_off-requires t c =
     let gathered = c.loop-end.invariant.gathered in
@@ -162,7 +162,7 @@ nodes-split_off-requires t c =
     let count : c.len-others.result ≡ length c.args.pending.now.items = c.loop-end.invariant.count in
     search rules
 
--- what is moved was read
+-- nodes that are moved were read
 pub nodes-returns-clause-read : goal.nodes-returns-clause-read
 nodes-returns-clause-read t c =
     let gathered = c.loop-end.invariant.gathered in
@@ -177,7 +177,7 @@ nodes-returns-clause-closing t c within =
       | nodes-else-loop-end-test w ↦ absurd (omega arith)
     ]
 
--- what others have pending stays
+-- the pending nodes of others stay
 pub nodes-returns-clause-pending : goal.nodes-returns-clause-pending
 nodes-returns-clause-pending t c =
     let gathered = c.loop-end.invariant.gathered in

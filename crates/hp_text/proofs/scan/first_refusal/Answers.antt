@@ -13,7 +13,7 @@ loop-state-init c =
     scan_begins c.args.bytes.now c.min-end.result c.new-state.result c.new-state.ensures.at
     c.new-state.ensures.brackets
 
--- what a step passes is scanned
+-- the bytes that a step passes are scanned
 pub loop-state-preserved : goal.loop-state-preserved
 loop-state-preserved c = search rules
 
@@ -30,7 +30,7 @@ returns-then-end-bytes-clause-refused c =
     c.refused.ensures ∙ ap (refused TooLarge) (sym here) ∙ sym (refusal_at-limit text i limit within) in
     refused_first text i c.refused.result (omega arith) c.loop-state.invariant.clear same
 
--- what is refused at the end
+-- the refusal at the end
 pub returns-clause-refused : goal.returns-clause-refused
 returns-clause-refused c =
     let text = c.args.bytes.now in

@@ -40,7 +40,7 @@ returns-clause-refused c =
     c.requires.within small short c.requires.clear c.numeral_refusal.ensures in
     told.0
 
--- what it spells isn't refused
+-- its spelling isn't refused
 pub returns-clause-clear : goal.returns-clause-clear
 returns-clause-clear c =
     let small : c.args.to ≤ LARGEST_TEXT = omega arith in

@@ -33,7 +33,7 @@ returns-then-are_digits-clause-some c =
 pub unreachable-requires : goal.unreachable-requires
 unreachable-requires c = c.in-Err.ensures.cases.0 (whole_text c.args.token.now c.requires)
 
--- what the standard library doesn't read is out of range
+-- digits that the standard library doesn't read are out of range
 pub returns-clause-none : goal.returns-clause-none
 returns-clause-none c =
     out_of_range c.args.token.now c.in-Ok.digits.now c.parse.result c.ok.result c.in-Ok.ensures.cases.0 c.requires

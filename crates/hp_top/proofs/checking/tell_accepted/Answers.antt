@@ -6,7 +6,7 @@ use Rattle.hp_top.specs.CheckTexts.{count_lines, notes_text}
 use Rattle.hp_top.proofs.TellingLemmas.{err_after, halts_longer}
 use Rattle.hp_top.proofs.checking.tell_accepted.Goals as goal
 
--- what stops the notes stops them behind the lines of counts
+-- a stop of the notes is one behind the lines of counts
 pub returns-in-Ok-write-clause-err : goal.returns-in-Ok-write-clause-err
 returns-in-Ok-write-clause-err g c =
     let d = domain_of c.args.domain.now in
@@ -17,7 +17,7 @@ returns-in-Ok-write-clause-err g c =
     (rw (c.as_slice.ensures.value, c.in-Ok.ensures) at c.in-Ok-write.ensures.ok) c.write.ensures.later
     (rw c.requires at c.tell_notes.ensures.err)
 
--- what stops the lines of counts stops the text
+-- a stop of the lines of counts is one of the text
 pub returns-clause-err : goal.returns-clause-err
 returns-clause-err g c =
     let d = domain_of c.args.domain.now in

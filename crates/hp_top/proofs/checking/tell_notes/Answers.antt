@@ -4,7 +4,7 @@ use Rattle.hp_top.specs.CheckTexts.{notes_text}
 use Rattle.hp_top.proofs.TellingLemmas.{ok_after, err_after}
 use Rattle.hp_top.proofs.checking.tell_notes.Goals as goal
 
--- what stops the last line stops it behind the notes
+-- a stop of the last line is one behind the notes
 pub returns-in-Ok-clause-err : goal.returns-in-Ok-clause-err
 returns-in-Ok-clause-err g c =
     err_after c.write.result (notes_text (map note_of c.args.notes.now)) (codes "accepted\n")

@@ -15,5 +15,5 @@ pub returns-in-Ok-clause-stops : goal.returns-in-Ok-clause-stops
 returns-in-Ok-clause-stops g c =
     let prefix = c.refusals_are_decided_by_the_prefix.ensures in
     cause_weaker _ _ c.domain_in.result c.domain_in.ensures.refused
-    (λ e h. stops_file prefix.refused prefix.spelled c.limits_are_kept.ensures.needed domain_form inputs.Domain _ _ e _ _
-    c.in-Ok.ensures.bytes h)
+    (λ e h. stops_file prefix.refused prefix.spelled c.limits_are_kept.ensures.needed domain_form inputs.Domain _ _ e _
+    _ c.in-Ok.ensures.bytes h)

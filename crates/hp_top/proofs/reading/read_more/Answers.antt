@@ -7,7 +7,7 @@ use Rattle.hp_top.proofs.reading.read_more.Goals as goal
 pub returns-in-Err-clause-takes : goal.returns-in-Err-clause-takes
 returns-in-Err-clause-takes g c = none_taken c.args.room _ _ c.in-Err.ensures.err
 
--- what was read was taken
+-- bytes that were read were taken
 pub returns-in-Ok-extend_from_slice-clause-takes : goal.returns-in-Ok-extend_from_slice-clause-takes
 returns-in-Ok-extend_from_slice-clause-takes g c =
     let few : c.in-Ok.count ≤ c.args.room = grind (arith, common_steps) in

@@ -3,7 +3,7 @@ use Rattle.hp_syntax.specs.Written as written
 use Rattle.hp_top.proofs.TellingLemmas.{err_after}
 use Rattle.hp_top.proofs.showing.show.Goals as goal
 
--- what stops the problem's text stops it behind the domain's
+-- a stop of the problem's text is one behind the domain's
 pub returns-in-Ok-clause-err : goal.returns-in-Ok-clause-err
 returns-in-Ok-clause-err g c =
     err_after c.show_problem.result (written.domain_text (domain_of c.args.domain.now))

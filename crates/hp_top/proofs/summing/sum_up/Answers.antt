@@ -3,7 +3,7 @@ use Rattle.hp_top.specs.Making.{made_lines}
 use Rattle.hp_top.proofs.TellingLemmas.{err_after}
 use Rattle.hp_top.proofs.summing.sum_up.Goals as goal
 
--- what stops the telling of the walk stops it behind what was made
+-- a stop of the walk's telling is one behind the lines of the made problem
 pub returns-in-Ok-clause-err : goal.returns-in-Ok-clause-err
 returns-in-Ok-clause-err g c =
     err_after c.tell.result (made_lines c.args.seed c.args.packages (problem_of c.args.problem.now)) _ _ _ _ _ _ _

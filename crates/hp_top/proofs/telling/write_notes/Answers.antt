@@ -6,7 +6,7 @@ use Rattle.hp_top.specs.Telling.{Halts}
 use Rattle.hp_top.proofs.NoteSteps.{halts_within, wrote_within}
 use Rattle.hp_top.proofs.telling.write_notes.Goals as goal
 
--- what stops a note, behind those before it, stops all
+-- a stop of a note, behind those before it, is one of all
 pub returns-in-Err-clause-err : goal.returns-in-Err-clause-err
 returns-in-Err-clause-err g c =
     let run =

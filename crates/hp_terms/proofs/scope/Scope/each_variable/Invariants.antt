@@ -5,7 +5,7 @@ use Rattle.hp_text.specs.Nodes.{nodes_of}
 use Rattle.hp_terms.proofs.Turns.{prepend, from_here}
 use Rattle.hp_terms.proofs.scope.Scope.each_variable.Given as goal
 
--- what was read so far, and what is read from here on, is what is read of all
+-- the items so far and those from here on are the items of all nodes
 abbrev pub invariant-loop-node : goal.invariant-loop-node
 invariant-loop-node l =
     steps.each grammar.variable (nodes_of l.nodes) l.initial.self.names.keys
