@@ -1,13 +1,11 @@
 -- Lowered rules are numbered where the rules are, and the checks find in them what they find in the rules.
-use Rattle.std.proofs.Common.{◌≡◌, ℕ, ◌+◌, List, [], ◌∷◌, ◌++◌, map, length, refl, ap, sym, ◌∙◌}
+use Rattle.std.proofs.Common.{◌≡◌, ℕ, ◌+◌, ◌<◌, List, [], ◌∷◌, ◌++◌, map, length, refl, ap, ap₂, sym, ◌∙◌}
 use Rattle.std.specs.List.{All, flat_map}
-use Rattle.std.specs.Prelude.{cond}
 use Rattle.std.proofs.lemmas.Grind.{flat_map-append}
 use Rattle.std.proofs.lemmas.List.{append_assoc}
-use Rattle.std.proofs.lemmas.List.Elements.{All-append}
+use Rattle.std.proofs.lemmas.List.Elements.{All-append, All-cons, All-head, All-nil, All-tail}
 use Rattle.hp_syntax.specs.declared.check.CheckFault.{CheckFault}
 use Rattle.hp_syntax.specs.Syntax.{Expression, Expressions, Holds, And, Or, Not, Forall, Assign, Test, NoExpression, Also, Precondition, Plain, First, Sorted, Effect, Change, Protection, Each, Operator, Branch, Method, Clause, Axiom, Rule, Does, Refines, Concludes}
-use Rattle.hp_syntax.specs.Checks as checks
 use Rattle.hp_syntax.specs.Checks.{InHead, InBody, expression_faults, expressions_faults, precondition_faults, effect_faults, branch_faults, clause_faults, rule_faults, level_faults, atom_faults, atoms_faults, vars_faults, order_faults, pattern_faults, tasks_faults}
 use Rattle.hp_syntax.specs.Numbered.{ExpressionBelow, ExpressionsBelow, PreconditionBelow, EffectBelow, BranchBelow, ClauseBelow, IsNumberedOperator, IsNumberedMethod, IsNumberedAxiom, IsNumberedRule}
 use Rattle.hp_code.specs.Lowered.{lowered, all_lowered, lowered_precondition, lowered_effect, if_idle, idle_prefix, unless_idle, behind_idle, lowered_operator, lowered_branch, lowered_clause, lowered_rule, lowered_rules}
@@ -65,23 +63,23 @@ all_checked f g h [] = refl
 all_checked f g h (x ∷ xs) =
     ap (λ fs. fs ++ flat_map f (map g xs)) (h x) ∙ ap (λ fs. f x ++ fs) (all_checked f g h xs)
 
--- the effects of a lowered operator have the faults of the operator's, before others
-effects_checked : (dels adds : List Effect) (fs : List CheckFault)
-    → flat_map effect_faults (map lowered_effect (dels ++ idle_prefix adds))
-    ++ (flat_map effect_faults (map lowered_effect (behind_idle adds)) ++ fs)
-    ≡ flat_map effect_faults dels ++ (flat_map effect_faults adds ++ fs)
-effects_checked dels adds fs =
+-- the effects of a lowered operator have the faults of the operator's, behind others
+effects_checked : (fs : List CheckFault) (dels adds : List Effect)
+    → fs ++ flat_map effect_faults (map lowered_effect (dels ++ idle_prefix adds))
+    ++ flat_map effect_faults (map lowered_effect (behind_idle adds))
+    ≡ fs ++ flat_map effect_faults dels ++ flat_map effect_faults adds
+effects_checked fs dels adds =
     let of = flat_map effect_faults in
-    ap (λ gs. gs ++ (of (map lowered_effect (behind_idle adds)) ++ fs))
+    ap₂ (λ xs ys. fs ++ xs ++ ys)
     (all_checked effect_faults lowered_effect effect_checked (dels ++ idle_prefix adds)
     ∙ flat_map-append effect_faults dels (idle_prefix adds))
-    ∙ ap (λ gs. (of dels ++ of (idle_prefix adds)) ++ (gs ++ fs))
     (all_checked effect_faults lowered_effect effect_checked (behind_idle adds))
-    ∙ append_assoc (of dels) (of (idle_prefix adds)) (of (behind_idle adds) ++ fs)
-    ∙ ap (λ gs. of dels ++ gs)
-    (sym (append_assoc (of (idle_prefix adds)) (of (behind_idle adds)) fs)
-    ∙ ap (λ gs. gs ++ fs)
+    ∙ append_assoc fs (of dels ++ of (idle_prefix adds)) (of (behind_idle adds))
+    ∙ ap (λ xs. fs ++ xs)
+    (append_assoc (of dels) (of (idle_prefix adds)) (of (behind_idle adds))
+    ∙ ap (λ xs. of dels ++ xs)
     (sym (flat_map-append effect_faults (idle_prefix adds) (behind_idle adds)) ∙ ap of (idle_and_behind adds)))
+    ∙ sym (append_assoc fs (of dels) (of adds))
 
 -- a branch of a lowered method has the faults of the branch
 branch_checked : (b : Branch) → branch_faults (lowered_branch b) ≡ branch_faults b
@@ -94,17 +92,17 @@ clause_checked c = expression_checked 1 c.body
 -- a lowered rule has the faults of the rule
 rule_checked : (r : Rule) → rule_faults (lowered_rule r) ≡ rule_faults r
 rule_checked (Does o) =
-    ap (λ fs. vars_faults o.vars o.span ++ (atom_faults InHead o.head ++ (fs
-    ++ (flat_map effect_faults (map lowered_effect (o.dels ++ idle_prefix o.adds))
-    ++ (flat_map effect_faults (map lowered_effect (behind_idle o.adds)) ++ pattern_faults InBody o.cost)))))
-    (precondition_checked o.pre)
-    ∙ ap (λ fs. vars_faults o.vars o.span ++ (atom_faults InHead o.head ++ (precondition_faults o.pre ++ fs)))
-    (effects_checked o.dels o.adds (pattern_faults InBody o.cost))
+    ap (λ fs. fs ++ pattern_faults InBody o.cost)
+    (effects_checked
+    (vars_faults o.vars o.span ++ atom_faults InHead o.head ++ precondition_faults (lowered_precondition o.pre))
+    o.dels o.adds
+    ∙ ap (λ fs. vars_faults o.vars o.span ++ atom_faults InHead o.head ++ fs ++ flat_map effect_faults o.dels
+    ++ flat_map effect_faults o.adds) (precondition_checked o.pre))
 rule_checked (Refines m) =
-    ap (λ fs. vars_faults m.vars m.span ++ (atom_faults InHead m.head ++ fs))
+    ap (λ fs. vars_faults m.vars m.span ++ atom_faults InHead m.head ++ fs)
     (all_checked branch_faults lowered_branch branch_checked m.branches)
 rule_checked (Concludes x) =
-    ap (λ fs. vars_faults x.vars x.span ++ (atom_faults InHead x.head ++ fs))
+    ap (λ fs. vars_faults x.vars x.span ++ atom_faults InHead x.head ++ fs)
     (all_checked clause_faults lowered_clause clause_checked x.clauses)
 
 -- lowered rules have the faults of the rules
@@ -123,7 +121,8 @@ module _ (n : ℕ) where
     expression_numbered (And s ps) h = expressions_numbered ps h
     expression_numbered (Or s ps) h = expressions_numbered ps h
     expression_numbered (Not s p) h = expression_numbered p h
-    expression_numbered (Forall s vs y z) h = (tt, expression_numbered y h.1.0, expression_numbered z h.1.1)
+    expression_numbered (Forall s vs y z) h =
+        (All-nil (λ v. v < n), expression_numbered y h.1, expression_numbered z h.2)
     expression_numbered (Assign s v p) h = h
     expression_numbered (Test s p) h = h
 
@@ -142,29 +141,32 @@ module _ (n : ℕ) where
   effect_numbered : (x : Effect) → EffectBelow n x → EffectBelow n (lowered_effect x)
   effect_numbered (Change a) h = h
   effect_numbered (Protection a) h = h
-  effect_numbered (Each vs e as') h = (tt, expression_numbered e h.1.0, h.1.1)
+  effect_numbered (Each vs e as') h = (All-nil (λ v. v < n), expression_numbered e h.1, h.2)
 
 -- what holds of each part holds of all parts
 all_numbered : {A : Type 0} (P : A → Type 0) (g : A → A) → ((x : A) → P x → P (g x)) → (xs : List A)
     → All P xs → All P (map g xs)
-all_numbered P g h [] a = tt
-all_numbered P g h (x ∷ xs) a = (h x a.0, all_numbered P g h xs a.1)
+all_numbered P g h [] a = All-nil P
+all_numbered P g h (x ∷ xs) a =
+    All-cons P (g x) (map g xs) (h x (All-head P x xs a)) (all_numbered P g h xs (All-tail P x xs a))
 
 module _ (P : Effect → Type 0) where
   -- what holds of all effects holds of their idle prefix
   idle_holds : (xs : List Effect) → All P xs → All P (idle_prefix xs)
-  idle_holds [] a = tt
-  idle_holds (Change x ∷ xs) a = tt
-  idle_holds (Protection x ∷ xs) a = tt
-  idle_holds (Each vs e [] ∷ xs) a = (a.0, idle_holds xs a.1)
-  idle_holds (Each vs e (x ∷ as') ∷ xs) a = tt
+  idle_holds [] a = a
+  idle_holds (Change x ∷ xs) a = All-nil P
+  idle_holds (Protection x ∷ xs) a = All-nil P
+  idle_holds (Each vs e [] ∷ xs) a =
+      All-cons P (Each vs e []) (idle_prefix xs) (All-head P (Each vs e []) xs a)
+      (idle_holds xs (All-tail P (Each vs e []) xs a))
+  idle_holds (Each vs e (x ∷ as') ∷ xs) a = All-nil P
 
   -- and of those behind it
   behind_holds : (xs : List Effect) → All P xs → All P (behind_idle xs)
-  behind_holds [] a = tt
+  behind_holds [] a = a
   behind_holds (Change x ∷ xs) a = a
   behind_holds (Protection x ∷ xs) a = a
-  behind_holds (Each vs e [] ∷ xs) a = behind_holds xs a.1
+  behind_holds (Each vs e [] ∷ xs) a = behind_holds xs (All-tail P (Each vs e []) xs a)
   behind_holds (Each vs e (x ∷ as') ∷ xs) a = a
 
 -- a lowered rule is numbered where the rule is

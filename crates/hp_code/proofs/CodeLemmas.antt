@@ -2,7 +2,9 @@
 use Rattle.std.proofs.Common.{◌≡◌, ℕ, suc, ◌+◌, ◌<◌, ◌≤◌, ◌==◌, Bool, true, false, cond, List, [], ◌∷◌, ◌++◌, map, length, Option, Some, None, refl, ap, ap₂, sym, ◌∙◌, arith}
 use Rattle.std.specs.Prelude.{filter, flat_map}
 use Rattle.std.specs.List.{All}
-use Rattle.hp_syntax.specs.Syntax.{Rule, Does, Refines, Concludes}
+use Rattle.std.proofs.lemmas.Bool.{eq-eqb, ne_eqb}
+use Rattle.std.proofs.lemmas.List.Elements.{All-cons, All-head, All-nil, All-tail}
+use Rattle.hp_syntax.specs.Syntax.{Axiom, Rule, Does, Refines, Concludes}
 use Rattle.hp_syntax.specs.Numbered.{IsNumberedRule}
 use Rattle.hp_syntax.specs.Checks.{first_of, rule_faults}
 use Rattle.hp_laws.specs.RulesByName.{is_name, axiom_head, relevant, concluding}
@@ -12,9 +14,10 @@ use Rattle.hp_tables.specs.Tables.{name_as, places_of}
 use Rattle.hp_code.specs.CodeViews.{CodeView, IsCodeOf, IsCode, beside, or_empty, rule_nodes, rules_of, vars_at}
 use Rattle.hp_code.specs.Compiled.{rule_trees, vars_of}
 use Rattle.hp_code.specs.Lowered.{lowered_rule, lowered_rules}
-use Rattle.hp_code.specs.Sources.{made_of, rule_read, rules_read, Body, branches_read, clauses_read, body_read, precondition_read}
-use Rattle.hp_code.specs.Trees.{Tree, Trees, Node, NoTree, More, OperatorOf, MethodOf, AxiomOf, size, roots, trees, all_laid}
+use Rattle.hp_code.specs.Sources.{made_of, rule_read, rules_read}
+use Rattle.hp_code.specs.Trees.{Tree, Trees, Node, NoTree, More, size, roots, trees, all_laid}
 use Rattle.hp_code.proofs.CheckedLemmas.{rules_checked, rules_numbered}
+use Rattle.hp_code.proofs.NodeLemmas.{positive}
 use Rattle.hp_code.proofs.SourceLemmas.{rules_back}
 use Rattle.hp_code.proofs.TreeLemmas.{laid_back}
 
@@ -39,6 +42,13 @@ places_lowered kind name (i ∷ is) (r ∷ rs) =
     (places_of kind name is (lowered_rules rs))) (name_lowered kind r)
     ∙ ap (λ js. cond (is_name name (name_as kind r)) (i ∷ js) js) (places_lowered kind name is rs)
 
+-- lowered rules have the variables of the rules
+vars_lowered : (rs : List Rule) → map vars_of (lowered_rules rs) ≡ map vars_of rs
+vars_lowered [] = refl
+vars_lowered (Does o ∷ rs) = ap (λ xs. o.vars ∷ xs) (vars_lowered rs)
+vars_lowered (Refines m ∷ rs) = ap (λ xs. m.vars ∷ xs) (vars_lowered rs)
+vars_lowered (Concludes x ∷ rs) = ap (λ xs. x.vars ∷ xs) (vars_lowered rs)
+
 module _ (rules : List Rule) (c : CodeView) (of : IsCodeOf rules c) where
   -- the nodes of a code of rules read back as the trees of the rules
   code_trees : trees 0 c.nodes ≡ rule_trees rules
@@ -53,6 +63,7 @@ module _ (rules : List Rule) (c : CodeView) (of : IsCodeOf rules c) where
   code_keeps numbered faultless = record {
     rules = lowered_rules rules;
     read = code_reads;
+    vars = of.vars ∙ sym (vars_lowered rules);
     laid = of.nodes ∙ ap (all_laid 0) (sym code_trees);
     numbered = rules_numbered rules numbered;
     faultless = ap first_of (rules_checked rules) ∙ faultless;
@@ -78,11 +89,6 @@ ascend_lower : (j k : ℕ) (ns : List ℕ) → j ≤ k → AscendFrom k ns → A
 ascend_lower j k [] l a = tt
 ascend_lower j k (n ∷ ns) l a = (omega (arith, l, a.0), a.1)
 
--- a tree has a node
-positive : (t : Tree) → 1 ≤ size t
-unfolding size
-positive (Node op s ts) = omega arith
-
 -- the indices of the first nodes of trees ascend
 pub roots_ascend : (i : ℕ) (ts : Trees) → AscendFrom i (roots i ts)
 roots_ascend i NoTree = tt
@@ -90,55 +96,64 @@ roots_ascend i (More t ts) =
     let more : suc i ≤ i + size t = omega (arith, positive t) in
     (omega arith, ascend_lower (suc i) (i + size t) (roots (i + size t) ts) more (roots_ascend (i + size t) ts))
 
+-- numbers that are all above one are all at least each smaller one
+all_lower : (j k : ℕ) → j ≤ k → (ms : List ℕ) → All (λ i. k ≤ i) ms → All (λ i. j ≤ i) ms
+all_lower j k l [] h = All-nil (λ i. j ≤ i)
+all_lower j k l (m ∷ ms) h =
+    All-cons (λ i. j ≤ i) m ms (omega (arith, l, All-head (λ i. k ≤ i) m ms h))
+    (all_lower j k l ms (All-tail (λ i. k ≤ i) m ms h))
+
 -- all numbers that ascend from one are at least that
 ascend_above : (k : ℕ) (ns : List ℕ) → AscendFrom k ns → All (λ i. k ≤ i) ns
-ascend_above k [] a = tt
-ascend_above k (n ∷ ns) a = (a.0, later ns (ascend_above (suc n) ns a.1))
-  where
-    later : (ms : List ℕ) → All (λ i. suc n ≤ i) ms → All (λ i. k ≤ i) ms
-    later [] h = tt
-    later (m ∷ ms) h = (omega (arith, h.0, a.0), later ms h.1)
+ascend_above k [] a = All-nil (λ i. k ≤ i)
+ascend_above k (n ∷ ns) a =
+    All-cons (λ i. k ≤ i) n ns a.0
+    (all_lower k (suc n) (omega (arith, a.0)) ns (ascend_above (suc n) ns a.1))
 
--- what is true of all places is true of those under a name
+-- a fact of an element and others is one of both, and of the others alone
+either_holds : {A : Type 0} (P : A → Type 0) (b : Bool) (x : A) (xs : List A) → P x → All P xs
+    → All P (cond b (x ∷ xs) xs)
+either_holds P true x xs h a = All-cons P x xs h a
+either_holds P false x xs h a = a
+
+-- a fact of all places is one of those under a name
 places_all : (P : ℕ → Type 0) (kind : Kind) (name : List ℕ) (is : List ℕ) (rs : List Rule) → All P is
     → All P (places_of kind name is rs)
-places_all P kind name [] rs a = tt
-places_all P kind name (i ∷ is) [] a = tt
+places_all P kind name [] rs a = a
+places_all P kind name (i ∷ is) [] a = All-nil P
 places_all P kind name (i ∷ is) (r ∷ rs) a =
-    either (is_name name (name_as kind r)) (places_all P kind name is rs a.1)
-  where
-    either : (b : Bool) → All P (places_of kind name is rs)
-        → All P (cond b (i ∷ places_of kind name is rs) (places_of kind name is rs))
-    either true h = (a.0, h)
-    either false h = h
-
--- equal numbers are found equal
-same_index : (n : ℕ) → (n == n) ≡ true
-same_index n = cc
+    either_holds P (is_name name (name_as kind r)) i (places_of kind name is rs) (All-head P i is a)
+    (places_all P kind name is rs (All-tail P i is a))
 
 module _ {A : Type 0} (n : ℕ) (ns : List ℕ) (x : A) (xs : List A) where
   -- beside the first of places stands the first of the things
   beside_first : beside n (n ∷ ns) (x ∷ xs) ≡ Some x
-  beside_first = ap (λ b. cond b (Some x) (beside n ns xs)) (same_index n)
+  beside_first = ap (λ b. cond b (Some x) (beside n ns xs)) (eq-eqb n n refl)
 
   -- and beside a greater one what stands beside it among the others
   beside_later : (i : ℕ) → suc n ≤ i → beside i (n ∷ ns) (x ∷ xs) ≡ beside i ns xs
-  beside_later i l = ap (λ b. cond b (Some x) (beside i ns xs)) differs
-    where
-      differs : (n == i) ≡ false
-      differs = cc
+  beside_later i l = ap (λ b. cond b (Some x) (beside i ns xs)) (ne_eqb n i (λ e. absurd (omega (arith, l, e))))
 
   -- so it does at many
   all_later : (is : List ℕ) → All (λ i. suc n ≤ i) is
       → map (λ i. beside i (n ∷ ns) (x ∷ xs)) is ≡ map (λ i. beside i ns xs) is
   all_later [] a = refl
-  all_later (i ∷ is) a = ap₂ ◌∷◌ (beside_later i a.0) (all_later is a.1)
+  all_later (i ∷ is) a =
+      ap₂ ◌∷◌ (beside_later i (All-head (λ i. suc n ≤ i) i is a))
+      (all_later is (All-tail (λ i. suc n ≤ i) i is a))
 
 -- ---- finding rules
 
 -- as many places as rules
 abbrev AreAsMany : List ℕ → List Rule → Type 0
 AreAsMany is rs = length is ≡ length rs
+
+-- a rule and others, or the others alone, are found at its place and theirs, or at theirs alone
+found_either : (b : Bool) (i : ℕ) (is : List ℕ) (r : Rule) (rs : List Rule) (places : List ℕ) (own : List Rule)
+    → map (λ j. beside j (i ∷ is) (r ∷ rs)) places ≡ map Some own
+    → map (λ j. beside j (i ∷ is) (r ∷ rs)) (cond b (i ∷ places) places) ≡ map Some (cond b (r ∷ own) own)
+found_either true i is r rs places own later = ap₂ ◌∷◌ (beside_first i is r rs) later
+found_either false i is r rs places own later = later
 
 -- at the places under a name, where places ascend, stand the rules that have it
 found : (kind : Kind) (name : List ℕ) (k : ℕ) (is : List ℕ) (rs : List Rule) → AscendFrom k is → AreAsMany is rs
@@ -148,21 +163,10 @@ found kind name k [] [] a m = refl
 found kind name k [] (r ∷ rs) a m = absurd (omega (arith, m))
 found kind name k (i ∷ is) [] a m = refl
 found kind name k (i ∷ is) (r ∷ rs) a m =
-    either (is_name name (name_as kind r))
-  where
-    places : List ℕ
-    places = places_of kind name is rs
-
-    later : map (λ j. beside j (i ∷ is) (r ∷ rs)) places ≡ map Some (filter (λ q. is_name name (name_as kind q)) rs)
-    later =
-        all_later i is r rs places (places_all (λ j. suc i ≤ j) kind name is rs (ascend_above (suc i) is a.1))
-        ∙ found kind name (suc i) is rs a.1 (omega (arith, m))
-
-    either : (b : Bool) → map (λ j. beside j (i ∷ is) (r ∷ rs)) (cond b (i ∷ places) places)
-        ≡ map Some (cond b (r ∷ filter (λ q. is_name name (name_as kind q)) rs)
-        (filter (λ q. is_name name (name_as kind q)) rs))
-    either true = ap₂ ◌∷◌ (beside_first i is r rs) later
-    either false = later
+    let places = places_of kind name is rs in
+    found_either (is_name name (name_as kind r)) i is r rs places (filter (λ q. is_name name (name_as kind q)) rs)
+    (all_later i is r rs places (places_all (λ j. suc i ≤ j) kind name is rs (ascend_above (suc i) is a.1))
+    ∙ found kind name (suc i) is rs a.1 (omega (arith, m)))
 
 -- ---- what is read
 
@@ -191,19 +195,21 @@ read_many i (vars ∷ all) (More t ts) rules e =
     let m = made (λ r rs. r ∷ rs) (rule_read vars t) (rules_read all ts) rules e in
     ap suc (read_many (i + size t) all ts m.second m.is_second) ∙ sym (ap length m.is)
 
+-- an axiom and others, or the others alone
+concludes_either : (b : Bool) (x : Axiom) (own : List Rule) (others : List Axiom) → own ≡ map Concludes others
+    → cond b (Concludes x ∷ own) own ≡ map Concludes (cond b (x ∷ others) others)
+concludes_either true x own others e = ap (λ ys. Concludes x ∷ ys) e
+concludes_either false x own others e = e
+
 -- filtering for axioms gives those that conclude a name
 axioms_filtered : (name : List ℕ) (rs : List Rule)
     → filter (λ r. is_name name (axiom_head r)) rs ≡ map Concludes (concluding name rs)
 axioms_filtered name [] = refl
 axioms_filtered name (Does o ∷ rs) = axioms_filtered name rs
 axioms_filtered name (Refines m ∷ rs) = axioms_filtered name rs
-axioms_filtered name (Concludes x ∷ rs) = either (is_name name (axiom_head (Concludes x)))
-  where
-    either : (b : Bool) → cond b (Concludes x ∷ filter (λ r. is_name name (axiom_head r)) rs)
-        (filter (λ r. is_name name (axiom_head r)) rs)
-        ≡ map Concludes (cond b (x ∷ concluding name rs) (concluding name rs))
-    either true = ap (λ ys. Concludes x ∷ ys) (axioms_filtered name rs)
-    either false = axioms_filtered name rs
+axioms_filtered name (Concludes x ∷ rs) =
+    concludes_either (is_name name (axiom_head (Concludes x))) x (filter (λ r. is_name name (axiom_head r)) rs)
+    (concluding name rs) (axioms_filtered name rs)
 
 module _ (c : CodeView) (is : IsCode c) (name : List ℕ) where
   -- at the nodes that a code has for a name stand the rules that are relevant to tasks of that name
@@ -225,31 +231,21 @@ module _ (c : CodeView) (is : IsCode c) (name : List ℕ) where
 
 -- ---- names of variables
 
--- a rule that is read has the names that it was read with
-read_vars : (vars : List (List ℕ)) (t : Tree) (r : Rule) → rule_read vars t ≡ Some r → vars_of r ≡ vars
-read_vars vars t r e = cc
-
-module _ (i : ℕ) (r : Rule) where
-  -- beside the node of a rule stand the names of its variables
-  vars_beside : (k : ℕ) (all : List (List (List ℕ))) (ts : Trees) (rules : List Rule) → rules_read all ts ≡ Some rules
-      → beside i (roots k ts) rules ≡ Some r → beside i (roots k ts) all ≡ Some (vars_of r)
-  vars_beside k [] NoTree rules e h = absurd cc
-  vars_beside k [] (More t ts) rules e h = absurd cc
-  vars_beside k (vars ∷ all) NoTree rules e h = absurd cc
-  vars_beside k (vars ∷ all) (More t ts) rules e h =
-      let m = made (λ q qs. q ∷ qs) (rule_read vars t) (rules_read all ts) rules e in
-      here (k == i) m.first (read_vars vars t m.first m.is_first) m.second
-      (vars_beside (k + size t) all ts m.second m.is_second)
-      (sym (ap (beside i (k ∷ roots (k + size t) ts)) m.is) ∙ h)
-    where
-      here : (b : Bool) (q : Rule) → vars_of q ≡ vars → (qs : List Rule)
-          → (beside i (roots (k + size t) ts) qs ≡ Some r → beside i (roots (k + size t) ts) all ≡ Some (vars_of r))
-          → cond b (Some q) (beside i (roots (k + size t) ts) qs) ≡ Some r
-          → cond b (Some vars) (beside i (roots (k + size t) ts) all) ≡ Some (vars_of r)
-      here true q v qs later g = cc
-      here false q v qs later g = later g
+-- beside the place of a thing stands what is made of it
+beside_mapped : {A B : Type 0} (f : A → B) (i : ℕ) (is : List ℕ) (xs : List A) (x : A) → beside i is xs ≡ Some x
+    → beside i is (map f xs) ≡ Some (f x)
+beside_mapped f i [] xs x e = absurd cc
+beside_mapped f i (n ∷ ns) [] x e = absurd cc
+beside_mapped f i (n ∷ ns) (y ∷ xs) x e = either (n == i) (beside_mapped f i ns xs x) e
+  where
+    either : (b : Bool) → (beside i ns xs ≡ Some x → beside i ns (map f xs) ≡ Some (f x))
+        → cond b (Some y) (beside i ns xs) ≡ Some x → cond b (Some (f y)) (beside i ns (map f xs)) ≡ Some (f x)
+    either true later g = cc
+    either false later g = later g
 
 -- the names at the node of a rule are those of the rule's variables
 pub vars_found : (c : CodeView) (is : IsCode c) (i : ℕ) (r : Rule) → beside i (rule_nodes c) is.rules ≡ Some r
     → vars_at c i ≡ vars_of r
-vars_found c is i r e = ap or_empty (vars_beside i r 0 c.vars (trees 0 c.nodes) is.rules is.read e)
+vars_found c is i r e =
+    ap (λ all. or_empty (beside i (rule_nodes c) all)) is.vars
+    ∙ ap or_empty (beside_mapped vars_of i (rule_nodes c) is.rules r e)

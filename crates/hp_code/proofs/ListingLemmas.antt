@@ -27,9 +27,9 @@ unfolding listing_text
 listing_same rules c is =
     let names : vars_at c ≡ vars_at (compiled rules) =
         ap₂ (λ ns vs. λ i. or_empty (beside i (roots 0 (trees 0 ns)) vs)) is.nodes is.vars in
-    ap₂ ◌++◌ (ap₂ (λ names ns. node_lines names 0 [] ns) names is.nodes)
-    (ap₂ ◌++◌
+    ap₂ ◌++◌
+    (ap₂ ◌++◌ (ap₂ (λ names ns. node_lines names 0 [] ns) names is.nodes)
     (names_same Task c.task_rules (compiled rules).task_rules is.task_rules 0 c.nodes
-    ∙ ap (name_lines Task (compiled rules).task_rules 0) is.nodes)
+    ∙ ap (name_lines Task (compiled rules).task_rules 0) is.nodes))
     (names_same Axiom c.axiom_rules (compiled rules).axiom_rules is.axiom_rules 0 c.nodes
-    ∙ ap (name_lines Axiom (compiled rules).axiom_rules 0) is.nodes))
+    ∙ ap (name_lines Axiom (compiled rules).axiom_rules 0) is.nodes)

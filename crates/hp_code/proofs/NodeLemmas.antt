@@ -1,8 +1,8 @@
 -- What each node of trees that are laid down reads back as, by what is below it.
 use Rattle.std.proofs.Common.{◌≡◌, ℕ, zero, suc, ◌+◌, ◌-◌, ◌<◌, ◌≤◌, List, [], ◌∷◌, ◌++◌, length, drop, slice_get, Option, Some, None, inl, inr, refl, ap, sym, ◌∙◌, arith}
-use Rattle.std.proofs.lemmas.List.{append_assoc, append-nil, length-append}
+use Rattle.std.proofs.lemmas.List.{append_assoc, append-nil, drop-drop, length-append}
 use Rattle.std.proofs.lemmas.Option.{slice_get_cases, slice_get_within}
-use Rattle.std.proofs.Math.Seq.{drop-append-add}
+use Rattle.std.proofs.Math.Seq.{drop-append-add, drop-append_seam}
 use Rattle.hp_code.specs.Trees.{Laid, Tree, Trees, Node, NoTree, More, size, sizes, laid, all_laid, within, behind, trees, first_tree, tree_at, trees_between}
 use Rattle.hp_code.proofs.TreeLemmas.{tree_back, within_more}
 
@@ -20,16 +20,17 @@ pub node_there : (nodes : List Laid) (i : ℕ) (n : Laid) → slice_get nodes i 
 unfolding trees
 node_there nodes i n e = ap (λ ns. first_tree (trees i ns)) (drop_there nodes i n e)
 
+-- as far as no node goes there is no tree
+within_none : (ts : Trees) → within zero ts ≡ NoTree
+unfolding within
+within_none NoTree = refl
+within_none (More t ts) = refl
+
 -- between an index and itself is none
 pub none_between : (nodes : List Laid) (i : ℕ) → trees_between nodes i i ≡ NoTree
 none_between nodes i =
     let e : i - i ≡ zero = omega arith in
-    ap (λ n. within n (trees i (drop i nodes))) e ∙ nothing (trees i (drop i nodes))
-  where
-    nothing : (ts : Trees) → within zero ts ≡ NoTree
-    unfolding within
-    nothing NoTree = refl
-    nothing (More t ts) = refl
+    ap (λ n. within n (trees i (drop i nodes))) e ∙ within_none (trees i (drop i nodes))
 
 -- ---- trees that are laid down
 
@@ -71,7 +72,7 @@ mutual
       trees_begin (suc k) i m ts ns (omega arith) (omega arith)
 
   -- so it does from each node of trees
-  pub trees_begin : (k i m : ℕ) (ts : Trees) (ns : List Laid) → i ≡ k + m → m < sizes ts
+  trees_begin : (k i m : ℕ) (ts : Trees) (ns : List Laid) → i ≡ k + m → m < sizes ts
       → BeginsTree i (drop m (all_laid k ts ++ ns))
   trees_begin k i m NoTree ns e l = absurd (omega arith)
   trees_begin k i m (More t ts) ns e l =
@@ -81,7 +82,7 @@ mutual
       begins_alike i (drop m ((laid k t ++ all_laid (k + size t) ts) ++ ns)) (drop m (laid k t ++ later))
       (ap (drop m) whole)
       (elim ((slice_get_cases (laid k t) m).1) [
-        | inl w ↦ tree_begins k i m t later e (omega (arith, w.1.0, long))
+        | inl w ↦ tree_begins k i m t later e (omega (arith, w.1, long))
         | inr w ↦
             let n = m - length (laid k t) in
             let past : m ≡ length (laid k t) + n = omega (arith, w.0) in
@@ -109,6 +110,14 @@ first_ends i (Node op s ts) n ms ns e =
     let ends : i + suc (sizes ts) ≡ suc i + sizes ts = omega arith in
     ends ∙ sym (ap (λ l. l.to) same)
 
+-- where nodes from an index on begin with a tree, those behind it stand from where it ends on
+behind_tree : (nodes : List Laid) (i to : ℕ) (t : Tree) (rest : List Laid) → drop i nodes ≡ laid i t ++ rest
+    → i + size t ≡ to → drop to nodes ≡ rest
+behind_tree nodes i to t rest e ends =
+    let far : to ≡ i + length (laid i t) = omega (arith, ends, length-laid i t) in
+    ap (λ j. drop j nodes) far ∙ sym (drop-drop (length (laid i t)) i nodes)
+    ∙ ap (drop (length (laid i t))) e ∙ drop-append_seam (laid i t) rest
+
 -- each node of trees that are laid down reads back before what stands where the nodes below it end
 reads_from : (ts : Trees) (nodes : List Laid) → nodes ≡ all_laid 0 ts → (i : ℕ) (n : Laid)
     → slice_get nodes i ≡ Some n → ReadsFrom nodes i n.to
@@ -128,26 +137,15 @@ reads_from ts nodes laid_down i n e =
           ∙ ap (λ j. More b.tree (trees j b.rest)) ends
           ∙ ap (λ ns. More b.tree (trees n.to ns)) (sym rest);
     }
-  where
-    behind_tree : (nodes : List Laid) (i to : ℕ) (t : Tree) (rest : List Laid) → drop i nodes ≡ laid i t ++ rest
-        → i + size t ≡ to → drop to nodes ≡ rest
-    behind_tree nodes i to t rest e ends =
-        let far : to ≡ i + length (laid i t) = omega (arith, ends, length-laid i t) in
-        ap (λ j. drop j nodes) far ∙ sym (drop_twice i (length (laid i t)) nodes)
-        ∙ ap (drop (length (laid i t))) e ∙ past (laid i t) rest
-      where
-        drop_twice : {X : Type 0} (i j : ℕ) (xs : List X) → drop j (drop i xs) ≡ drop (i + j) xs
-        drop_twice zero j xs = refl
-        drop_twice (suc i) j [] = none j
-          where
-            none : {X : Type 0} (j : ℕ) → drop {A = X} j [] ≡ []
-            none zero = refl
-            none (suc j) = refl
-        drop_twice (suc i) j (x ∷ xs) = drop_twice i j xs
 
-        past : {X : Type 0} (xs ys : List X) → drop (length xs) (xs ++ ys) ≡ ys
-        past [] ys = refl
-        past (x ∷ xs) ys = past xs ys
+-- one thing that is there in two ways
+some_same : {X : Type 0} (x y : X) → Some x ≡ Some y → x ≡ y
+some_same x y e = cc
+
+-- a tree has a node
+pub positive : (t : Tree) → 1 ≤ size t
+unfolding size
+positive (Node op s ts) = omega arith
 
 -- of the trees between two indices the first is that of the first node, and the others begin where that ends
 pub first_between : (ts : Trees) (nodes : List Laid) → nodes ≡ all_laid 0 ts → (i to : ℕ) (n : Laid)
@@ -166,10 +164,3 @@ first_between ts nodes laid_down i to n e l t at =
         ∙ within_more (to - i) (to - i - 1) r.tree (trees n.to (drop n.to nodes)) some
         ∙ ap (λ k. More r.tree (within k (trees n.to (drop n.to nodes)))) left
         ∙ ap (λ u. More u (trees_between nodes n.to to)) own
-      where
-        some_same : {X : Type 0} (x y : X) → Some x ≡ Some y → x ≡ y
-        some_same x y e = cc
-
-        positive : (t : Tree) → 1 ≤ size t
-        unfolding size
-        positive (Node op s ts) = omega arith

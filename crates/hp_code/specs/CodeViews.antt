@@ -62,6 +62,7 @@ pub record IsCodeOf (rules : List Rule) (c : CodeView) : Type 0 where
 pub record IsCode (c : CodeView) : Type 0 where
   pub rules : List Rule
   pub read : rules_of c ≡ Some rules
+  pub vars : c.vars ≡ map vars_of rules
   pub laid : c.nodes ≡ all_laid 0 (trees 0 c.nodes)
   pub numbered : All IsNumberedRule rules
   pub faultless : first_of (flat_map rule_faults rules) ≡ None

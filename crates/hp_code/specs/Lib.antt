@@ -1,9 +1,6 @@
-pub mod CodeValues
 pub mod CodeViews
 pub mod Compiled
-pub mod Laying
 pub mod Listing
 pub mod Lowered
-pub mod NodeViews
 pub mod Sources
 pub mod Trees

@@ -1,5 +1,5 @@
 //! The compiled code of a domain.
-ghost use Rattle.std.specs.Prelude.{◌≡◌, ℕ, List, IfOk, map};
+ghost use Rattle.std.specs.Prelude.{◌≡◌, ℕ, List, None, IfOk, length, map};
 ghost use Rattle.hp_syntax.specs.Checks.{first_of, domain_faults};
 ghost use Rattle.hp_syntax.specs.Numbered.{IsNumberedDomain};
 ghost use Rattle.hp_syntax.specs.Views.{domain_of, rule_of};
@@ -116,21 +116,20 @@ fn all_names(alloc: Global, rules: &[Rule]) -> Result<Vec<Vec<Name>>, AllocError
     Ok(all)
 }
 
-// The nodes of the rules of a kind by their names.
+// The nodes of the rules of a kind by their names, where each rule has the node of its number.
 fn table_of(
     alloc: Global,
     kind: Kind,
     rules: &[Rule],
     nodes: &[usize],
 ) -> Result<Table, AllocError>
+    requires { length nodes.now ≡ length rules.now }
     ensures { IfOk result (λ table. (name : List ℕ) → places_in table name
         ≡ places_of kind name nodes.now (map rule_of rules.now)) }
 {
     let mut table = Table::new(alloc);
-    for (number, node) in nodes.iter().enumerate() {
-        if let Some(rule) = rules.get(number) {
-            table.add_rule(alloc, kind, rule, *node)?;
-        }
+    for (number, rule) in rules.iter().enumerate() {
+        table.add_rule(alloc, kind, rule, nodes[number])?;
     }
     Ok(table)
 }
