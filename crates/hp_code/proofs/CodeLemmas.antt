@@ -1,5 +1,5 @@
 -- What rules are compiled to is a code, and a code's tables find its rules.
-use Rattle.std.proofs.Common.{◌≡◌, ℕ, suc, ◌+◌, ◌<◌, ◌≤◌, ◌==◌, Bool, true, false, cond, List, [], ◌∷◌, ◌++◌, map, length, Option, Some, None, refl, ap, ap₂, sym, ◌∙◌, arith}
+use Rattle.std.proofs.Common.{◌≡◌, ℕ, suc, ◌+◌, ◌<◌, ◌≤◌, ◌==◌, Bool, true, false, cond, List, [], ◌∷◌, ◌++◌, map, length, Option, Some, None, is_some, refl, ap, ap₂, sym, ◌∙◌, subst, arith}
 use Rattle.std.specs.Prelude.{filter, flat_map}
 use Rattle.std.specs.List.{All}
 use Rattle.std.proofs.lemmas.Bool.{eq-eqb, ne_eqb}
@@ -11,8 +11,8 @@ use Rattle.hp_laws.specs.RulesByName.{is_name, axiom_head, relevant, concluding}
 use Rattle.hp_tables.specs.declared.Kind.{Kind}
 use Rattle.hp_tables.specs.declared.Kind.TheVariants as kinds
 use Rattle.hp_tables.specs.Tables.{name_as, places_of}
-use Rattle.hp_code.specs.CodeViews.{CodeView, IsCodeOf, IsCode, beside, or_empty, rule_nodes, rules_of, vars_at}
-use Rattle.hp_code.specs.Compiled.{rule_trees, vars_of}
+use Rattle.hp_code.specs.CodeViews.{CodeView, IsCodeOf, IsCode, beside, ends, or_empty, rule_nodes, rules_in, rules_of, vars_at}
+use Rattle.hp_code.specs.Compiled.{rule_tree, rule_trees, vars_of}
 use Rattle.hp_code.specs.Lowered.{lowered_rule, lowered_rules}
 use Rattle.hp_code.specs.Sources.{made_of, rule_read, rules_read}
 use Rattle.hp_code.specs.Trees.{Tree, Trees, Node, NoTree, More, size, roots, trees, all_laid}
@@ -51,30 +51,33 @@ vars_lowered (Concludes x ∷ rs) = ap (λ xs. x.vars ∷ xs) (vars_lowered rs)
 
 module _ (rules : List Rule) (c : CodeView) (of : IsCodeOf rules c) where
   -- the nodes of a code of rules read back as the trees of the rules
-  code_trees : trees 0 c.nodes ≡ rule_trees rules
+  pub code_trees : trees 0 c.nodes ≡ rule_trees rules
   code_trees = ap (trees 0) of.nodes ∙ laid_back 0 (rule_trees rules)
 
   -- and as the rules, lowered
   pub code_reads : rules_of c ≡ Some (lowered_rules rules)
   code_reads = ap₂ rules_read of.vars code_trees ∙ rules_back rules
 
+  -- and these are the rules in it
+  code_rules : rules_in c ≡ lowered_rules rules
+  code_rules = ap or_empty code_reads
+
   -- where its rules are numbered and the checks find nothing in them, a code of rules keeps what a code keeps
   pub code_keeps : All IsNumberedRule rules → first_of (flat_map rule_faults rules) ≡ None → IsCode c
   code_keeps numbered faultless = record {
-    rules = lowered_rules rules;
-    read = code_reads;
-    vars = of.vars ∙ sym (vars_lowered rules);
-    laid = of.nodes ∙ ap (all_laid 0) (sym code_trees);
-    numbered = rules_numbered rules numbered;
-    faultless = ap first_of (rules_checked rules) ∙ faultless;
+    reads = ap is_some code_reads;
+    ends = ap ends (of.nodes ∙ ap (all_laid 0) (sym code_trees));
+    vars = of.vars ∙ sym (vars_lowered rules) ∙ ap (map vars_of) (sym code_rules);
+    numbered = subst (All IsNumberedRule) (sym code_rules) (rules_numbered rules numbered);
+    faultless = ap (λ rs. first_of (flat_map rule_faults rs)) code_rules ∙ ap first_of (rules_checked rules) ∙ faultless;
     task_rules =
         λ name.
         of.task_rules name ∙ sym (places_lowered kinds.Task name (roots 0 (rule_trees rules)) rules)
-        ∙ ap (λ ts. places_of kinds.Task name (roots 0 ts) (lowered_rules rules)) (sym code_trees);
+        ∙ ap₂ (λ ts rs. places_of kinds.Task name (roots 0 ts) rs) (sym code_trees) (sym code_rules);
     axiom_rules =
         λ name.
         of.axiom_rules name ∙ sym (places_lowered kinds.Axiom name (roots 0 (rule_trees rules)) rules)
-        ∙ ap (λ ts. places_of kinds.Axiom name (roots 0 ts) (lowered_rules rules)) (sym code_trees);
+        ∙ ap₂ (λ ts rs. places_of kinds.Axiom name (roots 0 ts) rs) (sym code_trees) (sym code_rules);
   }
 
 -- ---- places that ascend
@@ -127,11 +130,11 @@ places_all P kind name (i ∷ is) (r ∷ rs) a =
 
 module _ {A : Type 0} (n : ℕ) (ns : List ℕ) (x : A) (xs : List A) where
   -- beside the first of places stands the first of the things
-  beside_first : beside n (n ∷ ns) (x ∷ xs) ≡ Some x
+  pub beside_first : beside n (n ∷ ns) (x ∷ xs) ≡ Some x
   beside_first = ap (λ b. cond b (Some x) (beside n ns xs)) (eq-eqb n n refl)
 
   -- and beside a greater one what stands beside it among the others
-  beside_later : (i : ℕ) → suc n ≤ i → beside i (n ∷ ns) (x ∷ xs) ≡ beside i ns xs
+  pub beside_later : (i : ℕ) → suc n ≤ i → beside i (n ∷ ns) (x ∷ xs) ≡ beside i ns xs
   beside_later i l = ap (λ b. cond b (Some x) (beside i ns xs)) (ne_eqb n i (λ e. absurd (omega (arith, l, e))))
 
   -- so it does at many
@@ -147,6 +150,11 @@ module _ {A : Type 0} (n : ℕ) (ns : List ℕ) (x : A) (xs : List A) where
 -- as many places as rules
 abbrev AreAsMany : List ℕ → List Rule → Type 0
 AreAsMany is rs = length is ≡ length rs
+
+-- there are as many nodes of rules as rules
+pub length-rule_nodes : (i : ℕ) (rs : List Rule) → length (roots i (rule_trees rs)) ≡ length rs
+length-rule_nodes i [] = refl
+length-rule_nodes i (r ∷ rs) = ap suc (length-rule_nodes (i + size (rule_tree r)) rs)
 
 -- a rule and others, or the others alone, are found at its place and theirs, or at theirs alone
 found_either : (b : Bool) (i : ℕ) (is : List ℕ) (r : Rule) (rs : List Rule) (places : List ℕ) (own : List Rule)
@@ -211,23 +219,32 @@ axioms_filtered name (Concludes x ∷ rs) =
     concludes_either (is_name name (axiom_head (Concludes x))) x (filter (λ r. is_name name (axiom_head r)) rs)
     (concluding name rs) (axioms_filtered name rs)
 
+-- something that is there is read as the rules in it
+there : {A : Type 0} (o : Option (List A)) → is_some o ≡ true → o ≡ Some (or_empty o)
+there None e = absurd cc
+there (Some xs) e = refl
+
+-- the nodes of a code read back as the rules in it
+pub code_read : (c : CodeView) → IsCode c → rules_of c ≡ Some (rules_in c)
+code_read c is = there (rules_of c) is.reads
+
 module _ (c : CodeView) (is : IsCode c) (name : List ℕ) where
   -- at the nodes that a code has for a name stand the rules that are relevant to tasks of that name
-  pub tasks_found : map (λ i. beside i (rule_nodes c) is.rules) (c.task_rules name)
-      ≡ map Some (relevant (Some name) is.rules)
+  pub tasks_found : map (λ i. beside i (rule_nodes c) (rules_in c)) (c.task_rules name)
+      ≡ map Some (relevant (Some name) (rules_in c))
   tasks_found =
-      ap (map (λ i. beside i (rule_nodes c) is.rules)) (is.task_rules name)
-      ∙ found kinds.Task name 0 (rule_nodes c) is.rules (roots_ascend 0 (trees 0 c.nodes))
-      (read_many 0 c.vars (trees 0 c.nodes) is.rules is.read)
+      ap (map (λ i. beside i (rule_nodes c) (rules_in c))) (is.task_rules name)
+      ∙ found kinds.Task name 0 (rule_nodes c) (rules_in c) (roots_ascend 0 (trees 0 c.nodes))
+      (read_many 0 c.vars (trees 0 c.nodes) (rules_in c) (code_read c is))
 
   -- and the axioms that conclude it
-  pub axioms_found : map (λ i. beside i (rule_nodes c) is.rules) (c.axiom_rules name)
-      ≡ map Some (map Concludes (concluding name is.rules))
+  pub axioms_found : map (λ i. beside i (rule_nodes c) (rules_in c)) (c.axiom_rules name)
+      ≡ map Some (map Concludes (concluding name (rules_in c)))
   axioms_found =
-      ap (map (λ i. beside i (rule_nodes c) is.rules)) (is.axiom_rules name)
-      ∙ found kinds.Axiom name 0 (rule_nodes c) is.rules (roots_ascend 0 (trees 0 c.nodes))
-      (read_many 0 c.vars (trees 0 c.nodes) is.rules is.read)
-      ∙ ap (map Some) (axioms_filtered name is.rules)
+      ap (map (λ i. beside i (rule_nodes c) (rules_in c))) (is.axiom_rules name)
+      ∙ found kinds.Axiom name 0 (rule_nodes c) (rules_in c) (roots_ascend 0 (trees 0 c.nodes))
+      (read_many 0 c.vars (trees 0 c.nodes) (rules_in c) (code_read c is))
+      ∙ ap (map Some) (axioms_filtered name (rules_in c))
 
 -- ---- names of variables
 
@@ -244,8 +261,8 @@ beside_mapped f i (n ∷ ns) (y ∷ xs) x e = either (n == i) (beside_mapped f i
     either false later g = later g
 
 -- the names at the node of a rule are those of the rule's variables
-pub vars_found : (c : CodeView) (is : IsCode c) (i : ℕ) (r : Rule) → beside i (rule_nodes c) is.rules ≡ Some r
+pub vars_found : (c : CodeView) (is : IsCode c) (i : ℕ) (r : Rule) → beside i (rule_nodes c) (rules_in c) ≡ Some r
     → vars_at c i ≡ vars_of r
 vars_found c is i r e =
     ap (λ all. or_empty (beside i (rule_nodes c) all)) is.vars
-    ∙ ap or_empty (beside_mapped vars_of i (rule_nodes c) is.rules r e)
+    ∙ ap or_empty (beside_mapped vars_of i (rule_nodes c) (rules_in c) r e)

@@ -1,7 +1,11 @@
 pub mod CheckedLemmas
 pub mod CodeLemmas
 pub mod EffectLemmas
+pub mod LayingLemmas
+pub mod LayingSteps
 pub mod ListingLemmas
+pub mod ListingSteps
+pub mod LookUpSteps
 pub mod LoweredLemmas
 pub mod NodeLemmas
 pub mod RuleLemmas

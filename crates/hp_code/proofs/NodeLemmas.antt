@@ -1,15 +1,16 @@
 -- What each node of trees that are laid down reads back as, by what is below it.
-use Rattle.std.proofs.Common.{◌≡◌, ℕ, zero, suc, ◌+◌, ◌-◌, ◌<◌, ◌≤◌, List, [], ◌∷◌, ◌++◌, length, drop, slice_get, Option, Some, None, inl, inr, refl, ap, sym, ◌∙◌, arith}
-use Rattle.std.proofs.lemmas.List.{append_assoc, append-nil, drop-drop, length-append}
+use Rattle.std.proofs.Common.{◌≡◌, ℕ, zero, suc, ◌+◌, ◌-◌, ◌<◌, ◌≤◌, List, [], ◌∷◌, ◌++◌, length, drop, map, slice_get, Option, Some, None, inl, inr, refl, ap, ap₂, sym, ◌∙◌, arith}
+use Rattle.std.proofs.lemmas.List.{append_assoc, append-nil, drop-drop, length-append, map-append}
 use Rattle.std.proofs.lemmas.Option.{slice_get_cases, slice_get_within}
 use Rattle.std.proofs.Math.Seq.{drop-append-add, drop-append_seam}
-use Rattle.hp_code.specs.Trees.{Laid, Tree, Trees, Node, NoTree, More, size, sizes, laid, all_laid, within, behind, trees, first_tree, tree_at, trees_between}
+use Rattle.hp_syntax.specs.declared.pattern.Span.{Span}
+use Rattle.hp_code.specs.Trees.{Operation, Laid, Tree, Trees, Node, NoTree, More, size, sizes, laid, all_laid, within, behind, trees, first_tree, tree_at, trees_between}
 use Rattle.hp_code.proofs.TreeLemmas.{tree_back, within_more}
 
 -- ---- what stands at an index
 
 -- what is left of a list from an index on begins with what stands there
-drop_there : {X : Type 0} (xs : List X) (i : ℕ) (x : X) → slice_get xs i ≡ Some x → drop i xs ≡ x ∷ drop (suc i) xs
+pub drop_there : {X : Type 0} (xs : List X) (i : ℕ) (x : X) → slice_get xs i ≡ Some x → drop i xs ≡ x ∷ drop (suc i) xs
 drop_there [] i x e = absurd cc
 drop_there (y ∷ ys) zero x e = ap (λ z. z ∷ ys) cc
 drop_there (y ∷ ys) (suc i) x e = drop_there ys i x e
@@ -164,3 +165,79 @@ first_between ts nodes laid_down i to n e l t at =
         ∙ within_more (to - i) (to - i - 1) r.tree (trees n.to (drop n.to nodes)) some
         ∙ ap (λ k. More r.tree (within k (trees n.to (drop n.to nodes)))) left
         ∙ ap (λ u. More u (trees_between nodes n.to to)) own
+
+-- ---- nodes that hold where those below them end
+
+-- what a node does and where it stands
+record Said : Type 0 where
+  op : Operation
+  span : Span
+
+abbrev said : Laid → Said
+said n = record { op = n.op; span = n.span }
+
+-- a tree and trees as what their nodes say, in order
+mutual
+  tree_said : Tree → List Said
+  tree_said (Node op s ts) = record { op = op; span = s } ∷ trees_said ts
+
+  trees_said : Trees → List Said
+  trees_said NoTree = []
+  trees_said (More t ts) = tree_said t ++ trees_said ts
+
+mutual
+  unfolding laid all_laid tree_said trees_said
+
+  -- nodes that are laid down say what their trees say
+  laid_said : (i : ℕ) (t : Tree) → map said (laid i t) ≡ tree_said t
+  laid_said i (Node op s ts) = ap (λ xs. record { op = op; span = s } ∷ xs) (all_laid_said (suc i) ts)
+
+  all_laid_said : (i : ℕ) (ts : Trees) → map said (all_laid i ts) ≡ trees_said ts
+  all_laid_said i NoTree = refl
+  all_laid_said i (More t ts) =
+      map-append said (laid i t) (all_laid (i + size t) ts)
+      ∙ ap₂ ◌++◌ (laid_said i t) (all_laid_said (i + size t) ts)
+
+-- trees that are parted say what they say whole
+parted_said : (n : ℕ) (ts : Trees) → trees_said (within n ts) ++ trees_said (behind n ts) ≡ trees_said ts
+unfolding within behind trees_said
+parted_said zero NoTree = refl
+parted_said (suc n) NoTree = refl
+parted_said zero (More t ts) = refl
+parted_said (suc n) (More t ts) =
+    append_assoc (tree_said t) (trees_said (within (suc n - size t) ts)) (trees_said (behind (suc n - size t) ts))
+    ∙ ap (λ xs. tree_said t ++ xs) (parted_said (suc n - size t) ts)
+
+-- the trees that nodes are say what the nodes say
+read_said : (i : ℕ) (ns : List Laid) → trees_said (trees i ns) ≡ map said ns
+unfolding trees tree_said trees_said
+read_said i [] = refl
+read_said i (n ∷ ns) =
+    ap (λ xs. said n ∷ xs) (parted_said (n.to - suc i) (trees (suc i) ns) ∙ read_said (suc i) ns)
+
+-- nodes that say the same and end at the same are the same
+same_nodes : (xs ys : List Laid) → map said xs ≡ map said ys → map (λ n. n.to) xs ≡ map (λ n. n.to) ys → xs ≡ ys
+same_nodes [] [] e h = refl
+same_nodes [] (y ∷ ys) e h = absurd cc
+same_nodes (x ∷ xs) [] e h = absurd cc
+same_nodes (x ∷ xs) (y ∷ ys) e h =
+    ap₂ ◌∷◌
+    (same_node (head_same (said x) (said y) (map said xs) (map said ys) e)
+    (head_same x.to y.to (map (λ n. n.to) xs) (map (λ n. n.to) ys) h))
+    (same_nodes xs ys (tail_same (said x) (said y) (map said xs) (map said ys) e)
+    (tail_same x.to y.to (map (λ n. n.to) xs) (map (λ n. n.to) ys) h))
+  where
+    same_node : said x ≡ said y → x.to ≡ y.to → x ≡ y
+    same_node s t =
+        ap₂ (λ (w : Said) n. record { op = w.op; to = n; span = w.span }) s t
+
+    tail_same : {X : Type 0} (a b : X) (as' bs : List X) → a ∷ as' ≡ b ∷ bs → as' ≡ bs
+    tail_same a b as' bs e = cc
+
+-- nodes that hold where those below them end are laid down
+pub laid_by_ends : (nodes : List Laid) → map (λ n. n.to) nodes ≡ map (λ n. n.to) (all_laid 0 (trees 0 nodes))
+    → nodes ≡ all_laid 0 (trees 0 nodes)
+laid_by_ends nodes e =
+    same_nodes nodes (all_laid 0 (trees 0 nodes))
+    (sym (all_laid_said 0 (trees 0 nodes) ∙ read_said 0 nodes)) e
+

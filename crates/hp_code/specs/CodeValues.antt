@@ -1,14 +1,13 @@
--- A code as its value.
+-- The value of the parts of a code.
 use Rattle.std.specs.Prelude.{ℕ, List, map, Vec}
 use Rattle.std.specs.Global.{Global}
 use Rattle.hp_tables.specs.declared.Table.{Table}
 use Rattle.hp_tables.specs.Tables.{places_in}
-use Rattle.hp_code.specs.declared.code.Code.{Code}
 use Rattle.hp_code.specs.declared.node.CodeNode.{CodeNode}
 use Rattle.hp_code.specs.CodeViews.{CodeView}
 use Rattle.hp_code.specs.NodeViews.{laid_of}
 
--- the value of nodes, names and tables
+-- nodes, names and tables as plain values
 abbrev pub value_of : List CodeNode → List (Vec (List ℕ) Global) → Table → Table → CodeView
 value_of nodes vars task_rules axiom_rules = record {
   nodes = map laid_of nodes;
@@ -16,6 +15,3 @@ value_of nodes vars task_rules axiom_rules = record {
   task_rules = places_in task_rules;
   axiom_rules = places_in axiom_rules;
 }
-
-abbrev pub code_of : Code → CodeView
-code_of c = value_of c.nodes.items c.vars.items c.task_rules c.axiom_rules

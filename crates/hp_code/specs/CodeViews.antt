@@ -1,5 +1,5 @@
 -- The value of a compiled code, and what makes one.
-use Rattle.std.specs.Prelude.{◌≡◌, ℕ, ◌==◌, cond, List, [], ◌∷◌, map, Option, Some, None}
+use Rattle.std.specs.Prelude.{◌≡◌, ℕ, ◌==◌, true, cond, List, [], ◌∷◌, map, Option, Some, None, is_some}
 use Rattle.std.specs.List.{All, flat_map}
 use Rattle.hp_syntax.specs.Syntax.{Rule}
 use Rattle.hp_syntax.specs.Numbered.{IsNumberedRule}
@@ -26,16 +26,19 @@ rule_nodes c = roots 0 (trees 0 c.nodes)
 abbrev pub rules_of : CodeView → Option (List Rule)
 rules_of c = rules_read c.vars (trees 0 c.nodes)
 
--- what stands beside the index of a node
-abbrev pub beside : {A : Type 0} → ℕ → List ℕ → List A → Option A
-beside i [] xs = None
-beside i (n ∷ ns) [] = None
-beside i (n ∷ ns) (x ∷ xs) = cond (n == i) (Some x) (beside i ns xs)
-
 -- a list that may be missing, which then is empty
 abbrev pub or_empty : {A : Type 0} → Option (List A) → List A
 or_empty None = []
 or_empty (Some xs) = xs
+
+abbrev pub rules_in : CodeView → List Rule
+rules_in c = or_empty (rules_of c)
+
+-- the thing beside the index of a node
+abbrev pub beside : {A : Type 0} → ℕ → List ℕ → List A → Option A
+beside i [] xs = None
+beside i (n ∷ ns) [] = None
+beside i (n ∷ ns) (x ∷ xs) = cond (n == i) (Some x) (beside i ns xs)
 
 -- the names of the variables of the rule of a node; none for a node that is no rule's
 abbrev pub vars_at : CodeView → ℕ → List (List ℕ)
@@ -57,14 +60,17 @@ pub record IsCodeOf (rules : List Rule) (c : CodeView) : Type 0 where
   pub task_rules : (name : List ℕ) → c.task_rules name ≡ (compiled rules).task_rules name
   pub axiom_rules : (name : List ℕ) → c.axiom_rules name ≡ (compiled rules).axiom_rules name
 
--- what a code keeps: its nodes read back as numbered rules in which the checks find nothing, each node says where those
+-- where those below each node end
+abbrev pub ends : List Laid → List ℕ
+ends nodes = map (λ n. n.to) nodes
+
+-- what a code keeps: its nodes read back as numbered rules in which the checks find nothing, each node holds where those
 -- below it end, and by each name stand the nodes of its rules, in their order
 pub record IsCode (c : CodeView) : Type 0 where
-  pub rules : List Rule
-  pub read : rules_of c ≡ Some rules
-  pub vars : c.vars ≡ map vars_of rules
-  pub laid : c.nodes ≡ all_laid 0 (trees 0 c.nodes)
-  pub numbered : All IsNumberedRule rules
-  pub faultless : first_of (flat_map rule_faults rules) ≡ None
-  pub task_rules : (name : List ℕ) → c.task_rules name ≡ places_of Task name (rule_nodes c) rules
-  pub axiom_rules : (name : List ℕ) → c.axiom_rules name ≡ places_of Axiom name (rule_nodes c) rules
+  pub reads : is_some (rules_of c) ≡ true
+  pub ends : ends c.nodes ≡ ends (all_laid 0 (trees 0 c.nodes))
+  pub vars : c.vars ≡ map vars_of (rules_in c)
+  pub numbered : All IsNumberedRule (rules_in c)
+  pub faultless : first_of (flat_map rule_faults (rules_in c)) ≡ None
+  pub task_rules : (name : List ℕ) → c.task_rules name ≡ places_of Task name (rule_nodes c) (rules_in c)
+  pub axiom_rules : (name : List ℕ) → c.axiom_rules name ≡ places_of Axiom name (rule_nodes c) (rules_in c)

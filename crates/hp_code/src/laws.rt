@@ -14,7 +14,7 @@ ghost use Rattle.hp_syntax.specs.Terms.{Term};
 ghost use Rattle.hp_syntax.specs.Values.{Bindings};
 ghost use Rattle.hp_syntax.specs.Walk.{Node, children, node_at, rule_children, visits, walk};
 ghost use Rattle.hp_laws.specs.RulesByName.{concluding, relevant, task_name};
-ghost use Rattle.hp_code.specs.CodeViews.{CodeView, IsCode, IsCodeOf, beside, compiled, rule_nodes, rules_of, vars_at};
+ghost use Rattle.hp_code.specs.CodeViews.{CodeView, IsCode, IsCodeOf, beside, compiled, rule_nodes, rules_in, rules_of, vars_at};
 ghost use Rattle.hp_code.specs.Compiled.{rule_trees, vars_of};
 ghost use Rattle.hp_code.specs.Listing.{listing_text};
 ghost use Rattle.hp_code.specs.Lowered.{lowered, lowered_axiom, lowered_operator, lowered_precondition, lowered_rules};
@@ -71,10 +71,12 @@ pub fn compiled_rules_are_a_code()
         → first_of (flat_map rule_faults rules) ≡ None → IsCode c }
 {}
 
-/// A node of a code reads back as what it does, over the trees that stand between it and the index that it holds; and
+/// A code reads back as the rules in it, and its nodes are their trees laid down. A node reads back as what it does, over the trees that stand between it and the index that it holds; and
 /// trees between two indices are that of the first node, and those from the index that it holds on. So what a node
 /// means is said by what the nodes below it mean.
 pub fn nodes_read_back_over_those_below()
+    ensures rules { (c : CodeView) → IsCode c → rules_of c ≡ Some (rules_in c) }
+    ensures laid { (c : CodeView) → IsCode c → c.nodes ≡ all_laid 0 (trees.trees 0 c.nodes) }
     ensures node { (c : CodeView) → IsCode c → (i : ℕ) (n : Laid) → slice_get c.nodes i ≡ Some n
         → tree_at c.nodes i ≡ Some (trees.Node n.op n.span (trees_between c.nodes (suc i) n.to)) }
     ensures none { (c : CodeView) → IsCode c → (i : ℕ) → trees_between c.nodes i i ≡ trees.NoTree }
@@ -86,17 +88,17 @@ pub fn nodes_read_back_over_those_below()
 /// By the name of a task a code's table finds the rules that are relevant to it, which give a node all its children by
 /// the task, and by that of a goal the axioms that conclude it. A rule's node finds the names of its variables.
 pub fn codes_find_their_rules()
-    ensures tasks { (c : CodeView) (code : IsCode c) (name : List ℕ)
-        → map (λ i. beside i (rule_nodes c) code.rules) (c.task_rules name)
-        ≡ map Some (relevant (Some name) code.rules) }
-    ensures axioms { (c : CodeView) (code : IsCode c) (name : List ℕ)
-        → map (λ i. beside i (rule_nodes c) code.rules) (c.axiom_rules name)
-        ≡ map Some (map Concludes (concluding name code.rules)) }
+    ensures tasks { (c : CodeView) → IsCode c → (name : List ℕ)
+        → map (λ i. beside i (rule_nodes c) (rules_in c)) (c.task_rules name)
+        ≡ map Some (relevant (Some name) (rules_in c)) }
+    ensures axioms { (c : CodeView) → IsCode c → (name : List ℕ)
+        → map (λ i. beside i (rule_nodes c) (rules_in c)) (c.axiom_rules name)
+        ≡ map Some (map Concludes (concluding name (rules_in c))) }
     ensures children { (rules : List Rule) (nest : ℕ) (n : Node) (p : Place) (t : Term)
         → flat_map (rule_children rules nest n p t) (relevant (task_name t) rules)
         ≡ flat_map (rule_children rules nest n p t) rules }
-    ensures vars { (c : CodeView) (code : IsCode c) (i : ℕ) (r : Rule)
-        → beside i (rule_nodes c) code.rules ≡ Some r → vars_at c i ≡ vars_of r }
+    ensures vars { (c : CodeView) → IsCode c → (i : ℕ) (r : Rule)
+        → beside i (rule_nodes c) (rules_in c) ≡ Some r → vars_at c i ≡ vars_of r }
 {}
 
 /// Codes of the same rules have the same listing, that of what the rules are compiled to.

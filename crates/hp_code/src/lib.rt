@@ -1,5 +1,19 @@
-//! The compiled code: what each rule is compiled to, what that reads back as, and laws that both mean the rule. The
-//! compiler itself is to come.
+//! The compiled code: the rules of a domain as nodes in one list, how it is listed, and laws that each node means its
+//! source.
 #![tactic(auto)]
 
+mod code;
+mod effects;
+mod expressions;
 pub mod laws;
+mod laying;
+mod lines;
+mod look_ups;
+mod lowering;
+mod node;
+mod rules;
+
+pub use code::Code;
+pub use lines::listing;
+pub use lowering::lower;
+pub use node::{CodeNode, Op};

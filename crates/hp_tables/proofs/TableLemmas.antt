@@ -16,13 +16,13 @@ none_placed kind name (i ∷ is) = refl
 module _ (kind : Kind) (name : List ℕ) (is : List ℕ) (rules : List public_rule.Rule) (n : ℕ) (old whole : List ℕ)
     (so_far : whole ≡ old ++ places_of kind name (drop n is) (map rule_of (drop n rules))) where
   -- the place of the next rule goes behind those that are there, where the rule stands under the name
-  pub place_more : (i : ℕ) (r : public_rule.Rule) (new : List ℕ) → n < length is → i ≡ get_or is n i
+  pub place_more : (i d : ℕ) (r : public_rule.Rule) (new : List ℕ) → n < length is → i ≡ get_or is n d
       → n < length rules → r ≡ get_or rules n r → new ≡ with_place (is_name name (name_as kind (rule_of r))) i old
       → whole ≡ new ++ places_of kind name (drop (n + 1) is) (map rule_of (drop (n + 1) rules))
-  place_more i r new k at l is_there e =
+  place_more i d r new k at l is_there e =
       so_far
       ∙ (ap₂ (λ js rs. old ++ places_of kind name js (map rule_of rs))
-      (drop_more is n i k ∙ ap (λ j. j ∷ drop (n + 1) is) (sym at))
+      (drop_more is n d k ∙ ap (λ j. j ∷ drop (n + 1) is) (sym at))
       (drop_more rules n r l ∙ ap (λ q. q ∷ drop (n + 1) rules) (sym is_there))
       ∙ (elim (is_name name (name_as kind (rule_of r))) as
       (λ b. old ++ cond b (i ∷ left) left ≡ with_place b i old ++ left) [

@@ -4,10 +4,10 @@ ghost use Rattle.std.specs.Option.{option_copied};
 ghost use Rattle.hp_syntax.specs.Views.{atom_of, key_of, pattern_of, tasks_of};
 ghost use Rattle.hp_syntax.specs.Written as written;
 ghost use Rattle.hp_syntax.specs.Written.{node_text, name_of, order_word};
-ghost use Rattle.hp_code.specs.CodeValues.{code_of};
+ghost use Rattle.hp_code.specs.Codes.{code_of};
 ghost use Rattle.hp_code.specs.CodeViews.{vars_at};
 ghost use Rattle.hp_code.specs.Listing as plain;
-ghost use Rattle.hp_code.specs.Listing.{atom_text, head_of, indices_text, is_rule, listing_text, name_line, name_lines, node_line, node_lines, operation_text, pattern_text, table_of, word_of};
+ghost use Rattle.hp_code.specs.Listing.{atom_text, head_line, head_of, indices_text, is_rule, listing_text, name_line, name_lines, names_from, node_line, node_lines, operation_text, pattern_text, table_of, word_of};
 ghost use Rattle.hp_code.specs.NodeViews.{laid_of, operation_of};
 
 use crate::code::Code;
@@ -173,6 +173,13 @@ fn is_rule(op: &Op) -> bool
     matches!(op, Op::Operator(_) | Op::Method(_) | Op::Axiom(_))
 }
 
+// The names of variables at a node that stands behind one with these names.
+fn names_from<'a>(code: &'a Code, index: usize, vars: &'a [Name], op: &Op) -> &'a [Name]
+    ensures { result.now ≡ names_from (vars_at (code_of code.now)) index vars.now (operation_of op.now) }
+{
+    if is_rule(op) { code.vars(index) } else { vars }
+}
+
 // The lines of all nodes.
 fn push_nodes(text: &mut Vec<u8>, alloc: Global, code: &Code) -> Result<(), AllocError>
     ensures { OnOk result (text.new.items ≡ text.old.items
@@ -180,9 +187,7 @@ fn push_nodes(text: &mut Vec<u8>, alloc: Global, code: &Code) -> Result<(), Allo
 {
     let mut vars: &[Name] = &[];
     for (index, node) in code.nodes().iter().enumerate() {
-        if is_rule(&node.op) {
-            vars = code.vars(index);
-        }
+        vars = names_from(code, index, vars, &node.op);
         push_node(text, alloc, vars, index, node)?;
     }
     Ok(())
@@ -249,15 +254,30 @@ fn push_name(
     text.extend_from_slice(b"\n")
 }
 
+// The line of the name of a node, where it is that of a rule of a kind and the first of that name.
+fn push_head(
+    text: &mut Vec<u8>,
+    code: &Code,
+    kind: Kind,
+    index: usize,
+    op: &Op,
+) -> Result<(), AllocError>
+    ensures { OnOk result (text.new.items ≡ text.old.items
+        ++ head_line (word_of kind) (table_of (code_of code.now) kind) (plain.head_of kind (operation_of op.now)) index) }
+{
+    match head_of(kind, op) {
+        Some(name) => push_name(text, word_of(kind), name, rules_of(kind, code, name), index),
+        None => Ok(()),
+    }
+}
+
 // The lines of the names of a kind.
 fn push_names(text: &mut Vec<u8>, code: &Code, kind: Kind) -> Result<(), AllocError>
     ensures { OnOk result (text.new.items ≡ text.old.items
         ++ name_lines kind (table_of (code_of code.now) kind) 0 (code_of code.now).nodes) }
 {
     for (index, node) in code.nodes().iter().enumerate() {
-        if let Some(name) = head_of(kind, &node.op) {
-            push_name(text, word_of(kind), name, rules_of(kind, code, name), index)?;
-        }
+        push_head(text, code, kind, index, &node.op)?;
     }
     Ok(())
 }

@@ -1,7 +1,7 @@
 use Rattle.std.proofs.Common.{◌≡◌, ℕ, List, ◌++◌, map, drop}
 use Rattle.hp_syntax.specs.Views.{rule_of}
 use Rattle.hp_tables.specs.Tables.{places_in, places_of}
-use Rattle.hp_code.proofs.code.table_of.Given as goal
+use Rattle.hp_code.proofs.lowering.table_of.Given as goal
 
 abbrev pub invariant-loop-number : goal.invariant-loop-number
 invariant-loop-number l =
