@@ -7,7 +7,7 @@ use Rattle.hp_syntax.specs.Forest.{Node, Forest, Word, Numeral, Group, Bare, Gro
 use Rattle.hp_syntax.specs.Steps.{Misform, Expected, Names, Parse, and_then, pure, ended, next, expected, is_word, ◌>>=◌, value_in, from_no_names}
 use Rattle.hp_syntax.specs.Grammar.{file, file_list, list, is_nil}
 use Rattle.hp_text.specs.Nodes.{parts_of}
-use Rattle.hp_terms.specs.FormReads.{Refuses, Reads, Gives}
+use Rattle.hp_terms.specs.FormReads.{Refuses}
 use Rattle.hp_terms.specs.declared.refusal.FormRefusal.{FormRefusal}
 use Rattle.hp_terms.specs.declared.refusal.FormRefusal.TheVariants as refusals
 use Rattle.hp_terms.proofs.Turns.{refused_same}
@@ -142,21 +142,9 @@ list_behind what key parts (Group s (Grow (Word t text) rest)) names = elim (byt
     (λ b. cond b (parts s rest) (expected what s) names
     ≡ and_then (cond b (pure rest) (expected what s) names) (parts s)) [ true ↦ refl | false ↦ refl ]
 
--- a result of reading a step is one of reading a step that gives the same
-pub reads_same : {X Y : Type 0} (view : X → Y) (r : Result X FormRefusal) (one other : Parse Y) (before after : Names)
-    → one before ≡ other before → Reads view r other before after → Reads view r one before after
-reads_same view (Ok x) one other before after same h = same ∙ h
-reads_same view (Err why) one other before after same h = refused_same why _ _ same h
-
 -- a refusal of a step is one of its value
 pub value_refused : {A : Type 0} (e : FormRefusal) (r : Result (A × Names) Misform) → Refuses e r
     → Refuses e (value_in r)
 value_refused (refusals.Expected what span) r h = ap value_in h
 value_refused (refusals.SeveralPairs span) r h = ap value_in h
 value_refused refusals.NoMemory r h = h
-
--- a value that gives a result gives an equal one
-pub gives_same : {X Y : Type 0} (view : X → Y) (x : Result X FormRefusal) (r s : Result Y Misform) → r ≡ s
-    → Gives view x s → Gives view x r
-gives_same view (Ok x) r s same h = same ∙ h
-gives_same view (Err e) r s same h = refused_same e r s same h

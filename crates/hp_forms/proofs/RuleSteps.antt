@@ -200,11 +200,3 @@ reads_by_itself view (Ok x) p names h = own_value (p []) (view x) names h
 reads_by_itself view (Err (refusals.Expected what span)) p names h = own_refusal (p []) (Expected what span) names h
 reads_by_itself view (Err (refusals.SeveralPairs span)) p names h = own_refusal (p []) (SeveralPairs span) names h
 reads_by_itself view (Err refusals.NoMemory) p names h = h
-
--- a value that gives a result gives an equal one
-pub gives_same : {X A : Type 0} (view : X → A) (r : Result X FormRefusal) (p q : Result A Misform) → q ≡ p
-    → Gives view r p → Gives view r q
-gives_same view (Ok x) p q same h = same ∙ h
-gives_same view (Err (refusals.Expected what span)) p q same h = same ∙ h
-gives_same view (Err (refusals.SeveralPairs span)) p q same h = same ∙ h
-gives_same view (Err refusals.NoMemory) p q same h = h

@@ -1,6 +1,7 @@
 -- Files in a list, looked up by their names.
-use Rattle.std.proofs.Common.{◌≡◌, ◌≢◌, ℕ, ◌<◌, Bool, List, [], ◌∷◌, ◌++◌, true, false, Some, None, length, get_or, take, slice_get, string_bytes, bytes_eq, zero, suc, refl, sym, ap, subst, ◌∙◌, arith}
+use Rattle.std.proofs.Common.{◌≡◌, ◌≢◌, ℕ, ◌<◌, List, [], ◌∷◌, ◌++◌, true, false, Some, None, length, get_or, take, slice_get, string_bytes, bytes_eq, zero, suc, refl, sym, ap, subst, ◌∙◌, arith}
 use Rattle.std.proofs.Math.ListN.{set}
+use Rattle.std.proofs.lemmas.Bool.{false_from_ne_true}
 use Rattle.std.proofs.lemmas.Option.{slice_get-get_or}
 use Rattle.std.proofs.lemmas.Slice.Eq.{bytes_eq-Decides}
 use Rattle.hp_io.specs.declared.mem_folder.File.{File}
@@ -25,17 +26,12 @@ first_found [] n i first = absurd (omega (arith, first.0))
 first_found (f ∷ fs) n zero first = grind arith
 first_found (f ∷ fs) n (suc i) first = grind (arith, first_found fs n i)
 
--- a test that isn't true is false
-refuted : (b : Bool) → (b ≡ true → ⊥) → b ≡ false
-refuted true never = absurd (never refl)
-refuted false _ = refl
-
 -- a file of one name has no other name
 pub other_name : (m n : List ℕ) (f : File) → m ≢ n → has_name n f ≡ true → has_name m f ≡ false
 other_name m n f other named =
     let of_n = bytes_eq-Decides (string_bytes f.name) n in
     let of_m = bytes_eq-Decides (string_bytes f.name) m in
-    refuted (has_name m f) (λ is. other (sym (of_m.0 is) ∙ of_n.0 named))
+    false_from_ne_true (has_name m f) (λ is. other (sym (of_m.0 is) ∙ of_n.0 named))
 
 -- a file that takes the place of the first of its name is found by that name
 pub set_found : (fs : List File) (n : List ℕ) (i : ℕ) (g : File) → IsFirst fs n i → has_name n g ≡ true

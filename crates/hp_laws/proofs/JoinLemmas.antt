@@ -95,11 +95,6 @@ module _ {X A : Type 0} (f : X → List A) where
   map_join g [] = refl
   map_join g (x ∷ xs) = map-append g (f x) (flat_map f xs) ∙ ap (λ ys. map g (f x) ++ ys) (map_join g xs)
 
-  -- a join of a map is the join of what is given of the mapped
-  pub join_map : {W : Type 0} (g : W → X) (ws : List W) → flat_map f (map g ws) ≡ flat_map (λ w. f (g w)) ws
-  join_map g [] = refl
-  join_map g (w ∷ ws) = ap (λ ys. f (g w) ++ ys) (join_map g ws)
-
   -- where each element gives the same, the join is the same
   pub join_same : (g : X → List A) (xs : List X) → All (λ x. f x ≡ g x) xs → flat_map f xs ≡ flat_map g xs
   join_same g [] h = refl

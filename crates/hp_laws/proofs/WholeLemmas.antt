@@ -3,12 +3,13 @@ use Rattle.std.proofs.Common.{◌≡◌, ◌≢◌, ℕ, zero, suc, ◌-◌, ◌
 use Rattle.std.specs.Prelude.{flat_map}
 use Rattle.std.specs.List.{All}
 use Rattle.std.proofs.lemmas.Bool.{false≢true, cond-true, cond-false, cases_Bool}
+use Rattle.std.proofs.lemmas.List.Folds.{flat_map-map}
 use Rattle.std.proofs.lemmas.List.Elements.{All-map, All-weaker, All-head, All-tail}
 use Rattle.hp_syntax.specs.Syntax.{Rule, Pair}
 use Rattle.hp_syntax.specs.Networks.{is_empty}
 use Rattle.hp_laws.specs.TreeLaws.{IsFaultless, IsReached, without_depth}
 use Rattle.hp_syntax.specs.Walk.{Node, Child, DidChild, CutChild, FaultChild, children, Sight, Did, Plan, CutHere, FaultHere, Visit, visit, numbered_children, child_visits, visits_within, visits, heard_visits, is_fault_here, root, walk}
-use Rattle.hp_laws.proofs.JoinLemmas.{all_joined, all_unmapped, map_join, join_map, join_same}
+use Rattle.hp_laws.proofs.JoinLemmas.{all_joined, all_unmapped, map_join, join_same}
 use Rattle.hp_laws.proofs.DepthLemmas.{at_depth, child_at_depth, children_at_depth}
 use Rattle.hp_laws.proofs.HearingLemmas.{up_to_end, up_to-map}
 
@@ -55,7 +56,7 @@ module _ (rules : List Rule) (nest : ℕ) where
       (children_at_depth k n rules nest)
       ∙ (ap (flat_map (child_visits (visits_within rules nest d) (at_depth k n) p))
       (same_numbers (k - 1) 0 (children rules nest n))
-      ∙ join_map (child_visits (visits_within rules nest d) (at_depth k n) p) (numbered_at_depth (k - 1))
+      ∙ flat_map-map (child_visits (visits_within rules nest d) (at_depth k n) p) (numbered_at_depth (k - 1))
       (numbered_children 0 (children rules nest n))))
 
   -- where no decomposition is left and there is no cut, there are no tasks

@@ -1,5 +1,5 @@
 -- A text that is put on a page part by part, and written at the end.
-use Rattle.std.proofs.Common.{◌≡◌, ℕ, ◌+◌, ◌<◌, ◌≤◌, List, [], ◌∷◌, ◌++◌, length, Option, Some, None, take, drop, get_or, refl, ap, sym, subst, ◌∙◌, append_assoc, append-nil}
+use Rattle.std.proofs.Common.{◌≡◌, ℕ, ◌+◌, ◌<◌, ◌≤◌, List, [], ◌∷◌, ◌++◌, length, Option, take, drop, get_or, refl, ap, sym, subst, ◌∙◌, append_assoc, append-nil}
 use Rattle.std.specs.List.{flat_map}
 use Rattle.std.specs.Prelude.{Result, Ok, Err}
 use Rattle.std.specs.Result.{IsErr}
@@ -8,14 +8,10 @@ use Rattle.std.proofs.lemmas.List.{take_more, take_all, take-append-drop}
 use Rattle.std.proofs.lemmas.List.Concat.{flat_map-append}
 use Rattle.hp_out.specs.Pages.{Desk, desk, Put, Puts}
 use Rattle.hp_out.specs.Writing.{Wrote, WroteProperPrefix, Writes}
-use Rattle.hp_out.proofs.WritingLemmas.{proper_longer, proper_after}
+use Rattle.hp_out.proofs.WritingLemmas.{wrote_nothing, proper_longer, proper_after}
 use Rattle.hp_out.proofs.WriteSteps.{wrote_both, writes_prefix, rest_written}
 
 -- ---- what was put
-
-wrote_nothing : (b : Option (List ℕ)) → Wrote [] b b
-wrote_nothing None = refl
-wrote_nothing (Some b) = ap Some (sym (append-nil b))
 
 -- a text that was kept on the page was put
 pub put_kept : (text : List ℕ) (a b : Desk) → b.sink ≡ a.sink → b.page ≡ a.page ++ text → Put text a b

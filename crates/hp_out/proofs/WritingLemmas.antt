@@ -4,6 +4,11 @@ use Rattle.std.proofs.Math.Seq.{take-append-add, take-length}
 use Rattle.std.proofs.lemmas.List.{take-append-le}
 use Rattle.hp_out.specs.Writing.{Wrote, WrotePrefix, WroteProperPrefix}
 
+-- where nothing was written, the empty text was
+pub wrote_nothing : (b : Option (List ℕ)) → Wrote [] b b
+wrote_nothing None = refl
+wrote_nothing (Some b) = ap Some (sym (append-nil b))
+
 -- where nothing was written, the empty prefix of every text was
 pub nothing_written : (text : List ℕ) (b : Option (List ℕ)) → WrotePrefix text b b
 nothing_written text None = refl

@@ -3,7 +3,7 @@ use Rattle.std.proofs.Common.{◌≡◌, ◌∙◌, sym, ap, refl, subst, ℕ, �
 use Rattle.hp_syntax.specs.declared.pattern.Span.{Span}
 use Rattle.hp_syntax.specs.Forest.{Forest, Bare, Grow, Word, Group}
 use Rattle.hp_syntax.specs.Syntax.{And, NoExpression, Also, NoTasks, Then, Ordered}
-use Rattle.hp_syntax.specs.Steps.{Names, Parse, each, and_then, pure, ◌<$>◌}
+use Rattle.hp_syntax.specs.Steps.{Misform, Names, Parse, each, and_then, pure, ◌<$>◌}
 use Rattle.hp_syntax.specs.Views.{as_expressions, expression_of, expressions_of, as_task_list, tasks_of, task_list_of}
 use Rattle.hp_syntax.specs.declared.expression.Expr.{Expr}
 use Rattle.hp_syntax.specs.declared.tasks.NetPat.{NetPat}
@@ -15,7 +15,7 @@ use Rattle.hp_text.specs.NodeLaws.{node_of-name, node_of-list}
 use Rattle.hp_syntax.specs.declared.name.Name.{Name}
 use Rattle.std.specs.Prelude.{Vec}
 use Rattle.std.specs.Global.{Global}
-use Rattle.hp_terms.specs.FormReads.{Refuses, Reads}
+use Rattle.hp_terms.specs.FormReads.{Refuses, Gives, Reads}
 use Rattle.hp_terms.specs.declared.refusal.FormRefusal.{FormRefusal}
 use Rattle.hp_terms.proofs.Turns.{refused_next, refused_same, prepend, from_here, all_read, one_refused}
 
@@ -167,6 +167,12 @@ pub reads_same : {X Y : Type 0} (view : X → Y) (r : Result X FormRefusal) (p q
     → q before ≡ p before → Reads view r p before after → Reads view r q before after
 reads_same view (Ok x) p q before after same h = same ∙ h
 reads_same view (Err e) p q before after same h = refused_same e (q before) (p before) same h
+
+-- a value that gives a result gives an equal one
+pub gives_same : {X Y : Type 0} (view : X → Y) (r : Result X FormRefusal) (p q : Result Y Misform) → q ≡ p
+    → Gives view r p → Gives view r q
+gives_same view (Ok x) p q same h = same ∙ h
+gives_same view (Err e) p q same h = refused_same e q p same h
 
 -- the list of nodes that begin with a list is the conjunction of its parts
 pub conjunction-list : (s : Span) (nodes rest : List public.Node) (first : public.Node) (parts : Vec public.Node Global)

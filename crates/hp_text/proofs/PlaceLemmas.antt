@@ -1,7 +1,7 @@
 -- Gaps, tokens and places with one more byte.
 use Rattle.std.proofs.Common.{◌≡◌, ℕ, ◌+◌, ◌-◌, ◌<◌, ◌≤◌, true, false, List, length, slice_index, get_or, take, drop, refl, sym, ap, ◌∙◌, arith, ⊎_elim}
 use Rattle.std.proofs.lemmas.Bool.{cases_lt}
-use Rattle.std.proofs.lemmas.List.{take_all, get_or-drop, length-drop}
+use Rattle.std.proofs.lemmas.List.{take_rest, get_or-drop, length-drop}
 use Rattle.hp_syntax.specs.Text.{Kind, Blank, NameByte, End, is_blank, is_name_byte, in_comment, kind_at, IsGap}
 use Rattle.hp_syntax.proofs.TextLemmas.{kind_at-end, kind_within, name_byte_only, quiet_behind, outside_behind}
 use Rattle.hp_text.specs.Places.{IsBetween, IsStop}
@@ -92,17 +92,14 @@ stop_at_end text i e =
       stops = λ h. let x : End ≡ Blank = sym end ∙ h in cc;
     }
 
-rest_whole : (text : List ℕ) (n : ℕ) → take (length text - n) (drop n text) ≡ drop n text
-rest_whole text n = take_all (length text - n) (drop n text) (let e = length-drop n text in omega (arith, e))
-
 -- the rest of a text has the bytes behind a place
 pub rest_byte : (text : List ℕ) (n k i : ℕ) → i ≡ n + k
     → get_or (take (length text - n) (drop n text)) k 0 ≡ slice_index text i
-rest_byte text n k i e = rw (rest_whole text n, get_or-drop n text k 0, e) refl
+rest_byte text n k i e = rw (take_rest text n, get_or-drop n text k 0, e) refl
 
 -- the rest of a text is as long as what is behind a place
 pub rest_length : (text : List ℕ) (n : ℕ) → length (take (length text - n) (drop n text)) ≡ length text - n
-rest_length text n = ap length (rest_whole text n) ∙ length-drop n text
+rest_length text n = ap length (take_rest text n) ∙ length-drop n text
 
 -- one byte is a token so far
 pub token_begins : (text : List ℕ) (from : ℕ) → kind_at text from ≡ NameByte → (j : ℕ) → from ≤ j → j < from + 1

@@ -1,5 +1,6 @@
 -- Notes that are written one after the other.
-use Rattle.std.proofs.Common.{◌≡◌, ℕ, ◌+◌, ◌<◌, ◌≤◌, List, [], ◌∷◌, ◌++◌, length, map, take, drop, slice_index_or, Option, refl, ap, sym, subst, ◌∙◌, arith, append_assoc, append-nil, add-one}
+use Rattle.std.proofs.Common.{◌≡◌, ℕ, ◌+◌, ◌<◌, ◌≤◌, List, [], ◌∷◌, ◌++◌, length, map, take, drop, slice_index_or, Option, ap, sym, subst, ◌∙◌, arith, append_assoc, append-nil, add-one}
+use Rattle.std.proofs.lemmas.List.Folds.{flat_map-map}
 use Rattle.std.specs.List.{flat_map}
 use Rattle.std.specs.Prelude.{zero, suc}
 use Rattle.hp_out.specs.Writing.{Wrote, sink_run}
@@ -7,12 +8,6 @@ use Rattle.hp_out.proofs.WriteSteps.{seam, wrote_both}
 use Rattle.hp_top.specs.declared.telling.Halt.{Halt}
 use Rattle.hp_top.specs.Telling.{Halts}
 use Rattle.hp_top.proofs.TellingLemmas.{halts_longer, halts_after}
-
--- texts of what other elements stand for
-flat_map-map : {X Y A : Type 0} (f : Y → List A) (g : X → Y) (xs : List X)
-    → flat_map f (map g xs) ≡ flat_map (λ x. f (g x)) xs
-flat_map-map f g [] = refl
-flat_map-map f g (x ∷ xs) = ap (λ t. f (g x) ++ t) (flat_map-map f g xs)
 
 -- one element more comes to its text behind those before it
 flat_map-take : {X A : Type 0} (f : X → List A) (xs : List X) (i : ℕ) (d : X) → i < length xs

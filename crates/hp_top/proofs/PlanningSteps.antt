@@ -1,11 +1,12 @@
 -- One visit more that was told, and the whole telling.
-use Rattle.std.proofs.Common.{◌≡◌, ℕ, ◌+◌, ◌-◌, ◌^◌, ◌==◌, min, Bool, true, false, cond, nat_le, List, [], ◌∷◌, ◌++◌, ◌≤◌, ◌<◌, length, Option, Some, None, Result, Ok, Err, OnOk, IfOk, IfErr, refl, ap, sym, ◌∙◌, subst, append_assoc, append-nil, arith}
+use Rattle.std.proofs.Common.{◌≡◌, ℕ, ◌+◌, ◌-◌, ◌^◌, ◌==◌, min, Bool, true, false, cond, nat_le, List, [], ◌∷◌, ◌++◌, ◌≤◌, ◌<◌, length, Option, Some, None, Result, Ok, Err, OnOk, IfOk, IfErr, refl, ap, sym, ◌∙◌, subst, append_assoc, arith}
 use Rattle.std.proofs.lemmas.Bool.Decides.{nat_tests}
 use Rattle.hp_out.specs.Endings.{ending_of}
 use Rattle.hp_out.specs.Writing.{SinkRun, sink_run, Wrote}
 use Rattle.hp_out.specs.declared.ending.Ending.{Ending}
 use Rattle.hp_out.specs.declared.ending.Ending.TheVariants as endings
 use Rattle.hp_out.proofs.WriteSteps.{wrote_both}
+use Rattle.hp_out.proofs.WritingLemmas.{wrote_nothing}
 use Rattle.hp_syntax.specs.Report as base
 use Rattle.hp_syntax.specs.Report.{Tally, tally, ended, ending_text, status_of, answer_at, behind, plan_texts, end_of}
 use Rattle.hp_syntax.specs.Walk.{Did, Plan, Visit}
@@ -17,11 +18,6 @@ use Rattle.hp_top.specs.declared.telling.Halt.TheVariants.{NoMemory, Failed}
 use Rattle.hp_top.specs.Telling.{left, telling, tally_of, Goes, Closes, Visited, Halts, counted, stop_at, Tells, WithoutMemory, Unwritten, Written, status_told}
 use Rattle.hp_top.proofs.TellingLemmas.{halts_longer, halts_after}
 use Rattle.hp_top.proofs.ReportLemmas.{did_reported, plan_reported, last_reported, texts_first, report_saturates}
-
--- where nothing was written, the empty text was
-pub wrote_nothing : (b : Option (List ℕ)) → Wrote [] b b
-wrote_nothing None = refl
-wrote_nothing (Some b) = ap Some (sym (append-nil b))
 
 -- a fact of any answer holds on Ok
 pub holds_on_ok : {A E : Type 0} (r : Result A E) (P : Type 0) → P → OnOk r P

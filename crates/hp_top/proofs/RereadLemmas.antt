@@ -1,7 +1,7 @@
 -- A canonical text that is read keeps the limits, and is read as what it was written of, up to spans.
 use Rattle.std.proofs.Common.{◌≡◌, ◌≢◌, ◌⊎◌, inl, inr, ⊎_elim, ℕ, zero, suc, ◌≤◌, ◌<◌, max, List, length, Err, refl, sym, ◌∙◌, ap, arith}
 use Rattle.std.specs.Prelude.{IsErrOf}
-use Rattle.std.proofs.lemmas.Bool.{cases_order}
+use Rattle.std.proofs.lemmas.Bool.{cases_lt}
 use Rattle.std.proofs.Math.Nat.{lt_of_not-le}
 use Rattle.hp_syntax.specs.declared.limits.TheConstants.{LARGEST_TEXT, DEEPEST_NESTING}
 use Rattle.hp_syntax.specs.Forest.{Node, Forest, Bare, Grow, IsForest, Spells, SpellsNode, span_of, nesting, nesting_of_node}
@@ -75,15 +75,12 @@ problem_within text p f r s =
 -- a text that doesn't keep the limits goes past one of them
 past_limits : (text : List ℕ) (n : Node) → (IsWithinLimits text n → ⊥) → IsPastLimits text n
 past_limits text n out = large (length text) (nesting_of_node n) out where
-  above_or : (a b : ℕ) → (b < a) ⊎ (a ≤ b)
-  above_or a b = ⊎_elim (λ e. inr (omega arith)) (⊎_elim (λ h. inr (omega arith)) (λ h. inl h)) (cases_order a b)
-
   deep : (a c : ℕ) → ((a ≤ LARGEST_TEXT) × (c ≤ DEEPEST_NESTING) → ⊥) → a ≤ LARGEST_TEXT → DEEPEST_NESTING < c
   deep a c out h = lt_of_not-le (λ k. out (h, k))
 
   large : (a c : ℕ) → ((a ≤ LARGEST_TEXT) × (c ≤ DEEPEST_NESTING) → ⊥)
       → (LARGEST_TEXT < a) ⊎ (DEEPEST_NESTING < c)
-  large a c out = ⊎_elim (λ h. inl h) (λ h. inr (deep a c out h)) (above_or a LARGEST_TEXT)
+  large a c out = ⊎_elim (λ h. inl h) (λ h. inr (deep a c out h)) (cases_lt LARGEST_TEXT a)
 
 -- a text that is refused for something other than want of memory is read as nothing
 pub told_unreadable : {A T : Type 0} (which : Input) (form : Form A) (bytes : List ℕ) (error : RereadError)

@@ -8,7 +8,8 @@ use Rattle.hp_syntax.specs.Views.{problem_of}
 use Rattle.hp_text.specs.Nodes.{node_of, nodes_of}
 use Rattle.hp_text.specs.NodeLaws.{node_of-span}
 use Rattle.hp_terms.proofs.Turns.{refused_same, refused_next}
-use Rattle.hp_forms.proofs.FileSteps.{list_behind, value_refused, gives_same}
+use Rattle.hp_terms.proofs.PartSteps.{gives_same}
+use Rattle.hp_forms.proofs.FileSteps.{list_behind, value_refused}
 use Rattle.hp_forms.proofs.files.problem_of_node.Goals as goal
 
 pub returns-in_err-rest : goal.returns-in_err-rest
@@ -22,8 +23,8 @@ returns-in_err-rest c =
 
 pub returns : goal.returns
 returns c =
-    gives_same problem_of c.problem_list.result
-    (value_in (file_list wants.Problem (codes "defproblem") problem_list (node_of c.args.node) [])) _
+    gives_same problem_of c.problem_list.result _
+    (value_in (file_list wants.Problem (codes "defproblem") problem_list (node_of c.args.node) []))
     (ap value_in (list_behind wants.Problem (codes "defproblem") problem_list (node_of c.args.node) []
     ∙ ap (λ r. and_then r (problem_list (span_of (node_of c.args.node)))) (c.in_ok-rest.ensures [])
     ∙ ap (λ s. problem_list s (nodes_of c.in_ok-rest.rest.items) []) (node_of-span c.args.node)))
