@@ -1,6 +1,6 @@
 -- What effects gather, one after another, and what of it is put into changes.
-use Rattle.std.proofs.Common.{append_assoc, ◌≡◌, ℕ, ◌+◌, ◌<◌, ◌≤◌, List, [], ◌∷◌, ◌++◌, length, take, drop, get_or, slice_get, Some, Result, Ok, Err, refl, sym, ◌∙◌, ap, ap₂, subst, arith}
-use Rattle.std.proofs.lemmas.List.{map-append, append-nil, length-take-le, take-append-le}
+use Rattle.std.proofs.Common.{append_assoc, ◌≡◌, ℕ, ◌+◌, ◌<◌, List, [], ◌∷◌, ◌++◌, length, drop, get_or, slice_get, Some, Result, Ok, Err, refl, sym, ◌∙◌, ap, ap₂, subst, arith}
+use Rattle.std.proofs.lemmas.List.{map-append, append-nil}
 use Rattle.hp_syntax.specs.declared.fault.RunFault.{RunFault}
 use Rattle.hp_syntax.specs.declared.pattern.AtomPat.{AtomPat}
 use Rattle.hp_syntax.specs.Syntax.{Atom}
@@ -14,9 +14,8 @@ use Rattle.hp_eval.specs.declared.event.Event.TheVariants as events
 use Rattle.hp_eval.specs.Events.{PlainEvent, event_of, left_after, AreOfFirst}
 use Rattle.hp_eval.specs.GoalViews.{term_at}
 use Rattle.hp_eval.specs.Growth.{Grows}
-use Rattle.hp_eval.specs.Slotted.{Slotted, Binds, undone}
 use Rattle.hp_eval.proofs.CellViews.{at_named}
-use Rattle.hp_eval.proofs.GrowthLemmas.{all_below, terms_stay, prefix}
+use Rattle.hp_eval.proofs.GrowthLemmas.{all_below, terms_stay}
 use Rattle.hp_eval.proofs.Loops.{left_more}
 use Rattle.hp_world.specs.Stages.{terms_at, changes_of, ChangesBelow}
 use Rattle.hp_effect.specs.declared.changes.Part.{Part}
@@ -258,17 +257,15 @@ atoms_left atoms i e a l is =
 -- ---- what stops
 
 -- what stops stops what would go on
-stops_go : {A B : Type 0} (obstacle : Obstacle) (x : Going A) (f : A → Going B) → StopsHere obstacle x
+pub stops_go : {A B : Type 0} (obstacle : Obstacle) (x : Going A) (f : A → Going B) → StopsHere obstacle x
     → StopsHere obstacle (and_go x f)
 stops_go Cut x f h = ap (λ y. and_go y f) h
 stops_go (Fault k) x f h = ap (λ y. and_go y f) h
 stops_go NoMemory x f h = tt
 
 -- the same of what equals it
-stops_same : {A : Type 0} (obstacle : Obstacle) (x y : Going A) → x ≡ y → StopsHere obstacle y → StopsHere obstacle x
-stops_same Cut x y e h = e ∙ h
-stops_same (Fault k) x y e h = e ∙ h
-stops_same NoMemory x y e h = tt
+pub stops_same : {A : Type 0} (obstacle : Obstacle) (x y : Going A) → x ≡ y → StopsHere obstacle y → StopsHere obstacle x
+stops_same obstacle x y e h = subst (StopsHere obstacle) (sym e) h
 
 -- ---- the next event
 
@@ -332,12 +329,3 @@ fewer_behind [] h = absurd cc
 fewer_behind (plain.Sat e ∷ xs) h = omega arith
 fewer_behind (plain.Cut ∷ xs) h = absurd cc
 fewer_behind (plain.Fault f ∷ xs) h = absurd cc
-
--- grown terms agree with those before below the kept number
-pub kept_agree : (k : ℕ) (old new : List Term) → Grows old new → k ≤ length old → take k old ≡ take k new
-kept_agree k old new g h =
-    sym (ap (take k) (prefix old new g) ∙ take-append-le k old (drop (length old) new) h)
-
--- bindings above those of a mark are undone to these
-pub undone_above : (n : ℕ) (e f : Slotted) → n ≤ length e.trail → Binds (undone n e) f → undone n f ≡ undone n e
-undone_above n e f h b = ap (λ m. undone m f) (sym (length-take-le n e.trail h)) ∙ b.undoes

@@ -1,4 +1,4 @@
--- A list that grows at its front.
+-- A list to which first parts are added.
 use Rattle.std.proofs.Common.{◌≡◌, ℕ, ◌<◌, Bool, true, false, cond, List, [], ◌∷◌, ◌++◌, length, map, slice_get, Some, Result, Ok, Err, refl, ap, ap₂, sym, ◌∙◌, subst}
 use Rattle.std.specs.List.{All}
 use Rattle.std.specs.Result.{IfOk, OnErr}
@@ -26,11 +26,6 @@ pub intern_grows : {E : Type 0} (t : Term) (old new : List Term) (r : Result ℕ
     → IfOk r (λ cell. Interns t cell old new) → OnErr r (new ≡ old) → Grows old new
 intern_grows t old new (Ok cell) ok err = interns_grows t cell old new ok
 intern_grows t old new (Err e) ok err = grows_same old new err
-
--- a list without elements is empty
-pub no_element : {X : Type 0} (xs : List X) → length xs ≡ 0 → xs ≡ []
-no_element [] h = refl
-no_element (x ∷ xs) h = absurd (cc)
 
 -- the last of the cells, put in front of the list
 module _ (old new : List Term) (before after : List ℕ) (part list cell : ℕ) (us : Terms)

@@ -3,10 +3,10 @@ use Rattle.std.proofs.Common.{◌≡◌, ℕ, ◌≤◌, length, sym, subst, ari
 use Rattle.std.specs.List.{All}
 use Rattle.std.proofs.lemmas.List.{length-take-le}
 use Rattle.hp_eval.specs.Slotted.{Slotted, AreBelow, Binds, undone}
+use Rattle.hp_eval.proofs.SlotLemmas.{undone_above}
 use Rattle.hp_pick.specs.declared.heard.Heard.{Heard}
 use Rattle.hp_pick.specs.Noted.{IsNoted}
 use Rattle.hp_pick.specs.Heard.{FitsHeard}
-use Rattle.hp_pick.proofs.HearingLemmas.{undone_above}
 
 -- as many bindings stand above those of a mark as the mark
 pub mark_above : (mark : ℕ) (e f : Slotted) → mark ≤ length e.trail → Binds (undone mark e) f → mark ≤ length f.trail

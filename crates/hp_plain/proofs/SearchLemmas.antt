@@ -440,11 +440,6 @@ goes_pruned s h did n is =
           };
     }
 
--- a list of no elements is empty
-pub none_from_length : {X : Type 0} (xs : List X) → length xs ≡ 0 → xs ≡ []
-none_from_length [] e = refl
-none_from_length (x ∷ xs) e = absurd (omega arith)
-
 -- ---- how a search begins
 
 begin_stack : (rules : List Rule) (nest : ℕ) (n : Node)

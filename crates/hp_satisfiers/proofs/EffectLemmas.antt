@@ -23,9 +23,9 @@ use Rattle.hp_eval.proofs.Loops.{left_more}
 use Rattle.hp_world.specs.Stages.{Stage, StageBelow, state_of}
 use Rattle.hp_effect.specs.declared.side.Side.TheVariants.{Deletes, Adds}
 use Rattle.hp_effect.specs.declared.obstacle.Obstacle.{Obstacle}
-use Rattle.hp_effect.specs.declared.obstacle.Obstacle.TheVariants.{Cut, Fault, NoMemory}
 use Rattle.hp_effect.specs.Costs.{Costs}
 use Rattle.hp_effect.specs.Gathering.{obstacle_of, with_gathered, both, each_going, StopsHere}
+use Rattle.hp_effect.proofs.GatheringLemmas.{stops_go, stops_same}
 use Rattle.hp_satisfiers.proofs.AnswerLemmas.{state_stays}
 
 -- ---- lists of effects
@@ -49,17 +49,6 @@ pub each_effect : (axioms : List Axiom) (nest : ℕ) (s : State) (e : Bindings) 
 each_effect axioms nest s e x vars expr atoms h = ap (λ y. effect_values axioms nest s (effect_of y) e) (sym h)
 
 -- ---- an operator's effects and its cost
-
--- what stops stops what would go on
-stops_go : {A B : Type 0} (obstacle : Obstacle) (x : Going A) (f : A → Going B) → StopsHere obstacle x
-    → StopsHere obstacle (and_go x f)
-stops_go Cut x f h = ap (λ y. and_go y f) h
-stops_go (Fault k) x f h = ap (λ y. and_go y f) h
-stops_go NoMemory x f h = tt
-
--- the same of what equals it
-stops_same : {A : Type 0} (obstacle : Obstacle) (x y : Going A) → x ≡ y → StopsHere obstacle y → StopsHere obstacle x
-stops_same obstacle x y e h = subst (StopsHere obstacle) (sym e) h
 
 -- a cost that stops stops the effects
 pub cost_stops : (stop : EvalStop) (going : Going ℤ) → Costs (Err stop) going → StopsHere (obstacle_of stop) going

@@ -18,7 +18,7 @@ use Rattle.hp_eval.specs.declared.event.Event.TheVariants as events
 use Rattle.hp_eval.specs.Events.{event_of, left_after, AreOfFirst}
 use Rattle.hp_satisfiers.specs.Listed.{FindsMore}
 use Rattle.hp_satisfiers.proofs.AnswerLemmas.{finds_one, finds_same, finds_copy, upto_more, upto_all}
-use Rattle.hp_satisfiers.proofs.MatchSteps.{binds_vars}
+use Rattle.hp_eval.proofs.SlotLemmas.{binds_vars}
 use Rattle.hp_syntax.specs.declared.fault.RunFault.{RunFault}
 use Rattle.hp_eval.proofs.Loops.{left_more}
 use Rattle.hp_satisfiers.specs.declared.answer.Answer.{Answer}

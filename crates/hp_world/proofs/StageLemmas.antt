@@ -75,7 +75,7 @@ live_cleared a (Some b ∷ ps) (suc i) h =
     ∙ sym (ap (λ t. cond (not t) (b ∷ without a (live_atoms ps)) (without a (live_atoms ps))) (ne_eqb b a other))
 
 -- the atoms of two rows are those of the first, and then those of the second
-live_joined : (ps qs : List (Option ℕ)) → live_atoms (ps ++ qs) ≡ live_atoms ps ++ live_atoms qs
+pub live_joined : (ps qs : List (Option ℕ)) → live_atoms (ps ++ qs) ≡ live_atoms ps ++ live_atoms qs
 live_joined [] qs = refl
 live_joined (None ∷ ps) qs = live_joined ps qs
 live_joined (Some a ∷ ps) qs = ap (λ xs. a ∷ xs) (live_joined ps qs)
