@@ -44,7 +44,7 @@ impl Model for Slots {
 impl Slots {
     /// So many variables, none of them bound. Room for all bindings is taken here.
     pub fn new(alloc: Global, vars: usize) -> Result<Slots, AllocError>
-        requires few { vars ≤ 256 }
+        requires few { vars ≤ MOST_VARIABLES }
         ensures { IfOk result (λ s. s ≡ no_bindings vars) }
     {
         let free = Slot {

@@ -7,6 +7,7 @@ use Rattle.std.proofs.lemmas.List.{append-nil, drop_all, length-append, map-appe
 use Rattle.std.proofs.Math.Seq.{take-append_seam}
 use Rattle.hp_laws.proofs.JoinLemmas.{all_left, all_right}
 use Rattle.std.proofs.lemmas.List.Elements.{All-nil, All-cons, All-append, All-head, All-tail, All-weaker, All-same}
+use Rattle.hp_syntax.specs.declared.limits.TheConstants.{MOST_VARIABLES}
 use Rattle.hp_syntax.specs.Checks.{HasFewVariables}
 use Rattle.hp_syntax.specs.Syntax.{Rule, Does, Refines, Concludes}
 use Rattle.hp_syntax.specs.Terms.{Term}
@@ -490,9 +491,9 @@ search_begins s node fits opens few above path did on =
 
 -- where rules have few variables, axioms do
 pub few_axioms : (rules : List Rule) → All HasFewVariables rules → AreFew (axioms_of rules)
-few_axioms [] h = All-nil (λ x. length x.vars ≤ 256)
+few_axioms [] h = All-nil (λ x. length x.vars ≤ MOST_VARIABLES)
 few_axioms (Does o ∷ rs) h = few_axioms rs (All-tail HasFewVariables (Does o) rs h)
 few_axioms (Refines m ∷ rs) h = few_axioms rs (All-tail HasFewVariables (Refines m) rs h)
 few_axioms (Concludes x ∷ rs) h =
-    All-cons (λ x. length x.vars ≤ 256) x (axioms_of rs) (All-head HasFewVariables (Concludes x) rs h)
+    All-cons (λ x. length x.vars ≤ MOST_VARIABLES) x (axioms_of rs) (All-head HasFewVariables (Concludes x) rs h)
     (few_axioms rs (All-tail HasFewVariables (Concludes x) rs h))

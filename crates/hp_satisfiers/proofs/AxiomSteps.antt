@@ -4,6 +4,7 @@ use Rattle.std.specs.Prelude.{flat_map, Contains, bytes_eq}
 use Rattle.std.proofs.lemmas.List.{length-map, drop_all}
 use Rattle.std.proofs.lemmas.List.Elements.{All-contains}
 use Rattle.std.proofs.lemmas.Option.{slice_get-map}
+use Rattle.hp_syntax.specs.declared.limits.TheConstants.{MOST_VARIABLES}
 use Rattle.hp_syntax.specs.Syntax.{Rule, Axiom, Concludes, Does, Refines}
 use Rattle.hp_syntax.specs.Terms.{Term}
 use Rattle.hp_syntax.specs.Values.{Bindings, unbound}
@@ -144,6 +145,6 @@ placed_axiom o r a h is = sym h ∙ ap (option_map (λ b. axiom_of b.now)) is
 
 -- an axiom at a place has few variables where all have
 pub few_at : (rules : List Rule) (place : ℕ) (x : Axiom) → AreFew (axioms_of rules) → axiom_at rules place ≡ Some x
-    → length x.vars ≤ 256
+    → length x.vars ≤ MOST_VARIABLES
 few_at rules place x few h =
-    All-contains (λ y. length y.vars ≤ 256) (axioms_of rules) x few (axiom_among rules place x h)
+    All-contains (λ y. length y.vars ≤ MOST_VARIABLES) (axioms_of rules) x few (axiom_among rules place x h)

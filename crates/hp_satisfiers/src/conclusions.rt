@@ -1,6 +1,7 @@
 //! What an axiom concludes of a goal, once its branches have satisfiers.
 ghost use Rattle.std.specs.Prelude.{◌≡◌, ◌≤◌, IfOk, length};
 ghost use Rattle.std.specs.List.{All};
+ghost use Rattle.hp_syntax.specs.declared.limits.TheConstants.{MOST_VARIABLES};
 ghost use Rattle.hp_syntax.specs.Events as plain;
 ghost use Rattle.hp_syntax.specs.Goals.{start_goal};
 ghost use Rattle.hp_syntax.specs.Values.{unbound};
@@ -23,7 +24,7 @@ pub fn own_slots(
     goal: &Goal,
     cells: &mut Cells,
 ) -> Result<Option<Slots>, AllocError>
-    requires few { length (axiom_of rule.now).vars ≤ 256 }
+    requires few { length (axiom_of rule.now).vars ≤ MOST_VARIABLES }
     requires goal { GoalBelow (length cells.old) goal.now }
     ensures starts { IfOk result (λ slots. let x = axiom_of rule.now in MeetsHead cells.new (length x.vars) slots
         (start_goal x.head (goal_of cells.old goal.now) (unbound (length x.vars)))) }

@@ -2,6 +2,7 @@
 ghost use Rattle.std.specs.Prelude.{◌≡◌, ◌≤◌, [], IfOk, map, length};
 ghost use Rattle.hp_syntax.specs.Changes.{effect_values, effects_values, effects};
 ghost use Rattle.hp_syntax.specs.Preconditions.{heard};
+ghost use Rattle.hp_syntax.specs.declared.limits.TheConstants.{MOST_VARIABLES};
 ghost use Rattle.hp_syntax.specs.Views.{atoms_of, effect_of, operator_of};
 ghost use Rattle.hp_eval.specs.Growth.{Grows};
 ghost use Rattle.hp_eval.specs.Slotted.{AreBelow, bindings_of};
@@ -38,7 +39,7 @@ fn put_listed(
     cells: &mut Cells,
     changes: &mut Changes,
 ) -> Result<(), Obstacle>
-    requires few { vars ≤ 256 }
+    requires few { vars ≤ MOST_VARIABLES }
     requires fit { AllFit vars (length cells.old) found.items }
     requires below { ChangesBelow (length cells.old) changes.old }
     ensures puts { PutsAll side result (each_going (atoms_of atoms.now) (heard (answer_events cells.old found.items)))

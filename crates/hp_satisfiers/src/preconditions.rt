@@ -1,5 +1,6 @@
 //! The satisfiers of preconditions.
 ghost use Rattle.std.specs.Prelude.{◌≡◌, ◌<◌, ◌≤◌, true, List, Ok, IfOk, OnOk, length, take};
+ghost use Rattle.hp_syntax.specs.declared.limits.TheConstants.{MOST_VARIABLES};
 ghost use Rattle.hp_syntax.specs.Preconditions.{heard, up_to_sat, keyed, sorted_events, precondition_events};
 ghost use Rattle.hp_syntax.specs.Terms.{Term};
 ghost use Rattle.hp_syntax.specs.Views.{key_of, precondition_of};
@@ -134,7 +135,7 @@ fn first(
     vars: usize,
     cells: &mut Cells,
 ) -> Result<Vec<Answer>, AllocError>
-    requires few { vars ≤ 256 }
+    requires few { vars ≤ MOST_VARIABLES }
     requires fit { AllFit vars (length cells.old) found.items }
     ensures finds { IfOk result (λ v. Finds cells.new vars v.items
         (up_to_sat (heard (answer_events cells.old found.items)))) }
@@ -153,7 +154,7 @@ fn sorted(
     vars: usize,
     cells: &mut Cells,
 ) -> Result<Vec<Answer>, AllocError>
-    requires few { vars ≤ 256 }
+    requires few { vars ≤ MOST_VARIABLES }
     requires fit { AllFit vars (length cells.old) found.items }
     ensures finds { IfOk result (λ v. Finds cells.new vars v.items
         (sorted_events (key_of key.now).order (keyed (key_of key.now) (heard (answer_events cells.old found.items))))) }
