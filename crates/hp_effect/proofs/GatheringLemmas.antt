@@ -264,7 +264,8 @@ stops_go (Fault k) x f h = ap (λ y. and_go y f) h
 stops_go NoMemory x f h = tt
 
 -- the same of what equals it
-pub stops_same : {A : Type 0} (obstacle : Obstacle) (x y : Going A) → x ≡ y → StopsHere obstacle y → StopsHere obstacle x
+pub stops_same : {A : Type 0} (obstacle : Obstacle) (x y : Going A) → x ≡ y → StopsHere obstacle y
+    → StopsHere obstacle x
 stops_same obstacle x y e h = subst (StopsHere obstacle) (sym e) h
 
 -- ---- the next event

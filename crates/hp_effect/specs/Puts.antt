@@ -1,4 +1,4 @@
--- What is put into changes, and what applying them comes to.
+-- Atoms that are put into changes, and the answers of applying these.
 use Rattle.std.specs.Prelude.{◌≡◌, ℕ, List, [], ◌∷◌, ◌++◌, Result, Ok, Err, Some, slice_get}
 use Rattle.hp_syntax.specs.declared.fault.RunFault.{RunFault}
 use Rattle.hp_syntax.specs.Terms.{Term}

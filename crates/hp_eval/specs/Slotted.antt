@@ -1,4 +1,4 @@
--- What variables stand for by cells, and the order in which they were bound.
+-- Bindings of variables to cells, in the order in which they were made.
 use Rattle.std.specs.Prelude.{◌≡◌, ◌≢◌, ℕ, ◌<◌, ◌≤◌, Bool, true, false, List, [], ◌∷◌, ◌++◌, map, length, take, drop, replicate, Option, Some, None, slice_get, slice_set, Contains}
 use Rattle.std.specs.List.{AllPairs}
 use Rattle.std.specs.Option.{option_and_then}
@@ -50,7 +50,7 @@ pub record Binds (old new : Slotted) : Type 0 where
 abbrev pub AreBelow : ℕ → Slotted → Type 0
 AreBelow n s = (v cell : ℕ) → slice_get s.values v ≡ Some (Some cell) → cell < n
 
--- what a variable stands for; one beyond the variables stands for nothing
+-- the cell of a variable; one beyond the variables has none
 abbrev pub flat : Option (Option ℕ) → Option ℕ
 flat None = None
 flat (Some cell) = cell
@@ -63,7 +63,7 @@ named terms cell = option_and_then (slice_get terms) cell
 abbrev pub bindings_of : List Term → Slotted → Bindings
 bindings_of terms s = map (named terms) s.values
 
--- what matching answers: true with the bindings that the definition has, bound above those before, or false where it
+-- the answer of matching: true with the bindings that the definition has, bound above those before, or false where it
 -- has none, with nothing changed
 abbrev pub Matched : Bool → Option Bindings → List Term → Slotted → Slotted → Type 0
 Matched true found terms old new = (found ≡ Some (bindings_of terms new)) × Binds old new

@@ -1,4 +1,4 @@
-//! What an axiom's bindings conclude of a goal.
+//! Conclusions of an axiom's bindings on a goal.
 ghost use Rattle.std.specs.Prelude.{◌≡◌, List, length};
 ghost use Rattle.hp_syntax.specs.Events as plain;
 ghost use Rattle.hp_syntax.specs.Events.{all_bound, parts_bound, tail_is_bound};

@@ -1,6 +1,6 @@
 //! Matching: of the head of a rule, and of a goal, with an atom.
 //!
-//! What matches parts of them may leave bindings where it answers false. The outermost call undoes them.
+//! Calls that match parts may leave bindings where they answer false. The outermost call undoes them.
 ghost use Rattle.std.specs.Prelude.{◌≡◌, ◌<◌, true, Some, length, slice_get};
 ghost use Rattle.hp_syntax.specs.Terms.{Term, same_term};
 ghost use Rattle.hp_syntax.specs.Views.{pattern_of, patterns_of, atom_of};

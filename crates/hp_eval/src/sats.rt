@@ -25,10 +25,10 @@ pub trait Sats<B> {
     /// The slots are as the last call left them.
     ghost fits: { Self → Slotted → Type 0 };
 
-    /// How many bindings stood at the start.
+    /// The number of bindings that stood at the start.
     ghost start: { Self → ℕ };
 
-    /// What is left speaks only of so many cells, which stood at the end of the last call.
+    /// The events that are left speak only of so many cells, which stood at the end of the last call.
     ghost kept: { Self → ℕ };
 
     /// No call has failed.
@@ -78,7 +78,7 @@ pub trait Sats<B> {
     /// The slots hold the bindings of the start, and their cells are among those that are kept.
     ghost fits_hold: { (s : Self) (e : Slotted) → fits s e → (start s ≤ length e.trail) × AreBelow (kept s) e };
 
-    /// What is left is the same over any cells that agree with these below the kept number.
+    /// The events that are left are the same over any cells that agree with these below the kept number.
     ghost same_cells: { (s : Self) (b : B) (c d : List Term) (e : Slotted) → suits s b → fits s e
         → take (kept s) c ≡ take (kept s) d → rest s b c e ≡ rest s b d e };
 

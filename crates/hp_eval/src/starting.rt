@@ -1,7 +1,7 @@
 //! Starting an axiom: its head beside a goal.
 //!
-//! What starts parts of the head may leave bindings where it answers false, or fails for want of memory. The outermost
-//! call undoes them.
+//! Calls that start parts of the head may leave bindings where they answer false, or fail for want of memory. The
+//! outermost call undoes them.
 ghost use Rattle.std.specs.Prelude.{◌≡◌, ℕ, ◌<◌, true, None, IfSome, IfOk, OnErr, List, length, is_some, option_map};
 ghost use Rattle.hp_syntax.specs.Syntax.{NoPattern};
 ghost use Rattle.hp_syntax.specs.Terms.{Term};

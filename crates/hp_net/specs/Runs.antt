@@ -24,7 +24,7 @@ visit_of Back s = None
 visit_of Next s = next_of s.rest
 visit_of Prune s = None
 
--- what a call asks
+-- the premise of a call
 abbrev pub MayCall : Call → Standing → Type 0
 MayCall Step s = Unit {0}
 MayCall Back s = (s.path ≢ []) × (next_below s.path s.rest ≡ None)

@@ -24,7 +24,7 @@ standing p vs did = record { path = p; rest = vs; at_did = did }
 abbrev pub node_reached : Tree → Standing → Option Node
 node_reached t s = node_at t.rules t.nest t.root s.path
 
--- where a number of cells is promised, there are so many
+-- there are as many cells as are promised, if a number is
 abbrev pub HasCells : Option ℕ → List Term → Type 0
 HasCells None terms = Unit {0}
 HasCells (Some n) terms = length terms ≡ n

@@ -67,7 +67,7 @@ either_hold fits start mark kept None e h f =
     (subst (λ n. n ≤ length e.trail) (sym f.0) (h f.1).0, (h f.1).1)
 either_hold fits start mark kept (Some x) e h f = (f.above, f.below)
 
--- what is left is the same over terms that agree below the kept number
+-- the events that are left are the same over terms that agree below the kept number
 pub either_same : (k : Key) (suits fits : Type 0) (start mark kept : ℕ) (o : Option Heard) (e : Slotted)
     (c d : List Term) (xs ys : List PlainEvent) → (suits → fits → take kept c ≡ take kept d → xs ≡ ys)
     → SuitsEither suits o → FitsEither fits start mark o e → take (kept_of kept o) c ≡ take (kept_of kept o) d

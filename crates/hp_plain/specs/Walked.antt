@@ -1,4 +1,4 @@
--- What contracts see of a plain walk.
+-- The view of a plain walk.
 use Rattle.std.specs.Prelude.{◌≡◌, ℕ, Bool, true, List}
 use Rattle.hp_syntax.specs.Syntax.{Rule}
 use Rattle.hp_syntax.specs.Terms.{Term}

@@ -91,7 +91,8 @@ module _ (terms : List Term) (vars : ℕ) (found : List Answer) (whole : List Ev
       → Hears terms vars found whole
   hears_all left e h = record {
     stand =
-        sym (h.so_far ∙ ap heard (ap (λ xs. answer_events terms found ++ xs) e ∙ append-nil (answer_events terms found)));
+        sym (h.so_far
+        ∙ ap heard (ap (λ xs. answer_events terms found ++ xs) e ∙ append-nil (answer_events terms found)));
     fit = h.fit;
   }
 
@@ -130,8 +131,8 @@ hears_replaced old mid new g vars f before more items found i x l is h m e =
     (hears_left mid vars before whole _ _ (left_replaced old f found i x l is) h) m e
 
 -- where nothing is left of a list, all is heard that takes the place of each Sat of it
-pub hears_replaced_all : (old new : List Term) (vars : ℕ) (f : Bindings → List Event) (items found : List Answer) (i : ℕ)
-    → length found ≤ i
+pub hears_replaced_all : (old new : List Term) (vars : ℕ) (f : Bindings → List Event) (items found : List Answer)
+    (i : ℕ) → length found ≤ i
     → HearsUpTo new vars items (through (answer_events old found) f) (through (answer_events old (drop i found)) f)
     → Hears new vars items (through (answer_events old found) f)
 hears_replaced_all old new vars f items found i l h =

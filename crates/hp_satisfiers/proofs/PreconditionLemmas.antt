@@ -207,8 +207,3 @@ module _ (axioms : List Axiom) (nest : ℕ) (s : State) (pre : Pre) (e : Binding
       ≡ precondition_events axioms nest s (precondition_of pre) e
   unfolding precondition_events
   ordered_events k x h = ap (λ p. precondition_events axioms nest s (precondition_of p) e) (sym h)
-
--- what fits slots of so many variables fits as many
-pub finds_vars : (terms : List Term) (m n : ℕ) (found : List Answer) (events : List Event) → m ≡ n
-    → Finds terms m found events → Finds terms n found events
-finds_vars terms m n found events e h = subst (λ k. Finds terms k found events) e h

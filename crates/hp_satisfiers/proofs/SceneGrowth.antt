@@ -71,8 +71,3 @@ pub negation_gives : (terms : List Term) (vars : ℕ) (found items : List Answer
     → Finds terms vars items (turned true events e)
 negation_gives terms vars found items b e events h k f =
     finds_same terms vars items _ _ (ap₂ negated (alike_decide (answer_events terms found) events h) k) f
-
--- what fits slots of so many variables, fits as many
-pub finds_vars : (terms : List Term) (m n : ℕ) (found : List Answer) (events : List Event) → m ≡ n
-    → Finds terms m found events → Finds terms n found events
-finds_vars terms m n found events e h = subst (λ k. Finds terms k found events) e h

@@ -1,4 +1,4 @@
-//! What an axiom concludes of a goal, once its branches have satisfiers.
+//! Conclusions of an axiom on a goal, by the events of its branches.
 ghost use Rattle.std.specs.Prelude.{◌≡◌, ◌≤◌, IfOk, length};
 ghost use Rattle.std.specs.List.{All};
 ghost use Rattle.hp_syntax.specs.declared.limits.TheConstants.{MOST_VARIABLES};
@@ -35,7 +35,7 @@ pub fn own_slots(
     if starts { Ok(Some(own)) } else { Ok(None) }
 }
 
-// Events of a goal by what an axiom's bindings conclude.
+// The events of a goal by the conclusion of an axiom's bindings.
 fn concluded(
     alloc: Global,
     head: &AtomPat,
@@ -65,7 +65,7 @@ fn concluded(
     }
 }
 
-// What takes the place of something that an axiom's branches met.
+// The events of a goal in the place of an event of an axiom's branches.
 fn conclusion(
     alloc: Global,
     head: &AtomPat,
@@ -89,7 +89,7 @@ fn conclusion(
     }
 }
 
-/// What a goal meets by an axiom whose branches met these in the axiom's own slots.
+/// The events of a goal by an axiom whose branches have these events, in the axiom's own slots.
 pub fn conclusions(
     alloc: Global,
     head: &AtomPat,

@@ -1,4 +1,4 @@
-//! What operators change and cost.
+//! The changes and the cost of operators.
 ghost use Rattle.std.specs.Prelude.{◌≡◌, ◌≤◌, [], IfOk, map, length};
 ghost use Rattle.hp_syntax.specs.Changes.{effect_values, effects_values, effects};
 ghost use Rattle.hp_syntax.specs.Preconditions.{heard};
@@ -21,7 +21,7 @@ use hp_eval::Slots;
 use hp_syntax::{AtomPat, Effect, Operator, RunFault};
 use std::alloc::{AllocError, Global};
 
-/// What the effects of an operator come to: changes and a cost, or what stops them.
+/// The outcome of an operator's effects: changes and a cost, or a cut or a fault that stops them.
 #[derive(Drop)]
 pub enum EffectsOutcome {
     Went(Changes, i64),
@@ -158,7 +158,7 @@ impl Scene<'_> {
         }
     }
 
-    /// What an operator changes and costs: its delete list first, then its add list, then its cost; or what stops it.
+    /// The outcome of an operator's effects: its delete list first, then its add list, then its cost.
     pub fn effects(
         &self,
         operator: &Operator,

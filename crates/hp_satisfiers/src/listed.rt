@@ -12,11 +12,11 @@ use hp_cells::Cells;
 use hp_eval::{Event, Sats, Slots};
 use std::alloc::AllocError;
 
-/// What is heard of a list, from a place on. Nothing is bound at the start.
+/// The heard events of a list from a place on. Nothing is bound at the start.
 pub struct Listed {
     found: Vec<Answer>,
     place: usize,
-    // How many cells stood when the list was made.
+    // The number of cells that stood when the list was made.
     kept: usize,
     is_open: bool,
 }

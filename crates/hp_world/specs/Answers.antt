@@ -1,4 +1,4 @@
--- What applying changes to a world answers.
+-- The answers of applying changes to a world.
 use Rattle.std.specs.Prelude.{◌≡◌, ℕ, List}
 use Rattle.hp_syntax.specs.Terms.{Term}
 use Rattle.hp_syntax.specs.Applying as plain

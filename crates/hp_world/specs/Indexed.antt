@@ -24,7 +24,7 @@ pub record IsIndex (table : List (Option ℕ)) (places : List (Option ℕ)) : Ty
   pub found : (a i : ℕ) → slice_index_or table a None ≡ Some i → slice_index_or places i None ≡ Some a
   pub finds : (a i : ℕ) → slice_index_or places i None ≡ Some a → slice_index_or table a None ≡ Some i
 
--- what contracts see of places
+-- the view of places
 abbrev pub row_of : Inside → Row
 row_of p = record { places = p.places.items; width = length p.table.items; room = vec_capacity p.places }
 

@@ -13,7 +13,7 @@ use Rattle.hp_world.specs.Trails.{IsUndoable}
 abbrev pub all_but_last : {A : Type 0} → List A → List A
 all_but_last xs = take (length xs - 1) xs
 
--- what stood before a change
+-- the stage before a change
 abbrev pub undone : Change → Stage → Stage
 undone (Deleted i a) s = record { places = slice_set s.places i (Some a); guards = s.guards }
 undone Added s = record { places = all_but_last s.places; guards = s.guards }
@@ -38,11 +38,11 @@ Fits width room Protected s = Unit {0}
 abbrev pub IsAny : Stage → Type 0
 IsAny s = Unit {0}
 
--- what stands in a store
+-- the stage of a store
 abbrev pub stage_of : Store → Stage
 stage_of s = record { places = s.places.places; guards = s.guards.items }
 
--- what stood before in a store, and what stands
+-- the history of a store
 abbrev pub history_of : Store → History Stage
 history_of s = history undone s.trail.items (stage_of s)
 
