@@ -40,7 +40,7 @@ use Rattle.hp_eval.specs.Growth.{Grows, Gives, GivesBy}
 use Rattle.hp_eval.specs.Slotted.{Slotted, AreBelow, flat, named, bindings_of}
 use Rattle.hp_laws.proofs.FillLemmas.{known_ground}
 use Rattle.hp_eval.proofs.CellViews.{named_at, at_named, names_parts}
-use Rattle.hp_eval.proofs.ConsLemmas.{interns_grows}
+use Rattle.hp_eval.proofs.ListSteps.{interns_grows}
 use Rattle.hp_eval.proofs.GrowthLemmas.{grows_self}
 use Rattle.hp_eval.proofs.ValueSteps.{bound_named}
 use Rattle.hp_eval.proofs.GoalViewLemmas.{filled_of-known, filled_of-free, filled_of-list, filled_grows}

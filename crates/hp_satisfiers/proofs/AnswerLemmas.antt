@@ -5,7 +5,7 @@ use Rattle.std.specs.List.{All}
 use Rattle.std.proofs.lemmas.List.{ext_get_or, map-append, append-nil, length-set, drop_all}
 use Rattle.std.proofs.lemmas.Option.{unwrap_or-slice_get}
 use Rattle.hp_laws.proofs.BindingLemmas.{slice_get-set_same, slice_get-set_other}
-use Rattle.hp_eval.proofs.CopyLemmas.{same_below}
+use Rattle.hp_eval.proofs.Copies.{same_below}
 use Rattle.hp_eval.proofs.Loops.{left_more}
 use Rattle.std.proofs.lemmas.List.Elements.{All-get_or, All-nil, All-cons, All-append, All-head, All-tail, All-weaker, All-same}
 use Rattle.hp_syntax.specs.Terms.{Term}

@@ -4,7 +4,7 @@ use Rattle.hp_syntax.specs.Terms.{Listed}
 use Rattle.hp_eval.specs.GoalViews.{term_at}
 use Rattle.hp_eval.specs.Steps.{onto}
 use Rattle.hp_eval.proofs.GrowthLemmas.{grows_on, all_below}
-use Rattle.hp_eval.proofs.ConsLemmas.{kept_below, interned_list, list_grows, onto_same}
+use Rattle.hp_eval.proofs.ListSteps.{kept_below, interned_list, list_grows, onto_same}
 use Rattle.hp_eval.proofs.lists.list_onto.Goals as goal
 
 pub loop-part-preserved : goal.loop-part-preserved

@@ -8,7 +8,7 @@ use Rattle.hp_eval.specs.Attempts.{extended}
 use Rattle.hp_eval.specs.FillSteps.{parts_at}
 use Rattle.hp_eval.proofs.CellViews.{named_at}
 use Rattle.hp_eval.proofs.AttemptLemmas.{view_nil, view_symbol, view_number, cons_at, compared_at, whole_at, tries_here, tries_as}
-use Rattle.hp_eval.proofs.GoalMatchLemmas.{matches_goal}
+use Rattle.hp_eval.proofs.GoalMatchSteps.{matches_goal}
 use Rattle.hp_eval.proofs.matching.try_goal.Goals as goal
 
 pub match_fillings-requires-clause-list : goal.match_fillings-requires-clause-list

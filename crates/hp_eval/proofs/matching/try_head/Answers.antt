@@ -9,7 +9,7 @@ use Rattle.hp_eval.specs.Attempts.{extended}
 use Rattle.hp_eval.specs.FillSteps.{parts_at}
 use Rattle.hp_eval.proofs.CellViews.{named_at}
 use Rattle.hp_eval.proofs.AttemptLemmas.{view_nil, view_symbol, view_number, cons_at, compared_at, whole_at, tries_here, tries_as}
-use Rattle.hp_eval.proofs.MatchingLemmas.{matches_atom}
+use Rattle.hp_eval.proofs.MatchingSteps.{matches_atom}
 use Rattle.hp_eval.proofs.matching.try_head.Goals as goal
 
 pub match_parts-requires-clause-list : goal.match_parts-requires-clause-list

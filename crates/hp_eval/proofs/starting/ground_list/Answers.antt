@@ -6,8 +6,8 @@ use Rattle.hp_eval.specs.FillSteps.{parts_at}
 use Rattle.hp_cells.specs.Keys.{parts_of}
 use Rattle.hp_eval.proofs.GrowthLemmas.{grows_self, grows_length, grows_on, grows_same}
 use Rattle.hp_eval.proofs.CellViews.{at_named, names_parts}
-use Rattle.hp_eval.proofs.ConsLemmas.{interns_grows}
-use Rattle.hp_eval.proofs.StartLemmas.{ground_onto, ground_onto_none, ground_last, grows_names, last_below, front_below}
+use Rattle.hp_eval.proofs.ListSteps.{interns_grows}
+use Rattle.hp_eval.proofs.StartingSteps.{ground_onto, ground_onto_none, ground_last, grows_names, last_below, front_below}
 use Rattle.hp_eval.proofs.starting.ground_list.Goals as goal
 
 pub loop-last-init : goal.loop-last-init

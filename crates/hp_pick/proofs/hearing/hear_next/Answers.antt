@@ -6,7 +6,7 @@ use Rattle.hp_eval.specs.Slotted.{undone}
 use Rattle.hp_eval.specs.Events.{left_after}
 use Rattle.hp_eval.proofs.SlotLemmas.{undone_start}
 use Rattle.hp_pick.specs.Noted.{IsNoted, with_notes}
-use Rattle.hp_pick.proofs.HearingLemmas.{noted_grown, with_notes_grown, hears_same}
+use Rattle.hp_pick.proofs.HearingSteps.{noted_grown, with_notes_grown, hears_same}
 use Rattle.hp_pick.proofs.hearing.hear_next.Goals as goal
 
 pub returns-clause-step : goal.returns-clause-step

@@ -2,7 +2,7 @@ use Rattle.std.proofs.Common.{◌≡◌, length, sym, subst, refl, rules}
 use Rattle.std.proofs.lemmas.List.{nil_from_length}
 use Rattle.hp_net.specs.Standings.{gone_back}
 use Rattle.hp_plain.specs.Searches.{stands_in, Goes}
-use Rattle.hp_plain.proofs.SearchLemmas.{goes_back, back_at_root}
+use Rattle.hp_plain.proofs.SearchSteps.{goes_back, back_at_root}
 use Rattle.hp_plain.proofs.search.Search.back.Goals as goal
 
 pub returns-in-None : goal.returns-in-None

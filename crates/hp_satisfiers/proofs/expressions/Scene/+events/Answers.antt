@@ -26,7 +26,7 @@ use Rattle.hp_satisfiers.proofs.AnswerLemmas.{finds_none, finds_vars, sat_replac
 use Rattle.hp_satisfiers.proofs.Sizes.{size, sizes, left_to_do, less_to_do_below, branch_size, size_of-atom, size_of-and, size_of-or, size_of-not, size_of-forall, part_size}
 use Rattle.hp_satisfiers.proofs.SearchSteps.{sat_of-atom, sat_of-and, sat_of-or, sat_of-not, sat_of-forall, sat_of-assign, sat_of-call, forall_sat, all_of, all_begin, all_go_on, all_end, any_of, any_end}
 use Rattle.hp_satisfiers.proofs.AxiomSteps.{goal_begins, axioms_end, placed_axiom, few_at, axiom_among, axiom_unstarted, axiom_started, some_met, none_met}
-use Rattle.hp_satisfiers.proofs.ChosenLemmas.{chosen_left, chosen_here, chosen_passes}
+use Rattle.hp_satisfiers.proofs.ChosenBranches.{chosen_left, chosen_here, chosen_passes}
 use Rattle.hp_satisfiers.proofs.SceneGrowth.{turned_sat, turned_stays, sat_stays, turn_gives, negation_gives}
 use Rattle.hp_laws.proofs.HeardAlikeLemmas.{alike_through}
 use Rattle.hp_satisfiers.proofs.HeardLemmas.{hears_found, hears_begin, hears_same, hears_vars, hears_all, hears_over, hears_replaced_all}

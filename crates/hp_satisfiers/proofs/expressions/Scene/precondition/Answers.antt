@@ -7,7 +7,7 @@ use Rattle.hp_eval.specs.Slotted.{bindings_of}
 use Rattle.hp_satisfiers.specs.AnswerViews.{Hears, AllFit}
 use Rattle.hp_satisfiers.specs.Scenes.{axioms_in, state_in}
 use Rattle.hp_satisfiers.proofs.AnswerLemmas.{finds_same, finds_vars}
-use Rattle.hp_satisfiers.proofs.PreconditionLemmas.{plain_events, first_events, ordered_events}
+use Rattle.hp_satisfiers.proofs.PreconditionSteps.{plain_events, first_events, ordered_events}
 use Rattle.hp_eval.proofs.GrowthLemmas.{grows_on}
 use Rattle.hp_satisfiers.proofs.expressions.Scene.precondition.Goals as goal
 
