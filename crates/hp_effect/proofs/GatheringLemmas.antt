@@ -1,4 +1,4 @@
--- What effects gather, one after another, and what of it is put into changes.
+-- The atoms that effects gather, one effect after another, and those of them that are put into changes.
 use Rattle.std.proofs.Common.{append_assoc, ◌≡◌, ℕ, ◌+◌, ◌<◌, List, [], ◌∷◌, ◌++◌, length, drop, get_or, slice_get, Some, Result, Ok, Err, refl, sym, ◌∙◌, ap, ap₂, subst, arith}
 use Rattle.std.proofs.lemmas.List.{map-append, append-nil}
 use Rattle.hp_syntax.specs.declared.fault.RunFault.{RunFault}
@@ -46,7 +46,7 @@ with_nothing Deletes c =
 with_nothing Adds c =
     same_changes c (with_gathered Adds (of_atoms []) c) refl refl (sym (append-nil c.add)) (sym (append-nil c.guard))
 
--- what is gathered later stands behind what was gathered before
+-- atoms gathered later stand behind those gathered before
 with_both : (side : Side) (x y : Gathered) (c : Changes)
     → with_gathered side y (with_gathered side x c) ≡ with_gathered side (both_gathered x y) c
 with_both Deletes x y c =
@@ -156,7 +156,7 @@ nothing_before (Went h) = refl
 nothing_before CutShort = refl
 nothing_before (Failed f) = refl
 
--- what was gathered before an effect stands before what it gathers
+-- the atoms gathered before an effect stand before its own
 both_assoc : (x y : Gathered) (left : Going Gathered)
     → both (Went x) (both (Went y) left) ≡ both (Went (both_gathered x y)) left
 both_assoc x y (Went h) =
@@ -176,7 +176,7 @@ module _ (side : Side) (whole : Going Gathered) (old : Changes) where
     below = below;
   }
 
-  -- what an effect gathers is put behind what was
+  -- the atoms of an effect are put behind those before
   pub along_more : (terms later : List Term) (now after : ChangesOf ℕ) (first left rest : Going Gathered)
       → left ≡ both first rest → Along side whole left terms old now
       → HasPut side first later (changes_of terms now) after → Along side whole rest later old after
@@ -189,7 +189,7 @@ module _ (side : Side) (whole : Going Gathered) (old : Changes) where
     below = p.below;
   }
 
-  -- where what is left is put the whole is
+  -- where the remainder is put the whole is
   pub along_ends : (terms later : List Term) (now after : ChangesOf ℕ) (left : Going Gathered)
       → Along side whole left terms old now → HasPut side left later (changes_of terms now) after
       → HasPut side whole later old after
@@ -200,7 +200,7 @@ module _ (side : Side) (whole : Going Gathered) (old : Changes) where
     below = p.below;
   }
 
-  -- where what is left stops the whole does
+  -- where the remainder stops the whole does
   pub along_halts : (terms : List Term) (now : ChangesOf ℕ) (left : Going Gathered) (obstacle : Obstacle)
       → Along side whole left terms old now → StopsHere obstacle left → StopsHere obstacle whole
   along_halts terms now left Cut h s = h.splits ∙ ap (both (Went h.values)) s
@@ -242,7 +242,7 @@ each_step as' (plain.Sat e) xs = sats_step (atom_values as' e) (values_for_each 
 each_step as' plain.Cut xs = refl
 each_step as' (plain.Fault f) xs = refl
 
--- what the values of atoms come to
+-- the outcome of the values of atoms
 abbrev pub atoms_going : Bindings → List AtomPat → Going Gathered
 atoms_going e atoms = only_atoms (atom_values (atoms_of atoms) e)
 
@@ -254,16 +254,16 @@ atoms_left atoms i e a l is =
     ap (atoms_going e) (left_more atoms i a l is)
     ∙ atoms_step (atom_value (atom_of a) e) (atom_values (atoms_of (drop (i + 1) atoms)) e)
 
--- ---- what stops
+-- ---- obstacles
 
--- what stops stops what would go on
+-- an obstacle of the first of two outcomes is one of both
 pub stops_go : {A B : Type 0} (obstacle : Obstacle) (x : Going A) (f : A → Going B) → StopsHere obstacle x
     → StopsHere obstacle (and_go x f)
 stops_go Cut x f h = ap (λ y. and_go y f) h
 stops_go (Fault k) x f h = ap (λ y. and_go y f) h
 stops_go NoMemory x f h = tt
 
--- the same of what equals it
+-- an obstacle of an outcome is one of an equal outcome
 pub stops_same : {A : Type 0} (obstacle : Obstacle) (x y : Going A) → x ≡ y → StopsHere obstacle y
     → StopsHere obstacle x
 stops_same obstacle x y e h = subst (StopsHere obstacle) (sym e) h

@@ -45,7 +45,7 @@ module _ (old new : List Term) (before after : List ℕ) (part list cell : ℕ) 
   pub list_grows : Grows old new
   list_grows = interns_grows (Listed (More (term_at old part) us)) cell old new interned_list
 
-  -- what is left in front of the longer list is what was in front of the list
+  -- the cells that are left in front of the longer list are those in front of the list
   pub onto_same : (vs : Terms) → slice_get new cell ≡ Some (Listed vs)
       → onto (map (term_at new) after) vs ≡ onto (map (term_at old) before) us
   onto_same vs h =

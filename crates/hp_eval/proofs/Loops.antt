@@ -27,7 +27,7 @@ pub list_in_front : {V : Type 0} (vs : List V) → in_front ◌∷◌ vs [] ≡ 
 list_in_front [] = refl
 list_in_front (v ∷ vs) = ap (λ us. v ∷ us) (list_in_front vs)
 
--- what is left of the values, behind those that are there
+-- the values that are left, behind those that are there
 abbrev pub behind : {V W : Type 0} → (V → W → W) → List V → Result W RunFault → Result W RunFault
 behind cons vs r = on_ok r (λ w. Ok (in_front cons vs w))
 

@@ -51,7 +51,7 @@ without_comm [] vs values = refl
 without_comm (u ∷ us) vs values =
     ap (without us) (sym (without-set vs values u)) ∙ without_comm us vs (slice_set values u None)
 
--- what is taken between two marks and behind the later is what is behind the earlier
+-- the variables between two marks and those behind the later are those behind the earlier
 between_marks : (m n : ℕ) (xs : List ℕ) → m ≤ n → n ≤ length xs → drop m (take n xs) ++ drop n xs ≡ drop m xs
 between_marks m n xs l k =
     let here : m ≤ length (take n xs) = subst (λ i. m ≤ i) (sym (length-take-le n xs k)) l in
@@ -112,7 +112,7 @@ binds_bound s v cell h = record {
       (take_at s.trail (v ∷ []) (length s.trail) refl);
 }
 
--- ---- what is bound is listed once
+-- ---- bound variables are listed once
 
 -- a variable that is listed twice is listed at different places
 once_only : (us vs : List ℕ) (v : ℕ) → AllPairs (λ x y. x ≢ y) (us ++ vs) → Contains us v → Contains vs v → ⊥
@@ -259,7 +259,7 @@ are_slots_undone n s a = record { listed = listed_each; bound = bound_each; once
         ∙ (i_at ∙ (q ∙ (sym j_at ∙ ap (λ xs. get_or xs j d) whole))) in
         a.once i j d l (omega arith) e
 
--- ---- how bindings are stored
+-- ---- stored bindings
 
 -- as many bindings are told as are stored
 pub length-stored : (slots : List Slot) (bound : ℕ) → bound ≤ length slots → length (stored slots bound).trail ≡ bound
@@ -284,7 +284,7 @@ places_to_bind slots bound v a l h =
     let known = slice_get_within (stored slots bound).values v None h in
     (omega arith, omega arith)
 
--- what is stored beside a part that changes stays
+-- the parts beside one that changes stay
 map-set_same : {Y : Type 0} (part : Slot → Y) (slots : List Slot) (i : ℕ) (old new : Slot) → i < length slots
     → old ≡ get_or slots i old → part new ≡ part old → map part (slice_set slots i new) ≡ map part slots
 map-set_same part slots i old new l h e =
@@ -292,7 +292,7 @@ map-set_same part slots i old new l h e =
     ∙ (ap (slice_set (map part slots) i) (e ∙ (ap part h ∙ sym (get_or-map part slots i old (part old) l)))
     ∙ set-get_or (map part slots) i (part old))
 
--- what a variable stands for is stored apart from what is listed
+-- the cell of a variable is stored apart from the listed variables
 stored-value : (slots : List Slot) (bound v : ℕ) (old : Slot) (value : Option ℕ) → v < length slots
     → old ≡ get_or slots v old
     → stored (slice_set slots v (record old { value = value })) bound

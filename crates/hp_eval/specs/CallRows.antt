@@ -1,4 +1,4 @@
--- The rows of the call table in code, and what they give.
+-- The rows of the call table in code, and their values.
 use Rattle.std.specs.Prelude.{ℕ, List, Option, Some, None, bytes_eq, ℤ, ◌+ℤ◌, ◌-ℤ◌, ◌*ℤ◌, int_le, int_lt, pos, unsigned_abs, cond, not, codes, Result, Ok, Err}
 use Rattle.std.specs.Int.{int_min, int_max}
 use Rattle.hp_syntax.specs.declared.pattern.Span.{Span}

@@ -1,4 +1,4 @@
--- The steps of filling: what stands behind the parts of a list, and parts put before others.
+-- The steps of filling: the continuation behind the parts of a list, and parts put before others.
 use Rattle.std.specs.Prelude.{◌≡◌, ℕ, Bool, true, false, nat_lt, List, Option, Some, None, option_map, Vec}
 use Rattle.std.specs.Global.{Global}
 use Rattle.std.specs.List.{All}

@@ -1,4 +1,4 @@
--- Terms that were added, and what an evaluation answers over them.
+-- Terms that were added, and the answers of evaluations over them.
 use Rattle.std.specs.Prelude.{◌≡◌, ℕ, List, length, take, Some, slice_get, Result, Ok, Err}
 use Rattle.hp_syntax.specs.declared.fault.RunFault.{RunFault}
 use Rattle.hp_syntax.specs.Terms.{Term}

@@ -1,4 +1,4 @@
--- Lists of calls of a walk, and what they visit.
+-- Lists of calls of a walk, and their visits.
 use Rattle.std.specs.Prelude.{◌≡◌, ◌≢◌, true, false, List, [], ◌∷◌, Option, Some, None}
 use Rattle.hp_syntax.specs.Walk.{Visit, is_did, is_fault_here, skip}
 use Rattle.hp_net.specs.Standings.{Standing, next_below, next_of, stepped, gone_on, gone_back, pruned}

@@ -1,4 +1,4 @@
--- Where a walk of a tree stands, and where each call takes it.
+-- Places of a walk of a tree, and the place that each call leads to.
 use Rattle.std.specs.Prelude.{◌≡◌, ℕ, ◌-◌, ◌^◌, min, Bool, false, cond, List, [], ◌∷◌, length, map, Option, Some, None}
 use Rattle.hp_syntax.specs.Terms.{Term}
 use Rattle.hp_syntax.specs.Syntax.{Rule}
@@ -48,7 +48,7 @@ abbrev pub step_or_end : Option Visit → Step
 step_or_end None = steps.End
 step_or_end (Some v) = step_of v
 
--- ---- where a call leads
+-- ---- the place after a call
 
 abbrev pub without_next : List Visit → List Visit
 without_next [] = []

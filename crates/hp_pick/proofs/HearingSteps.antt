@@ -21,7 +21,7 @@ use Rattle.hp_pick.specs.Noted.{IsNoted, entry_of, noted_events, with_notes, Hea
 use Rattle.hp_pick.specs.SortedLaws.{entries_agree}
 
 module _ (c d : List Term) (g : Grows c d) (start : Slotted) where
-  -- what is noted stays so while cells are added
+  -- noted satisfiers stay so while cells are added
   pub noted_grown : (ns : List Noted) → All (IsNoted (length c) start) ns → All (IsNoted (length d) start) ns
   noted_grown ns h =
       All-weaker (IsNoted (length c) start) (IsNoted (length d) start)
@@ -44,13 +44,13 @@ module _ (c d : List Term) (g : Grows c d) (start : Slotted) where
   with_notes_grown notes (Keys xs cut) h =
       ap (λ es. Keys (es ++ xs) (notes.cut || cut)) (entries_stay notes.sats.items h)
 
--- with no notes a list gives what it gives
+-- with no notes the entries of a list are its own
 pub with_no_notes : (c : List Term) (notes : NotedSats) (k : Keyed) → notes.sats.items ≡ [] → notes.cut ≡ false
     → with_notes c notes k ≡ k
 with_no_notes c notes (NoKey f) h q = refl
 with_no_notes c notes (Keys xs cut) h q = ap₂ (λ ns b. Keys (map (entry_of c) ns ++ xs) (b || cut)) h q
 
--- an event is heard of what equals the whole, and what equals the remainder is left
+-- an event is heard of an equal whole, and an equal remainder is left
 pub hears_same : (r : Result Bool EvalStop) (v w k l alone : Keyed) → v ≡ w → l ≡ k → HearsOn r v k alone
     → HearsOn r w l alone
 hears_same (Ok true) v w k l alone p q h = sym p ∙ (h ∙ sym q)
@@ -69,7 +69,7 @@ pub stops_in_order : (c : List Term) (order : Order) (e : EvalStop) (k : Keyed) 
 stops_in_order c order (stops.Fault f) k h = ap (sorted_events order) h
 stops_in_order c order stops.NoMemory k h = tt
 
--- what was heard of a whole list is given in order, where its satisfiers were put in order
+-- a whole list that was heard is given in order, where its satisfiers were put in order
 pub heard_in_order : (c : List Term) (order : Order) (notes : NotedSats) (k : Keyed) (ns : List Noted)
     → k ≡ with_notes c notes (Keys [] false)
     → map (entry_of c) ns ≡ sorted (sorts_before order) (map (entry_of c) notes.sats.items)

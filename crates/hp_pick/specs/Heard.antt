@@ -1,4 +1,4 @@
--- A list that was heard, and what is left to be given of it.
+-- A list that was heard, and the events of it that are left.
 use Rattle.std.specs.Prelude.{◌≡◌, ℕ, ◌≤◌, Bool, List, length, drop, Option, Some, None}
 use Rattle.std.specs.List.{All}
 use Rattle.hp_syntax.specs.Syntax.{Key}

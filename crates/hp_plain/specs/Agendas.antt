@@ -51,7 +51,7 @@ module _ (rules : List Rule) (nest : ℕ) where
   abbrev pub agenda_children : List Term → SearchNode → Agenda → List Child
   agenda_children terms s a = if_open terms s a.open ++ queue_children terms s a.queue
 
--- ---- what holds of them
+-- ---- invariants
 
 -- a choice is of a candidate, its cells are below a count, and a decomposition may follow
 pub record IsChoice (n : ℕ) (s : SearchNode) (c : OpenChoice) : Type 0 where

@@ -1,4 +1,4 @@
--- What single values and atoms meet.
+-- The events of single values and atoms.
 use Rattle.std.proofs.Common.{◌≡◌, ℕ, ◌<◌, Bool, true, false, List, [], ◌∷◌, ◌++◌, length, map, slice_get, Option, Some, None, Result, Ok, refl, sym, ◌∙◌, ap}
 use Rattle.std.specs.List.{All}
 use Rattle.std.proofs.lemmas.Option.{get_or_from_slice_get}
@@ -29,7 +29,7 @@ use Rattle.hp_satisfiers.specs.Places.{place_events, IsAtomBelow}
 
 -- ---- values
 
--- what is shown as a symbol, a number or a list with a first part is true
+-- a term that is shown as a symbol, a number or a list with a first part is true
 pub shown_true : (terms : List Term) (v : View) (t : Term) (e : Bindings) → Shows terms v t → (v ≡ Nil → ⊥)
     → Sat e ∷ [] ≡ tested (Ok t) e
 shown_true terms Nil t e h n = absurd (n refl)
@@ -43,14 +43,14 @@ module _ (old new : List Term) (g : Grows old new) (s : Slotted) (below : AreBel
   value_given : r ≡ Ok (term_at new cell)
   value_given = gives.1 ∙ ap Ok (sym (at_named new cell gives.0 gives.2))
 
-  -- what an assignment meets is what its variable meets with the cell
+  -- the events of an assignment are those of its variable with the cell
   pub assigned_given : (v : ℕ)
       → sat_if (meet v (term_at new cell) (bindings_of new s)) ≡ assigned r v (bindings_of old s)
   assigned_given v =
       ap (λ e. sat_if (meet v (term_at new cell) e)) (bindings_stay old new g s below)
       ∙ ap (λ x. assigned x v (bindings_of old s)) (sym value_given)
 
-  -- what a call meets is what its cell's truth is
+  -- the events of a call are those of its cell's truth
   pub tested_given : tested (Ok (term_at new cell)) (bindings_of new s) ≡ tested r (bindings_of old s)
   tested_given =
       ap (tested (Ok (term_at new cell))) (bindings_stay old new g s below)
@@ -64,7 +64,7 @@ pub live_at : (n : ℕ) (places : List (Option ℕ)) (i : ℕ) (atom : Option �
 live_at n places i None h k = tt
 live_at n places i (Some a) h k = atom_below n places i a h (get_or_from_slice_get places i (Some a) None k)
 
--- what a goal meets at places is what it meets at the first and at the others
+-- the events of a goal at places are those at the first and at the others
 pub places_step : (terms : List Term) (q : Goal) (e : Bindings) (atom : Option ℕ) (places : List (Option ℕ))
     → plain.state_events (terms_at terms (live_atoms (atom ∷ places))) q e
     ≡ place_events terms q e atom ++ plain.state_events (terms_at terms (live_atoms places)) q e
@@ -86,7 +86,7 @@ module _ (terms : List Term) (s copy made : Slotted) (values : copy.values ≡ s
   found_alike : find (bindings_of terms s) ≡ extended does (bindings_of terms made)
   found_alike = ap (λ vs. find (map (named terms) vs)) (sym values) ∙ tried.answers
 
-  -- what is met in a copy of slots is met in them
+  -- the events in a copy of slots are those in them
   pub met_in_copy : (found : List Answer) → does ≡ true → found ≡ plain_found.Sat made ∷ []
       → Finds terms (length s.values) found (sat_if (find (bindings_of terms s)))
   met_in_copy found h is =

@@ -1,4 +1,4 @@
--- The histories of stores, and when what is on a trail can be undone.
+-- The histories of stores, and trails that can be undone.
 use Rattle.std.specs.Prelude.{◌≡◌, ℕ, ◌+◌, ◌-◌, ◌<◌, ◌≤◌, List, length, take, Option, Some, None, slice_index_or, slice_set, vec_len, vec_capacity}
 use Rattle.std.specs.List.{insert}
 use Rattle.hp_world.specs.declared.store.Change.{Change}

@@ -826,7 +826,7 @@ axiom_events-returns-in_ok-found-in-Some-started-clause-cells t c =
     grows_on old new c.conclusions.new.cells
     (grows_on old mid new c.own_slots.ensures.cells c.branch_events.ensures.cells) c.conclusions.ensures.cells
 
--- ---- what an expression meets fits, and only adds cells
+-- ---- answers fit, and cells are only added
 
 pub events-returns-in-Atom-clause-fit : goal.events-returns-in-Atom-clause-fit
 events-returns-in-Atom-clause-fit t c =
@@ -941,7 +941,7 @@ all_events-returns-in_err-found-clause-cells t c = grows_self c.args.cells.now
 pub goal_events-returns-in_err-found-clause-cells : goal.goal_events-returns-in_err-found-clause-cells
 goal_events-returns-in_err-found-clause-cells t c = grows_self c.args.cells.now
 
--- ---- where one call is all
+-- ---- functions of one call
 
 pub forall_events-returns-in_err-found-clause-cells : goal.forall_events-returns-in_err-found-clause-cells
 forall_events-returns-in_err-found-clause-cells t c = c.events.ensures.cells
