@@ -1,5 +1,5 @@
 -- Terms of cells, and attempts one after the other.
-use Rattle.std.proofs.Common.{◌≡◌, ℕ, ◌<◌, ◌≤◌, Bool, true, false, List, length, Option, Some, None, Result, Ok, Err, sym, ◌∙◌, ap, ap₂, subst, ℤ, Bor}
+use Rattle.std.proofs.Common.{◌≡◌, ◌⊎◌, inl, inr, ℕ, ◌<◌, ◌≤◌, Bool, true, false, List, length, Option, Some, None, Result, Ok, Err, sym, ◌∙◌, ap, ap₂, subst, ℤ, Bor}
 use Rattle.std.specs.Prelude.{slice_get}
 use Rattle.std.specs.Option.{option_and_then}
 use Rattle.std.specs.Result.{IsErr}
@@ -87,6 +87,19 @@ view_number terms view t n h e = subst (λ v. Shows terms v t) e h
 pub view_cons : (terms : List Term) (view : View) (t : Term) (first others : ℕ) → Shows terms view t
     → view ≡ Cons first others → IsCons terms first others t
 view_cons terms view t first others h e = subst (λ v. Shows terms v t) e h
+
+-- a fact of the empty list, of symbols and of numbers is one of each term whose view has no first part
+pub without_first : (P : Term → Type 0) (terms : List Term) (view : View) (t : Term) → Shows terms view t
+    → (view ≡ Nil) ⊎ (((name : Bor Name) × (view ≡ Sym name)) ⊎ ((n : ℤ) × (view ≡ Num n)))
+    → P (Listed NoTerm) → ((name : List ℕ) → P (Symbol name)) → ((n : ℤ) → P (Number n)) → P t
+without_first P terms view t h is nil symbol number =
+    elim is [
+      | inl e ↦ subst P (sym (view_nil terms view t h e)) nil
+      | inr s ↦ elim s [
+        | inl p ↦ subst P (sym (view_symbol terms view t p.0 h p.1)) (symbol p.0.now)
+        | inr p ↦ subst P (sym (view_number terms view t p.0 h p.1)) (number p.0)
+      ]
+    ]
 
 -- a cell of which the view is that of a list by its parts names it
 pub cons_at : (terms : List Term) (cell : ℕ) (view : View) (first others : ℕ)
