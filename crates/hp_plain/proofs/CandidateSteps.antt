@@ -158,7 +158,8 @@ pub finds_below : (terms : List Term) (vars : ℕ) (found : List Answer) (events
     → events ≡ others → Finds terms vars found events → FindsBelow terms found others
 finds_below terms vars found events others e h = record {
   stand = h.stand ∙ e;
-  below = All-weaker (Fits vars (length terms)) (BindsBelow (length terms)) (fits_below vars (length terms)) found h.fit;
+  below =
+      All-weaker (Fits vars (length terms)) (BindsBelow (length terms)) (fits_below vars (length terms)) found h.fit;
 }
 
 -- an empty list of answers stands for an empty list of events
