@@ -18,7 +18,7 @@ abbrev pub joined : Fillings → Fillings → Fillings
 joined NoFilling gs = gs
 joined (Then f fs) gs = Then f (joined fs gs)
 
--- parts before what stands behind them
+-- parts before their continuation
 abbrev pub before_rest : Fillings → Filling → Filling
 before_rest fs r = (joined fs r.0, r.1)
 

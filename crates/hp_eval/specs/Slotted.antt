@@ -14,7 +14,7 @@ pub record Slotted : Type 0 where
 abbrev pub slotted : List (Option ℕ) → List ℕ → Slotted
 slotted values trail = record { values = values; trail = trail }
 
--- as it is stored: at each place its variable's cell and the variable bound in its turn, and how many are bound
+-- as it is stored: at each place its variable's cell and the variable bound in its turn, and the number that are bound
 abbrev pub stored : List Slot → ℕ → Slotted
 stored slots bound = slotted (map (λ slot. slot.value) slots) (take bound (map (λ slot. slot.listed) slots))
 
@@ -26,7 +26,7 @@ no_bindings n = slotted (replicate n None) []
 abbrev pub with_bound : ℕ → ℕ → Slotted → Slotted
 with_bound v cell s = slotted (slice_set s.values v (Some cell)) (s.trail ++ v ∷ [])
 
--- without what these variables stand for
+-- without the bindings of these variables
 abbrev pub without : List ℕ → List (Option ℕ) → List (Option ℕ)
 without [] values = values
 without (v ∷ vs) values = without vs (slice_set values v None)
@@ -41,7 +41,7 @@ pub record AreSlots (s : Slotted) : Type 0 where
   pub bound : (v : ℕ) → Contains s.trail v → (cell : ℕ) × (slice_get s.values v ≡ Some (Some cell))
   pub once : AllPairs (λ v w. v ≢ w) s.trail
 
--- further bindings were made, and undoing them gives what was before
+-- further bindings were made, and undoing them gives those before
 pub record Binds (old new : Slotted) : Type 0 where
   pub later : length old.trail ≤ length new.trail
   pub undoes : undone (length old.trail) new ≡ old

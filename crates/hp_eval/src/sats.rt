@@ -4,9 +4,9 @@ use crate::slots::Slots;
 use hp_cells::Cells;
 use std::alloc::AllocError;
 
-/// Gives what is met while one looks for satisfiers, one event a call. The bindings of a Sat are in the slots, above
-/// those that stood at the start, until the next call. After a call that gives no Sat any bindings may stand above the
-/// start, and `close` takes back what stands there. What is read and never changed is the base.
+/// Gives the events of a search for satisfiers, one a call. The bindings of a Sat are in the slots, above those that
+/// stood at the start, until the next call. After a call that gives no Sat any bindings may stand above the start, and
+/// `close` takes these back. The base is read and never changed.
 pub trait Sats<B> {
     ghost use Rattle.std.specs.Prelude.{◌≡◌, ◌≤◌, ℕ, Bool, true, false, List, OnOk, OnErr, IfOk, length, take};
     ghost use Rattle.std.specs.List.{All};
@@ -82,7 +82,7 @@ pub trait Sats<B> {
     ghost same_cells: { (s : Self) (b : B) (c d : List Term) (e : Slotted) → suits s b → fits s e
         → take (kept s) c ≡ take (kept s) d → rest s b c e ≡ rest s b d e };
 
-    /// Each Sat that is left has the variables of the start, and binds what was bound there to the same terms.
+    /// Each Sat that is left extends the bindings of the start.
     ghost sats_extend: { (s : Self) (b : B) (c : List Term) (e : Slotted) → suits s b → fits s e
         → All (EventExtends (bindings_of c (undone (start s) e))) (rest s b c e) };
 }

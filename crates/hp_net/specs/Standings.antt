@@ -6,7 +6,7 @@ use Rattle.hp_syntax.specs.Walk.{Node, Visit, Did, Plan, CutHere, FaultHere, is_
 use Rattle.hp_net.specs.declared.walk.Step.{Step}
 use Rattle.hp_net.specs.declared.walk.Step.TheVariants as steps
 
--- a tree: the rules and how deep axioms may call one another, and the root
+-- a tree: the rules, the number of axiom levels, and the root
 pub record Tree : Type 0 where
   pub rules : List Rule
   pub nest : ℕ

@@ -59,7 +59,7 @@ entries_agree c d kept start (n ∷ ns) all h =
 
 -- ---- the laws
 
--- the start is below what stands, and the cells are below the kept number
+-- the start is below the bindings, and the cells are below the kept number
 pub either_hold : (fits : Type 0) (start mark kept : ℕ) (o : Option Heard) (e : Slotted)
     → (fits → (start ≤ length e.trail) × AreBelow kept e) → FitsEither fits start mark o e
     → (mark ≤ length e.trail) × AreBelow (kept_of kept o) e

@@ -36,7 +36,7 @@ impl Drop for Heard {
     }
 }
 
-// Binds a variable to what it is to stand for, if it isn't bound.
+// Binds a variable to the cell that it is to stand for, if it isn't bound.
 fn fill(v: u32, value: Option<Cell>, slots: &mut Slots)
     requires known { v < length slots.old.values }
     requires keeps { (cell : _) → slice_get slots.old.values v ≡ Some (Some cell) → value ≡ Some cell }
@@ -52,7 +52,7 @@ fn fill(v: u32, value: Option<Cell>, slots: &mut Slots)
     }
 }
 
-// Binds the variables that aren't bound to what they are to stand for.
+// Binds the variables that aren't bound to the cells that they are to stand for.
 fn fill_all(values: &[Option<Cell>], slots: &mut Slots)
     requires keeps { KeepsCells values.now slots.old }
     requires few { length values.now < 2 ^ 32 }

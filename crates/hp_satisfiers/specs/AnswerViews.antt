@@ -46,7 +46,7 @@ pub record Hears (terms : List Term) (vars : ℕ) (found : List Answer) (events 
   pub stand : AreHeardAlike (answer_events terms found) events
   pub fit : AllFit vars (length terms) found
 
--- all events are heard as what is found so far and those that are left behind it
+-- all events are heard as the answers so far and those that are left behind them
 pub record HearsUpTo (terms : List Term) (vars : ℕ) (found : List Answer) (whole left : List Event) : Type 0 where
   pub so_far : AreHeardAlike whole (answer_events terms found ++ left)
   pub fit : AllFit vars (length terms) found
@@ -80,7 +80,7 @@ BindsBelow n (Sat slots) = AreBelow n slots
 BindsBelow n Cut = Unit {0}
 BindsBelow n (Fault f) = Unit {0}
 
--- the slots are of so many variables, and bind what was found to match, if anything was
+-- the slots are of so many variables and have the bindings that match, if any do
 abbrev pub MeetsHead : List Term → ℕ → Option Slotted → Option Bindings → Type 0
 MeetsHead terms vars None found = found ≡ None
 MeetsHead terms vars (Some slots) found =

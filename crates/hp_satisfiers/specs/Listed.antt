@@ -89,7 +89,7 @@ left_extends kept c found place s h =
 
 -- ---- events that are taken one by one
 
--- where more may come, what is found goes up to what is left; else it is the whole
+-- where more may come, the answers go up to the events that are left; else they are the whole
 abbrev pub FindsMore : List Term → ℕ → List Answer → List Event → Bool → List Event → Type 0
 FindsMore terms vars found whole true left = FindsUpTo terms vars found whole (heard left)
 FindsMore terms vars found whole false left = Finds terms vars found whole

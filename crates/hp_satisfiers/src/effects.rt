@@ -52,7 +52,7 @@ fn put_listed(
 }
 
 impl Scene<'_> {
-    // Puts what an effect comes to into changes.
+    // Puts the atoms of an effect into changes.
     fn put_effect(
         &self,
         side: Side,
@@ -89,7 +89,7 @@ impl Scene<'_> {
         }
     }
 
-    // Puts what effects come to into changes, from left to right.
+    // Puts the atoms of effects into changes, from left to right.
     fn put_effects(
         &self,
         side: Side,
@@ -114,7 +114,7 @@ impl Scene<'_> {
         Ok(())
     }
 
-    // Puts what an operator's lists come to into changes, the delete list first. Gives its cost.
+    // Puts the atoms of an operator's lists into changes, the delete list first. Gives its cost.
     fn put_lists(
         &self,
         operator: &Operator,
@@ -137,7 +137,7 @@ impl Scene<'_> {
         Ok(cost)
     }
 
-    // The changes and the cost of an operator, or what stops.
+    // The changes and the cost of an operator, or the obstacle.
     fn changes_and_cost(
         &self,
         operator: &Operator,

@@ -7,7 +7,7 @@ pub record History (S : Type 0) : Type 0 where
   pub past : List S
   pub now : S
 
--- the history that a trail of changes makes of what stands
+-- the history by a trail of changes and the present
 abbrev pub history : {C S : Type 0} → (C → S → S) → List C → S → History S
 history undone trail s = record { past = pasts undone trail s; now = s }
 

@@ -2,8 +2,8 @@
 use Rattle.std.specs.Prelude.{◌≡◌, ℕ, ◌<◌, List, Option, Some, None, length, slice_index_or, vec_capacity}
 use Rattle.hp_world.specs.declared.places.Places.TheInside.{Inside}
 
--- places with their atoms, the bound of the atoms that the table has entries for, and how many places there is room
--- for
+-- places with their atoms, the bound of the atoms that the table has entries for, and the number of places that there
+-- is room for
 pub record Row : Type 0 where
   pub places : List (Option ℕ)
   pub width : ℕ

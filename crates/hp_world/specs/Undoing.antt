@@ -34,7 +34,7 @@ Fits width room Added s = Unit {0}
 Fits width room (Cancelled i a) s = (i ≤ length s.guards) × (length s.guards < room)
 Fits width room Protected s = Unit {0}
 
--- nothing is asked of what stood at a time
+-- nothing is asked of a stage
 abbrev pub IsAny : Stage → Type 0
 IsAny s = Unit {0}
 

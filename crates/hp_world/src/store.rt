@@ -1,4 +1,4 @@
-//! Places, protections and the trail of what changed them.
+//! Places, protections and the trail of their changes.
 ghost use Rattle.std.specs.Prelude.{◌≡◌, ◌≢◌, ℕ, ◌↔◌, ◌+◌, ◌<◌, List, Option, Some, MatchOption, IfOk, IsTrue, length, slice_get, slice_index};
 ghost use Rattle.hp_world.specs.Deleting.{IsFirstAt};
 ghost use Rattle.hp_world.specs.Named.{IsNamedAt};
@@ -24,7 +24,7 @@ pub enum Applied {
     Guarded(Cell),
 }
 
-/// Places, protections and the trail of what changed them.
+/// Places, protections and the trail of their changes.
 pub struct Store {
     places: Places,
     guards: Vec<Cell>,
