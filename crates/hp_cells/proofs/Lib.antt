@@ -1,5 +1,5 @@
 pub mod PlaceLemmas
 pub mod CellLemmas
 pub mod KeyLemmas
-pub mod InternLemmas
+pub mod InternSteps
 pub mod ViewLemmas

@@ -1,4 +1,4 @@
--- What stands at the places of a list that grows at its end or is cut.
+-- Places of a list that grows at its end or is cut.
 use Rattle.std.proofs.Common.{◌≡◌, ℕ, zero, suc, ◌<◌, Bool, true, List, [], ◌∷◌, ◌++◌, Some, ◌⊎◌, inl, inr, length, take, slice_get, refl, ap, ◌∙◌, arith}
 use Rattle.std.specs.List.{list_any}
 use Rattle.std.proofs.lemmas.List.Folds.{list_any_at, Any-from_list_any}

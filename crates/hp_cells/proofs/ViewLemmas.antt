@@ -1,4 +1,4 @@
--- What a view says of a term that is compared.
+-- Terms are compared by their views.
 use Rattle.std.proofs.Common.{◌≡◌, ℕ, ℤ, Bool, false, List, bytes_eq, ap, sym}
 use Rattle.std.specs.Ordering.{int_eq}
 use Rattle.hp_cells.specs.Compared.{is_symbol, is_number}
@@ -14,7 +14,7 @@ symbol_seen name (Sym own) = bytes_eq name own.now
 symbol_seen name (Num n) = false
 symbol_seen name (Cons head tail) = false
 
--- what is shown as the symbol of a name is that symbol
+-- a term that is shown as the symbol of a name is that symbol
 pub symbol_shown : (name : List ℕ) (terms : List Term) (v : View) (t : Term) → Shows terms v t
     → symbol_seen name v ≡ is_symbol name t
 symbol_shown name terms Nil t h = sym (ap (is_symbol name) h)
@@ -29,7 +29,7 @@ number_seen n (Sym name) = false
 number_seen n (Num own) = int_eq n own
 number_seen n (Cons head tail) = false
 
--- what is shown as a number is that number
+-- a term that is shown as a number is that number
 pub number_shown : (n : ℤ) (terms : List Term) (v : View) (t : Term) → Shows terms v t
     → number_seen n v ≡ is_number n t
 number_shown n terms Nil t h = sym (ap (is_number n) h)

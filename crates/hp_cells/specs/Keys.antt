@@ -46,7 +46,7 @@ pub record IsKeyAt (terms : List Term) (i : ℕ) (key : Key) : Type 0 where
   pub stands : Stands terms key term
   pub back : KeepsBack i key
 
--- the keys of cells, and how deep their terms nest
+-- the keys of cells, and the depths of their terms
 pub record AreInterned (keys : List Key) (depths : List ℕ) : Type 0 where
   pub cells : AreCells (terms_of keys)
   pub stand : (i : ℕ) (key : Key) → slice_get keys i ≡ Some key → IsKeyAt (terms_of keys) i key

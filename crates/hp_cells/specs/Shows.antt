@@ -1,4 +1,4 @@
--- What a view says of a term.
+-- Views of terms.
 use Rattle.std.specs.Prelude.{◌≡◌, ℕ, ◌<◌, List}
 use Rattle.hp_syntax.specs.Terms.{Term, Symbol, Number, Listed, NoTerm}
 use Rattle.hp_cells.specs.Cells.{IsCons}

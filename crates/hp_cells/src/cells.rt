@@ -19,7 +19,7 @@ const MOST_TERMS: usize = u32::MAX as usize;
 /// Contracts see the list of the terms.
 pub struct Cells {
     keys: IndexSet<Key>,
-    // How deep each term nests.
+    // The depth of each term.
     depths: Vec<u32>,
     alloc: Global,
 }
@@ -67,7 +67,7 @@ impl Cells {
         })
     }
 
-    /// How many terms have cells.
+    /// The number of terms.
     pub fn len(&self) -> usize
         ensures count { result ≡ length self.now }
         ensures cells { AreCells self.now }
@@ -116,7 +116,7 @@ impl Cells {
         self.intern(Key::Cons(head, tail), depth)
     }
 
-    /// What the term of a cell is.
+    /// The view of a cell's term.
     pub fn get(&self, cell: Cell) -> View<'_>
         requires { cell < length self.now }
         ensures shows { (t : Term) → slice_get self.now cell ≡ Some t → Shows self.now result t }
@@ -148,7 +148,7 @@ impl Cells {
         }
     }
 
-    /// How deep the term of a cell nests: a symbol or a number 0, and a list one deeper than its deepest part, the
+    /// The depth of a cell's term: of a symbol or a number 0, of a list one more than that of its deepest part, of the
     /// empty one 1. It is found without a walk through the term.
     pub fn depth(&self, cell: Cell) -> usize
         requires { cell < length self.now }

@@ -1,4 +1,4 @@
-//! What names a term, and what stands at its place.
+//! Cells, which name terms, and the keys at their places.
 ghost use Rattle.std.specs.Prelude.{ℕ, List};
 ghost use Rattle.hp_syntax.specs.Terms.{Term};
 ghost use Rattle.hp_cells.specs.Keys.{Stands, KeepsBack};
@@ -38,8 +38,8 @@ impl Cell {
     }
 }
 
-/// What a term is, without a walk through it: the empty list, a symbol, a number, or a list by its first part and
-/// the list of the others.
+/// A term by its outermost form, without a walk through it: the empty list, a symbol, a number, or a list by its
+/// first part and the list of the others.
 #[derive(Clone, Copy, Debug)]
 pub enum View<'a> {
     Nil,
@@ -48,7 +48,7 @@ pub enum View<'a> {
     Cons(Cell, Cell),
 }
 
-// What stands at a place: a term whose parts stand at earlier ones.
+// The key of a term, whose parts have earlier places.
 #[derive(PartialEq, Eq, Hash)]
 pub(crate) enum Key {
     Nil,
@@ -67,7 +67,7 @@ impl Drop for Key {
 }
 
 impl Key {
-    // What the term is that the key stands for.
+    // The view of the term that the key stands for.
     pub(crate) fn view(&self) -> View<'_>
         ensures shows { (terms : List Term) (t : Term) → Stands terms self.now t → Shows terms result t }
         ensures earlier { (cell : ℕ) → KeepsBack cell self.now → LooksBack cell result }

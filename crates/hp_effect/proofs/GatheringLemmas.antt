@@ -1,6 +1,6 @@
--- What effects gather, one after another, and what of it is put into changes.
-use Rattle.std.proofs.Common.{append_assoc, ◌≡◌, ℕ, ◌+◌, ◌<◌, ◌≤◌, List, [], ◌∷◌, ◌++◌, length, take, drop, get_or, slice_get, Some, Result, Ok, Err, refl, sym, ◌∙◌, ap, ap₂, subst, arith}
-use Rattle.std.proofs.lemmas.List.{map-append, append-nil, length-take-le, take-append-le}
+-- The atoms that effects gather, one effect after another, and those of them that are put into changes.
+use Rattle.std.proofs.Common.{append_assoc, ◌≡◌, ℕ, ◌+◌, ◌<◌, List, [], ◌∷◌, ◌++◌, length, drop, get_or, slice_get, Some, Result, Ok, Err, refl, sym, ◌∙◌, ap, ap₂, subst, arith}
+use Rattle.std.proofs.lemmas.List.{map-append, append-nil}
 use Rattle.hp_syntax.specs.declared.fault.RunFault.{RunFault}
 use Rattle.hp_syntax.specs.declared.pattern.AtomPat.{AtomPat}
 use Rattle.hp_syntax.specs.Syntax.{Atom}
@@ -14,9 +14,8 @@ use Rattle.hp_eval.specs.declared.event.Event.TheVariants as events
 use Rattle.hp_eval.specs.Events.{PlainEvent, event_of, left_after, AreOfFirst}
 use Rattle.hp_eval.specs.GoalViews.{term_at}
 use Rattle.hp_eval.specs.Growth.{Grows}
-use Rattle.hp_eval.specs.Slotted.{Slotted, Binds, undone}
 use Rattle.hp_eval.proofs.CellViews.{at_named}
-use Rattle.hp_eval.proofs.GrowthLemmas.{all_below, terms_stay, prefix}
+use Rattle.hp_eval.proofs.GrowthLemmas.{all_below, terms_stay}
 use Rattle.hp_eval.proofs.Loops.{left_more}
 use Rattle.hp_world.specs.Stages.{terms_at, changes_of, ChangesBelow}
 use Rattle.hp_effect.specs.declared.changes.Part.{Part}
@@ -47,7 +46,7 @@ with_nothing Deletes c =
 with_nothing Adds c =
     same_changes c (with_gathered Adds (of_atoms []) c) refl refl (sym (append-nil c.add)) (sym (append-nil c.guard))
 
--- what is gathered later stands behind what was gathered before
+-- atoms gathered later stand behind those gathered before
 with_both : (side : Side) (x y : Gathered) (c : Changes)
     → with_gathered side y (with_gathered side x c) ≡ with_gathered side (both_gathered x y) c
 with_both Deletes x y c =
@@ -157,7 +156,7 @@ nothing_before (Went h) = refl
 nothing_before CutShort = refl
 nothing_before (Failed f) = refl
 
--- what was gathered before an effect stands before what it gathers
+-- the atoms gathered before an effect stand before its own
 both_assoc : (x y : Gathered) (left : Going Gathered)
     → both (Went x) (both (Went y) left) ≡ both (Went (both_gathered x y)) left
 both_assoc x y (Went h) =
@@ -177,7 +176,7 @@ module _ (side : Side) (whole : Going Gathered) (old : Changes) where
     below = below;
   }
 
-  -- what an effect gathers is put behind what was
+  -- the atoms of an effect are put behind those before
   pub along_more : (terms later : List Term) (now after : ChangesOf ℕ) (first left rest : Going Gathered)
       → left ≡ both first rest → Along side whole left terms old now
       → HasPut side first later (changes_of terms now) after → Along side whole rest later old after
@@ -190,7 +189,7 @@ module _ (side : Side) (whole : Going Gathered) (old : Changes) where
     below = p.below;
   }
 
-  -- where what is left is put the whole is
+  -- where the remainder is put the whole is
   pub along_ends : (terms later : List Term) (now after : ChangesOf ℕ) (left : Going Gathered)
       → Along side whole left terms old now → HasPut side left later (changes_of terms now) after
       → HasPut side whole later old after
@@ -201,7 +200,7 @@ module _ (side : Side) (whole : Going Gathered) (old : Changes) where
     below = p.below;
   }
 
-  -- where what is left stops the whole does
+  -- where the remainder stops the whole does
   pub along_halts : (terms : List Term) (now : ChangesOf ℕ) (left : Going Gathered) (obstacle : Obstacle)
       → Along side whole left terms old now → StopsHere obstacle left → StopsHere obstacle whole
   along_halts terms now left Cut h s = h.splits ∙ ap (both (Went h.values)) s
@@ -243,7 +242,7 @@ each_step as' (plain.Sat e) xs = sats_step (atom_values as' e) (values_for_each 
 each_step as' plain.Cut xs = refl
 each_step as' (plain.Fault f) xs = refl
 
--- what the values of atoms come to
+-- the outcome of the values of atoms
 abbrev pub atoms_going : Bindings → List AtomPat → Going Gathered
 atoms_going e atoms = only_atoms (atom_values (atoms_of atoms) e)
 
@@ -255,20 +254,19 @@ atoms_left atoms i e a l is =
     ap (atoms_going e) (left_more atoms i a l is)
     ∙ atoms_step (atom_value (atom_of a) e) (atom_values (atoms_of (drop (i + 1) atoms)) e)
 
--- ---- what stops
+-- ---- obstacles
 
--- what stops stops what would go on
-stops_go : {A B : Type 0} (obstacle : Obstacle) (x : Going A) (f : A → Going B) → StopsHere obstacle x
+-- an obstacle of the first of two outcomes is one of both
+pub stops_go : {A B : Type 0} (obstacle : Obstacle) (x : Going A) (f : A → Going B) → StopsHere obstacle x
     → StopsHere obstacle (and_go x f)
 stops_go Cut x f h = ap (λ y. and_go y f) h
 stops_go (Fault k) x f h = ap (λ y. and_go y f) h
 stops_go NoMemory x f h = tt
 
--- the same of what equals it
-stops_same : {A : Type 0} (obstacle : Obstacle) (x y : Going A) → x ≡ y → StopsHere obstacle y → StopsHere obstacle x
-stops_same Cut x y e h = e ∙ h
-stops_same (Fault k) x y e h = e ∙ h
-stops_same NoMemory x y e h = tt
+-- an obstacle of an outcome is one of an equal outcome
+pub stops_same : {A : Type 0} (obstacle : Obstacle) (x y : Going A) → x ≡ y → StopsHere obstacle y
+    → StopsHere obstacle x
+stops_same obstacle x y e h = subst (StopsHere obstacle) (sym e) h
 
 -- ---- the next event
 
@@ -332,12 +330,3 @@ fewer_behind [] h = absurd cc
 fewer_behind (plain.Sat e ∷ xs) h = omega arith
 fewer_behind (plain.Cut ∷ xs) h = absurd cc
 fewer_behind (plain.Fault f ∷ xs) h = absurd cc
-
--- grown terms agree with those before below the kept number
-pub kept_agree : (k : ℕ) (old new : List Term) → Grows old new → k ≤ length old → take k old ≡ take k new
-kept_agree k old new g h =
-    sym (ap (take k) (prefix old new g) ∙ take-append-le k old (drop (length old) new) h)
-
--- bindings above those of a mark are undone to these
-pub undone_above : (n : ℕ) (e f : Slotted) → n ≤ length e.trail → Binds (undone n e) f → undone n f ≡ undone n e
-undone_above n e f h b = ap (λ m. undone m f) (sym (length-take-le n e.trail h)) ∙ b.undoes

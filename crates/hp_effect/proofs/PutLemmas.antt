@@ -1,4 +1,4 @@
--- What applying changes to the terms that cells name comes to.
+-- Applying changes to the terms that cells name.
 use Rattle.std.specs.Prelude.{ℕ, List, length, Result, Ok, Err, IfOk}
 use Rattle.std.specs.declared.alloc.AllocError.{AllocError}
 use Rattle.std.proofs.Common.{ap, subst}
@@ -15,7 +15,7 @@ use Rattle.hp_world.specs.Answers.{Gives, Applies, of_terms}
 use Rattle.hp_world.proofs.AnswerLemmas.{applied_to_terms}
 use Rattle.hp_effect.specs.Puts.{IsApplied}
 
--- what applying gives on cells it comes to on the terms that they name
+-- the result of applying on cells is that on the terms that they name
 pub gives_terms : (terms : List Term) (a : Applied) (x : AppliedOf ℕ) (old new : History Stage) → Gives a x old new
     → IsApplied a terms new.now (of_terms terms x)
 gives_terms terms answers.Done (Now atoms guards) old new h = (ap (terms_at terms) h.0, ap (terms_at terms) h.1)
@@ -23,8 +23,7 @@ gives_terms terms (answers.Guarded a) (Guarded d) old new h = ap (term_at terms)
 gives_terms terms answers.Done (Guarded d) old new h = absurd h
 gives_terms terms (answers.Guarded a) (Now atoms guards) old new h = absurd h
 
--- where an application answers what applying the changes to the cells gives, it comes to what applying them to the
--- terms gives
+-- an application that answers the result on the cells answers that on the terms
 pub comes_to_terms : (r : Result Applied AllocError) (c : ChangesOf ℕ) (old new : History Stage)
     → IfOk r (λ a. Applies a c old new)
     → IfOk r (λ a. (terms : List Term) → AreCells terms → StageBelow (length terms) old.now

@@ -1,4 +1,4 @@
--- What valuing a cost answers.
+-- The answers of valuing a cost.
 use Rattle.std.specs.Prelude.{◌≡◌, ℤ, Option, Some, None, Result, Ok, Err}
 use Rattle.hp_syntax.specs.Terms.{Term, Symbol, Number, Listed}
 use Rattle.hp_syntax.specs.Changes.{Going, Went, Failed}

@@ -1,4 +1,4 @@
--- What effects gather, and what of it is put into changes.
+-- The atoms that effects gather, and those of them that are put into changes.
 use Rattle.std.specs.Prelude.{◌≡◌, ℕ, Bool, true, false, List, [], ◌∷◌, ◌++◌, length, Result, Ok, Err}
 use Rattle.hp_syntax.specs.declared.fault.RunFault.{RunFault}
 use Rattle.hp_syntax.specs.Syntax.{Atom}
@@ -17,7 +17,7 @@ use Rattle.hp_effect.specs.declared.side.Side.TheVariants.{Deletes, Adds}
 use Rattle.hp_effect.specs.declared.obstacle.Obstacle.{Obstacle}
 use Rattle.hp_effect.specs.declared.obstacle.Obstacle.TheVariants.{Cut, Fault, NoMemory}
 
--- what is done with an atom of a list of effects, and with a protection
+-- the list of the changes for an atom of a list of effects, and for a protection
 abbrev pub part_of_atoms : Side → Part
 part_of_atoms Deletes = Delete
 part_of_atoms Adds = Add
@@ -26,17 +26,17 @@ abbrev pub part_of_protections : Side → Part
 part_of_protections Deletes = Unguard
 part_of_protections Adds = Guard
 
--- where an evaluation stops, so do the effects
+-- the obstacle of an evaluation that stops
 abbrev pub obstacle_of : EvalStop → Obstacle
 obstacle_of (stops.Fault f) = Fault f
 obstacle_of stops.NoMemory = NoMemory
 
--- the changes with what a list of effects gathers behind the others
+-- the changes with the gathered atoms of a list of effects behind the others
 abbrev pub with_gathered : Side → Gathered → Changes → Changes
 with_gathered Deletes g c = record c { unguard = c.unguard ++ g.protections; delete = c.delete ++ g.atoms }
 with_gathered Adds g c = record c { add = c.add ++ g.atoms; guard = c.guard ++ g.protections }
 
--- ---- what effects come to
+-- ---- outcomes of effects
 
 -- the value of an atom, and that of a protection
 abbrev pub of_atom : Result Term RunFault → Going Gathered
@@ -58,9 +58,9 @@ values_at as' (plain.Fault f) = Failed f
 abbrev pub both : Going Gathered → Going Gathered → Going Gathered
 both x y = and_go x (λ g. and_go y (λ h. Went (both_gathered g h)))
 
--- ---- what is put into changes
+-- ---- atoms put into changes
 
--- effects went, and what they gather is put behind the others
+-- effects went, and their gathered atoms are put behind the others
 pub record HasPut (side : Side) (going : Going Gathered) (terms : List Term) (old : Changes)
     (new : ChangesOf ℕ) : Type 0 where
   pub values : Gathered
@@ -80,20 +80,20 @@ abbrev pub PutsAll : {A : Type 0} → Side → Result A Obstacle → Going Gathe
 PutsAll side (Ok _) going terms old new = HasPut side going terms old new
 PutsAll side (Err obstacle) going terms old new = StopsHere obstacle going
 
--- ---- what is put for each satisfier
+-- ---- atoms put for each satisfier
 
--- what the values of atoms come to under each Sat in turn
+-- the outcome of the values of atoms under each Sat in turn
 abbrev pub each_going : List Atom → List PlainEvent → Going Gathered
 each_going as' xs = only_atoms (values_for_each as' xs)
 
--- the effects of one event went and are put before what is left
+-- the effects of one event went and are put before those that are left
 pub record PutsFirst (side : Side) (whole left : Going Gathered) (terms : List Term) (old : Changes)
     (new : ChangesOf ℕ) : Type 0 where
   pub first : Going Gathered
   pub splits : whole ≡ both first left
   pub puts : HasPut side first terms old new
 
--- the next event is put: what is left comes behind it, or at the end the whole is nothing more, or else it stops
+-- the next event is put: the remainder comes behind it, or at the end the whole is nothing more, or else it stops
 abbrev pub PutsNext : Side → Result Bool Obstacle → Going Gathered → Going Gathered → List Term → Changes
     → ChangesOf ℕ → Type 0
 PutsNext side (Ok true) whole left terms old new = PutsFirst side whole left terms old new

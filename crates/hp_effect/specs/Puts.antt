@@ -1,4 +1,4 @@
--- What is put into changes, and what applying them comes to.
+-- Atoms that are put into changes, and the answers of applying these.
 use Rattle.std.specs.Prelude.{◌≡◌, ℕ, List, [], ◌∷◌, ◌++◌, Result, Ok, Err, Some, slice_get}
 use Rattle.hp_syntax.specs.declared.fault.RunFault.{RunFault}
 use Rattle.hp_syntax.specs.Terms.{Term}
@@ -40,7 +40,7 @@ Puts part (Ok _) value terms old new =
 Puts part (Err (stops.Fault f)) value terms old new = (value ≡ Err f) × (new ≡ old)
 Puts part (Err stops.NoMemory) value terms old new = new ≡ old
 
--- applying comes to this: the terms of what stands then, or the protected atom
+-- applying answers this: the terms of the new stage, or the protected atom
 abbrev pub IsApplied : Applied → List Term → Stage → terms_changed.Applied → Type 0
 IsApplied Done terms new (plain.Now s g) = (state_of terms new ≡ s) × (guards_of terms new ≡ g)
 IsApplied (Guarded a) terms new (plain.Guarded t) = term_at terms a ≡ t

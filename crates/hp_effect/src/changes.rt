@@ -18,7 +18,7 @@ use hp_world::{Applied, World};
 use std::alloc::{AllocError, Global};
 use std::marker::Model;
 
-/// What is done with an atom.
+/// One of the four lists of changes.
 #[derive(Clone, Copy, Debug, PartialEq, Eq)]
 pub enum Part {
     Unguard,

@@ -25,7 +25,7 @@ fn number(cell: Cell, cells: &Cells) -> Option<i64>
     }
 }
 
-/// The number that a cost's pattern stands for, or the first fault from the left; what is no number is a fault at the
+/// The number that a cost's pattern stands for, or the first fault from the left; another value is a fault at the
 /// pattern.
 pub fn cost(alloc: Global, pat: &Pat, slots: &Slots, cells: &mut Cells) -> Result<i64, EvalStop>
     requires slots { AreBelow (length cells.old) slots.now }

@@ -1,4 +1,4 @@
-//! What an operator changes and costs.
+//! The changes and the cost of an operator.
 #![tactic(auto)]
 
 mod changes;

@@ -1,4 +1,4 @@
-//! What stops effects.
+//! Obstacles of effects.
 use hp_eval::EvalStop;
 use hp_syntax::RunFault;
 use std::alloc::AllocError;

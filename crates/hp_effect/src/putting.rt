@@ -1,4 +1,4 @@
-//! What the effects of an operator put into changes.
+//! The effects of an operator are put into changes.
 ghost use Rattle.std.specs.Prelude.{◌≡◌, ◌<◌, ◌≤◌, List, Ok, OnOk, true, length};
 ghost use Rattle.hp_syntax.specs.Changes.{atom_values, values_for_each};
 ghost use Rattle.hp_syntax.specs.Values.{atom_value};

@@ -12,7 +12,7 @@ pub enum Side {
 }
 
 impl Side {
-    /// What is done with its atoms.
+    /// The list of the changes for its atoms.
     pub fn atoms(self) -> Part
         ensures { result ≡ part_of_atoms self }
     {
@@ -22,7 +22,7 @@ impl Side {
         }
     }
 
-    /// What is done with its protections.
+    /// The list of the changes for its protections.
     pub fn protections(self) -> Part
         ensures { result ≡ part_of_protections self }
     {

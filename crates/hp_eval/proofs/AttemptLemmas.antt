@@ -1,5 +1,5 @@
--- What cells name, and attempts one after the other.
-use Rattle.std.proofs.Common.{◌≡◌, ℕ, ◌<◌, ◌≤◌, Bool, true, false, List, length, Option, Some, None, Result, Ok, Err, sym, ◌∙◌, ap, ap₂, subst, ℤ, Bor}
+-- Terms of cells, and attempts one after the other.
+use Rattle.std.proofs.Common.{◌≡◌, ◌⊎◌, inl, inr, ℕ, ◌<◌, ◌≤◌, Bool, true, false, List, length, Option, Some, None, Result, Ok, Err, sym, ◌∙◌, ap, ap₂, subst, ℤ, Bor}
 use Rattle.std.specs.Prelude.{slice_get}
 use Rattle.std.specs.Option.{option_and_then}
 use Rattle.std.specs.Result.{IsErr}
@@ -23,19 +23,19 @@ use Rattle.hp_eval.specs.Steps.{is_list}
 use Rattle.hp_eval.proofs.CellViews.{named_at, at_named}
 use Rattle.hp_eval.proofs.SlotLemmas.{binds_self, binds_through, binds_bound, bindings_free, bindings_some, bindings_bound, below_bound}
 
--- ---- what cells name
+-- ---- terms of cells
 
--- what names a list is below the count
+-- a cell that names a list is below the count
 pub list_within : (terms : List Term) (cell : ℕ) → NamesList terms cell → cell < length terms
 list_within terms cell (ts, h) = slice_get_within terms cell (Listed ts) h
 
--- what names a list names that of its terms
+-- a cell that names a list names that of its terms
 pub list_named : (terms : List Term) (cell : ℕ) → NamesList terms cell
     → term_at terms cell ≡ Listed (parts_at terms cell)
 list_named terms cell (ts, h) =
     let e = at_named terms cell (Listed ts) h in e ∙ ap (λ t. Listed (parts_of t)) (sym e)
 
--- what a comparison tells of the term that a cell names, it tells of the term at the cell
+-- a comparison of the term that a cell names is one of the term at the cell
 pub compared_at : (terms : List Term) (cell : ℕ) (t : Term) (does : Bool) (test : Term → Bool)
     → slice_get terms cell ≡ Some t → ((u : Term) → slice_get terms cell ≡ Some u → does ≡ test u)
     → does ≡ test (term_at terms cell)
@@ -87,6 +87,19 @@ view_number terms view t n h e = subst (λ v. Shows terms v t) e h
 pub view_cons : (terms : List Term) (view : View) (t : Term) (first others : ℕ) → Shows terms view t
     → view ≡ Cons first others → IsCons terms first others t
 view_cons terms view t first others h e = subst (λ v. Shows terms v t) e h
+
+-- a fact of the empty list, of symbols and of numbers is one of each term whose view has no first part
+pub without_first : (P : Term → Type 0) (terms : List Term) (view : View) (t : Term) → Shows terms view t
+    → (view ≡ Nil) ⊎ (((name : Bor Name) × (view ≡ Sym name)) ⊎ ((n : ℤ) × (view ≡ Num n)))
+    → P (Listed NoTerm) → ((name : List ℕ) → P (Symbol name)) → ((n : ℤ) → P (Number n)) → P t
+without_first P terms view t h is nil symbol number =
+    elim is [
+      | inl e ↦ subst P (sym (view_nil terms view t h e)) nil
+      | inr s ↦ elim s [
+        | inl p ↦ subst P (sym (view_symbol terms view t p.0 h p.1)) (symbol p.0.now)
+        | inr p ↦ subst P (sym (view_number terms view t p.0 h p.1)) (number p.0)
+      ]
+    ]
 
 -- a cell of which the view is that of a list by its parts names it
 pub cons_at : (terms : List Term) (cell : ℕ) (view : View) (first others : ℕ)

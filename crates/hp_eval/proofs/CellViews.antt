@@ -1,4 +1,4 @@
--- What cells show of their terms.
+-- Views of cells' terms.
 use Rattle.std.proofs.Common.{◌≡◌, ℕ, zero, suc, ◌<◌, Bool, true, false, ◌==◌, ◌||◌, List, [], ◌∷◌, length, Some, slice_get, Result, Ok, Err, ℤ, refl, ap, sym, ◌∙◌, arith}
 use Rattle.std.proofs.lemmas.Bool.Decides.{same_from_decides, Decides-eqb}
 use Rattle.hp_cells.specs.declared.keys.View.{View}
@@ -39,7 +39,7 @@ list_seen (Sym name) = false
 list_seen (Num n) = false
 list_seen (Cons head tail) = true
 
--- what is shown as a list is one
+-- a term that is shown as a list is one
 pub list_shown : (terms : List Term) (v : View) (t : Term) → Shows terms v t → list_seen v ≡ is_list t
 list_shown terms Nil t h = sym (ap is_list h)
 list_shown terms (Sym name) t h = sym (ap is_list h)
@@ -53,7 +53,7 @@ number_seen s (Sym name) = Err (fault_at NotNumber s)
 number_seen s (Num n) = Ok n
 number_seen s (Cons head tail) = Err (fault_at NotNumber s)
 
--- what is shown as a number is that number
+-- a term that is shown as a number is that number
 pub number_shown : (s : Span) (terms : List Term) (v : View) (t : Term) → Shows terms v t
     → number_seen s v ≡ number_of s t
 number_shown s terms Nil t h = sym (ap (number_of s) h)

@@ -1,4 +1,4 @@
--- What an axiom concludes of a goal.
+-- Conclusions of an axiom on a goal.
 use Rattle.std.proofs.Common.{◌≡◌, ℕ, ◌+◌, ◌<◌, ◌≤◌, Bool, true, false, ◌&&◌, cond, List, [], ◌∷◌, length, drop, get_or, slice_get, Option, Some, None, Ok, Err, ℤ, Vec, refl, sym, ◌∙◌, ap, ap₂, subst}
 use Rattle.std.specs.Global.{Global}
 use Rattle.std.proofs.lemmas.List.{drop_all}
@@ -67,7 +67,7 @@ parts_none e = refl
 
 module _ (ps : List Pat) (i : ℕ) (e : Bindings) (whole : Bool)
     (so_far : whole ≡ parts_bound (patterns_of (drop i ps)) e) where
-  -- what is left is bound where its first and the others are
+  -- the remainder is bound where its first and the others are
   first_left : (p : Pat) → i < length ps → p ≡ get_or ps i p
       → whole ≡ (all_bound (pattern_of p) e && parts_bound (patterns_of (drop (i + 1) ps)) e)
   first_left p l is =

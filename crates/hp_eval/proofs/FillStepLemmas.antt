@@ -1,4 +1,4 @@
--- The steps of filling: parts from left to right, what stands behind them, and lists of known parts.
+-- The steps of filling: parts from left to right, the continuation behind them, and lists of known parts.
 use Rattle.std.proofs.Common.{◌≡◌, ℕ, ◌+◌, ◌<◌, ◌≤◌, true, false, cond, max, List, [], ◌∷◌, ◌++◌, length, drop, get_or, Option, Some, None, Result, Ok, Err, option_map, refl, sym, ◌∙◌, ap, ap₂, subst, arith, ◌⊎◌, inl, inr}
 use Rattle.std.specs.Prelude.{slice_get, nat_lt, Vec}
 use Rattle.std.specs.Global.{Global}
@@ -40,7 +40,7 @@ use Rattle.hp_eval.specs.Growth.{Grows, Gives, GivesBy}
 use Rattle.hp_eval.specs.Slotted.{Slotted, AreBelow, flat, named, bindings_of}
 use Rattle.hp_laws.proofs.FillLemmas.{known_ground}
 use Rattle.hp_eval.proofs.CellViews.{named_at, at_named, names_parts}
-use Rattle.hp_eval.proofs.ConsLemmas.{interns_grows}
+use Rattle.hp_eval.proofs.ListSteps.{interns_grows}
 use Rattle.hp_eval.proofs.GrowthLemmas.{grows_self}
 use Rattle.hp_eval.proofs.ValueSteps.{bound_named}
 use Rattle.hp_eval.proofs.GoalViewLemmas.{filled_of-known, filled_of-free, filled_of-list, filled_grows}
@@ -75,7 +75,7 @@ joined-push terms (x ∷ fs) f gs = ap (Then (filled_of terms x)) (joined-push t
 abbrev with_first : plain.Filled → Filling → Filling
 with_first x f = (Then x f.0, f.1)
 
--- what is done with a first part and what follows it
+-- a first part goes before the others alone, or before them with their continuation
 first_moved : (a : Result plain.Filled RunFault) (b c : Result Filling RunFault)
     → on_ok a (λ x. on_ok (on_ok b (λ f. on_ok c (λ r. Ok (before_rest f.0 r)))) (λ f. Ok (with_first x f)))
     ≡ on_ok (on_ok a (λ x. on_ok b (λ f. Ok (with_first x f)))) (λ f. on_ok c (λ r. Ok (before_rest f.0 r)))
@@ -219,7 +219,7 @@ not_among_known (Then (plain.Known t) fs) gs x h k =
 not_among_known (Then (plain.Free v) fs) gs x h k = none-some k.0 k.1
 not_among_known (Then (plain.Partly ps t) fs) gs x h k = none-some k.0 k.1
 
--- ---- how deep parts nest
+-- ---- depths of parts
 
 -- a free variable or a list has no depth
 pub free_depth : (terms : List Term) (f : Filled)
@@ -301,7 +301,7 @@ list_appended terms gs fs cell head tail t h k a =
     (sym (filled_of-known terms head))
     ∙ sym (joined-push terms fs (filled.Known head) (all_known (parts_at terms tail)))))
 
--- what shows no first part of a list shows the empty one
+-- a view of a list without a first part is that of the empty one
 list_ended : (terms : List Term) (v : View) (ts : Terms) → Shows terms v (Listed ts)
     → ((head tail : ℕ) → v ≡ views.Cons head tail → ⊥) → ts ≡ NoTerm
 list_ended terms views.Nil ts h n = cc
@@ -481,7 +481,7 @@ fill_valued p e no_variable no_list = of_kind (out-PatKind p.kind) (sym (roll-ou
         of _ (pattern_of-call p name args (h ∙ rolls-Call name args))
         (fill_call e p.span name (patterns_of args.items))
 
--- ---- what an evaluation answers
+-- ---- answers of evaluations
 
 -- a stop of one value is a stop of another that has its faults
 pub stop_passes : {A B C D : Type 0} (f : A → B) (g : C → D) (stop : EvalStop) (x : Result B RunFault)

@@ -1,4 +1,4 @@
--- What the parts of a goal stand for, variant by variant, and that they stand for it still where terms are added.
+-- The fillings of a goal's parts, variant by variant, and that they stay where terms are added.
 use Rattle.std.proofs.Common.{◌≡◌, ℕ, suc, ◌<◌, ◌≤◌, Bool, true, ◌&&◌, List, [], ◌∷◌, length, map, get_or, Option, Some, refl, sym, ◌∙◌, ap, ap₂, subst, arith}
 use Rattle.std.specs.Prelude.{nat_lt, slice_get, Vec}
 use Rattle.std.specs.Global.{Global}
@@ -22,7 +22,7 @@ use Rattle.hp_eval.specs.FillSteps.{AreFilledBelow}
 use Rattle.hp_eval.proofs.GrowthLemmas as growth
 use Rattle.hp_eval.proofs.GrowthLemmas.{grows_length}
 
--- ---- what parts stand for
+-- ---- fillings of parts
 
 filled_stands : List Term → Filled-F Filled → plain.Filled
 filled_stands terms x = filled_layer terms (map-Filled Filled plain.Filled (filled_of terms) x)
@@ -158,7 +158,7 @@ below_place n fs i f h k =
 pub all_below_grow : (m n : ℕ) (fs : List Filled) → m ≤ n → AreFilledBelow m fs → AreFilledBelow n fs
 all_below_grow m n fs l h = λ k d i. is_below_more m n (get_or fs k d) l (h k d i)
 
--- what equals at each place is mapped to the same
+-- functions that are equal at each place map a list alike
 map_places : {X Y : Type 0} (f g : X → Y) (xs : List X) → ((i : ℕ) (x : X) → slice_get xs i ≡ Some x → f x ≡ g x)
     → map f xs ≡ map g xs
 map_places f g [] h = refl

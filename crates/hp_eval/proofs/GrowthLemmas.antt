@@ -1,15 +1,16 @@
 -- Terms that are added leave those before at their places.
-use Rattle.std.proofs.Common.{◌≡◌, ℕ, suc, ◌<◌, ◌≤◌, List, [], ◌∷◌, ◌++◌, length, map, take, drop, slice_get, Option, Some, None, refl, ap, ap₂, sym, ◌∙◌, subst, arith, append_assoc, length-append}
+use Rattle.std.proofs.Common.{◌≡◌, ℕ, ◌<◌, ◌≤◌, List, [], ◌∷◌, ◌++◌, length, map, take, drop, slice_get, Some, refl, ap, ap₂, sym, ◌∙◌, subst, arith, append_assoc, length-append}
 use Rattle.std.specs.List.{All}
 use Rattle.std.proofs.Math.Seq.{take-append_seam, take-length}
-use Rattle.std.proofs.lemmas.List.{take-append-drop}
+use Rattle.std.proofs.lemmas.List.{take-append-drop, take-append-le}
 use Rattle.std.proofs.lemmas.List.Elements.{All-weaker, All-head, All-tail}
 use Rattle.std.proofs.lemmas.Option.{slice_get_within}
 use Rattle.hp_cells.proofs.PlaceLemmas.{same_in_longer}
 use Rattle.hp_syntax.specs.Terms.{Term}
 use Rattle.hp_eval.specs.GoalViews.{term_or_nil, term_at}
 use Rattle.hp_eval.specs.Growth.{Grows}
-use Rattle.hp_eval.specs.Slotted.{Slotted, AreBelow, named, bindings_of}
+use Rattle.hp_eval.specs.Slotted.{Slotted, AreBelow, bindings_of}
+use Rattle.hp_eval.specs.SlotLaws.{bindings_agree}
 
 -- terms grow into themselves
 pub grows_self : (terms : List Term) → Grows terms terms
@@ -56,17 +57,13 @@ module _ (old new : List Term) (g : Grows old new) where
       ap₂ ◌∷◌ (ap term_or_nil (stays c (All-head (λ c. c < length old) c cs h)))
       (terms_stay cs (All-tail (λ c. c < length old) c cs h))
 
-  -- what cells of variables name, stays
-  named_stay : (values : List (Option ℕ))
-      → ((v cell : ℕ) → slice_get values v ≡ Some (Some cell) → cell < length old)
-      → map (named new) values ≡ map (named old) values
-  named_stay [] h = refl
-  named_stay (None ∷ vs) h = ap (λ e. None ∷ e) (named_stay vs (λ v cell. h (suc v) cell))
-  named_stay (Some c ∷ vs) h = ap₂ ◌∷◌ (stays c (h 0 c refl)) (named_stay vs (λ v cell. h (suc v) cell))
+  -- the new terms agree with those before below a number of cells that stood
+  pub kept_agree : (n : ℕ) → n ≤ length old → take n old ≡ take n new
+  kept_agree n h = sym (ap (take n) prefix ∙ take-append-le n old (drop (length old) new) h)
 
   -- bindings of cells of the terms before stay
   pub bindings_stay : (s : Slotted) → AreBelow (length old) s → bindings_of new s ≡ bindings_of old s
-  bindings_stay s h = named_stay s.values h
+  bindings_stay s h = sym (bindings_agree (length old) old new s h (kept_agree (length old) (omega arith)))
 
   -- slots stay below the number of terms
   pub below_grows : (s : Slotted) → AreBelow (length old) s → AreBelow (length new) s

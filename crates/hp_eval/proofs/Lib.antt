@@ -1,10 +1,10 @@
 pub mod Loops
-pub mod PowerLemmas
-pub mod CallLemmas
+pub mod PowerSteps
+pub mod CallRowLemmas
 pub mod CellViews
 pub mod ListViews
 pub mod GrowthLemmas
-pub mod ConsLemmas
+pub mod ListSteps
 pub mod Stops
 pub mod ValueSteps
 pub mod TreeViews
@@ -14,8 +14,8 @@ pub mod GoalViewLemmas
 pub mod FillStepLemmas
 pub mod SlotLemmas
 pub mod AttemptLemmas
-pub mod MatchingLemmas
-pub mod GoalMatchLemmas
-pub mod StartLemmas
-pub mod CopyLemmas
+pub mod MatchingSteps
+pub mod GoalMatchSteps
+pub mod StartingSteps
+pub mod Copies
 pub mod ConcludeSteps

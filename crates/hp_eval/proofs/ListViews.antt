@@ -1,4 +1,4 @@
--- Lists by their parts: what a call takes, and how deep a list may nest.
+-- Lists by their parts: the arguments of a call, and the depth of a list.
 use Rattle.std.proofs.Common.{◌≡◌, ℕ, ◌<◌, ◌≤◌, Bool, true, false, cond, nat_lt, List, [], ◌∷◌, length, map, get_or, Ok, Err, ℤ, Option, Some, None, option_map, refl, ap, ap₂, sym, arith}
 use Rattle.hp_syntax.specs.declared.limits.TheConstants.{DEEPEST_TERM}
 use Rattle.hp_syntax.specs.declared.pattern.Span.{Span}

@@ -1,7 +1,8 @@
 -- Loops over a list, whose invariant speaks of the part of the list that is left: values that are computed one by one,
 -- up to the first fault.
-use Rattle.std.proofs.Common.{◌≡◌, ℕ, ◌+◌, ◌<◌, ◌≤◌, List, [], ◌∷◌, ◌++◌, length, drop, get_or, Result, Ok, Err, refl, ap, sym, ◌∙◌}
+use Rattle.std.proofs.Common.{◌≡◌, ℕ, ◌+◌, ◌<◌, ◌≤◌, List, [], ◌∷◌, ◌++◌, length, drop, get_or, slice_get, Some, Result, Ok, Err, refl, ap, sym, ◌∙◌}
 use Rattle.std.proofs.lemmas.List.{drop_more, drop_all}
+use Rattle.std.proofs.lemmas.Option.{slice_get_within, get_or_from_slice_get}
 use Rattle.hp_syntax.specs.declared.fault.RunFault.{RunFault}
 use Rattle.hp_syntax.specs.Values.{on_ok}
 use Rattle.hp_eval.specs.Steps.{in_front}
@@ -10,6 +11,10 @@ use Rattle.hp_eval.specs.Steps.{in_front}
 pub left_more : {X : Type 0} (xs : List X) (i : ℕ) (x : X) → i < length xs → x ≡ get_or xs i x
     → drop i xs ≡ x ∷ drop (i + 1) xs
 left_more xs i x lt is = drop_more xs i x lt ∙ ap (λ y. y ∷ drop (i + 1) xs) (sym is)
+
+-- so it does with what stands at a place
+pub left_at : {X : Type 0} (xs : List X) (i : ℕ) (x : X) → slice_get xs i ≡ Some x → drop i xs ≡ x ∷ drop (i + 1) xs
+left_at xs i x h = left_more xs i x (slice_get_within xs i x h) (sym (get_or_from_slice_get xs i x x h))
 
 -- values with one more behind them stand before a list as they do before that value and the list
 pub in_front_push : {V W : Type 0} (cons : V → W → W) (vs : List V) (v : V) (w : W)
@@ -22,7 +27,7 @@ pub list_in_front : {V : Type 0} (vs : List V) → in_front ◌∷◌ vs [] ≡ 
 list_in_front [] = refl
 list_in_front (v ∷ vs) = ap (λ us. v ∷ us) (list_in_front vs)
 
--- what is left of the values, behind those that are there
+-- the values that are left, behind those that are there
 abbrev pub behind : {V W : Type 0} → (V → W → W) → List V → Result W RunFault → Result W RunFault
 behind cons vs r = on_ok r (λ w. Ok (in_front cons vs w))
 

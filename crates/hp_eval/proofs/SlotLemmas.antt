@@ -1,5 +1,5 @@
 -- Bindings that are made and undone, and the terms that they name.
-use Rattle.std.proofs.Common.{◌≡◌, ◌≢◌, ℕ, zero, suc, ◌+◌, ◌<◌, ◌≤◌, List, [], ◌∷◌, ◌++◌, length, map, take, drop, replicate, get_or, Option, Some, None, option_map, refl, sym, ◌∙◌, ap, ap₂, subst, arith, ⊎_elim}
+use Rattle.std.proofs.Common.{◌≡◌, ◌≢◌, ℕ, zero, suc, ◌+◌, ◌<◌, ◌≤◌, Bool, true, false, List, [], ◌∷◌, ◌++◌, length, map, take, drop, replicate, get_or, Option, Some, None, option_map, refl, sym, ◌∙◌, ap, ap₂, subst, arith, ⊎_elim}
 use Rattle.std.specs.Prelude.{slice_get, slice_set}
 use Rattle.std.specs.List.{AllPairs, Contains}
 use Rattle.std.proofs.lemmas.Bool.{cases_eq}
@@ -13,8 +13,9 @@ use Rattle.std.proofs.lemmas.Map.Views.{Contains-from_any}
 use Rattle.std.proofs.lemmas.Option.{same_Some, slice_get-map, slice_get_within, get_or_from_slice_get}
 use Rattle.hp_laws.proofs.BindingLemmas.{slice_get-set_same, slice_get-set_other}
 use Rattle.hp_syntax.specs.Terms.{Term}
+use Rattle.hp_syntax.specs.Values.{Bindings}
 use Rattle.hp_eval.specs.declared.slots.Slot.{Slot}
-use Rattle.hp_eval.specs.Slotted.{Slotted, slotted, stored, no_bindings, with_bound, without, undone, AreSlots, Binds, AreBelow, named, bindings_of}
+use Rattle.hp_eval.specs.Slotted.{Slotted, slotted, stored, no_bindings, with_bound, without, undone, AreSlots, Binds, AreBelow, Matched, named, bindings_of}
 
 -- ---- taking bindings back
 
@@ -23,6 +24,11 @@ without-append : (us vs : List ℕ) (values : List (Option ℕ))
     → without (us ++ vs) values ≡ without vs (without us values)
 without-append [] vs values = refl
 without-append (u ∷ us) vs values = without-append us vs (slice_set values u None)
+
+-- clearing variables leaves as many
+length-without : (vs : List ℕ) (values : List (Option ℕ)) → length (without vs values) ≡ length values
+length-without [] values = refl
+length-without (v ∷ vs) values = length-without vs (slice_set values v None) ∙ length-set values v None
 
 -- the order in which two variables are cleared is the same
 clear_comm : (values : List (Option ℕ)) (v w : ℕ)
@@ -45,7 +51,7 @@ without_comm [] vs values = refl
 without_comm (u ∷ us) vs values =
     ap (without us) (sym (without-set vs values u)) ∙ without_comm us vs (slice_set values u None)
 
--- what is taken between two marks and behind the later is what is behind the earlier
+-- the variables between two marks and those behind the later are those behind the earlier
 between_marks : (m n : ℕ) (xs : List ℕ) → m ≤ n → n ≤ length xs → drop m (take n xs) ++ drop n xs ≡ drop m xs
 between_marks m n xs l k =
     let here : m ≤ length (take n xs) = subst (λ i. m ≤ i) (sym (length-take-le n xs k)) l in
@@ -79,6 +85,20 @@ binds_through a b c f g = record {
       ∙ (ap (undone (length a.trail)) g.undoes ∙ f.undoes);
 }
 
+-- further bindings are of as many variables
+pub binds_vars : (old new : Slotted) → Binds old new → length new.values ≡ length old.values
+binds_vars old new b =
+    sym (length-without (drop (length old.trail) new.trail) new.values) ∙ ap (λ s. length s.values) b.undoes
+
+-- bindings that stand above those of a mark are undone to these
+pub undone_above : (n : ℕ) (e f : Slotted) → n ≤ length e.trail → Binds (undone n e) f → undone n f ≡ undone n e
+undone_above n e f h b = ap (λ m. undone m f) (sym (length-take-le n e.trail h)) ∙ b.undoes
+
+-- so are those above the start of satisfiers, which a call leaves as it was
+pub undone_start : (old new : ℕ) (e f : Slotted) → new ≡ old → old ≤ length e.trail → Binds (undone old e) f
+    → undone new f ≡ undone old e
+undone_start old new e f same h b = ap (λ n. undone n f) same ∙ undone_above old e f h b
+
 -- a further binding stands above those before
 pub binds_bound : (s : Slotted) (v cell : ℕ) → slice_get s.values v ≡ Some None → Binds s (with_bound v cell s)
 binds_bound s v cell h = record {
@@ -92,7 +112,7 @@ binds_bound s v cell h = record {
       (take_at s.trail (v ∷ []) (length s.trail) refl);
 }
 
--- ---- what is bound is listed once
+-- ---- bound variables are listed once
 
 -- a variable that is listed twice is listed at different places
 once_only : (us vs : List ℕ) (v : ℕ) → AllPairs (λ x y. x ≢ y) (us ++ vs) → Contains us v → Contains vs v → ⊥
@@ -132,6 +152,13 @@ without_these (w ∷ vs) values v cell h =
       sym (slice_get-set_other values w v None apart) ∙ rest.0,
       λ c. ⊎_elim (λ i. apart (only_one w v i)) rest.1 (Contains-append_cases (w ∷ []) vs v c),
     )
+
+-- further bindings keep the cells that variables stood for before
+pub binds_keep : (old new : Slotted) → Binds old new → (v cell : ℕ) → slice_get old.values v ≡ Some (Some cell)
+    → slice_get new.values v ≡ Some (Some cell)
+binds_keep old new b v cell h =
+    (without_these (drop (length old.trail) new.trail) new.values v cell
+    (ap (λ s. slice_get s.values v) b.undoes ∙ h)).0
 
 -- bindings of no variable list none
 pub are_slots_none : (n : ℕ) → AreSlots (no_bindings n)
@@ -232,7 +259,7 @@ are_slots_undone n s a = record { listed = listed_each; bound = bound_each; once
         ∙ (i_at ∙ (q ∙ (sym j_at ∙ ap (λ xs. get_or xs j d) whole))) in
         a.once i j d l (omega arith) e
 
--- ---- how bindings are stored
+-- ---- stored bindings
 
 -- as many bindings are told as are stored
 pub length-stored : (slots : List Slot) (bound : ℕ) → bound ≤ length slots → length (stored slots bound).trail ≡ bound
@@ -257,7 +284,7 @@ places_to_bind slots bound v a l h =
     let known = slice_get_within (stored slots bound).values v None h in
     (omega arith, omega arith)
 
--- what is stored beside a part that changes stays
+-- the parts beside one that changes stay
 map-set_same : {Y : Type 0} (part : Slot → Y) (slots : List Slot) (i : ℕ) (old new : Slot) → i < length slots
     → old ≡ get_or slots i old → part new ≡ part old → map part (slice_set slots i new) ≡ map part slots
 map-set_same part slots i old new l h e =
@@ -265,7 +292,7 @@ map-set_same part slots i old new l h e =
     ∙ (ap (slice_set (map part slots) i) (e ∙ (ap part h ∙ sym (get_or-map part slots i old (part old) l)))
     ∙ set-get_or (map part slots) i (part old))
 
--- what a variable stands for is stored apart from what is listed
+-- the cell of a variable is stored apart from the listed variables
 stored-value : (slots : List Slot) (bound v : ℕ) (old : Slot) (value : Option ℕ) → v < length slots
     → old ≡ get_or slots v old
     → stored (slice_set slots v (record old { value = value })) bound
@@ -364,3 +391,17 @@ below_bound n s v cell b l w x h =
 -- cells stay below a count when bindings are undone
 pub below_undone : (n m : ℕ) (s : Slotted) → AreBelow n s → AreBelow n (undone m s)
 below_undone n m s b v x h = b v x (without_these (drop m s.trail) s.values v x h).0
+
+-- ---- matching
+
+-- a match that failed found nothing, and leaves the slots
+pub match_failed : (does : Bool) (found : Option Bindings) (terms : List Term) (old new : Slotted) → does ≡ false
+    → Matched does found terms old new → (found ≡ None) × (new ≡ old)
+match_failed true found terms old new e h = absurd cc
+match_failed false found terms old new e h = h
+
+-- a match that ended well found the bindings that it made
+pub match_made : (does : Bool) (found : Option Bindings) (terms : List Term) (old new : Slotted) → does ≡ true
+    → Matched does found terms old new → (found ≡ Some (bindings_of terms new)) × Binds old new
+match_made true found terms old new e h = h
+match_made false found terms old new e h = absurd cc

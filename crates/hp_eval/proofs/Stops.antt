@@ -1,4 +1,4 @@
--- What an evaluation that stopped says of the value.
+-- Values of evaluations that stopped.
 use Rattle.std.proofs.Common.{◌≡◌, ℕ, List, Result, Err, subst}
 use Rattle.hp_syntax.specs.declared.fault.RunFault.{RunFault}
 use Rattle.hp_syntax.specs.Terms.{Term}
@@ -6,7 +6,7 @@ use Rattle.hp_eval.specs.declared.event.EvalStop.{EvalStop}
 use Rattle.hp_eval.specs.declared.event.EvalStop.TheVariants as stops
 use Rattle.hp_eval.specs.Growth.{Gives, GivesBy}
 
--- what an evaluation stopped at says of any value that stops where this one does
+-- a value stops where an evaluation stopped; for want of memory it is free
 abbrev pub StopsAt : {A : Type 0} → EvalStop → Result A RunFault → Type 0
 StopsAt (stops.Fault f) value = value ≡ Err f
 StopsAt stops.NoMemory value = Unit {0}
@@ -29,13 +29,13 @@ pub gives_stop : (e : EvalStop) (value : Result Term RunFault) (terms : List Ter
 gives_stop (stops.Fault f) value terms h = h
 gives_stop stops.NoMemory value terms h = h
 
--- what stops where another value does
+-- a value stops that is a fault where another one is
 pub stops_too : {A B : Type 0} (e : EvalStop) (r : Result A RunFault) (s : Result B RunFault)
     → ((f : RunFault) → r ≡ Err f → s ≡ Err f) → StopsAt e r → StopsAt e s
 stops_too (stops.Fault f) r s g h = g f h
 stops_too stops.NoMemory r s g h = h
 
--- what gives a value gives an equal one
+-- an evaluation gives an equal value
 pub gives_same : (r : Result ℕ EvalStop) (v w : Result Term RunFault) (terms : List Term) → v ≡ w → Gives r v terms
     → Gives r w terms
 gives_same r v w terms e g = subst (λ x. Gives r x terms) e g

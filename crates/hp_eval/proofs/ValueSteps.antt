@@ -68,7 +68,7 @@ parts_give ps e ts f parts = sym (ap (λ r. on_ok r f) (parts ∙ ap Ok (onto_no
 
 -- ---- variables
 
--- what a variable stands for is the term that its cell names
+-- a variable is bound to the term that its cell names
 pub bound_named : (terms : List Term) (s : Slotted) (v : ℕ)
     → bound (bindings_of terms s) v ≡ named terms (flat (slice_get s.values v))
 bound_named terms s v =
@@ -118,7 +118,7 @@ module _ (p : Pat) (e : Bindings) where
   unfolding value values
   value_of-list parts tail h = ap (λ q. value q e) (pattern_of-list p parts tail h)
 
-  -- that of a call is what the call gives for its arguments' values
+  -- that of a call is the call's of its arguments' values
   pub value_of-call : (name : Name) (args : Vec Pat Global) → p.kind ≡ pats.Call name args
       → value (pattern_of p) e ≡ on_ok (values (patterns_of args.items) None e) (λ ts. call name ts p.span)
   unfolding value values

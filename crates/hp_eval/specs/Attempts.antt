@@ -1,4 +1,4 @@
--- What an attempt to match answers and leaves, and what the cells of lists name.
+-- The answers of attempts to match, the slots behind them, and the terms of lists' cells.
 use Rattle.std.specs.Prelude.{◌≡◌, ℕ, ◌<◌, Bool, cond, List, length, Option, Some, None, Result, Ok, Err}
 use Rattle.hp_syntax.specs.Terms.{Term, Terms, NoTerm, More}
 use Rattle.hp_syntax.specs.Values.{Bindings}

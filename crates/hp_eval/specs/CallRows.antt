@@ -1,4 +1,4 @@
--- The rows of the call table in code, and what they give.
+-- The rows of the call table in code, and their values.
 use Rattle.std.specs.Prelude.{ℕ, List, Option, Some, None, bytes_eq, ℤ, ◌+ℤ◌, ◌-ℤ◌, ◌*ℤ◌, int_le, int_lt, pos, unsigned_abs, cond, not, codes, Result, Ok, Err}
 use Rattle.std.specs.Int.{int_min, int_max}
 use Rattle.hp_syntax.specs.declared.pattern.Span.{Span}
@@ -51,11 +51,11 @@ two_of twos.AtMost = λ s m n. plain.truth (int_le m n)
 two_of twos.AtLeast = λ s m n. plain.truth (int_le n m)
 two_of twos.Greater = λ s m n. plain.truth (int_lt n m)
 
--- how far a number is from 0
+-- the absolute value of a number
 abbrev pub size_of : Span → ℤ → Result Term RunFault
 size_of s n = plain.number s (pos (unsigned_abs n))
 
--- what a function of numbers gives for numbers
+-- the value of a function of numbers
 abbrev pub numbers_called : OfNumbers → Span → List ℤ → Result Term RunFault
 numbers_called (functions.InTurn f) s ns = plain.from_left (step_of f) s (Some ns)
 numbers_called (functions.OfTwo f) s ns = plain.of_two (two_of f) s (Some ns)

@@ -1,4 +1,4 @@
--- What an axiom's bindings conclude of a goal, in slots.
+-- Conclusions of an axiom's bindings on a goal, in slots.
 use Rattle.std.specs.Prelude.{◌≡◌, Bool, true, false, ◌&&◌, List, [], ◌∷◌, Result, Ok, Err}
 use Rattle.hp_syntax.specs.Events.{Event, Sat, Fault, parts_bound, tail_is_bound}
 use Rattle.hp_syntax.specs.Syntax.{Atom}
@@ -12,7 +12,7 @@ use Rattle.hp_eval.specs.Slotted.{Slotted, Binds, bindings_of}
 abbrev pub head_bound : Atom → Bindings → Bool
 head_bound h b = parts_bound h.args b && tail_is_bound h.tail b
 
--- what concluding answers: true with the one satisfier's bindings, bound above those before; false where nothing is
+-- the answer of concluding: true with the one satisfier's bindings, bound above those before; false where nothing is
 -- met; else the fault that is met; nothing is bound then
 abbrev pub Concluded : Result Bool EvalStop → List Event → List Term → Slotted → Slotted → Type 0
 Concluded (Ok true) events terms old new = (events ≡ Sat (bindings_of terms new) ∷ []) × Binds old new

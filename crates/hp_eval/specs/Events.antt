@@ -5,18 +5,18 @@ use Rattle.hp_syntax.specs.Events as plain
 use Rattle.hp_eval.specs.declared.event.Event.{Event}
 use Rattle.hp_eval.specs.declared.event.Event.TheVariants as events
 
--- what is met while one looks for satisfiers
+-- an event of the definition
 abbrev pub PlainEvent : Type 0
 PlainEvent = plain.Event
 
--- what is told of the first of the events that are left
+-- the first of the events that are left, without its bindings
 abbrev pub event_of : List PlainEvent → Event
 event_of [] = events.End
 event_of (plain.Sat e ∷ xs) = events.Sat
 event_of (plain.Cut ∷ xs) = events.Cut
 event_of (plain.Fault f ∷ xs) = events.Fault f
 
--- what is left behind the first; after a fault nothing is
+-- the events behind the first; after a fault there are none
 abbrev pub left_after : List PlainEvent → List PlainEvent
 left_after [] = []
 left_after (plain.Sat e ∷ xs) = xs

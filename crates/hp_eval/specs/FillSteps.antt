@@ -1,4 +1,4 @@
--- The steps of filling: what stands behind the parts of a list, and parts put before others.
+-- The steps of filling: the continuation behind the parts of a list, and parts put before others.
 use Rattle.std.specs.Prelude.{◌≡◌, ℕ, Bool, true, false, nat_lt, List, Option, Some, None, option_map, Vec}
 use Rattle.std.specs.Global.{Global}
 use Rattle.std.specs.List.{All}
@@ -18,7 +18,7 @@ abbrev pub joined : Fillings → Fillings → Fillings
 joined NoFilling gs = gs
 joined (Then f fs) gs = Then f (joined fs gs)
 
--- parts before what stands behind them
+-- parts before their continuation
 abbrev pub before_rest : Fillings → Filling → Filling
 before_rest fs r = (joined fs r.0, r.1)
 
@@ -26,7 +26,7 @@ before_rest fs r = (joined fs r.0, r.1)
 abbrev pub parts_at : List Term → ℕ → Terms
 parts_at terms cell = parts_of (term_at terms cell)
 
--- what stands behind the parts of a list
+-- the continuation of a list behind its parts
 abbrev pub rest_of : List Term → TailParts → Filling
 rest_of terms (rests.Listed cell) = (all_known (parts_at terms cell), None)
 rest_of terms (rests.Free v) = (NoFilling, Some v)
@@ -48,13 +48,13 @@ AreFilledBelow n fs = All (λ f. is_below n f ≡ true) fs
 abbrev pub AreKnown : Fillings → Type 0
 AreKnown fs = (ts : Terms) × (ground_parts fs None ≡ Some ts)
 
--- how deep a part nests, where it is ground
+-- the depth of a part, where it is ground
 abbrev pub depth_of : plain.Filled → Option ℕ
 depth_of (plain.Known t) = Some (term_nesting t)
 depth_of (plain.Free v) = None
 depth_of (plain.Partly fs tail) = None
 
--- how deep the deepest part nests, where all are ground
+-- the depth of the deepest part, where all are ground
 abbrev pub ground_depth : Fillings → Option ℕ
 ground_depth fs = option_map deepest (ground_parts fs None)
 

@@ -1,4 +1,4 @@
--- Terms that were added, and what an evaluation answers over them.
+-- Terms that were added, and the answers of evaluations over them.
 use Rattle.std.specs.Prelude.{◌≡◌, ℕ, List, length, take, Some, slice_get, Result, Ok, Err}
 use Rattle.hp_syntax.specs.declared.fault.RunFault.{RunFault}
 use Rattle.hp_syntax.specs.Terms.{Term}
@@ -9,7 +9,7 @@ use Rattle.hp_eval.specs.declared.event.EvalStop.TheVariants as stops
 abbrev pub Grows : List Term → List Term → Type 0
 Grows old new = take (length old) new ≡ old
 
--- an evaluation answers what its definition gives: the cell of the value, or the fault; for want of memory it is free
+-- an evaluation answers as its definition: the cell of the value, or the fault; for want of memory it is free
 abbrev pub Gives : Result ℕ EvalStop → Result Term RunFault → List Term → Type 0
 Gives (Ok cell) value terms = (t : Term) × (value ≡ Ok t) × (slice_get terms cell ≡ Some t)
 Gives (Err (stops.Fault f)) value terms = value ≡ Err f

@@ -1,4 +1,4 @@
--- What the values of parts answer.
+-- Answers of the values of parts.
 use Rattle.std.specs.Prelude.{◌≡◌, ℕ, List, map, Option, Result, Ok, Err, Vec}
 use Rattle.std.specs.Global.{Global}
 use Rattle.hp_syntax.specs.declared.pattern.Tail.{Tail}

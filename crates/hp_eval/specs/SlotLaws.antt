@@ -1,4 +1,4 @@
--- What a satisfier's laws rest on: bindings over terms that agree below a count, and slots without further bindings.
+-- Bindings over terms that agree below a count, and slots without further bindings.
 use Rattle.std.specs.Prelude.{◌≡◌, ℕ, suc, ◌<◌, List, [], ◌∷◌, length, map, take, Option, Some, None, slice_get, refl}
 use Rattle.std.proofs.Common.{sym, ◌∙◌, ap, ap₂, subst}
 use Rattle.std.proofs.Math.Seq.{take-length, drop-length}

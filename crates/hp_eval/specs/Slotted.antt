@@ -1,4 +1,4 @@
--- What variables stand for by cells, and the order in which they were bound.
+-- Bindings of variables to cells, in the order in which they were made.
 use Rattle.std.specs.Prelude.{◌≡◌, ◌≢◌, ℕ, ◌<◌, ◌≤◌, Bool, true, false, List, [], ◌∷◌, ◌++◌, map, length, take, drop, replicate, Option, Some, None, slice_get, slice_set, Contains}
 use Rattle.std.specs.List.{AllPairs}
 use Rattle.std.specs.Option.{option_and_then}
@@ -14,7 +14,7 @@ pub record Slotted : Type 0 where
 abbrev pub slotted : List (Option ℕ) → List ℕ → Slotted
 slotted values trail = record { values = values; trail = trail }
 
--- as it is stored: at each place its variable's cell and the variable bound in its turn, and how many are bound
+-- as it is stored: at each place its variable's cell and the variable bound in its turn, and the number that are bound
 abbrev pub stored : List Slot → ℕ → Slotted
 stored slots bound = slotted (map (λ slot. slot.value) slots) (take bound (map (λ slot. slot.listed) slots))
 
@@ -26,7 +26,7 @@ no_bindings n = slotted (replicate n None) []
 abbrev pub with_bound : ℕ → ℕ → Slotted → Slotted
 with_bound v cell s = slotted (slice_set s.values v (Some cell)) (s.trail ++ v ∷ [])
 
--- without what these variables stand for
+-- without the bindings of these variables
 abbrev pub without : List ℕ → List (Option ℕ) → List (Option ℕ)
 without [] values = values
 without (v ∷ vs) values = without vs (slice_set values v None)
@@ -41,7 +41,7 @@ pub record AreSlots (s : Slotted) : Type 0 where
   pub bound : (v : ℕ) → Contains s.trail v → (cell : ℕ) × (slice_get s.values v ≡ Some (Some cell))
   pub once : AllPairs (λ v w. v ≢ w) s.trail
 
--- further bindings were made, and undoing them gives what was before
+-- further bindings were made, and undoing them gives those before
 pub record Binds (old new : Slotted) : Type 0 where
   pub later : length old.trail ≤ length new.trail
   pub undoes : undone (length old.trail) new ≡ old
@@ -50,7 +50,7 @@ pub record Binds (old new : Slotted) : Type 0 where
 abbrev pub AreBelow : ℕ → Slotted → Type 0
 AreBelow n s = (v cell : ℕ) → slice_get s.values v ≡ Some (Some cell) → cell < n
 
--- what a variable stands for; one beyond the variables stands for nothing
+-- the cell of a variable; one beyond the variables has none
 abbrev pub flat : Option (Option ℕ) → Option ℕ
 flat None = None
 flat (Some cell) = cell
@@ -63,7 +63,7 @@ named terms cell = option_and_then (slice_get terms) cell
 abbrev pub bindings_of : List Term → Slotted → Bindings
 bindings_of terms s = map (named terms) s.values
 
--- what matching answers: true with the bindings that the definition has, bound above those before, or false where it
+-- the answer of matching: true with the bindings that the definition has, bound above those before, or false where it
 -- has none, with nothing changed
 abbrev pub Matched : Bool → Option Bindings → List Term → Slotted → Slotted → Type 0
 Matched true found terms old new = (found ≡ Some (bindings_of terms new)) × Binds old new

@@ -7,7 +7,7 @@ ghost use Rattle.hp_eval.specs.CallRows.{step_of, two_of, numbers_called, answer
 
 use hp_syntax::{FaultKind, RunFault, Span};
 
-/// What a call gives: a number, the symbol `t`, or the empty list.
+/// The value of a call: a number, the symbol `t`, or the empty list.
 #[derive(Clone, Copy)]
 pub(crate) enum Called {
     Number(i64),
@@ -45,7 +45,7 @@ pub(crate) enum OfNumbers {
     Absolute,
 }
 
-/// What a test gives.
+/// The value of a test.
 pub(crate) fn truth(holds: bool) -> Called
     ensures { answered (Ok result) ≡ plain.truth holds }
 {
@@ -189,7 +189,7 @@ fn of_two(function: OfTwo, span: Span, numbers: &[i64]) -> Result<Called, RunFau
     }
 }
 
-/// How far a number is from 0, or nothing where there isn't one number.
+/// The absolute value of a number; a fault where there isn't one number.
 fn absolute(span: Span, numbers: &[i64]) -> Result<Called, RunFault>
     ensures { answered result ≡ plain.of_one (λ s n. plain.number s (pos (unsigned_abs n))) span (Some numbers.now) }
 {

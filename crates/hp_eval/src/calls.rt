@@ -139,7 +139,7 @@ fn answer_cell(alloc: Global, answer: Called, cells: &mut Cells) -> Result<Cell,
     }
 }
 
-/// The cell of what a call gives for its arguments, or its fault at the call's span. Whole numbers of any size are
+/// The cell of a call's value for its arguments, or its fault at the call's span. Whole numbers of any size are
 /// meant, and a result that leaves 64 bits is a fault.
 pub fn call(
     alloc: Global,

@@ -1,4 +1,4 @@
-//! What an axiom's bindings conclude of a goal.
+//! Conclusions of an axiom's bindings on a goal.
 ghost use Rattle.std.specs.Prelude.{◌≡◌, List, length};
 ghost use Rattle.hp_syntax.specs.Events as plain;
 ghost use Rattle.hp_syntax.specs.Events.{all_bound, parts_bound, tail_is_bound};
@@ -76,8 +76,8 @@ fn is_head_bound(head: &AtomPat, slots: &Slots) -> bool
     are_bound(head.args.as_slice(), slots) && is_tail_bound(&head.tail, slots)
 }
 
-/// Values an axiom's head under the axiom's own bindings and matches the goal with it: true with what the goal's
-/// variables are bound to, or false or a fault with nothing bound.
+/// Values an axiom's head under the axiom's own bindings and matches the goal with it: true with the bindings
+/// of the goal's variables, or false or a fault with nothing bound.
 pub fn conclude(
     alloc: Global,
     head: &AtomPat,

@@ -42,7 +42,7 @@ impl<T: Drop> From<AllocFailed<T>> for EvalStop {
     }
 }
 
-/// What a satisfier gives: bindings, a cut by a limit, a fault, or nothing more.
+/// An event of a call for satisfiers: bindings, a cut by a limit, a fault, or the end.
 #[derive(Clone, Copy, Debug, PartialEq, Eq)]
 pub enum Event {
     /// The bindings are in the slots.

@@ -58,7 +58,7 @@ impl Drop for Goal {
     }
 }
 
-// What stands behind the parts of a list: the parts of another, which is empty where there is no tail, or a free
+// The continuation of a list behind its parts: the parts of another, which is empty where there is no tail, or a free
 // variable.
 #[derive(Clone, Copy)]
 enum TailParts {
@@ -138,7 +138,7 @@ fn fill_parts(
     Ok(filled)
 }
 
-// What a tail stands for, which must be a list unless it stands for nothing.
+// The continuation by a tail, whose variable must stand for a list or for nothing.
 fn fill_tail(tail: &Option<Tail>, slots: &Slots, cells: &Cells) -> Result<TailParts, EvalStop>
     requires slots { AreBelow (length cells.now) slots.now }
     ensures gives { GivesBy (rest_of cells.now) result
@@ -191,7 +191,7 @@ fn append_list(parts: &mut Vec<Filled>, list: Cell, cells: &Cells) -> Result<(),
     Ok(())
 }
 
-// How deep a part nests, where it is known.
+// The depth of a part, where it is known.
 fn known_depth(part: &Filled, cells: &Cells) -> Option<usize>
     requires { is_below (length cells.now) part.now ≡ true }
     ensures { result ≡ depth_of (filled_of cells.now part.now) }
@@ -202,7 +202,7 @@ fn known_depth(part: &Filled, cells: &Cells) -> Option<usize>
     }
 }
 
-// How deep the deepest of these parts nests, where all of them are known.
+// The depth of the deepest of these parts, where all of them are known.
 fn deepest(parts: &[Filled], cells: &Cells) -> Option<usize>
     requires { AreFilledBelow (length cells.now) parts.now }
     ensures { result ≡ ground_depth (fillings_of cells.now parts.now) }

@@ -1,6 +1,6 @@
 //! Matching: of the head of a rule, and of a goal, with an atom.
 //!
-//! What matches parts of them may leave bindings where it answers false. The outermost call undoes them.
+//! Calls that match parts may leave bindings where they answer false. The outermost call undoes them.
 ghost use Rattle.std.specs.Prelude.{◌≡◌, ◌<◌, true, Some, length, slice_get};
 ghost use Rattle.hp_syntax.specs.Terms.{Term, same_term};
 ghost use Rattle.hp_syntax.specs.Views.{pattern_of, patterns_of, atom_of};
@@ -18,8 +18,8 @@ use crate::slots::Slots;
 use hp_cells::{Cell, Cells, View};
 use hp_syntax::{AtomPat, Pat, PatKind, Tail};
 
-/// Matches a rule's head with an atom: binds what makes them equal and answers true, or leaves the slots as they were
-/// and answers false. Takes no memory.
+/// Matches a rule's head with an atom: binds variables so that both are equal and answers true, or leaves the slots as
+/// they were and answers false. Takes no memory.
 pub fn match_atom(head: &AtomPat, atom: Cell, cells: &Cells, slots: &mut Slots) -> bool
     requires slots { AreBelow (length cells.now) slots.old }
     requires atom { atom < length cells.now }
@@ -206,7 +206,7 @@ fn match_free_tail(tail: Option<u32>, list: Cell, cells: &Cells, slots: &mut Slo
     }
 }
 
-/// Binds a variable to a term, or compares what it stands for with it. A number that no variable has meets nothing.
+/// Binds a variable to a term, or compares its own with it. A number that no variable has meets nothing.
 pub fn meet(v: u32, cell: Cell, cells: &Cells, slots: &mut Slots) -> bool
     requires slots { AreBelow (length cells.now) slots.old }
     requires cell { cell < length cells.now }

@@ -4,9 +4,9 @@ use crate::slots::Slots;
 use hp_cells::Cells;
 use std::alloc::AllocError;
 
-/// Gives what is met while one looks for satisfiers, one event a call. The bindings of a Sat are in the slots, above
-/// those that stood at the start, until the next call. After a call that gives no Sat any bindings may stand above the
-/// start, and `close` takes back what stands there. What is read and never changed is the base.
+/// Gives the events of a search for satisfiers, one a call. The bindings of a Sat are in the slots, above those that
+/// stood at the start, until the next call. After a call that gives no Sat any bindings may stand above the start, and
+/// `close` takes these back. The base is read and never changed.
 pub trait Sats<B> {
     ghost use Rattle.std.specs.Prelude.{◌≡◌, ◌≤◌, ℕ, Bool, true, false, List, OnOk, OnErr, IfOk, length, take};
     ghost use Rattle.std.specs.List.{All};
@@ -25,10 +25,10 @@ pub trait Sats<B> {
     /// The slots are as the last call left them.
     ghost fits: { Self → Slotted → Type 0 };
 
-    /// How many bindings stood at the start.
+    /// The number of bindings that stood at the start.
     ghost start: { Self → ℕ };
 
-    /// What is left speaks only of so many cells, which stood at the end of the last call.
+    /// The events that are left speak only of so many cells, which stood at the end of the last call.
     ghost kept: { Self → ℕ };
 
     /// No call has failed.
@@ -78,11 +78,11 @@ pub trait Sats<B> {
     /// The slots hold the bindings of the start, and their cells are among those that are kept.
     ghost fits_hold: { (s : Self) (e : Slotted) → fits s e → (start s ≤ length e.trail) × AreBelow (kept s) e };
 
-    /// What is left is the same over any cells that agree with these below the kept number.
+    /// The events that are left are the same over any cells that agree with these below the kept number.
     ghost same_cells: { (s : Self) (b : B) (c d : List Term) (e : Slotted) → suits s b → fits s e
         → take (kept s) c ≡ take (kept s) d → rest s b c e ≡ rest s b d e };
 
-    /// Each Sat that is left has the variables of the start, and binds what was bound there to the same terms.
+    /// Each Sat that is left extends the bindings of the start.
     ghost sats_extend: { (s : Self) (b : B) (c : List Term) (e : Slotted) → suits s b → fits s e
         → All (EventExtends (bindings_of c (undone (start s) e))) (rest s b c e) };
 }

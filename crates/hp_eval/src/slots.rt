@@ -1,4 +1,4 @@
-//! What the variables of a rule stand for.
+//! The bindings of a rule's variables, by cells.
 ghost use Rattle.std.specs.Prelude.{◌≡◌, ◌-◌, ◌≤◌, ◌<◌, None, Some, IfOk, length, slice_get};
 ghost use Rattle.hp_eval.specs.Slotted.{no_bindings, with_bound, undone, flat};
 ghost use Rattle.hp_syntax.specs.declared.limits.TheConstants.{MOST_VARIABLES};
@@ -7,15 +7,15 @@ use hp_cells::Cell;
 use std::alloc::{AllocError, Global};
 use std::marker::Model;
 
-// What the variable of a place stands for, and which variable was bound in the place's turn.
+// The cell of the variable of a place, and the variable that was bound in the place's turn.
 #[derive(Clone, Copy)]
 struct Slot {
     value: Option<Cell>,
     listed: u32,
 }
 
-/// What the variables of one rule stand for, and the order in which they were bound, so that bindings
-/// are undone back to a mark. All its memory is there from the start.
+/// The bindings of one rule's variables in the order in which they were made, so that they are undone back to a
+/// mark. All its memory is there from the start.
 pub struct Slots {
     slots: Vec<Slot>,
     bound: usize,
@@ -44,7 +44,7 @@ impl Model for Slots {
 impl Slots {
     /// So many variables, none of them bound. Room for all bindings is taken here.
     pub fn new(alloc: Global, vars: usize) -> Result<Slots, AllocError>
-        requires few { vars ≤ 256 }
+        requires few { vars ≤ MOST_VARIABLES }
         ensures { IfOk result (λ s. s ≡ no_bindings vars) }
     {
         let free = Slot {
@@ -63,7 +63,7 @@ impl Slots {
         self.slots.len()
     }
 
-    /// What a variable stands for.
+    /// The cell that a variable stands for.
     pub fn get(&self, v: u32) -> Option<Cell>
         requires known { v < length self.now.values }
         ensures { result ≡ flat (slice_get self.now.values v) }
@@ -71,7 +71,7 @@ impl Slots {
         self.slots[v as usize].value
     }
 
-    /// What a variable stands for; a number that no variable has stands for nothing.
+    /// The cell that a variable stands for; there is none for a number that no variable has.
     pub fn value_of(&self, v: u32) -> Option<Cell>
         ensures { result ≡ flat (slice_get self.now.values v) }
     {

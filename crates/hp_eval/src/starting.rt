@@ -1,7 +1,7 @@
 //! Starting an axiom: its head beside a goal.
 //!
-//! What starts parts of the head may leave bindings where it answers false, or fails for want of memory. The outermost
-//! call undoes them.
+//! Calls that start parts of the head may leave bindings where they answer false, or fail for want of memory. The
+//! outermost call undoes them.
 ghost use Rattle.std.specs.Prelude.{◌≡◌, ℕ, ◌<◌, true, None, IfSome, IfOk, OnErr, List, length, is_some, option_map};
 ghost use Rattle.hp_syntax.specs.Syntax.{NoPattern};
 ghost use Rattle.hp_syntax.specs.Terms.{Term};
@@ -21,7 +21,7 @@ use hp_syntax::{AtomPat, Pat, PatKind, Tail};
 use std::alloc::AllocError;
 
 /// Goes through an axiom's head and a goal, part by part, in the axiom's own slots, of which none is bound: true with
-/// what is bound where the head starts for the goal, false with nothing bound where it doesn't.
+/// bindings where the head starts for the goal, false with none where it doesn't.
 pub fn start_goal(
     head: &AtomPat,
     goal: &Goal,
@@ -132,7 +132,7 @@ fn start_parts(
     start_behind(own, &fillings[parts.len()..], free, cells, slots)
 }
 
-// Starts what stands behind the parts of a head for the parts of a goal that are left.
+// Starts the continuation of a head behind its parts for the parts of a goal that are left.
 fn start_behind(
     own: Option<Tail>,
     left: &[Filled],

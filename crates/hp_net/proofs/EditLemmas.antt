@@ -120,7 +120,7 @@ full-remove (Parts order n ∷ es) (suc i) k t h f =
 abbrev pub tail_without : Order → ℕ → List Entry → ℕ → List Entry
 tail_without order n es i = cond (nat_lt (n - 1) 2) (remove es i) (Parts order (n - 1) ∷ remove es i)
 
--- what is left of the list
+-- the list without a part
 abbrev pub list_without : List Term → Order → ℕ → List Entry → ℕ → Network
 list_without terms order n es k = as_list (listed order) (as_networks (remove (take n (forest terms es)) k))
 
@@ -196,7 +196,7 @@ module _ (order : Order) (n : ℕ) (es : List Entry) (i k : ℕ) (t : HasTask es
 
 -- ---- a task goes, by the whole entries
 
--- what stands behind some entries stands so many further in all of them
+-- an entry behind some others has a number greater by theirs
 slice_get-drop : (n i : ℕ) (es : List Entry) → slice_get (drop n es) i ≡ slice_get es (n + i)
 slice_get-drop zero i es = ap (slice_get es) (omega arith)
 slice_get-drop (suc n) i [] = refl
@@ -314,7 +314,7 @@ module _ (es : List Entry) (task list : ℕ) (f : AreFull es) (t : HasTask es ta
   abbrev others : List Entry
   others = drop (suc list) es
 
-  -- what is left of the entries from the list on
+  -- the remaining entries from the list on
   abbrev tail : List Entry
   tail = tail_without p.order p.parts others number
 
@@ -350,13 +350,13 @@ module _ (es : List Entry) (task list : ℕ) (f : AreFull es) (t : HasTask es ta
       forest-tail p.order p.parts others number p.before task_there p.there p.within full_there terms
       ∙ ap (λ xs. list_without terms p.order p.parts others p.before ∷ drop 1 (forest terms xs)) (sym from_list)
 
-  -- what is left is full
+  -- the remaining entries are full
   left_full : AreFull (take list es ++ tail)
   left_full =
       full-replaced list es tail (list_without [] p.order p.parts others p.before) in_list (forest_there []) f
       (full-tail p.order p.parts others number p.before task_there p.there p.within full_there)
 
-  -- what is left is as many networks
+  -- the remaining entries are as many networks
   left_networks : length (forest [] (take list es ++ tail)) ≡ length (forest [] es)
   left_networks =
       ap length
@@ -396,7 +396,7 @@ module _ (es : List Entry) (task list : ℕ) (f : AreFull es) (t : HasTask es ta
         ∙ ap (as_list (listed p.order))
         (normal_parts-without parts p.before parts_form (let e = parts_many in let w = p.within in omega arith)))
 
-    -- what is left of the list is not empty
+    -- the list without the part is not empty
     list_stays : is_empty (list_without terms p.order p.parts others p.before) ≡ false
     list_stays =
         some_as_list p.order (remove parts p.before) (removed_in_form parts p.before parts_form)
@@ -406,7 +406,7 @@ module _ (es : List Entry) (task list : ℕ) (f : AreFull es) (t : HasTask es ta
         let r = length-remove parts p.before (omega arith) in
         omega arith)
 
-    -- what is left is the normal form of the network without the task
+    -- the remaining entries are the normal form of the network without the task
     left_network : (q : Place) → place_of es task ≡ Some q
         → network_in terms (take list es ++ tail) ≡ normal (with_part (network_in terms es) q Empty)
     left_network q h =
@@ -447,7 +447,7 @@ nothing_is_flat = record { full = tt; one = omega arith; focus = tt }
 module _ (es new : List Entry) (focus : Option ℕ) (task : ℕ)
     (o : IsFlatNetwork (record { entries = es; focus = focus }))
     (t : HasTask es task) (taken : IsTakenOut task es new) where
-  -- what is left are the entries before the list, and what is left of those from it on
+  -- the remaining entries are those before the list, and the remaining ones from it on
   left_is : (list : ℕ) (p : IsPart es task list) → new ≡ without_part task list es
       → new ≡ take list es ++ tail es task list o.full t p
   left_is list p e =
@@ -455,7 +455,7 @@ module _ (es new : List Entry) (focus : Option ℕ) (task : ℕ)
       ∙ (ap (λ i. without_part i list es) (place_is es task list o.full t p)
       ∙ without_part-is es list (task - suc list) p.order p.parts p.is)
 
-  -- what is left is a flat network
+  -- the remaining entries are a flat network
   pub flat_network_left : IsFlatNetwork (record { entries = new; focus = None })
   flat_network_left =
       ⊎_elim (λ a. subst (λ xs. IsFlatNetwork (record { entries = xs; focus = None })) (sym a.1) nothing_is_flat)
@@ -477,7 +477,7 @@ module _ (es new : List Entry) (focus : Option ℕ) (task : ℕ)
       let r : q ≡ [] = cc in
       ap (network_in terms) e ∙ ap (λ p. normal (with_part (network_in terms es) p Empty)) (sym r)
 
-  -- what is left is the network without the task
+  -- the remaining entries are the network without the task
   pub finish_left : (terms : List Term) (q : Place) → place_of es task ≡ Some q
       → (network_in terms new, None) ≡ finish (network_in terms es) q
   unfolding finish
@@ -548,7 +548,7 @@ module _ (es sub : List Entry) (focus : Option ℕ) (task : ℕ) (tree : TaskTre
       subst (λ xs. AreFull (xs ++ drop (suc task) es)) (sym a.is)
       (a.reads.full (drop (suc task) es) (full_behind (suc task) es o.full))
 
-  -- what stands in place of the task has its path
+  -- the network in the place of the task has its path
   same_entry_path : (tail : List Entry) (n : Network) (ns : List Network) → forest [] tail ≡ n ∷ ns
       → (0 < length tail) × (entry_path task (take task es ++ tail) ≡ entry_path task es)
   same_entry_path [] n ns h = absurd cc

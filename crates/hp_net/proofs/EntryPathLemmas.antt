@@ -1,4 +1,4 @@
--- Where the networks of entries stand, and entries with another network in the place of one.
+-- Paths of the networks of entries, and entries with another network in the place of one.
 use Rattle.std.proofs.Common.{◌≡◌, ℕ, ◌+◌, ◌-◌, ◌<◌, ◌≤◌, zero, suc, true, false, nat_lt, List, [], ◌∷◌, ◌++◌, length, take, drop, Option, Some, None, option_map, refl, sym, ap, ap₂, subst, ◌∙◌, arith, ⊎_elim}
 use Rattle.std.specs.Prelude.{slice_get}
 use Rattle.std.specs.Option.{option_and_then}
@@ -296,7 +296,7 @@ entry_path-below (suc j) i (Parts order n ∷ es) q h =
     rw m (ap (option_map (behind_list n)) (entry_path-below j i es q h)
     ∙ below_list n (entry_path j es) q (is_entry_path j es))
 
--- ---- how far paths reach
+-- ---- bounds of paths
 
 -- a path is within so many networks
 abbrev IsWithinFirst : ℕ → Option (List ℕ) → Type 0
@@ -350,7 +350,7 @@ pub entry_within : (i : ℕ) (es : List Entry) (s : List ℕ) → entry_path i e
 entry_within i es s h =
     ⊎_elim (λ l. l) (λ l. absurd (let e = entry_path_past i es l in cc)) (cases_lt i (length es))
 
--- what stands from an entry on begins with it
+-- the entries from one on begin with it
 pub drop-from : (es : List Entry) (j : ℕ) (e : Entry) → slice_get es j ≡ Some e → drop j es ≡ e ∷ drop (suc j) es
 drop-from [] j e h = absurd cc
 drop-from (d ∷ es) zero e h = ap (λ x. x ∷ es) (same_Some d e h)
@@ -424,13 +424,13 @@ before_list n (suc k ∷ p) = (k + n) ∷ p
 before_list n (zero ∷ p) = p
 before_list n [] = []
 
--- what a path becomes behind a task tells the path
+-- a path is told by its form behind a task
 from_behind_task : (s : Option (List ℕ)) → option_map before_task (option_map behind_task s) ≡ s
 from_behind_task None = refl
 from_behind_task (Some []) = refl
 from_behind_task (Some (k ∷ p)) = refl
 
--- what a path becomes behind a list tells the path
+-- a path is told by its form behind a list
 from_behind_list : (n : ℕ) (s : Option (List ℕ)) → option_map (before_list n) (option_map (behind_list n) s) ≡ s
 from_behind_list n None = refl
 from_behind_list n (Some []) = refl

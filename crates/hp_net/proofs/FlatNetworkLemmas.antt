@@ -35,7 +35,7 @@ few_networks terms (Parts order n ∷ es) =
     let l = length-drop n (forest terms es) in
     omega arith
 
--- what stands behind entries of full lists is of full lists
+-- the entries behind others are full where all are
 pub full_behind : (i : ℕ) (es : List Entry) → AreFull es → AreFull (drop i es)
 full_behind zero es h = h
 full_behind (suc i) [] h = h
@@ -102,7 +102,7 @@ pub some_listed : (order : Order) (ns : plain.Networks) → is_empty (listed ord
 some_listed Ordered ns = refl
 some_listed Unordered ns = refl
 
--- what comes after a number is not zero
+-- a successor is not zero
 pub no_zero : (n : ℕ) → nat_eq (suc n) 0 ≡ false
 no_zero n = grind (arith, nat_tests)
 

@@ -23,7 +23,7 @@ use Rattle.hp_net.specs.declared.entry.Entry.TheVariants as entries
 use Rattle.hp_net.specs.FlatNetworks.{listed, forest, AreFull, EntryBelow}
 use Rattle.hp_net.specs.Pushed.{shown, kept, kept_list, all_kept, Reads, Adds, closed}
 
--- ---- what stays of trees
+-- ---- normal forms of trees
 
 -- a task stays
 pub kept-task : (cell : ℕ) (immediate : Bool) (terms : List Term)
@@ -85,7 +85,7 @@ some_shown (Task t i) ms h = (refl, h)
 some_shown (plain.Ordered ns) ms h = (refl, h)
 some_shown (plain.Unordered ns) ms h = (refl, h)
 
--- what stays of trees is not empty
+-- kept normal forms are not empty
 some_kept : (ts : List TaskTree) (terms : List Term) → AreSome (all_kept ts terms)
 unfolding kept
 some_kept [] terms = tt
@@ -107,7 +107,7 @@ listed_kept order (n ∷ m ∷ ns) h =
     ∙ ap (λ b. cond b (n ∷ m ∷ ns) (listed order (And n (And m (as_networks ns))) ∷ []))
     (let e : nat_lt (suc (suc (length ns))) 2 ≡ false = grind (arith, nat_tests) in sym e)
 
--- what stays of trees and of one more
+-- the normal forms of trees and of one more
 pub all_kept-push : (ts : List TaskTree) (t : TaskTree) (terms : List Term)
     → all_kept (ts ++ t ∷ []) terms ≡ all_kept ts terms ++ kept t terms
 all_kept-push [] t terms = append-nil (kept t terms)
@@ -192,7 +192,7 @@ closed_behind es e others at order count l =
 
 module _ (order : Order) (ts : List TaskTree) (count : ℕ) (added : List Entry)
     (r : Reads (all_kept ts) count added) where
-  -- what stays of the list, by the number of its parts
+  -- the normal form of the list, by the number of its parts
   kept_list-count : (terms : List Term) → kept_list order ts terms
       ≡ cond (nat_lt count 2) (all_kept ts terms) (listed order (as_networks (all_kept ts terms)) ∷ [])
   kept_list-count terms =
@@ -227,7 +227,7 @@ module _ (order : Order) (ts : List TaskTree) (count : ℕ) (added : List Entry)
         reads = ⊎_elim (λ e. rw e (few e)) (λ e. rw e (many e)) (cases_Bool (nat_lt count 2));
       }
 
--- what stays of one tree is one network or none
+-- the normal form of one tree is one network or none
 pub length-kept : (t : TaskTree) (terms : List Term) → length (kept t terms) ≤ 1
 unfolding kept
 length-kept t terms =
@@ -253,13 +253,13 @@ adds_task cell immediate old new e = record {
       (entries.Task cell immediate ∷ []) (kept-task cell immediate) (reads_task cell immediate);
 }
 
--- what adds networks adds equal ones
+-- entries that add networks add equal ones
 pub adds_same : (ns ms : List Term → List Network) (count : ℕ) (old new : List Entry)
     → ((terms : List Term) → ms terms ≡ ns terms) → Adds ns count old new → Adds ms count old new
 adds_same ns ms count old new e a =
     record { added = a.added; is = a.is; reads = reads_same ns ms count a.added e a.reads }
 
--- what adds the networks of some trees, and then that of one more, adds those of all
+-- entries that add the networks of some trees, and then that of one more, add those of all
 pub adds_tree : (ts us : List TaskTree) (t : TaskTree) (count one : ℕ) (old middle new : List Entry)
     → us ≡ ts ++ t ∷ [] → Adds (all_kept ts) count old middle → Adds (kept t) one middle new
     → Adds (all_kept us) (count + one) old new

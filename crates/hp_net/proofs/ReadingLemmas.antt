@@ -322,7 +322,7 @@ module _ (terms : List Term) (es : List Entry) where
       (ap (map (place_of es)) e ∙ first_below i p o.full t.1)
       ∙ ap (λ q. map Some (candidates (network_in terms es) q)) (sym (place_from_entry_path es i p t.1))
 
--- what is left of tasks are tasks
+-- those of some tasks that are left are tasks
 pub tasks_left : (es : List Entry) (is : List ℕ) → All (HasTask es) is → All (HasTask es) (immediate_ids es is)
 tasks_left es is a =
     cond_both (list_any (λ i. entry_immediate (slice_get es i)) is) _ _ (All (HasTask es))

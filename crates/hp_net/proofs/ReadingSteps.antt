@@ -16,9 +16,9 @@ use Rattle.hp_net.specs.Reading.{so_many, parts_read, marks, level_read, read_on
 use Rattle.hp_net.proofs.FlatNetworkLemmas.{few_networks, full_behind}
 use Rattle.hp_net.proofs.EntryPathLemmas.{drop-from}
 
--- ---- which networks are read
+-- ---- marks
 
--- so many are so many more
+-- so many marks are so many more
 length-so_many : (n : ℕ) (b : Bool) (bs : List Bool) → length (so_many n b bs) ≡ n + length bs
 length-so_many zero b bs = omega arith
 length-so_many (suc n) b bs = let h = length-so_many n b bs in omega arith
@@ -36,7 +36,7 @@ read_onto-push : (ls : List Level) (l : Level) (bs : List Bool)
 read_onto-push [] l bs = refl
 read_onto-push (k ∷ ls) l bs = read_onto-push ls l (level_read k bs)
 
--- what the last level says comes first
+-- the marks of the last level come first
 pub are_read-push : (ls : List Level) (l : Level) → are_read (ls ++ l ∷ []) ≡ level_read l (are_read ls)
 unfolding are_read
 are_read-push ls l = read_onto-push ls l []
@@ -48,7 +48,7 @@ unfolding are_read
 read_first old new e h =
     ap are_read (h ∙ ap (λ ls. ls ++ record { read = 1; pass = 0 } ∷ []) e)
 
--- where no level is left nothing is read
+-- no levels have no marks
 pub read_none : (ls : List Level) → length ls ≡ 0 → are_read ls ≡ []
 unfolding are_read
 read_none ls h = ap are_read (nil_from_length ls h)
@@ -195,7 +195,7 @@ module _ (es : List Entry) (place : ℕ) (e : Entry) (is : slice_get es place �
       let r = length-parts_read order m bs two in
       omega arith
 
-  -- what is found are tasks
+  -- the entries found are tasks
   found_for : (d : Entry) → e ≡ d → (found : List ℕ) → All (HasTask es) found
       → All (HasTask es) (found ++ task_found d place)
   found_for (Task cell immediate) h found a =

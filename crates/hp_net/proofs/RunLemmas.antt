@@ -1,4 +1,4 @@
--- What lists of calls visit.
+-- The visits of lists of calls.
 use Rattle.std.proofs.Common.{◌≡◌, ℕ, Bool, true, false, cond, List, [], ◌∷◌, ◌++◌, ◌⊎◌, inl, inr, Option, Some, None, refl, sym, ◌∙◌, subst}
 use Rattle.std.proofs.lemmas.Bool.{false≢true}
 use Rattle.hp_syntax.specs.Walk.{Sight, Visit, Did, Plan, CutHere, FaultHere, is_did, is_fault_here, begins, skip, heard_visits}
@@ -32,7 +32,7 @@ did_is_no_fault Plan d e = false≢true d
 did_is_no_fault CutHere d e = false≢true d
 did_is_no_fault (FaultHere f) d e = false≢true d
 
--- what comes from the place that a visit leads to comes, with the visit, from the place before
+-- the visits from the place that a visit leads to come, with the visit, from the place before
 visits : (v : Visit) (vs ws : List Visit) → Comes (standing v.path (left_after v vs) (is_did v.sight)) ws
     → LeavesOut (v ∷ vs) (v ∷ ws)
 visits v vs ws h = by (is_fault_here v.sight) refl h

@@ -1,4 +1,4 @@
--- Where a walk stands.
+-- Places where a walk stands.
 use Rattle.std.proofs.Common.{◌≡◌, ◌≢◌, ℕ, ◌<◌, List, [], ◌∷◌, length, arith, refl, ap, sym, Option, Some, None, option_map, map, true, false, ◌==◌, ◌∙◌}
 use Rattle.std.proofs.lemmas.Option.{same_Some}
 use Rattle.hp_syntax.specs.Walk.{Node, Sight, Visit, visit, Did, Plan, CutHere, FaultHere}

@@ -15,7 +15,7 @@ HasTask es i = (cell : ℕ) × (immediate : Bool) × (slice_get es i ≡ Some (T
 abbrev pub HasParts : List Entry → ℕ → Type 0
 HasParts es i = (order : Order) × (parts : ℕ) × (slice_get es i ≡ Some (Parts order parts)) × (0 < parts)
 
--- how many networks stand before an entry, where so many do from the next one on; none where it is a part of this one
+-- the number of networks before a task, where so many are from the next entry on; none where it is a part of this one
 abbrev pub further_of : Entry → ℕ → Option ℕ
 further_of (Task cell immediate) before = Some (before + 1)
 further_of (Parts order n) before = cond (nat_lt before n) None (Some (before + 1 - n))

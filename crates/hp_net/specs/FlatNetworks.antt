@@ -71,7 +71,7 @@ place_of es i = option_and_then below_root (entry_path i es)
 abbrev pub focused : List Term → FlatNetwork → Network × Option Place
 focused terms o = (network_in terms o.entries, option_and_then (place_of o.entries) o.focus)
 
--- ---- what holds of the entries of a network
+-- ---- facts of the entries of a network
 
 -- each list has two parts or more behind it
 abbrev pub AreFull : List Entry → Type 0

@@ -9,39 +9,39 @@ use Rattle.hp_net.specs.declared.reading.Level.{Level}
 use Rattle.hp_net.specs.Edits.{HasTask}
 use Rattle.hp_net.specs.FlatNetworks.{forest}
 
--- so many times the same before others
+-- so many equal marks before others
 abbrev pub so_many : ℕ → Bool → List Bool → List Bool
 so_many zero b bs = bs
 so_many (suc n) b bs = b ∷ so_many n b bs
 
--- which parts of a list are read: none of a list passed over, the first of an ordered one, else all
+-- the marks of a list's parts, true where they are read: none of a list passed over, the first of an ordered one, else
+-- all
 abbrev pub parts_read : Bool → Order → ℕ → List Bool → List Bool
 parts_read false order n bs = so_many n false bs
 parts_read true Ordered n bs = true ∷ so_many (n - 1) false bs
 parts_read true Unordered n bs = so_many n true bs
 
--- the numbers of the first tasks of the networks that are read, where it is told of each network whether it is, and
--- the first entry has this number
+-- the numbers of the first tasks of the networks that are read by these marks, where the first entry has this number
 abbrev pub marks : List Entry → List Bool → ℕ → List ℕ
 marks [] bs b = []
 marks (e ∷ es) [] b = []
 marks (Task cell immediate ∷ es) (read ∷ bs) b = cond read (b ∷ marks es bs (suc b)) (marks es bs (suc b))
 marks (Parts order n ∷ es) (read ∷ bs) b = marks es (parts_read read order n bs) (suc b)
 
--- which networks are read by one level, before others
+-- the marks of one level before others
 abbrev pub level_read : Level → List Bool → List Bool
 level_read l bs = so_many l.read true (so_many l.pass false bs)
 
--- which networks are read by levels, of which the last comes first, before others
+-- the marks of levels, of which the last comes first, before others
 abbrev pub read_onto : List Level → List Bool → List Bool
 read_onto [] bs = bs
 read_onto (l ∷ ls) bs = read_onto ls (level_read l bs)
 
--- which networks are read, where no more are behind those of the levels
+-- the marks of levels alone
 unfoldable pub are_read : List Level → List Bool
 are_read ls = read_onto ls []
 
--- how many networks are still to be passed over behind an entry
+-- the number of networks that are still to be passed over behind an entry
 abbrev pub left_of : Entry → ℕ → ℕ
 left_of (Task cell immediate) left = left - 1
 left_of (Parts order n) left = left - 1 + n
@@ -53,8 +53,8 @@ pub record Passes (es : List Entry) (from many to : ℕ) : Type 0 where
   pub later : from ≤ to
   pub within : to ≤ length es
 
--- an entry of a network that is to be read, or several networks, were passed: what was found, and which networks are
--- still read, make up for them
+-- an entry of a network that is to be read, or several networks, were passed: the tasks found and the marks that are
+-- left make up for them
 pub record Visits (es : List Entry) (place next : ℕ) (level : Level) (old new : List Level) (found more : List ℕ)
     : Type 0 where
   pub marks : more ++ marks (drop next es) (are_read new) next
@@ -84,7 +84,7 @@ abbrev pub IsFullEntry : Entry → Type 0
 IsFullEntry (Task cell immediate) = Unit {0}
 IsFullEntry (Parts order n) = 2 ≤ n
 
--- which networks are read behind an entry that is read
+-- the marks behind an entry that is read
 abbrev pub read_behind : Entry → List Bool → List Bool
 read_behind (Task cell immediate) bs = bs
 read_behind (Parts order n) bs = parts_read true order n bs

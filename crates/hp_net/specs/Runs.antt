@@ -1,4 +1,4 @@
--- Lists of calls of a walk, and what they visit.
+-- Lists of calls of a walk, and their visits.
 use Rattle.std.specs.Prelude.{◌≡◌, ◌≢◌, true, false, List, [], ◌∷◌, Option, Some, None}
 use Rattle.hp_syntax.specs.Walk.{Visit, is_did, is_fault_here, skip}
 use Rattle.hp_net.specs.Standings.{Standing, next_below, next_of, stepped, gone_on, gone_back, pruned}
@@ -24,7 +24,7 @@ visit_of Back s = None
 visit_of Next s = next_of s.rest
 visit_of Prune s = None
 
--- what a call asks
+-- the premise of a call
 abbrev pub MayCall : Call → Standing → Type 0
 MayCall Step s = Unit {0}
 MayCall Back s = (s.path ≢ []) × (next_below s.path s.rest ≡ None)

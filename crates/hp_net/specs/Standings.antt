@@ -1,4 +1,4 @@
--- Where a walk of a tree stands, and where each call takes it.
+-- Places of a walk of a tree, and the place that each call leads to.
 use Rattle.std.specs.Prelude.{◌≡◌, ℕ, ◌-◌, ◌^◌, min, Bool, false, cond, List, [], ◌∷◌, length, map, Option, Some, None}
 use Rattle.hp_syntax.specs.Terms.{Term}
 use Rattle.hp_syntax.specs.Syntax.{Rule}
@@ -6,7 +6,7 @@ use Rattle.hp_syntax.specs.Walk.{Node, Visit, Did, Plan, CutHere, FaultHere, is_
 use Rattle.hp_net.specs.declared.walk.Step.{Step}
 use Rattle.hp_net.specs.declared.walk.Step.TheVariants as steps
 
--- a tree: the rules and how deep axioms may call one another, and the root
+-- a tree: the rules, the number of axiom levels, and the root
 pub record Tree : Type 0 where
   pub rules : List Rule
   pub nest : ℕ
@@ -24,7 +24,7 @@ standing p vs did = record { path = p; rest = vs; at_did = did }
 abbrev pub node_reached : Tree → Standing → Option Node
 node_reached t s = node_at t.rules t.nest t.root s.path
 
--- where a number of cells is promised, there are so many
+-- there are as many cells as are promised, if a number is
 abbrev pub HasCells : Option ℕ → List Term → Type 0
 HasCells None terms = Unit {0}
 HasCells (Some n) terms = length terms ≡ n
@@ -48,7 +48,7 @@ abbrev pub step_or_end : Option Visit → Step
 step_or_end None = steps.End
 step_or_end (Some v) = step_of v
 
--- ---- where a call leads
+-- ---- the place after a call
 
 abbrev pub without_next : List Visit → List Visit
 without_next [] = []

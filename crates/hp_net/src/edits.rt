@@ -19,7 +19,7 @@ pub(crate) fn task_at(entries: &[Entry], at: usize) -> Cell
     }
 }
 
-// How many networks stand before a task, from a list on that isn't its own.
+// The number of networks before a task, from a list on that isn't its own.
 fn past_list(parts: usize, before: usize) -> Option<usize>
     requires { before + 1 < 2 ^ 64 }
     ensures { result ≡ cond (nat_lt before parts) None (Some (before + 1 - parts)) }
@@ -31,7 +31,7 @@ fn past_list(parts: usize, before: usize) -> Option<usize>
     }
 }
 
-// How many networks stand before a task, from this entry on; none where that entry is the list that it is a part of.
+// The number of networks before a task, from this entry on; none where that entry is the list that it is a part of.
 fn further(entry: Entry, before: usize) -> Option<usize>
     requires { before + 1 < 2 ^ 64 }
     ensures { result ≡ further_of entry before }

@@ -1,7 +1,7 @@
 //! The parts of a network.
 use hp_cells::Cell;
 
-/// Whether the parts of a list are done in order.
+/// The order of a list's parts.
 #[derive(Clone, Copy, Debug, PartialEq, Eq)]
 pub enum Order {
     Ordered,

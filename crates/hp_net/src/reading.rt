@@ -16,7 +16,7 @@ struct Level {
     pass: usize,
 }
 
-// What is to be done with the parts of a list.
+// The level of the parts of a list that is read.
 fn level_of(order: Order, parts: usize) -> Level
     requires { 0 < parts }
     ensures { (bs : List Bool) → level_read result bs ≡ parts_read true order parts bs }
@@ -33,7 +33,7 @@ fn level_of(order: Order, parts: usize) -> Level
     }
 }
 
-// How many networks are left to be passed over behind an entry.
+// The number of networks that are left to be passed over behind an entry.
 fn left_behind(entry: Entry, left: usize) -> usize
     requires some { 0 < left }
     requires fits { left_of entry left < 2 ^ 64 }

@@ -4,7 +4,7 @@ use hp_syntax::RunFault;
 use hp_world::World;
 use std::alloc::AllocError;
 
-/// What is met at a visit, or the end of the walk.
+/// The sight of a visit, or the end of the walk.
 #[derive(Clone, Copy, Debug, PartialEq, Eq)]
 pub enum Step {
     /// A task was done or decomposed.
@@ -22,11 +22,13 @@ pub enum Step {
 /// world can be read, and it goes on from there: `next` makes the next visit wherever it is; `step` and `back` do the
 /// same with each way back as a call of its own; `prune` leaves out what lies below the decomposition just visited.
 pub trait Walk {
-    ghost use Rattle.std.specs.Prelude.{◌≡◌, ◌≢◌, ◌<◌, ℕ, Bool, true, false, List, [], Option, None, OnOk, OnErr, IfOk, MatchOption, option_map, length};
+    ghost use Rattle.std.specs.Prelude.{◌≡◌, ◌≢◌, ◌<◌, ℕ, Bool, true, false, List, [], Option, None};
+    ghost use Rattle.std.specs.Prelude.{OnOk, OnErr, IfOk, MatchOption, option_map, length};
     ghost use Rattle.std.specs.List.{All};
     ghost use Rattle.hp_syntax.specs.Terms.{Term};
     ghost use Rattle.hp_world.specs.Stages.{AllBelow, StageBelow, terms_at, state_of, guards_of};
-    ghost use Rattle.hp_net.specs.Standings.{Tree, Standing, HasCells, node_reached, next_below, next_of, step_of, step_or_end, stepped, gone_on, gone_back, pruned, told};
+    ghost use Rattle.hp_net.specs.Standings.{Tree, Standing, HasCells, node_reached, next_below, next_of};
+    ghost use Rattle.hp_net.specs.Standings.{step_of, step_or_end, stepped, gone_on, gone_back, pruned, told};
 
     /// The tree that is walked.
     ghost tree: { Self → Tree };
@@ -40,7 +42,7 @@ pub trait Walk {
     /// No call has failed.
     ghost is_live: { Self → Bool };
 
-    /// How many cells there are while the walk stands at its root and nothing is left, where the engine promises that.
+    /// The number of cells while the walk stands at its root and nothing is left, where the engine promises that.
     ghost root_cells: { Self → Option ℕ };
 
     /// The next visit, where it is at or below the node reached: its plan, a cut or a fault of its list of children, or
@@ -83,12 +85,12 @@ pub trait Walk {
             (λ n. terms_at (terms self.now) result.now ≡ n.steps) }
         ensures below { AllBelow (length (terms self.now)) result.now };
 
-    /// What the steps of the node reached cost together.
+    /// The sum of the costs of the steps of the node reached.
     fn cost(&self) -> i128
         requires live { is_live self.now ≡ true }
         ensures { MatchOption (node_reached (tree self.now) (stands self.now)) ⊥ (λ n. result ≡ n.cost) };
 
-    /// What holds and is protected at the node reached.
+    /// The world of the node reached.
     fn world(&self) -> &World
         requires live { is_live self.now ≡ true }
         ensures state { MatchOption (node_reached (tree self.now) (stands self.now)) ⊥

@@ -1,6 +1,6 @@
 pub mod NotedLemmas
-pub mod HearingLemmas
+pub mod HearingSteps
 pub mod StableLemmas
-pub mod OrderLemmas
-pub mod FillLemmas
+pub mod SortSteps
+pub mod FillSteps
 pub mod HeardLemmas

@@ -1,4 +1,4 @@
--- What is noted of satisfiers while their whole list is heard.
+-- Notes on satisfiers while their whole list is heard.
 use Rattle.std.specs.Prelude.{◌≡◌, ℕ, ◌<◌, ◌^◌, Bool, true, false, cond, ◌||◌, ℤ, List, [], ◌∷◌, ◌++◌, map, length, Option, Some, None, slice_get, Result, Ok, Err}
 use Rattle.hp_syntax.specs.declared.pattern.Span.{Span}
 use Rattle.hp_syntax.specs.declared.fault.RunFault.{RunFault}
@@ -22,7 +22,7 @@ abbrev pub number_at : Span → Option Term → Result ℤ RunFault
 number_at s None = Err (fault_at NotGround s)
 number_at s (Some t) = number_of s t
 
--- a satisfier as it is sorted: its number, and what its cells name
+-- the entry of a satisfier: its number, and its bindings
 abbrev pub entry_of : List Term → Noted → ℤ × Bindings
 entry_of c n = (n.number, map (named c) n.values.items)
 
@@ -41,7 +41,7 @@ pub record IsNoted (count : ℕ) (start : Slotted) (n : Noted) : Type 0 where
   pub below : AreBelow count (slotted n.values.items [])
   pub few : length n.values.items < 2 ^ 32
 
--- what was noted of the front of a list, with what the remainder gives
+-- the notes on a prefix of a list, with the entries of the remainder
 abbrev pub with_notes : List Term → NotedSats → Keyed → Keyed
 with_notes c notes (NoKey f) = NoKey f
 with_notes c notes (Keys xs cut) = Keys (map (entry_of c) notes.sats.items ++ xs) (notes.cut || cut)
@@ -53,14 +53,15 @@ AddsSat k c (Ok done) e old new =
 AddsSat k c (Err (stops.Fault f)) e old new = (rest : Keyed) → keyed_by k.span (bound e k.var) e rest ≡ NoKey f
 AddsSat k c (Err stops.NoMemory) e old new = Unit {0}
 
--- an event is heard: the whole is the notes with what is left, or at the end the notes alone, or else the fault
+-- an event is heard: the whole is the notes with the entries that are left, or at the end the notes alone, or else the
+-- fault
 abbrev pub HearsOn : Result Bool EvalStop → Keyed → Keyed → Keyed → Type 0
 HearsOn (Ok true) whole left alone = whole ≡ left
 HearsOn (Ok false) whole left alone = whole ≡ alone
 HearsOn (Err (stops.Fault f)) whole left alone = whole ≡ NoKey f
 HearsOn (Err stops.NoMemory) whole left alone = Unit {0}
 
--- a whole list is heard: what it gives is the notes alone, or the fault; for want of memory the answer is free
+-- a whole list is heard: its entries are the notes alone, or it is the fault; for want of memory the answer is free
 abbrev pub Hears : List Term → Result NotedSats EvalStop → Keyed → Type 0
 Hears c (Ok notes) whole = whole ≡ with_notes c notes (Keys [] false)
 Hears c (Err (stops.Fault f)) whole = whole ≡ NoKey f

@@ -1,10 +1,11 @@
 -- Events up to the first Sat.
-use Rattle.std.specs.Prelude.{◌≡◌, Bool, true, false, cond, List, [], ◌∷◌}
+use Rattle.std.specs.Prelude.{◌≡◌, Bool, true, false, cond, List, []}
 use Rattle.std.specs.List.{All}
 use Rattle.std.proofs.Common.{ap}
-use Rattle.std.proofs.lemmas.List.Elements.{All-nil, All-cons, All-head, All-tail}
+use Rattle.std.proofs.lemmas.List.Elements.{All-nil}
 use Rattle.hp_syntax.specs.Events as plain
 use Rattle.hp_syntax.specs.Preconditions.{up_to_sat}
+use Rattle.hp_laws.proofs.HearingLemmas.{all_up_to}
 use Rattle.hp_eval.specs.declared.event.Event.{Event}
 use Rattle.hp_eval.specs.declared.event.Event.TheVariants as events
 use Rattle.hp_eval.specs.Events.{PlainEvent}
@@ -21,19 +22,8 @@ pub first_same : {xs ys : List PlainEvent} (ended : Bool) → xs ≡ ys
     → cond ended [] (up_to_sat xs) ≡ cond ended [] (up_to_sat ys)
 first_same ended h = ap (λ zs. cond ended [] (up_to_sat zs)) h
 
-module _ (P : PlainEvent → Type 0) where
-  -- what holds of each event holds of each up to the first Sat
-  All-up_to_sat : (xs : List PlainEvent) → All P xs → All P (up_to_sat xs)
-  All-up_to_sat [] h = All-nil P
-  All-up_to_sat (plain.Sat e ∷ xs) h = All-cons P (plain.Sat e) [] (All-head P (plain.Sat e) xs h) (All-nil P)
-  All-up_to_sat (plain.Cut ∷ xs) h =
-      All-cons P plain.Cut (up_to_sat xs) (All-head P plain.Cut xs h)
-      (All-up_to_sat xs (All-tail P plain.Cut xs h))
-  All-up_to_sat (plain.Fault f ∷ xs) h =
-      All-cons P (plain.Fault f) (up_to_sat xs) (All-head P (plain.Fault f) xs h)
-      (All-up_to_sat xs (All-tail P (plain.Fault f) xs h))
-
-  -- what holds of each event holds of each up to the first Sat, and of none once it was given
-  pub first_extend : (ended : Bool) (xs : List PlainEvent) → All P xs → All P (cond ended [] (up_to_sat xs))
-  first_extend true xs h = All-nil P
-  first_extend false xs h = All-up_to_sat xs h
+-- a fact of each event is one of each up to the first Sat; once a Sat was given none is left
+pub first_extend : (P : PlainEvent → Type 0) (ended : Bool) (xs : List PlainEvent) → All P xs
+    → All P (cond ended [] (up_to_sat xs))
+first_extend P true xs h = All-nil P
+first_extend P false xs h = all_up_to plain.is_sat P xs h

@@ -1,4 +1,4 @@
-//! What was heard is given again.
+//! A list that was heard is given again.
 ghost use Rattle.std.specs.Prelude.{◌≡◌, ◌<◌, ◌^◌, true, false, None, Some, List, IfOk, OnOk, OnErr, length, slice_get, slice_set};
 ghost use Rattle.std.specs.List.{All};
 ghost use Rattle.hp_syntax.specs.Terms.{Term};
@@ -17,7 +17,7 @@ use std::alloc::{AllocError, Global};
 pub(crate) struct Heard {
     pub(crate) notes: NotedSats,
     pub(crate) given: usize,
-    // How many cells stood when the list was heard.
+    // The number of cells that stood when the list was heard.
     pub(crate) kept: usize,
     pub(crate) is_live: bool,
     pub(crate) is_open: bool,
@@ -36,7 +36,7 @@ impl Drop for Heard {
     }
 }
 
-// Binds a variable to what it is to stand for, if it isn't bound.
+// Binds a variable to the cell that it is to stand for, if it isn't bound.
 fn fill(v: u32, value: Option<Cell>, slots: &mut Slots)
     requires known { v < length slots.old.values }
     requires keeps { (cell : _) → slice_get slots.old.values v ≡ Some (Some cell) → value ≡ Some cell }
@@ -52,7 +52,7 @@ fn fill(v: u32, value: Option<Cell>, slots: &mut Slots)
     }
 }
 
-// Binds the variables that aren't bound to what they are to stand for.
+// Binds the variables that aren't bound to the cells that they are to stand for.
 fn fill_all(values: &[Option<Cell>], slots: &mut Slots)
     requires keeps { KeepsCells values.now slots.old }
     requires few { length values.now < 2 ^ 32 }
@@ -65,8 +65,8 @@ fn fill_all(values: &[Option<Cell>], slots: &mut Slots)
 }
 
 impl Heard {
-    /// What is given first of what was found of a list, and what is left then; a fault leaves nothing. The slots are as
-    /// at the start, and so many cells stand.
+    /// The first event of a list that was heard, and the list that is left then; a fault leaves nothing. The slots are
+    /// as at the start, and so many cells stand.
     pub(crate) fn start(
         alloc: Global,
         found: Result<NotedSats, EvalStop>,
@@ -106,7 +106,7 @@ impl Heard {
         }
     }
 
-    // What was noted of a list, of which nothing was given.
+    // The notes on a list of which nothing was given.
     fn new(notes: NotedSats, kept: usize, is_live: bool) -> Heard
         ensures { result ≡ record { notes = notes; given = 0; kept = kept; is_live = is_live; is_open = true } }
     {
@@ -119,7 +119,7 @@ impl Heard {
         }
     }
 
-    /// The next of what was heard, a Sat with its bindings above those of a mark.
+    /// The next event, a Sat with its bindings above those of a mark.
     pub(crate) fn give(&mut self, mark: usize, slots: &mut Slots) -> Event
         requires fits { FitsHeard mark self.old slots.old }
         ensures event { (c : List Term) → result ≡ event_of (left_of c self.old) }
@@ -135,7 +135,7 @@ impl Heard {
         self.give_next(slots)
     }
 
-    // The next of what was heard, a Sat with its bindings above those of the slots.
+    // The next event, a Sat with its bindings above those of the slots.
     fn give_next(&mut self, slots: &mut Slots) -> Event
         requires noted { All (IsNoted self.old.kept slots.old) self.old.notes.sats.items }
         ensures event { (c : List Term) → result ≡ event_of (left_of c self.old) }

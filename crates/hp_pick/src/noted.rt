@@ -1,4 +1,4 @@
-//! What is noted of satisfiers while their whole list is heard.
+//! Notes on satisfiers while their whole list is heard.
 ghost use Rattle.std.specs.Prelude.{◌≡◌, ℕ, ◌<◌, ◌^◌, ◌∷◌, [], ◌++◌, false, true, List, IfOk, Ok, length};
 ghost use Rattle.std.specs.List.{All};
 ghost use Rattle.hp_syntax.specs.Views.{key_of};
@@ -13,7 +13,7 @@ use hp_eval::{EvalStop, Event, Slots};
 use hp_syntax::{FaultKind, RunFault, SortKey};
 use std::alloc::{AllocError, Global};
 
-/// A satisfier: the number by which it is sorted, and what each variable then stands for.
+/// A satisfier: the number by which it is sorted, and the cells of its variables.
 pub(crate) struct Noted {
     pub(crate) number: i64,
     pub(crate) values: Vec<Option<Cell>>,
@@ -71,7 +71,7 @@ fn number_of(key: &SortKey, cells: &Cells, slots: &Slots) -> Result<i64, RunFaul
     }
 }
 
-// A copy of what each variable stands for.
+// A copy of the variables' cells.
 fn values_of(alloc: Global, slots: &Slots) -> Result<Vec<Option<Cell>>, AllocError>
     ensures copy { IfOk result (λ values. values.items ≡ slots.now.values) }
     ensures few { IfOk result (λ values. length values.items < 2 ^ 32) }

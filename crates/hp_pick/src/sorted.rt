@@ -13,9 +13,9 @@ pub struct Sorted<S> {
     alloc: Global,
     inner: S,
     key: SortKey,
-    // How many bindings stood at the start.
+    // The number of bindings that stood at the start.
     mark: usize,
-    // What was heard; the inner list is closed then.
+    // The list once it was heard; the inner one is closed then.
     heard: Option<Heard>,
 }
 

@@ -22,7 +22,7 @@ use Rattle.hp_plain.specs.declared.search_node.SearchNode.{SearchNode}
 use Rattle.hp_plain.specs.Agendas.{done_in, choice_children, if_open, queue_children, agenda_children, IsChoice, MaybeChoice, IsQueue, IsAgenda, Takes}
 use Rattle.hp_plain.specs.Children.{Makes, children_in}
 use Rattle.hp_plain.specs.SearchNodes.{held, node_in, IsSearchNode}
-use Rattle.hp_plain.proofs.CandidateLemmas.{all_bind_below, found_stays}
+use Rattle.hp_satisfiers.proofs.AnswerLemmas.{all_bind_below, found_stays}
 
 -- ---- the next child
 

@@ -15,9 +15,9 @@ use Rattle.hp_syntax.specs.Matching.{match_atom}
 use Rattle.hp_eval.specs.Growth.{Grows}
 use Rattle.hp_eval.proofs.GrowthLemmas.{bindings_stay}
 use Rattle.hp_satisfiers.specs.declared.answer.Answer.{Answer}
-use Rattle.hp_satisfiers.specs.declared.answer.Answer.TheVariants.{Sat, Cut, Fault}
 use Rattle.hp_satisfiers.specs.AnswerViews.{BindsBelow, Fits, Finds, answer_events}
-use Rattle.hp_satisfiers.proofs.MatchSteps.{binds_vars, match_failed, match_made}
+use Rattle.hp_eval.proofs.SlotLemmas.{binds_vars, match_failed, match_made}
+use Rattle.hp_satisfiers.proofs.AnswerLemmas.{fits_below}
 use Rattle.hp_satisfiers.proofs.AxiomSteps.{none_bound}
 use Rattle.hp_syntax.specs.declared.expression.Pre.{Pre}
 use Rattle.hp_syntax.specs.Events.{Event, State, axioms_of}
@@ -151,22 +151,18 @@ module _ (terms : List Term) (head : Atom) (cell vars : ℕ) (slots new : Slotte
       binds_vars slots new (match_made does _ terms slots new e told).1
       ∙ (ap (λ s. length s.values) free ∙ length-replicate {A = Option ℕ} vars None)
 
--- ---- what is found
+-- ---- answers
 
-fits_bind : (vars n : ℕ) (x : Answer) → Fits vars n x → BindsBelow n x
-fits_bind vars n (Sat slots) h = h.1
-fits_bind vars n Cut h = tt
-fits_bind vars n (Fault f) h = tt
-
--- what is found binds to cells below the number of terms
+-- answers that fit bind to cells below the number of terms
 pub finds_below : (terms : List Term) (vars : ℕ) (found : List Answer) (events others : List Event)
     → events ≡ others → Finds terms vars found events → FindsBelow terms found others
 finds_below terms vars found events others e h = record {
   stand = h.stand ∙ e;
-  below = All-weaker (Fits vars (length terms)) (BindsBelow (length terms)) (fits_bind vars (length terms)) found h.fit;
+  below =
+      All-weaker (Fits vars (length terms)) (BindsBelow (length terms)) (fits_below vars (length terms)) found h.fit;
 }
 
--- where there are no events nothing is found
+-- an empty list of answers stands for an empty list of events
 pub finds_nothing : (terms : List Term) (found : List Answer) (events : List Event) → found ≡ [] → events ≡ []
     → FindsBelow terms found events
 finds_nothing terms found events is e = record {
@@ -209,7 +205,7 @@ pub done_there : (terms : List Term) (s : Candidate) (rule branch : ℕ) (e : Bi
 done_there terms s rule branch e o h =
     ap (λ r. done_by (rules_at s) (nest_at s) (own_node terms s) (place_at s) (own_task terms s) r branch e) (sym h)
 
--- what holds of all holds of the one that stands at a number
+-- a fact of all is one of the element of a number
 pub holds_there : {X : Type 0} (P : X → Type 0) (xs : List X) (i : ℕ) (x : X) → All P xs → slice_get xs i ≡ Some x → P x
 holds_there P xs i x h e =
     subst P (get_or_from_slice_get xs i x x e) (All-get_or P xs i x (slice_get_within xs i x e) h)

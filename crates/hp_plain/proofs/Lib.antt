@@ -2,4 +2,4 @@ pub mod CandidateLemmas
 pub mod CandidateSteps
 pub mod AgendaSteps
 pub mod FrameSteps
-pub mod SearchLemmas
+pub mod SearchSteps

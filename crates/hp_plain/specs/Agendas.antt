@@ -51,7 +51,7 @@ module _ (rules : List Rule) (nest : ℕ) where
   abbrev pub agenda_children : List Term → SearchNode → Agenda → List Child
   agenda_children terms s a = if_open terms s a.open ++ queue_children terms s a.queue
 
--- ---- what holds of them
+-- ---- invariants
 
 -- a choice is of a candidate, its cells are below a count, and a decomposition may follow
 pub record IsChoice (n : ℕ) (s : SearchNode) (c : OpenChoice) : Type 0 where
@@ -75,7 +75,7 @@ pub record IsAgenda (rules : List Rule) (n : ℕ) (s : SearchNode) (a : Agenda) 
   pub choice : MaybeChoice n s a.open
   pub queue : IsQueue rules s a.queue
 
--- how many rules are left to be tried at most, with one more for each candidate
+-- the largest number of rules that are left to be tried, with one more for each candidate
 abbrev pub work_left : List Rule → CandidateQueue → ℕ
 work_left rules q = (length q.candidates.items - q.at) * (length rules + 1) - q.tried
 

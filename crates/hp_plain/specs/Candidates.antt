@@ -16,7 +16,7 @@ use Rattle.hp_plain.specs.SearchNodes.{node_in, IsSearchNode}
 abbrev pub rules_at : Candidate → List Rule
 rules_at c = (domain_of c.context.now.book.now.domain.now).rules
 
--- how deep axioms may call one another
+-- the number of axiom levels
 abbrev pub nest_at : Candidate → ℕ
 nest_at c = c.context.now.nest
 

@@ -44,7 +44,7 @@ pub record Makes (terms : List Term) (child : Option made.Child) (children : Lis
 
 -- ---- events that are found
 
--- what is found stands for these events, and each Sat binds to cells below the number of terms
+-- the answers stand for these events, and each Sat binds to cells below the number of terms
 pub record FindsBelow (terms : List Term) (found : List Answer) (events : List Event) : Type 0 where
   pub stand : answer_events terms found ≡ events
   pub below : All (BindsBelow (length terms)) found

@@ -5,7 +5,7 @@ use Rattle.hp_syntax.specs.Walk.{Node}
 use Rattle.hp_tree.specs.SearchNodes.{HeldNode, node_of, IsHeldNode}
 use Rattle.hp_plain.specs.declared.search_node.SearchNode.{SearchNode}
 
--- a search node as it stands in memory, apart from what its world was
+-- a search node as it stands in memory, apart from its world's pasts
 abbrev pub held : SearchNode → HeldNode
 held s = record {
   stage = s.world.now;

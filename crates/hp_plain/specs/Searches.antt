@@ -1,4 +1,4 @@
--- Where a search stands, and what holds of it.
+-- The place of a search, and its invariant.
 use Rattle.std.specs.Prelude.{◌≡◌, ℕ, ◌+◌, ◌-◌, ◌^◌, min, true, false, List, [], ◌∷◌, ◌++◌, length, map, reverse, Option, Some, None, option_map}
 use Rattle.std.specs.List.{All}
 use Rattle.hp_syntax.specs.Checks.{HasFewVariables}

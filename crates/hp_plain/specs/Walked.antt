@@ -1,4 +1,4 @@
--- What contracts see of a plain walk.
+-- The view of a plain walk.
 use Rattle.std.specs.Prelude.{◌≡◌, ℕ, Bool, true, List}
 use Rattle.hp_syntax.specs.Syntax.{Rule}
 use Rattle.hp_syntax.specs.Terms.{Term}
@@ -11,7 +11,7 @@ use Rattle.hp_plain.specs.declared.search.Search.{Search}
 use Rattle.hp_plain.specs.Frames.{level_of}
 use Rattle.hp_plain.specs.Searches.{levels_of, IsSearch}
 
--- the domain and how deep axioms may call one another; the terms that cells name; the nodes above the one reached, and
+-- the domain and the number of axiom levels; the terms that cells name; the nodes above the one reached, and
 -- that one; whether the last call answered a Did, whether one answered a fault, and whether none has failed
 pub record Walked : Type 0 where
   pub domain : Domain

@@ -1,5 +1,6 @@
 //! The children of a node by one of the tasks that may be done next.
 ghost use Rattle.std.specs.Prelude.{◌≡◌, ◌<◌, ◌≤◌, [], map, Ok, IfOk, length, slice_get};
+ghost use Rattle.hp_syntax.specs.declared.limits.TheConstants.{MOST_VARIABLES};
 ghost use Rattle.hp_syntax.specs.Applying.{Now};
 ghost use Rattle.hp_syntax.specs.Changes as plain;
 ghost use Rattle.hp_syntax.specs.Events.{axioms_of};
@@ -250,7 +251,7 @@ impl Candidate<'_> {
         cells: &Cells,
     ) -> Result<Option<Slots>, AllocError>
         requires candidate { CandidateFits (length cells.now) self.now }
-        requires few { vars ≤ 256 }
+        requires few { vars ≤ MOST_VARIABLES }
         ensures { IfOk result (λ slots. MeetsHead cells.now vars slots
             (match_atom (atom_of head.now) (own_task cells.now self.now) (unbound vars))) }
     {
@@ -265,7 +266,7 @@ impl Candidate<'_> {
     // The events of an operator's precondition, where its head matches the task.
     fn by_operator(&self, operator: &Operator, cells: &mut Cells) -> Result<Vec<Answer>, AllocError>
         requires candidate { CandidateFits (length cells.old) self.now }
-        requires few { length operator.now.vars.items ≤ 256 }
+        requires few { length operator.now.vars.items ≤ MOST_VARIABLES }
         ensures finds { IfOk result (λ v. FindsBelow cells.new v.items
             (if_matched (precondition_events (axioms_of (rules_at self.now)) (nest_at self.now)
             (own_node cells.old self.now).state (precondition_of operator.now.pre))
@@ -321,7 +322,7 @@ impl Candidate<'_> {
     // The branch of a method that is chosen, where its head matches the task.
     fn by_method(&self, method: &Method, cells: &mut Cells) -> Result<Choice, AllocError>
         requires candidate { CandidateFits (length cells.old) self.now }
-        requires few { length method.now.vars.items ≤ 256 }
+        requires few { length method.now.vars.items ≤ MOST_VARIABLES }
         ensures chooses { IfOk result (λ c. let n = own_node cells.old self.now in
             ChoosesBranch cells.new n (place_at self.now) (method_of method.now).branches c
             (method_children (rules_at self.now) (nest_at self.now) n (place_at self.now) (method_of method.now)

@@ -3,8 +3,8 @@ use hp_cells::Cell;
 use hp_net::Net;
 use hp_world::World;
 
-/// A search node: what holds and is protected, what is left to do, the steps so far with their cost, and how many
-/// decompositions may follow.
+/// A search node: its world, its network, the steps so far with their cost, and the number of decompositions that may
+/// follow.
 pub(crate) struct SearchNode {
     pub(crate) world: World,
     pub(crate) net: Net,

@@ -1,11 +1,11 @@
--- What is found, and that it stands for the same where terms are added.
+-- Answers stand for the same events where terms are added.
 use Rattle.std.specs.Prelude.{slice_get, slice_set, unwrap_or}
 use Rattle.std.proofs.Common.{append_assoc, ◌≡◌, ℕ, ◌+◌, ◌<◌, ◌≤◌, below_more, Bool, true, false, List, [], ◌∷◌, ◌++◌, length, map, drop, get_or, Option, Some, None, refl, sym, ◌∙◌, ap, ap₂, subst, arith}
 use Rattle.std.specs.List.{All}
 use Rattle.std.proofs.lemmas.List.{ext_get_or, map-append, append-nil, length-set, drop_all}
 use Rattle.std.proofs.lemmas.Option.{unwrap_or-slice_get}
 use Rattle.hp_laws.proofs.BindingLemmas.{slice_get-set_same, slice_get-set_other}
-use Rattle.hp_eval.proofs.CopyLemmas.{same_below}
+use Rattle.hp_eval.proofs.Copies.{same_below}
 use Rattle.hp_eval.proofs.Loops.{left_more}
 use Rattle.std.proofs.lemmas.List.Elements.{All-get_or, All-nil, All-cons, All-append, All-head, All-tail, All-weaker, All-same}
 use Rattle.hp_syntax.specs.Terms.{Term}
@@ -21,7 +21,7 @@ use Rattle.hp_satisfiers.specs.declared.answer.Answer.{Answer}
 use Rattle.hp_satisfiers.specs.declared.answer.Answer.TheVariants.{Sat, Cut, Fault}
 use Rattle.hp_satisfiers.specs.AnswerViews.{answer_event, answer_events, Fits, BindsBelow, AllFit, Finds, FindsUpTo}
 
--- ---- lists of what is found
+-- ---- lists of answers
 
 -- nothing is found where nothing is met
 pub finds_none : (terms : List Term) (vars : ℕ) (found : List Answer) (events : List Event) → found ≡ [] → events ≡ []
@@ -120,14 +120,20 @@ all_decided cut terms found i whole l h =
 
 -- ---- events that are found
 
--- what stands for events stands for equal ones
+-- answers that stand for events stand for equal ones
 pub finds_same : (terms : List Term) (vars : ℕ) (found : List Answer) (events others : List Event) → events ≡ others
     → Finds terms vars found events → Finds terms vars found others
 finds_same terms vars found events others e h = subst (Finds terms vars found) e h
 
+-- answers that fit slots of so many variables fit as many
+pub finds_vars : (terms : List Term) (m n : ℕ) (found : List Answer) (events : List Event) → m ≡ n
+    → Finds terms m found events → Finds terms n found events
+finds_vars terms m n found events e h = subst (λ k. Finds terms k found events) e h
+
 module _ (terms : List Term) (vars : ℕ) (found : List Answer) (whole : List Event) where
-  -- what is found next goes behind
-  pub upto_more : (piece left : List Event) (more items : List Answer) → FindsUpTo terms vars found whole (piece ++ left)
+  -- the next answers go behind
+  pub upto_more : (piece left : List Event) (more items : List Answer)
+      → FindsUpTo terms vars found whole (piece ++ left)
       → Finds terms vars more piece → items ≡ found ++ more → FindsUpTo terms vars items whole left
   upto_more piece left more items h m is = record {
     so_far =
@@ -160,10 +166,10 @@ module _ (terms : List Term) (vars : ℕ) (found : List Answer) (whole : List Ev
     fit = h.fit;
   }
 
--- ---- what takes the place of what is found
+-- ---- events in the place of an answer
 
 module _ (terms : List Term) (f : Bindings → List Event) (x : Answer) where
-  -- what takes the place of a Sat is met under its bindings
+  -- the events in the place of a Sat are those under its bindings
   pub sat_replaced : (s : Slotted) → x ≡ Sat s → f (bindings_of terms s) ≡ plain.in_place f (answer_event terms x)
   sat_replaced s h = ap (λ y. plain.in_place f (answer_event terms y)) (sym h)
 
@@ -186,7 +192,7 @@ pub sat_fits : (vars n : ℕ) (x : Answer) (s : Slotted) → x ≡ Sat s → Fit
     → (length s.values ≡ vars) × AreBelow n s
 sat_fits vars n x s h f = subst (Fits vars n) h f
 
--- what takes the place of the first that is left goes before what takes that of the others
+-- the events in the place of the first that is left come before those in the place of the others
 pub left_replaced : (terms : List Term) (f : Bindings → List Event) (found : List Answer) (i : ℕ) (x : Answer)
     → i < length found → x ≡ get_or found i x
     → plain.through (answer_events terms (drop i found)) f
@@ -195,45 +201,57 @@ left_replaced terms f found i x l is = ap (λ xs. plain.through (answer_events t
 
 -- ---- terms that are added
 
--- what fits binds to cells below the count
+-- an answer that fits binds to cells below the count
 pub fits_below : (vars n : ℕ) (x : Answer) → Fits vars n x → BindsBelow n x
 fits_below vars n (Sat slots) h = h.1
 fits_below vars n Cut h = h
 fits_below vars n (Fault f) h = h
 
 module _ (old new : List Term) (g : Grows old new) where
-  -- what is bound to cells below the number of terms goes on to be
+  -- an answer that binds to cells below the number of terms goes on to do so
   pub binds_grow : (x : Answer) → BindsBelow (length old) x → BindsBelow (length new) x
   binds_grow (Sat slots) h = below_grows old new g slots h
   binds_grow Cut h = h
   binds_grow (Fault f) h = h
 
-  -- what is bound to cells below the number of terms stands for the same event
+  -- it stands for the same event
   pub event_stays : (x : Answer) → BindsBelow (length old) x → answer_event new x ≡ answer_event old x
   event_stays (Sat slots) h = ap plain.Sat (bindings_stay old new g slots h)
   event_stays Cut h = refl
   event_stays (Fault f) h = refl
 
-  -- what fits goes on to fit
+  -- answers that bind to cells below the number of terms go on to do so
+  pub all_bind_below : (found : List Answer) → All (BindsBelow (length old)) found
+      → All (BindsBelow (length new)) found
+  all_bind_below found h = All-weaker (BindsBelow (length old)) (BindsBelow (length new)) binds_grow found h
+
+  -- they stand for the same events
+  pub found_stays : (found : List Answer) → All (BindsBelow (length old)) found
+      → answer_events new found ≡ answer_events old found
+  found_stays [] h = refl
+  found_stays (x ∷ xs) h =
+      ap₂ ◌∷◌ (event_stays x (All-head (BindsBelow (length old)) x xs h))
+      (found_stays xs (All-tail (BindsBelow (length old)) x xs h))
+
+  -- an answer that fits goes on to fit
   pub fits_grow : (vars : ℕ) (x : Answer) → Fits vars (length old) x → Fits vars (length new) x
   fits_grow vars (Sat slots) h = (h.0, below_grows old new g slots h.1)
   fits_grow vars Cut h = h
   fits_grow vars (Fault f) h = h
 
-  -- all that fits goes on to fit
+  -- answers that fit go on to fit
   pub all_fit_grow : (vars : ℕ) (found : List Answer) → AllFit vars (length old) found → AllFit vars (length new) found
   all_fit_grow vars found h =
       All-weaker (Fits vars (length old)) (Fits vars (length new)) (fits_grow vars) found h
 
-  -- all that fits stands for the same events
+  -- answers that fit stand for the same events
   pub events_stay : (vars : ℕ) (found : List Answer) → AllFit vars (length old) found
       → answer_events new found ≡ answer_events old found
-  events_stay vars [] h = refl
-  events_stay vars (x ∷ xs) h =
-      ap₂ ◌∷◌ (event_stays x (fits_below vars (length old) x (All-head (Fits vars (length old)) x xs h)))
-      (events_stay vars xs (All-tail (Fits vars (length old)) x xs h))
+  events_stay vars found h =
+      found_stays found
+      (All-weaker (Fits vars (length old)) (BindsBelow (length old)) (fits_below vars (length old)) found h)
 
-  -- the same of what is found so far
+  -- so do answers so far
   pub upto_grow : (vars : ℕ) (found : List Answer) (whole left : List Event) → FindsUpTo old vars found whole left
       → FindsUpTo new vars found whole left
   upto_grow vars found whole left h = record {
@@ -252,9 +270,9 @@ module _ (old new : List Term) (g : Grows old new) where
   pub state_stays : (s : Stage) → StageBelow (length old) s → state_of new s ≡ state_of old s
   state_stays s h = terms_stay old new g (live_atoms s.places) h.atoms
 
--- ---- one of what is found
+-- ---- one of a list
 
--- what holds of all holds of the one at a place
+-- a fact of all is one of the element at a place
 pub item_holds : {X : Type 0} (P : X → Type 0) (xs : List X) (i : ℕ) (x : X) → i < length xs → x ≡ get_or xs i x
     → All P xs → P x
 item_holds P xs i x l is h = subst P (sym is) (All-get_or P xs i x l h)

@@ -1,9 +1,10 @@
--- What a goal meets by axioms.
+-- The events of a goal by axioms.
 use Rattle.std.proofs.Common.{◌≡◌, ℕ, zero, suc, ◌+◌, ◌<◌, ◌≤◌, Bool, true, false, cond, List, [], ◌∷◌, ◌++◌, length, map, filter, drop, slice_get, Option, Some, None, option_map, Bor, refl, sym, ◌∙◌, ap, subst, arith}
 use Rattle.std.specs.Prelude.{flat_map, Contains, bytes_eq}
 use Rattle.std.proofs.lemmas.List.{length-map, drop_all}
 use Rattle.std.proofs.lemmas.List.Elements.{All-contains}
 use Rattle.std.proofs.lemmas.Option.{slice_get-map}
+use Rattle.hp_syntax.specs.declared.limits.TheConstants.{MOST_VARIABLES}
 use Rattle.hp_syntax.specs.Syntax.{Rule, Axiom, Concludes, Does, Refines}
 use Rattle.hp_syntax.specs.Terms.{Term}
 use Rattle.hp_syntax.specs.Values.{Bindings, unbound}
@@ -12,11 +13,11 @@ use Rattle.hp_syntax.specs.Events.{Event, State, Below, through, state_events, b
 use Rattle.hp_syntax.specs.Views.{axiom_of}
 use Rattle.hp_syntax.specs.declared.domain.Axiom as public_axiom
 use Rattle.hp_eval.specs.Slotted.{Slotted, no_bindings, bindings_of}
+use Rattle.hp_eval.proofs.Loops.{left_at}
 use Rattle.hp_laws.specs.RulesByName.{concluding}
 use Rattle.hp_satisfiers.specs.RuleIndexes.{axiom_at, AreFew}
 use Rattle.hp_satisfiers.specs.Scenes.{placed_events}
 use Rattle.hp_laws.proofs.JoinLemmas.{contains_first, contains_later}
-use Rattle.hp_satisfiers.proofs.MatchSteps.{left_at}
 use Rattle.hp_syntax.specs.Preconditions.{heard}
 use Rattle.hp_satisfiers.specs.declared.answer.Answer.{Answer}
 use Rattle.hp_satisfiers.specs.AnswerViews.{answer_event, answer_events}
@@ -30,7 +31,7 @@ module _ (lower : Below) (q : Goal) (e : Bindings) where
   other_axiom : (x : Axiom) → bytes_eq x.head.name q.name ≡ false → axiom_events lower x q e ≡ []
   other_axiom x h = rw h refl
 
-  -- what axioms meet, one after another
+  -- the events of axioms, one after another
   abbrev joined_events : List Axiom → List Event
   joined_events axioms = flat_map (λ x. axiom_events lower x q e) axioms
 
@@ -114,14 +115,14 @@ new_bind_none terms own n many is e = ap (bindings_of terms) is ∙ (none_bound 
 -- ---- branches
 
 module _ (terms : List Term) (found : List Answer) where
-  -- where something is found, something is met
+  -- where there are answers, there are events
   pub some_met : (xs : List Event) → AreHeardAlike (answer_events terms found) xs → 0 < length found → 0 < length xs
   some_met (x ∷ xs) h l = omega arith
   some_met [] h l =
       let none = ap length (alike_empty (answer_events terms found) h) in
       absurd (omega (arith, l, none, length-map found (answer_event terms)))
 
-  -- where nothing is found, nothing is met
+  -- where there are no answers, there are no events
   pub none_met : (xs : List Event) → AreHeardAlike (answer_events terms found) xs → found ≡ [] → length xs ≡ 0
   none_met xs h is = ap length (alike_empty xs (sym h ∙ ap (λ zs. heard (answer_events terms zs)) is))
 
@@ -137,13 +138,13 @@ module _ (lower : Below) (q : Goal) (e : Bindings) (x : Axiom) where
       → through (branch_events lower x b) (λ d. concluded x.head d q e) ≡ axiom_events lower x q e
   axiom_started b h = sym (ap (λ o. started_events lower x o q e) h)
 
--- what stands for an axiom at a place is that axiom
+-- the public axiom of a place is that of the definition
 pub placed_axiom : (o : Option Axiom) (r : Option (Bor public_axiom.Axiom)) (a : Bor public_axiom.Axiom)
     → option_map (λ b. axiom_of b.now) r ≡ o → r ≡ Some a → o ≡ Some (axiom_of a.now)
 placed_axiom o r a h is = sym h ∙ ap (option_map (λ b. axiom_of b.now)) is
 
 -- an axiom at a place has few variables where all have
 pub few_at : (rules : List Rule) (place : ℕ) (x : Axiom) → AreFew (axioms_of rules) → axiom_at rules place ≡ Some x
-    → length x.vars ≤ 256
+    → length x.vars ≤ MOST_VARIABLES
 few_at rules place x few h =
-    All-contains (λ y. length y.vars ≤ 256) (axioms_of rules) x few (axiom_among rules place x h)
+    All-contains (λ y. length y.vars ≤ MOST_VARIABLES) (axioms_of rules) x few (axiom_among rules place x h)

@@ -1,4 +1,4 @@
--- What an axiom concludes of a goal.
+-- Conclusions of an axiom on a goal.
 use Rattle.std.proofs.Common.{◌≡◌, ℕ, Bool, true, false, List, [], ◌∷◌, length, Ok, Err, sym, ◌∙◌, ap, ap₂}
 use Rattle.hp_syntax.specs.Syntax.{Atom}
 use Rattle.hp_syntax.specs.Terms.{Term}
@@ -19,7 +19,7 @@ use Rattle.hp_satisfiers.proofs.AnswerLemmas.{finds_none, finds_one, finds_same,
 use Rattle.hp_satisfiers.proofs.HeardLemmas.{hears_found}
 use Rattle.hp_satisfiers.proofs.MatchSteps.{bound_copy}
 
--- what takes the place of something met does so as well for terms before others were added
+-- events in the place of an answer are the same over the terms before others were added
 pub conclusion_heard : (old mid new : List Term) (g : Grows old mid) (h : Atom) (q : open_goal.Goal) (s : Slotted)
     (x : Answer) (found : List Answer) → GoalBelow (length old) q → AreBelow (length old) s → BindsBelow (length old) x
     → Finds new (length s.values) found
@@ -34,14 +34,14 @@ conclusion_heard old mid new g h q s x found there below binds f =
     ∙ ap (in_place (λ b. concluded h b (goal_of old q) (bindings_of old s))) (event_stays old mid g x binds)) f)
 
 module _ (events : List Event) (terms : List Term) (s copy made : Slotted) (found : List Answer) where
-  -- what is concluded in a copy of slots is met
+  -- the conclusion in a copy of slots is an event
   pub concluded_met : (does : Bool) → does ≡ true → copy.values ≡ s.values → Concluded (Ok does) events terms copy made
       → AreBelow (length terms) made → found ≡ Sat made ∷ [] → Finds terms (length s.values) found events
   concluded_met true e values h below is =
       finds_same terms (length s.values) found _ _ (sym h.0) (bound_copy terms s copy made found values h.1 below is)
   concluded_met false e values h below is = absurd cc
 
-  -- where nothing is concluded, nothing is met
+  -- without a conclusion there is no event
   pub concluded_none : (does : Bool) → does ≡ false → Concluded (Ok does) events terms copy made → found ≡ []
       → Finds terms (length s.values) found events
   concluded_none true e h is = absurd cc

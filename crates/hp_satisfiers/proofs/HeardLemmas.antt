@@ -1,4 +1,4 @@
--- Lists of which the same is heard.
+-- Lists that are heard alike.
 use Rattle.std.proofs.Common.{append_assoc, ◌≡◌, ℕ, suc, ◌+◌, ◌-◌, ◌<◌, ◌≤◌, Bool, true, false, List, [], ◌∷◌, ◌++◌, length, drop, get_or, slice_get, refl, sym, ◌∙◌, ap, subst, arith}
 use Rattle.std.proofs.lemmas.List.{map-append, append-nil, drop_all}
 use Rattle.std.proofs.lemmas.List.Elements.{All-nil, All-append, All-same}
@@ -36,24 +36,24 @@ over_heard terms (Sat s ∷ y ∷ ys) more h =
 over_heard terms (Cut ∷ y ∷ ys) more h =
     ap (λ us. plain.Cut ∷ us) (over_heard terms (y ∷ ys) more (sym (ap is_found_fault (last_later Cut y ys)) ∙ h))
 
--- ---- what is found
+-- ---- answers
 
--- what stands for events is heard as they are
+-- answers that stand for events are heard as they are
 pub hears_found : (terms : List Term) (vars : ℕ) (found : List Answer) (events : List Event)
     → Finds terms vars found events → Hears terms vars found events
 hears_found terms vars found events h = record { stand = ap heard h.stand; fit = h.fit }
 
--- what is heard as some events is heard as those that are heard alike
+-- answers that are heard as some events are heard as those that are heard alike
 pub hears_same : (terms : List Term) (vars : ℕ) (found : List Answer) (events others : List Event)
     → AreHeardAlike events others → Hears terms vars found events → Hears terms vars found others
 hears_same terms vars found events others e h = record { stand = h.stand ∙ e; fit = h.fit }
 
--- what fits slots of so many variables fits as many
+-- answers that fit slots of so many variables fit as many
 pub hears_vars : (terms : List Term) (m n : ℕ) (found : List Answer) (events : List Event) → m ≡ n
     → Hears terms m found events → Hears terms n found events
 hears_vars terms m n found events e h = subst (λ k. Hears terms k found events) e h
 
--- before anything is found, all is left
+-- before the first answer all events are left
 pub hears_begin : (terms : List Term) (vars : ℕ) (found : List Answer) (whole : List Event) → found ≡ []
     → HearsUpTo terms vars found whole whole
 hears_begin terms vars found whole is = record {
@@ -62,12 +62,12 @@ hears_begin terms vars found whole is = record {
 }
 
 module _ (terms : List Term) (vars : ℕ) (found : List Answer) (whole : List Event) where
-  -- what is left is as well told by equal events
+  -- the events that are left are as well told by equal ones
   pub hears_left : (left others : List Event) → left ≡ others → HearsUpTo terms vars found whole left
       → HearsUpTo terms vars found whole others
   hears_left left others e h = subst (HearsUpTo terms vars found whole) e h
 
-  -- what is found next goes behind
+  -- the next answers go behind
   hears_more : (piece left : List Event) (more items : List Answer)
       → HearsUpTo terms vars found whole (piece ++ left) → Hears terms vars more piece → items ≡ found ++ more
       → HearsUpTo terms vars items whole left
@@ -91,7 +91,8 @@ module _ (terms : List Term) (vars : ℕ) (found : List Answer) (whole : List Ev
       → Hears terms vars found whole
   hears_all left e h = record {
     stand =
-        sym (h.so_far ∙ ap heard (ap (λ xs. answer_events terms found ++ xs) e ∙ append-nil (answer_events terms found)));
+        sym (h.so_far
+        ∙ ap heard (ap (λ xs. answer_events terms found ++ xs) e ∙ append-nil (answer_events terms found)));
     fit = h.fit;
   }
 
@@ -100,7 +101,7 @@ module _ (terms : List Term) (vars : ℕ) (found : List Answer) (whole : List Ev
       → Hears terms vars found whole
   hears_over left over h = record { stand = sym (h.so_far ∙ over_heard terms found left over); fit = h.fit }
 
--- what is found so far is heard as before where terms are added
+-- answers so far are heard as before where terms are added
 hears_grow : (old new : List Term) (g : Grows old new) (vars : ℕ) (found : List Answer) (whole left : List Event)
     → HearsUpTo old vars found whole left → HearsUpTo new vars found whole left
 hears_grow old new g vars found whole left h = record {
@@ -108,7 +109,7 @@ hears_grow old new g vars found whole left h = record {
   fit = all_fit_grow old new g vars found h.fit;
 }
 
--- what is found next goes behind, where terms were added while it was looked for
+-- the next answers go behind, where terms were added while they were looked for
 pub hears_next : (old new : List Term) (g : Grows old new) (vars : ℕ) (found more items : List Answer)
     (whole piece left : List Event) → HearsUpTo old vars found whole (piece ++ left) → Hears new vars more piece
     → items ≡ found ++ more → HearsUpTo new vars items whole left
@@ -116,7 +117,7 @@ hears_next old new g vars found more items whole piece left h m is =
     hears_more new vars found whole piece left more items
     (hears_grow old new g vars found whole (piece ++ left) h) m is
 
--- what takes the place of the next goes behind what takes that of those before
+-- the events in the place of the next go behind those in the place of the ones before
 pub hears_replaced : (old mid new : List Term) (g : Grows mid new) (vars : ℕ) (f : Bindings → List Event)
     (before more items found : List Answer) (i : ℕ) (x : Answer) → i < length found → x ≡ get_or found i x
     → HearsUpTo mid vars before (through (answer_events old found) f) (through (answer_events old (drop i found)) f)
@@ -130,8 +131,8 @@ hears_replaced old mid new g vars f before more items found i x l is h m e =
     (hears_left mid vars before whole _ _ (left_replaced old f found i x l is) h) m e
 
 -- where nothing is left of a list, all is heard that takes the place of each Sat of it
-pub hears_replaced_all : (old new : List Term) (vars : ℕ) (f : Bindings → List Event) (items found : List Answer) (i : ℕ)
-    → length found ≤ i
+pub hears_replaced_all : (old new : List Term) (vars : ℕ) (f : Bindings → List Event) (items found : List Answer)
+    (i : ℕ) → length found ≤ i
     → HearsUpTo new vars items (through (answer_events old found) f) (through (answer_events old (drop i found)) f)
     → Hears new vars items (through (answer_events old found) f)
 hears_replaced_all old new vars f items found i l h =

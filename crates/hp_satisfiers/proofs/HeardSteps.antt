@@ -1,4 +1,4 @@
--- What is heard so far where one list is met behind another.
+-- Lists heard so far, where one is put behind another.
 use Rattle.std.proofs.Common.{◌≡◌, ℕ, ◌+◌, ◌<◌, Bool, List, ◌++◌, length, drop, get_or, map, slice_get, Some, ◌∙◌, ap, ap₂}
 use Rattle.std.specs.Prelude.{flat_map}
 use Rattle.hp_syntax.specs.declared.expression.Expr.{Expr}
@@ -27,7 +27,7 @@ use Rattle.hp_satisfiers.proofs.SceneGrowth.{turned_sat, turned_stays, sat_stays
 module _ (old mid new : List Term) (held : Grows old mid) (g : Grows mid new) (stage : Stage)
     (there : StageBelow (length old) stage) (axioms : List Axiom) (level : ℕ) (before more items : List Answer)
     (behind : items ≡ before ++ more) where
-  -- what a part meets in the place of the next goes behind what it meets in that of those before
+  -- the events of a part in the place of the next go behind those in the place of the ones before
   pub each_next : (vars : ℕ) (part : Expr) (negate : Bool) (found : List Answer) (i : ℕ) (x : Answer) → i < length found
       → x ≡ get_or found i x → Fits vars (length old) x
       → HearsUpTo mid vars before
@@ -46,7 +46,7 @@ module _ (old mid new : List Term) (held : Grows old mid) (g : Grows mid new) (s
       (event_stays old mid held x (fits_below vars (length old) x fits))) m) behind
 
   module _ (s : Slotted) (below : AreBelow (length old) s) where
-    -- what the next part meets goes behind what those before meet
+    -- the events of the next part go behind those of the ones before
     pub any_next : (parts : List Expr) (i : ℕ) (part : Expr) → i < length parts → part ≡ get_or parts i part
         → HearsUpTo mid (length s.values) before (any_of axioms level (state_of old stage) parts (bindings_of old s))
         (any_of axioms level (state_of old stage) (drop i parts) (bindings_of old s))
@@ -69,7 +69,7 @@ module _ (old mid new : List Term) (held : Grows old mid) (g : Grows mid new) (s
         hears_next mid new g vars before more items whole piece (any_of axioms level state (drop (i + 1) parts) e)
         (hears_left mid vars before whole _ _ (any_left axioms level state parts i part e l is) h) next behind
 
-    -- what a goal meets by the next axiom goes behind what it meets by those before
+    -- the events of a goal by the next axiom go behind those by the ones before
     pub goal_next : (rules : List Rule) (q : open_goal.Goal) → GoalBelow (length old) q → (places : List ℕ)
         → map (axiom_at rules) places ≡ map Some (concluding (goal_of old q).name rules) → (i place : ℕ)
         → slice_get places i ≡ Some place

@@ -5,10 +5,10 @@ pub mod ConclusionSteps
 pub mod RuleIndexLemmas
 pub mod Sizes
 pub mod SearchSteps
-pub mod ChosenLemmas
+pub mod ChosenBranches
 pub mod AxiomSteps
 pub mod SceneGrowth
 pub mod HeardSteps
-pub mod EffectLemmas
+pub mod EffectSteps
 pub mod ListedLemmas
-pub mod PreconditionLemmas
+pub mod PreconditionSteps

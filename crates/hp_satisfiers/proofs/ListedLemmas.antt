@@ -1,12 +1,11 @@
 -- Lists of satisfiers that are given one at a time.
 use Rattle.std.proofs.Common.{◌≡◌, ℕ, ◌≤◌, Option, None, List, length, sym, ◌∙◌, ap, subst, arith}
 use Rattle.std.proofs.lemmas.List.{length-replicate}
-use Rattle.hp_pick.proofs.HearingLemmas.{undone_above}
+use Rattle.hp_eval.proofs.SlotLemmas.{binds_vars, undone_above}
 use Rattle.hp_eval.specs.Slotted.{Slotted, AreBelow, Binds, no_bindings, undone}
 use Rattle.hp_satisfiers.specs.declared.answer.Answer.{Answer}
 use Rattle.hp_satisfiers.specs.AnswerViews.{AllFit}
 use Rattle.hp_satisfiers.specs.Listed.{FitsListed}
-use Rattle.hp_satisfiers.proofs.MatchSteps.{binds_vars}
 
 module _ (kept : ℕ) (found : List Answer) (s : Slotted) (h : FitsListed kept found s) where
   -- at the start there are as many variables

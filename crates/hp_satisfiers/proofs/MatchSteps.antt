@@ -1,10 +1,7 @@
--- What single values and atoms meet.
-use Rattle.std.specs.Prelude.{slice_set}
-use Rattle.std.proofs.Common.{◌≡◌, ℕ, zero, suc, ◌+◌, ◌<◌, Bool, true, false, List, [], ◌∷◌, ◌++◌, length, map, drop, slice_get, Option, Some, None, Result, Ok, refl, sym, ◌∙◌, ap, subst}
+-- The events of single values and atoms.
+use Rattle.std.proofs.Common.{◌≡◌, ℕ, ◌<◌, Bool, true, false, List, [], ◌∷◌, ◌++◌, length, map, slice_get, Option, Some, None, Result, Ok, refl, sym, ◌∙◌, ap}
 use Rattle.std.specs.List.{All}
-use Rattle.std.proofs.lemmas.List.{length-set}
-use Rattle.std.proofs.lemmas.List.Elements.{All-head, All-tail}
-use Rattle.std.proofs.lemmas.Option.{slice_get_within, get_or_from_slice_get}
+use Rattle.std.proofs.lemmas.Option.{get_or_from_slice_get}
 use Rattle.hp_cells.specs.declared.keys.View.{View}
 use Rattle.hp_cells.specs.declared.keys.View.TheVariants.{Nil, Sym, Num, Cons}
 use Rattle.hp_cells.specs.Shows.{Shows}
@@ -18,20 +15,21 @@ use Rattle.hp_syntax.specs.Events.{Event, Sat, Fault, sat_if, assigned, tested}
 use Rattle.hp_eval.specs.Growth.{Grows, Gives}
 use Rattle.hp_eval.specs.GoalViews.{term_at}
 use Rattle.hp_eval.specs.Attempts.{extended, Tries}
-use Rattle.hp_eval.specs.Slotted.{Slotted, AreBelow, Binds, Matched, named, without, bindings_of}
+use Rattle.hp_eval.specs.Slotted.{Slotted, AreBelow, Binds, Matched, named, bindings_of}
 use Rattle.hp_satisfiers.specs.declared.answer.Answer.TheVariants as plain_found
 use Rattle.hp_satisfiers.proofs.AnswerLemmas.{finds_none, finds_one, finds_same}
 use Rattle.hp_eval.proofs.CellViews.{at_named}
 use Rattle.hp_eval.proofs.GrowthLemmas.{bindings_stay}
-use Rattle.hp_eval.proofs.Loops.{left_more}
+use Rattle.hp_eval.proofs.SlotLemmas.{binds_vars}
 use Rattle.hp_world.specs.Stages.{live_atoms, terms_at}
+use Rattle.hp_world.proofs.StageLemmas.{atom_below}
 use Rattle.hp_satisfiers.specs.declared.answer.Answer.{Answer}
 use Rattle.hp_satisfiers.specs.AnswerViews.{Finds}
 use Rattle.hp_satisfiers.specs.Places.{place_events, IsAtomBelow}
 
 -- ---- values
 
--- what is shown as a symbol, a number or a list with a first part is true
+-- a term that is shown as a symbol, a number or a list with a first part is true
 pub shown_true : (terms : List Term) (v : View) (t : Term) (e : Bindings) → Shows terms v t → (v ≡ Nil → ⊥)
     → Sat e ∷ [] ≡ tested (Ok t) e
 shown_true terms Nil t e h n = absurd (n refl)
@@ -45,63 +43,28 @@ module _ (old new : List Term) (g : Grows old new) (s : Slotted) (below : AreBel
   value_given : r ≡ Ok (term_at new cell)
   value_given = gives.1 ∙ ap Ok (sym (at_named new cell gives.0 gives.2))
 
-  -- what an assignment meets is what its variable meets with the cell
+  -- the events of an assignment are those of its variable with the cell
   pub assigned_given : (v : ℕ)
       → sat_if (meet v (term_at new cell) (bindings_of new s)) ≡ assigned r v (bindings_of old s)
   assigned_given v =
       ap (λ e. sat_if (meet v (term_at new cell) e)) (bindings_stay old new g s below)
       ∙ ap (λ x. assigned x v (bindings_of old s)) (sym value_given)
 
-  -- what a call meets is what its cell's truth is
+  -- the events of a call are those of its cell's truth
   pub tested_given : tested (Ok (term_at new cell)) (bindings_of new s) ≡ tested r (bindings_of old s)
   tested_given =
       ap (tested (Ok (term_at new cell))) (bindings_stay old new g s below)
       ∙ ap (λ x. tested x (bindings_of old s)) (sym value_given)
 
--- ---- atoms
-
--- clearing variables leaves as many
-length-without : (vs : List ℕ) (values : List (Option ℕ)) → length (without vs values) ≡ length values
-length-without [] values = refl
-length-without (v ∷ vs) values =
-    length-without vs (slice_set values v None) ∙ length-set values v None
-
--- further bindings are of as many variables
-pub binds_vars : (old new : Slotted) → Binds old new → length new.values ≡ length old.values
-binds_vars old new b =
-    sym (length-without (drop (length old.trail) new.trail) new.values) ∙ ap (λ s. length s.values) b.undoes
-
--- a match that failed found nothing, and leaves the slots
-pub match_failed : (does : Bool) (found : Option Bindings) (terms : List Term) (old new : Slotted) → does ≡ false
-    → Matched does found terms old new → (found ≡ None) × (new ≡ old)
-match_failed true found terms old new e h = absurd cc
-match_failed false found terms old new e h = h
-
--- a match that ended well found the bindings that it made
-pub match_made : (does : Bool) (found : Option Bindings) (terms : List Term) (old new : Slotted) → does ≡ true
-    → Matched does found terms old new → (found ≡ Some (bindings_of terms new)) × Binds old new
-match_made true found terms old new e h = h
-match_made false found terms old new e h = absurd cc
-
 -- ---- places
 
--- the list that is left begins with what stands at a place
-pub left_at : {X : Type 0} (xs : List X) (i : ℕ) (x : X) → slice_get xs i ≡ Some x → drop i xs ≡ x ∷ drop (i + 1) xs
-left_at xs i x h = left_more xs i x (slice_get_within xs i x h) (sym (get_or_from_slice_get xs i x x h))
-
--- what holds of the atoms at places holds of each
+-- where all atoms are below a number, so is the atom of a place
 pub live_at : (n : ℕ) (places : List (Option ℕ)) (i : ℕ) (atom : Option ℕ) → All (λ c. c < n) (live_atoms places)
     → slice_get places i ≡ Some atom → IsAtomBelow n atom
-live_at n [] i atom h k = absurd cc
-live_at n (None ∷ ps) zero None h k = tt
-live_at n (None ∷ ps) zero (Some a) h k = absurd cc
-live_at n (None ∷ ps) (suc i) atom h k = live_at n ps i atom h k
-live_at n (Some b ∷ ps) zero None h k = tt
-live_at n (Some b ∷ ps) zero (Some a) h k =
-    let same : b ≡ a = cc in subst (λ c. c < n) same (All-head (λ c. c < n) b (live_atoms ps) h)
-live_at n (Some b ∷ ps) (suc i) atom h k = live_at n ps i atom (All-tail (λ c. c < n) b (live_atoms ps) h) k
+live_at n places i None h k = tt
+live_at n places i (Some a) h k = atom_below n places i a h (get_or_from_slice_get places i (Some a) None k)
 
--- what a goal meets at places is what it meets at the first and at the others
+-- the events of a goal at places are those at the first and at the others
 pub places_step : (terms : List Term) (q : Goal) (e : Bindings) (atom : Option ℕ) (places : List (Option ℕ))
     → plain.state_events (terms_at terms (live_atoms (atom ∷ places))) q e
     ≡ place_events terms q e atom ++ plain.state_events (terms_at terms (live_atoms places)) q e
@@ -123,7 +86,7 @@ module _ (terms : List Term) (s copy made : Slotted) (values : copy.values ≡ s
   found_alike : find (bindings_of terms s) ≡ extended does (bindings_of terms made)
   found_alike = ap (λ vs. find (map (named terms) vs)) (sym values) ∙ tried.answers
 
-  -- what is met in a copy of slots is met in them
+  -- the events in a copy of slots are those in them
   pub met_in_copy : (found : List Answer) → does ≡ true → found ≡ plain_found.Sat made ∷ []
       → Finds terms (length s.values) found (sat_if (find (bindings_of terms s)))
   met_in_copy found h is =

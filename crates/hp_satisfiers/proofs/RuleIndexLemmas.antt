@@ -75,7 +75,7 @@ all_relevant all name = places_relevant all name 0 all (λ k. ap (slice_get all)
 
 -- ---- places
 
--- what looking up a place of a list gives is what stands there
+-- looking up a place of a list gives the element there
 pub looked_up : (xs : List ℕ) (i : ℕ) (r : Option (Bor ℕ))
     → MatchOption r (length xs ≤ i) (λ x. (i < length xs) × HoldsAt (λ y. x.now ≡ y) xs i)
     → option_copied r ≡ slice_get xs i
@@ -84,7 +84,7 @@ looked_up xs i (Some x) h = ap Some (h.1 x.now) ∙ sym (slice_get-get_or xs i x
 
 module _ (rules own : List Rule) (k : ℕ) (o : Option ℕ)
     (is : option_map (slice_get rules) o ≡ option_map Some (slice_get own k)) where
-  -- what stands at the place of a rule among others is one of all
+  -- the rule at a place among others is one of all
   pub rule_at_place : (place : ℕ) → o ≡ Some place
       → (r : Rule) × (slice_get own k ≡ Some r) × (slice_get rules place ≡ Some r)
   rule_at_place place e =

@@ -1,4 +1,4 @@
--- What is met in a scene stays where terms are added.
+-- Events in a scene stay where terms are added.
 use Rattle.std.proofs.Common.{◌≡◌, ℕ, Bool, true, List, length, Option, ◌∙◌, ap, ap₂, subst}
 use Rattle.hp_syntax.specs.declared.expression.Expr.{Expr}
 use Rattle.hp_syntax.specs.Syntax.{Expression, Axiom}
@@ -23,7 +23,7 @@ use Rattle.hp_satisfiers.specs.Scenes.{below_at, placed_events}
 
 -- ---- terms that are added
 
--- what a part meets in the place of a Sat, or its negation
+-- the events of a part, or of its negation, in the place of a Sat
 abbrev pub turned_sat : List Axiom → ℕ → State → Expr → Bool → Bindings → List Event
 turned_sat axioms n s part negate b = turned negate (sat axioms n s (expression_of part) b) b
 
@@ -53,7 +53,7 @@ module _ (old new : List Term) (g : Grows old new) (stage : Stage) (there : Stag
         ∙ ap₂ (placed_events (below_at axioms n (state_of old stage)) o) (goal_stays old new g q h)
         (bindings_stay old new g s below)
 
--- what an expression meets under slots, or its negation
+-- the events of an expression under slots, or of its negation
 pub turn_gives : (terms : List Term) (vars : ℕ) (found items : List Answer) (negate : Bool) (b e : Bindings)
     (events : List Event) → AreHeardAlike (answer_events terms found) events → b ≡ e
     → Finds terms vars items (turned negate (answer_events terms found) b)
@@ -71,8 +71,3 @@ pub negation_gives : (terms : List Term) (vars : ℕ) (found items : List Answer
     → Finds terms vars items (turned true events e)
 negation_gives terms vars found items b e events h k f =
     finds_same terms vars items _ _ (ap₂ negated (alike_decide (answer_events terms found) events h) k) f
-
--- what fits slots of so many variables, fits as many
-pub finds_vars : (terms : List Term) (m n : ℕ) (found : List Answer) (events : List Event) → m ≡ n
-    → Finds terms m found events → Finds terms n found events
-finds_vars terms m n found events e h = subst (λ k. Finds terms k found events) e h

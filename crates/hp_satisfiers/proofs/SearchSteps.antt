@@ -1,4 +1,4 @@
--- What expressions meet, kind by kind.
+-- The events of expressions, kind by kind.
 use Rattle.std.proofs.Common.{◌≡◌, ℕ, zero, suc, ◌+◌, ◌<◌, ◌≤◌, true, false, List, [], ◌∷◌, ◌++◌, length, drop, get_or, Vec, refl, sym, ◌∙◌, ap}
 use Rattle.std.specs.Prelude.{Box}
 use Rattle.std.specs.Global.{Global}
@@ -21,7 +21,7 @@ use Rattle.hp_satisfiers.specs.Scenes.{atoms_at}
 
 -- ---- kinds of expressions
 
--- what is met where a body must hold for each satisfier of a range
+-- the events of a body that must hold for each satisfier of a range
 abbrev pub forall_sat : List Axiom → ℕ → State → Bindings → Expr → Expr → List Event
 forall_sat axioms n s e range body =
     turned true
@@ -89,7 +89,7 @@ module _ (axioms : List Axiom) (n : ℕ) (s : State) where
 
 -- ---- conjunctions
 
--- what takes the place of each Sat may be taken in turn
+-- events in the place of each Sat may be taken in turn
 pub through_through : (xs : List Event) (f g : Bindings → List Event)
     → through (through xs f) g ≡ through xs (λ b. through (f b) g)
 through_through [] f g = refl
@@ -106,7 +106,7 @@ through_sat (Cut ∷ xs) = ap (λ ys. Cut ∷ ys) (through_sat xs)
 through_sat (Fault x ∷ xs) = ap (λ ys. Fault x ∷ ys) (through_sat xs)
 
 module _ (axioms : List Axiom) (n : ℕ) (s : State) where
-  -- what parts meet that all must hold
+  -- the events of parts that must all hold
   abbrev pub all_of : List Expr → Bindings → List Event
   all_of parts b = events_of_all (atoms_at axioms n s) (expressions_of parts) b
 
@@ -147,7 +147,7 @@ module _ (axioms : List Axiom) (n : ℕ) (s : State) where
 
   -- ---- disjunctions
 
-  -- what parts meet of which one must hold
+  -- the events of parts of which one must hold
   abbrev pub any_of : List Expr → Bindings → List Event
   any_of parts b = events_of_any (atoms_at axioms n s) (expressions_of parts) b
 
@@ -162,7 +162,7 @@ module _ (axioms : List Axiom) (n : ℕ) (s : State) where
   unfolding events
   any_none e = refl
 
-  -- what is left is met by the next part and by the others
+  -- the events that are left are those of the next part and of the others
   pub any_left : (parts : List Expr) (i : ℕ) (p : Expr) (e : Bindings) → i < length parts → p ≡ get_or parts i p
       → any_of (drop i parts) e ≡ sat axioms n s (expression_of p) e ++ any_of (drop (i + 1) parts) e
   any_left parts i p e l is =

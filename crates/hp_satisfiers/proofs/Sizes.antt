@@ -1,4 +1,4 @@
--- By what looking for satisfiers ends: by the levels that are left, and by the sizes of expressions.
+-- The measure of looking for satisfiers: the levels that are left, and the sizes of expressions.
 use Rattle.std.proofs.Common.{◌≡◌, ℕ, zero, suc, ◌+◌, ◌*◌, ◌-◌, ◌<◌, ◌≤◌, List, [], ◌∷◌, length, get_or, ap, subst, arith}
 use Rattle.std.specs.Prelude.{sum_by, Contains, Vec, Box}
 use Rattle.std.specs.Global.{Global}
@@ -32,7 +32,7 @@ branch_sizes cs = sum_by (λ c. size c.body) cs
 abbrev pub axiom_sizes : List Axiom → ℕ
 axiom_sizes axioms = sum_by (λ x. branch_sizes x.clauses) axioms
 
--- what is left to do where so many levels are left, and something less than a level
+-- the measure for so many levels that are left, and a rest that is less than a level
 abbrev pub left_to_do : List Axiom → ℕ → ℕ → ℕ
 left_to_do axioms level rest = level * (8 * axiom_sizes axioms + 8) + rest
 
@@ -84,9 +84,9 @@ branch_size axioms x c h k =
     let all = one_of_sum (λ x. branch_sizes x.clauses) axioms x h in
     omega (arith, one, all)
 
--- ---- what is left to do
+-- ---- the measure
 
--- less is left to do one level down, in a branch
+-- the measure is less one level down, in a branch
 pub less_to_do_below : (axioms : List Axiom) (level : ℕ) (n b : ℕ) → 0 < level → n ≤ axiom_sizes axioms
     → left_to_do axioms (level - 1) (8 * n) < left_to_do axioms level b
 less_to_do_below axioms zero n b l h = absurd (omega arith)

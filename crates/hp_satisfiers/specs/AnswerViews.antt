@@ -1,4 +1,4 @@
--- What is met while one looks for satisfiers, in memory.
+-- Events in memory.
 use Rattle.std.specs.Prelude.{◌≡◌, ℕ, ◌-◌, Bool, true, false, List, [], ◌∷◌, ◌++◌, map, length, slice_get, Option, None, Some}
 use Rattle.std.specs.List.{All}
 use Rattle.hp_syntax.specs.Terms.{Term}
@@ -31,22 +31,22 @@ Fits vars n (Fault f) = Unit {0}
 abbrev pub AllFit : ℕ → ℕ → List Answer → Type 0
 AllFit vars n found = All (Fits vars n) found
 
--- what is found stands for these events, and each Sat fits
+-- the answers stand for these events, and each Sat fits
 pub record Finds (terms : List Term) (vars : ℕ) (found : List Answer) (events : List Event) : Type 0 where
   pub stand : answer_events terms found ≡ events
   pub fit : AllFit vars (length terms) found
 
--- what is found so far stands for all events but those that are left
+-- the answers so far stand for all events but those that are left
 pub record FindsUpTo (terms : List Term) (vars : ℕ) (found : List Answer) (whole left : List Event) : Type 0 where
   pub so_far : whole ≡ answer_events terms found ++ left
   pub fit : AllFit vars (length terms) found
 
--- what is found is heard as these events are, and each Sat fits
+-- the answers are heard as these events are, and each Sat fits
 pub record Hears (terms : List Term) (vars : ℕ) (found : List Answer) (events : List Event) : Type 0 where
   pub stand : AreHeardAlike (answer_events terms found) events
   pub fit : AllFit vars (length terms) found
 
--- all events are heard as what is found so far and those that are left behind it
+-- all events are heard as the answers so far and those that are left behind them
 pub record HearsUpTo (terms : List Term) (vars : ℕ) (found : List Answer) (whole left : List Event) : Type 0 where
   pub so_far : AreHeardAlike whole (answer_events terms found ++ left)
   pub fit : AllFit vars (length terms) found
@@ -62,12 +62,12 @@ is_found_fault (Some (Fault f)) = true
 abbrev pub ends_in_fault : List Answer → Bool
 ends_in_fault found = is_found_fault (slice_get found (length found - 1))
 
--- what is found where an evaluation stopped: its fault
+-- the answers of an evaluation that stopped: its fault
 abbrev pub FindsStop : EvalStop → List Answer → Type 0
 FindsStop (stops.Fault f) found = found ≡ Fault f ∷ []
 FindsStop stops.NoMemory found = ⊥
 
--- what decides a negation, as the definition has it
+-- the finding that decides a negation, as the definition has it
 abbrev pub finding_of : Finding → plain.Finding
 finding_of findings.Satisfied = plain.Satisfied
 finding_of (findings.Faulty f) = plain.Faulty f
@@ -80,7 +80,7 @@ BindsBelow n (Sat slots) = AreBelow n slots
 BindsBelow n Cut = Unit {0}
 BindsBelow n (Fault f) = Unit {0}
 
--- the slots are of so many variables, and bind what was found to match, if anything was
+-- the slots are of so many variables and have the bindings that match, if any do
 abbrev pub MeetsHead : List Term → ℕ → Option Slotted → Option Bindings → Type 0
 MeetsHead terms vars None found = found ≡ None
 MeetsHead terms vars (Some slots) found =

@@ -1,4 +1,4 @@
--- What the effects of an operator come to, in memory.
+-- Outcomes of an operator's effects, in memory.
 use Rattle.std.specs.Prelude.{◌≡◌, ℕ, ℤ, List, length, Result, Ok, Err}
 use Rattle.hp_syntax.specs.Terms.{Term}
 use Rattle.hp_syntax.specs.Applying.{ChangesOf}

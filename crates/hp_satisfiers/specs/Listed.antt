@@ -1,4 +1,4 @@
--- What is left of a list of satisfiers that is given one at a time.
+-- A list of satisfiers that is given one at a time.
 use Prim.Native.Nat.{zero-le}
 use Rattle.std.specs.Prelude.{◌≡◌, ℕ, zero, suc, ◌≤◌, Bool, true, false, List, [], ◌∷◌, length, take, drop, Some, None, refl}
 use Rattle.std.specs.List.{All}
@@ -18,7 +18,7 @@ use Rattle.hp_satisfiers.specs.declared.answer.Answer.{Answer}
 use Rattle.hp_satisfiers.specs.declared.answer.Answer.TheVariants.{Sat, Cut, Fault}
 use Rattle.hp_satisfiers.specs.AnswerViews.{answer_event, answer_events, Fits, AllFit, Finds, FindsUpTo}
 
--- what is heard of a list from a place on
+-- the heard events of a list from a place on
 abbrev pub left_from : List Term → List Answer → ℕ → List Event
 left_from terms found place = heard (answer_events terms (drop place found))
 
@@ -35,7 +35,7 @@ pub listed_hold : (kept : ℕ) (found : List Answer) (s : Slotted) → FitsListe
     → (0 ≤ length s.trail) × AreBelow kept s
 listed_hold kept found s h = (zero-le, h.below)
 
--- what fits stands for the same event over terms that agree below the count
+-- an answer that fits stands for the same event over terms that agree below the count
 event_agrees : (vars kept : ℕ) (c d : List Term) (x : Answer) → Fits vars kept x → take kept c ≡ take kept d
     → answer_event c x ≡ answer_event d x
 event_agrees vars kept c d (Sat s) h k = ap plain.Sat (bindings_agree kept c d s h.1 k)
@@ -50,7 +50,7 @@ events_agree vars kept c d (x ∷ xs) h k =
     ap₂ ◌∷◌ (event_agrees vars kept c d x (All-head (Fits vars kept) x xs h) k)
     (events_agree vars kept c d xs (All-tail (Fits vars kept) x xs h) k)
 
--- what is left is the same over terms that agree below the count
+-- the events that are left are the same over terms that agree below the count
 pub left_agrees : (kept : ℕ) (c d : List Term) (found : List Answer) (place : ℕ) (s : Slotted) → FitsListed kept found s
     → take kept c ≡ take kept d → left_from c found place ≡ left_from d found place
 left_agrees kept c d found place s h k =
@@ -63,7 +63,7 @@ none_stands c zero v t h = none-some t h
 none_stands c (suc n) zero t h = none-some t h
 none_stands c (suc n) (suc v) t h = none_stands c n v t h
 
--- what fits extends the bindings of slots in which nothing is bound
+-- an answer that fits extends the bindings of slots in which nothing is bound
 fitting_extends : (c : List Term) (n kept : ℕ) (x : Answer) → Fits n kept x
     → EventExtends (bindings_of c (no_bindings n)) (answer_event c x)
 fitting_extends c n kept (Sat s) h = record {
@@ -75,7 +75,7 @@ fitting_extends c n kept (Sat s) h = record {
 fitting_extends c n kept Cut h = tt
 fitting_extends c n kept (Fault f) h = tt
 
--- what is left extends what was bound at the start, which is nothing
+-- the events that are left extend the bindings of the start, which are none
 pub left_extends : (kept : ℕ) (c : List Term) (found : List Answer) (place : ℕ) (s : Slotted) → FitsListed kept found s
     → All (EventExtends (bindings_of c (undone 0 s))) (left_from c found place)
 left_extends kept c found place s h =
@@ -89,7 +89,7 @@ left_extends kept c found place s h =
 
 -- ---- events that are taken one by one
 
--- where more may come, what is found goes up to what is left; else it is the whole
+-- where more may come, the answers go up to the events that are left; else they are the whole
 abbrev pub FindsMore : List Term → ℕ → List Answer → List Event → Bool → List Event → Type 0
 FindsMore terms vars found whole true left = FindsUpTo terms vars found whole (heard left)
 FindsMore terms vars found whole false left = Finds terms vars found whole

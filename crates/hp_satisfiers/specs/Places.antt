@@ -1,4 +1,4 @@
--- What a goal meets at the places of a world.
+-- The events of a goal at the places of a world.
 use Rattle.std.specs.Prelude.{ℕ, ◌<◌, List, [], Option, Some, None}
 use Rattle.hp_syntax.specs.Terms.{Term}
 use Rattle.hp_syntax.specs.Values.{Bindings}
@@ -6,7 +6,7 @@ use Rattle.hp_syntax.specs.Goals.{Goal, match_goal}
 use Rattle.hp_syntax.specs.Events.{Event, sat_if}
 use Rattle.hp_eval.specs.GoalViews.{term_at}
 
--- what a goal meets by the atom of a place, if one stands there
+-- the events of a goal by the atom of a place, if one stands there
 abbrev pub place_events : List Term → Goal → Bindings → Option ℕ → List Event
 place_events terms q e None = []
 place_events terms q e (Some atom) = sat_if (match_goal q (term_at terms atom) e)

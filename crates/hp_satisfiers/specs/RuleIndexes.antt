@@ -2,6 +2,7 @@
 use Rattle.std.specs.Prelude.{ℕ, ◌≤◌, List, length, Option, slice_get}
 use Rattle.std.specs.Option.{option_and_then}
 use Rattle.std.specs.List.{All}
+use Rattle.hp_syntax.specs.declared.limits.TheConstants.{MOST_VARIABLES}
 use Rattle.hp_syntax.specs.Syntax.{Rule, Axiom}
 use Rattle.hp_syntax.specs.Events.{axiom_if}
 
@@ -11,4 +12,4 @@ axiom_at rules i = option_and_then axiom_if (slice_get rules i)
 
 -- each axiom has few variables
 abbrev pub AreFew : List Axiom → Type 0
-AreFew axioms = All (λ x. length x.vars ≤ 256) axioms
+AreFew axioms = All (λ x. length x.vars ≤ MOST_VARIABLES) axioms

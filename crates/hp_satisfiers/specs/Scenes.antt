@@ -1,4 +1,4 @@
--- What is met in a scene.
+-- Events in a scene.
 use Rattle.std.specs.Prelude.{ℕ, zero, suc, List, [], Option, Some, None}
 use Rattle.hp_syntax.specs.Syntax.{Atom, Axiom, Rule}
 use Rattle.hp_syntax.specs.Terms.{Term}
@@ -17,7 +17,7 @@ rules_in s = (domain_of s.book.now.domain.now).rules
 abbrev pub axioms_in : Scene → List Axiom
 axioms_in s = axioms_of (rules_in s)
 
--- what stands in the world of a scene
+-- the stage of a scene's world
 abbrev pub stage_in : Scene → Stage
 stage_in s = s.world.now.now
 
@@ -36,7 +36,7 @@ below_at axioms (suc n) s = Some (sat axioms n s)
 abbrev pub atoms_at : List Axiom → ℕ → State → Atom → Bindings → List Event
 atoms_at axioms n s = atom_events axioms (below_at axioms n s) s
 
--- what a goal meets by an axiom, if there is one
+-- the events of a goal by an axiom, if there is one
 abbrev pub placed_events : Below → Option Axiom → Goal → Bindings → List Event
 placed_events below None q e = []
 placed_events below (Some x) q e = axiom_events below x q e

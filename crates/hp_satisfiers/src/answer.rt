@@ -1,4 +1,4 @@
-//! What is met while one looks for satisfiers, as lists.
+//! Answers: events with slots of their own, in lists.
 ghost use Rattle.std.specs.Prelude.{◌≡◌, ◌≤◌, [], ◌∷◌, ◌++◌, IfOk, OnOk, List, length};
 ghost use Rattle.hp_syntax.specs.Terms.{Term};
 ghost use Rattle.hp_syntax.specs.Events as plain;
@@ -10,7 +10,7 @@ use hp_eval::{EvalStop, Slots};
 use hp_syntax::RunFault;
 use std::alloc::{AllocError, Global};
 
-/// What is met: bindings that satisfy, a cut by the limit of axiom levels, or a fault.
+/// An event: bindings that satisfy, a cut by the limit of axiom levels, or a fault.
 pub enum Answer {
     Sat(Slots),
     Cut,
@@ -26,7 +26,7 @@ impl Drop for Answer {
     }
 }
 
-// What decides a negation: a satisfier before any fault, a fault, a cut, or nothing.
+// The finding that decides a negation: a satisfier before any fault, a fault, a cut, or nothing.
 #[derive(Clone, Copy)]
 enum Finding {
     Satisfied,
@@ -52,7 +52,7 @@ pub fn satisfied(alloc: Global, slots: &Slots) -> Result<Vec<Answer>, AllocError
     only(alloc, Answer::Sat(copy))
 }
 
-/// What is met where an evaluation stopped: its fault, unless the memory didn't suffice.
+/// The event of an evaluation that stopped: its fault, unless the memory didn't suffice.
 pub fn stopped(alloc: Global, stop: EvalStop) -> Result<Vec<Answer>, AllocError>
     ensures { IfOk result (λ v. FindsStop stop v.items) }
 {
@@ -69,7 +69,7 @@ fn is_over(found: &[Answer]) -> bool
     matches!(found.last(), Some(Answer::Fault(_)))
 }
 
-/// Puts more behind what was found. Whether nothing more is heard behind that.
+/// Puts a list behind another. Whether nothing more is heard behind that.
 pub fn add(found: &mut Vec<Answer>, mut more: Vec<Answer>) -> Result<bool, AllocError>
     ensures added { OnOk result (found.new.items ≡ found.old.items ++ more.items) }
     ensures over { IfOk result (λ over. over ≡ ends_in_fault found.new.items) }
@@ -78,7 +78,7 @@ pub fn add(found: &mut Vec<Answer>, mut more: Vec<Answer>) -> Result<bool, Alloc
     Ok(is_over(found.as_slice()))
 }
 
-// What decides the negation of an expression that meets these.
+// The finding that decides the negation of an expression with these events.
 fn outcome_of(found: &[Answer]) -> Finding
     ensures { (terms : List Term) → finding_of result ≡ plain.finding (answer_events terms found.now) }
 {
@@ -97,7 +97,7 @@ fn outcome_of(found: &[Answer]) -> Finding
     }
 }
 
-// What the negation of an expression meets.
+// The events of the negation of an expression.
 fn negated(alloc: Global, outcome: Finding, slots: &Slots) -> Result<Vec<Answer>, AllocError>
     ensures { IfOk result (λ v. (terms : List Term) → AreBelow (length terms) slots.now
         → Finds terms (length slots.now.values) v.items
@@ -111,7 +111,7 @@ fn negated(alloc: Global, outcome: Finding, slots: &Slots) -> Result<Vec<Answer>
     }
 }
 
-/// What an expression meets under these bindings, or what its negation meets.
+/// The events of an expression under these bindings, or those of its negation.
 pub fn turn(
     alloc: Global,
     negate: bool,

@@ -1,6 +1,7 @@
-//! What an axiom concludes of a goal, once its branches have satisfiers.
+//! Conclusions of an axiom on a goal, by the events of its branches.
 ghost use Rattle.std.specs.Prelude.{◌≡◌, ◌≤◌, IfOk, length};
 ghost use Rattle.std.specs.List.{All};
+ghost use Rattle.hp_syntax.specs.declared.limits.TheConstants.{MOST_VARIABLES};
 ghost use Rattle.hp_syntax.specs.Events as plain;
 ghost use Rattle.hp_syntax.specs.Goals.{start_goal};
 ghost use Rattle.hp_syntax.specs.Values.{unbound};
@@ -23,7 +24,7 @@ pub fn own_slots(
     goal: &Goal,
     cells: &mut Cells,
 ) -> Result<Option<Slots>, AllocError>
-    requires few { length (axiom_of rule.now).vars ≤ 256 }
+    requires few { length (axiom_of rule.now).vars ≤ MOST_VARIABLES }
     requires goal { GoalBelow (length cells.old) goal.now }
     ensures starts { IfOk result (λ slots. let x = axiom_of rule.now in MeetsHead cells.new (length x.vars) slots
         (start_goal x.head (goal_of cells.old goal.now) (unbound (length x.vars)))) }
@@ -34,7 +35,7 @@ pub fn own_slots(
     if starts { Ok(Some(own)) } else { Ok(None) }
 }
 
-// Events of a goal by what an axiom's bindings conclude.
+// The events of a goal by the conclusion of an axiom's bindings.
 fn concluded(
     alloc: Global,
     head: &AtomPat,
@@ -64,7 +65,7 @@ fn concluded(
     }
 }
 
-// What takes the place of something that an axiom's branches met.
+// The events of a goal in the place of an event of an axiom's branches.
 fn conclusion(
     alloc: Global,
     head: &AtomPat,
@@ -88,7 +89,7 @@ fn conclusion(
     }
 }
 
-/// What a goal meets by an axiom whose branches met these in the axiom's own slots.
+/// The events of a goal by an axiom whose branches have these events, in the axiom's own slots.
 pub fn conclusions(
     alloc: Global,
     head: &AtomPat,

@@ -1,7 +1,8 @@
-//! What operators change and cost.
+//! The changes and the cost of operators.
 ghost use Rattle.std.specs.Prelude.{◌≡◌, ◌≤◌, [], IfOk, map, length};
 ghost use Rattle.hp_syntax.specs.Changes.{effect_values, effects_values, effects};
 ghost use Rattle.hp_syntax.specs.Preconditions.{heard};
+ghost use Rattle.hp_syntax.specs.declared.limits.TheConstants.{MOST_VARIABLES};
 ghost use Rattle.hp_syntax.specs.Views.{atoms_of, effect_of, operator_of};
 ghost use Rattle.hp_eval.specs.Growth.{Grows};
 ghost use Rattle.hp_eval.specs.Slotted.{AreBelow, bindings_of};
@@ -20,7 +21,7 @@ use hp_eval::Slots;
 use hp_syntax::{AtomPat, Effect, Operator, RunFault};
 use std::alloc::{AllocError, Global};
 
-/// What the effects of an operator come to: changes and a cost, or what stops them.
+/// The outcome of an operator's effects: changes and a cost, or a cut or a fault that stops them.
 #[derive(Drop)]
 pub enum EffectsOutcome {
     Went(Changes, i64),
@@ -38,7 +39,7 @@ fn put_listed(
     cells: &mut Cells,
     changes: &mut Changes,
 ) -> Result<(), Obstacle>
-    requires few { vars ≤ 256 }
+    requires few { vars ≤ MOST_VARIABLES }
     requires fit { AllFit vars (length cells.old) found.items }
     requires below { ChangesBelow (length cells.old) changes.old }
     ensures puts { PutsAll side result (each_going (atoms_of atoms.now) (heard (answer_events cells.old found.items)))
@@ -51,7 +52,7 @@ fn put_listed(
 }
 
 impl Scene<'_> {
-    // Puts what an effect comes to into changes.
+    // Puts the atoms of an effect into changes.
     fn put_effect(
         &self,
         side: Side,
@@ -88,7 +89,7 @@ impl Scene<'_> {
         }
     }
 
-    // Puts what effects come to into changes, from left to right.
+    // Puts the atoms of effects into changes, from left to right.
     fn put_effects(
         &self,
         side: Side,
@@ -113,7 +114,7 @@ impl Scene<'_> {
         Ok(())
     }
 
-    // Puts what an operator's lists come to into changes, the delete list first. Gives its cost.
+    // Puts the atoms of an operator's lists into changes, the delete list first. Gives its cost.
     fn put_lists(
         &self,
         operator: &Operator,
@@ -136,7 +137,7 @@ impl Scene<'_> {
         Ok(cost)
     }
 
-    // The changes and the cost of an operator, or what stops.
+    // The changes and the cost of an operator, or the obstacle.
     fn changes_and_cost(
         &self,
         operator: &Operator,
@@ -157,7 +158,7 @@ impl Scene<'_> {
         }
     }
 
-    /// What an operator changes and costs: its delete list first, then its add list, then its cost; or what stops it.
+    /// The outcome of an operator's effects: its delete list first, then its add list, then its cost.
     pub fn effects(
         &self,
         operator: &Operator,

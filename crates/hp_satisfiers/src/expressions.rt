@@ -31,8 +31,8 @@ pub struct Scene<'a> {
 }
 
 impl Scene<'_> {
-    /// What is met while one looks for satisfiers of an expression, with so many axiom levels. All that is heard of it
-    /// is there; behind a fault, where nothing is heard, it may be cut short.
+    /// The events of an expression, with so many axiom levels. All that are heard are there; behind a fault, where
+    /// nothing is heard, the list may be cut short.
     #[cycle(events)]
     pub fn events(
         &self,
@@ -66,7 +66,7 @@ impl Scene<'_> {
         }
     }
 
-    // What is met where a body must hold for each satisfier of a range.
+    // The events of a body that must hold for each satisfier of a range.
     #[cycle(events)]
     fn forall_events(
         &self,
@@ -92,8 +92,7 @@ impl Scene<'_> {
         turn(self.alloc, true, refuted, slots)
     }
 
-    // What is met where all of some parts must hold. Each part in turn takes the place of each satisfier of those
-    // before.
+    // The events of parts that must all hold. Each part in turn takes the place of each satisfier of those before.
     #[cycle(events)]
     fn all_events(
         &self,
@@ -117,7 +116,7 @@ impl Scene<'_> {
         Ok(found)
     }
 
-    // What is met where one of some parts must hold, part after part.
+    // The events of parts of which one must hold, part after part.
     #[cycle(events)]
     fn any_events(
         &self,
@@ -144,7 +143,7 @@ impl Scene<'_> {
         Ok(found)
     }
 
-    // What is met where a part, or its negation, takes the place of each Sat.
+    // The events where a part, or its negation, takes the place of each Sat.
     #[cycle(events)]
     fn each_events(
         &self,
@@ -174,7 +173,7 @@ impl Scene<'_> {
         Ok(all)
     }
 
-    // What is met where a part, or its negation, takes the place of a Sat.
+    // The events where a part, or its negation, takes the place of a Sat.
     #[cycle(events)]
     fn one_events(
         &self,
@@ -203,7 +202,7 @@ impl Scene<'_> {
         }
     }
 
-    // What an atom meets.
+    // The events of an atom.
     #[cycle(events)]
     fn atom_events(
         &self,
@@ -225,7 +224,7 @@ impl Scene<'_> {
         }
     }
 
-    // What a goal meets: by the atoms of the world, and then by the axioms of its name, in the order of the domain.
+    // The events of a goal: by the atoms of the world, and then by the axioms of its name, in the order of the domain.
     #[cycle(events)]
     fn goal_events(
         &self,
@@ -256,7 +255,7 @@ impl Scene<'_> {
         Ok(found)
     }
 
-    // What a goal meets by the axiom of a place.
+    // The events of a goal by the axiom of a place.
     #[cycle(events)]
     fn axiom_events(
         &self,
@@ -295,8 +294,7 @@ impl Scene<'_> {
         }
     }
 
-    // What the branches of an axiom meet: a cut where no level is left, or what the first branch meets that meets
-    // anything.
+    // The events of an axiom's branches: a cut where no level is left, or those of the first branch that has any.
     #[cycle(events)]
     fn branch_events(
         &self,

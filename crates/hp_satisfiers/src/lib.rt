@@ -1,5 +1,5 @@
-//! Satisfiers as lists: what is met while one looks for those of an expression or a precondition in a world, up to the
-//! first fault, and what an operator's effects come to. Each list is that of the definitions.
+//! Satisfiers as lists: the events of an expression or a precondition in a world, up to the first fault, and the
+//! outcome of an operator's effects. Each list is that of the definitions.
 #![tactic(auto)]
 
 pub mod answer;

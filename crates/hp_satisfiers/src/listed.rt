@@ -12,11 +12,11 @@ use hp_cells::Cells;
 use hp_eval::{Event, Sats, Slots};
 use std::alloc::AllocError;
 
-/// What is heard of a list, from a place on. Nothing is bound at the start.
+/// The heard events of a list from a place on. Nothing is bound at the start.
 pub struct Listed {
     found: Vec<Answer>,
     place: usize,
-    // How many cells stood when the list was made.
+    // The number of cells that stood when the list was made.
     kept: usize,
     is_open: bool,
 }
@@ -33,7 +33,7 @@ impl Drop for Listed {
     }
 }
 
-// Binds what other slots bind, where nothing is bound.
+// Binds the variables that other slots bind, where none is bound.
 fn fill(own: &Slots, slots: &mut Slots)
     requires blank { slots.old ≡ no_bindings (length own.now.values) }
     ensures values { slots.new.values ≡ own.now.values }
@@ -46,7 +46,7 @@ fn fill(own: &Slots, slots: &mut Slots)
     }
 }
 
-// Gives what stands at the place, or the end, and goes on to the next. Behind a fault nothing comes.
+// Gives the event of the place, or the end, and goes on to the next. Behind a fault nothing comes.
 fn give(found: &[Answer], place: &mut usize, slots: &mut Slots) -> Event
     requires blank { slots.old ≡ no_bindings (length slots.old.values) }
     requires fit { (kept : ℕ) × AllFit (length slots.old.values) kept found.now }

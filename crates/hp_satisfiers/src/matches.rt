@@ -1,4 +1,4 @@
-//! What single values and atoms meet: the satisfiers of assignments, of calls, and of a goal by the atoms of a world.
+//! Events without a recursion: of assignments, of calls, and of a goal by the atoms of a world.
 ghost use Rattle.std.specs.Prelude.{◌≡◌, ℕ, ◌<◌, ◌≤◌, Some, Ok, IfOk, OnOk, length};
 ghost use Rattle.hp_syntax.specs.Events as plain;
 ghost use Rattle.hp_syntax.specs.Goals.{match_goal};
@@ -40,7 +40,7 @@ fn met(
     }
 }
 
-/// What an assignment meets.
+/// The events of an assignment.
 pub fn assigned(
     alloc: Global,
     v: u32,
@@ -60,7 +60,7 @@ pub fn assigned(
     }
 }
 
-// What a call meets whose value is this: nothing if it is the empty list.
+// The events of a call with this value: none if it is the empty list.
 fn truth(alloc: Global, cell: Cell, slots: &Slots, cells: &Cells) -> Result<Vec<Answer>, AllocError>
     requires slots { AreBelow (length cells.now) slots.now }
     requires cell { cell < length cells.now }
@@ -73,7 +73,7 @@ fn truth(alloc: Global, cell: Cell, slots: &Slots, cells: &Cells) -> Result<Vec<
     }
 }
 
-/// What a call meets.
+/// The events of a call.
 pub fn tested(
     alloc: Global,
     call: &Pat,
@@ -92,7 +92,7 @@ pub fn tested(
     }
 }
 
-/// What a goal meets by one atom. The slots are as they were, unless the memory doesn't suffice.
+/// The events of a goal by one atom. The slots are as they were, unless the memory doesn't suffice.
 pub fn matched(
     alloc: Global,
     goal: &Goal,
@@ -117,7 +117,7 @@ pub fn matched(
     Ok(found)
 }
 
-// What a goal meets at a place of the world.
+// The events of a goal at a place of the world.
 fn at_place(
     alloc: Global,
     goal: &Goal,
@@ -138,7 +138,7 @@ fn at_place(
     }
 }
 
-/// What a goal meets by the atoms of the world, in order of place.
+/// The events of a goal by the atoms of the world, in order of place.
 pub fn state_events(
     alloc: Global,
     world: &World,

@@ -1,5 +1,6 @@
 //! The satisfiers of preconditions.
 ghost use Rattle.std.specs.Prelude.{◌≡◌, ◌<◌, ◌≤◌, true, List, Ok, IfOk, OnOk, length, take};
+ghost use Rattle.hp_syntax.specs.declared.limits.TheConstants.{MOST_VARIABLES};
 ghost use Rattle.hp_syntax.specs.Preconditions.{heard, up_to_sat, keyed, sorted_events, precondition_events};
 ghost use Rattle.hp_syntax.specs.Terms.{Term};
 ghost use Rattle.hp_syntax.specs.Views.{key_of, precondition_of};
@@ -20,9 +21,10 @@ use hp_pick::{First, Sorted};
 use hp_syntax::{Pre, SortKey};
 use std::alloc::{AllocError, Global};
 
-// How much of a list is heard: all up to and including its first fault.
+// The length of the heard prefix of a list: all up to and including its first fault.
 fn heard_len(found: &[Answer]) -> usize
-    ensures { (terms : List Term) → answer_events terms (take result found.now) ≡ heard (answer_events terms found.now) }
+    ensures { (terms : List Term)
+        → answer_events terms (take result found.now) ≡ heard (answer_events terms found.now) }
 {
     for (i, x) in found.iter().enumerate() {
         if let Answer::Fault(_) = x {
@@ -32,7 +34,7 @@ fn heard_len(found: &[Answer]) -> usize
     found.len()
 }
 
-/// What is heard of a list.
+/// The heard prefix of a list.
 pub fn heard(mut found: Vec<Answer>) -> Vec<Answer>
     ensures { (terms : List Term) (vars : _) (events : List PlainEvent) → Hears terms vars found.items events
         → Finds terms vars result.items (heard events) }
@@ -127,14 +129,14 @@ fn drained<S: Sats<()>>(
     Ok(found)
 }
 
-// What is heard of a list up to and including its first Sat.
+// The heard events of a list up to and including the first Sat.
 fn first(
     alloc: Global,
     found: Vec<Answer>,
     vars: usize,
     cells: &mut Cells,
 ) -> Result<Vec<Answer>, AllocError>
-    requires few { vars ≤ 256 }
+    requires few { vars ≤ MOST_VARIABLES }
     requires fit { AllFit vars (length cells.old) found.items }
     ensures finds { IfOk result (λ v. Finds cells.new vars v.items
         (up_to_sat (heard (answer_events cells.old found.items)))) }
@@ -145,7 +147,7 @@ fn first(
     drained(alloc, &mut sats, cells, &mut slots)
 }
 
-// What is heard of a list, in the order of a key.
+// The heard events of a list in the order of a key.
 fn sorted(
     alloc: Global,
     key: &SortKey,
@@ -153,7 +155,7 @@ fn sorted(
     vars: usize,
     cells: &mut Cells,
 ) -> Result<Vec<Answer>, AllocError>
-    requires few { vars ≤ 256 }
+    requires few { vars ≤ MOST_VARIABLES }
     requires fit { AllFit vars (length cells.old) found.items }
     ensures finds { IfOk result (λ v. Finds cells.new vars v.items
         (sorted_events (key_of key.now).order (keyed (key_of key.now) (heard (answer_events cells.old found.items))))) }
@@ -166,7 +168,7 @@ fn sorted(
 }
 
 impl Scene<'_> {
-    /// All that is met while one looks for satisfiers of a precondition, with so many axiom levels.
+    /// All events of a precondition, with so many axiom levels.
     pub fn precondition(
         &self,
         pre: &Pre,

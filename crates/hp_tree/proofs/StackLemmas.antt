@@ -1,4 +1,4 @@
--- Where each call takes a walk, told by the successors that are left at each node on its way.
+-- The place that each call leads to, told by the successors that are left at each node on the way.
 use Rattle.std.proofs.Common.{◌≡◌, ℕ, suc, ◌+◌, ◌-◌, Bool, true, false, ◌==◌, cond, List, [], ◌∷◌, ◌++◌, map, Option, Some, None, option_map, refl, sym, ◌∙◌, ap, ap₂, subst, arith, append_assoc}
 use Rattle.std.specs.List.{All}
 use Rattle.std.specs.Option.{option_and_then}
@@ -42,7 +42,7 @@ module _ (rules : List Rule) (nest : ℕ) where
   behind r n q false false None deep h = absurd cc
   behind r n q false false (Some m) deep h = deep m h
 
-  -- a path goes on from the node that its front reaches
+  -- a path goes on from the node that its prefix reaches
   node_at_behind : (q r : List ℕ) (root n : Node) → node_at rules nest root q ≡ Some n
       → node_at rules nest root (q ++ r) ≡ node_at rules nest n r
   unfolding node_at
@@ -51,20 +51,20 @@ module _ (rules : List Rule) (nest : ℕ) where
       behind r n q (is_empty root.network) (root.depth == 0) (did_at (children rules nest root) i)
       (λ m k. node_at_behind q r m n k) h
 
-  no_front : (xs ys : List Successor) (y : Successor) → [] ≡ xs ++ y ∷ ys → ⊥
-  no_front [] ys y h = cc
-  no_front (x ∷ xs) ys y h = cc
+  no_prefix : (xs ys : List Successor) (y : Successor) → [] ≡ xs ++ y ∷ ys → ⊥
+  no_prefix [] ys y h = cc
+  no_prefix (x ∷ xs) ys y h = cc
 
   not_one : (x : Successor) (given cs : List Successor) (m : Node) → x ∷ [] ≡ given ++ TheChild (DidChild m) ∷ cs
       → x ≡ TheChild (DidChild m)
   not_one x [] cs m h = cc
   not_one x (g ∷ gs) cs m h =
-      let tail : [] ≡ gs ++ TheChild (DidChild m) ∷ cs = cc in absurd (no_front gs cs (TheChild (DidChild m)) tail)
+      let tail : [] ≡ gs ++ TheChild (DidChild m) ∷ cs = cc in absurd (no_prefix gs cs (TheChild (DidChild m)) tail)
 
   -- a Did among children has the number of the Dids before it
   did_mapped : (ks : List Child) (given cs : List Successor) (m : Node)
       → map TheChild ks ≡ given ++ TheChild (DidChild m) ∷ cs → did_at ks (dids_in given) ≡ Some m
-  did_mapped [] given cs m h = absurd (no_front given cs (TheChild (DidChild m)) h)
+  did_mapped [] given cs m h = absurd (no_prefix given cs (TheChild (DidChild m)) h)
   did_mapped (k ∷ ks) [] cs m h = let e : k ≡ DidChild m = cc in ap (λ c. did_at (c ∷ ks) 0) e
   did_mapped (DidChild x ∷ ks) (g ∷ gs) cs m h =
       let e : g ≡ TheChild (DidChild x) = cc in
@@ -129,7 +129,7 @@ module _ (rules : List Rule) (nest : ℕ) where
       let d = dids_append h.given (TheChild (DidChild m) ∷ []) in
       omega (arith, a, b, d)
 
-  -- what is given next and is no Did is none more
+  -- a next successor that is no Did adds none to the Dids given
   pub given_other : (l : Level) (x : Successor) (cs : List Successor) → l.left ≡ x ∷ cs → dids_in (x ∷ []) ≡ 0
       → IsLevel rules nest l → given_at rules nest (with_left l cs) ≡ given_at rules nest l
   unfolding level_next
@@ -139,7 +139,7 @@ module _ (rules : List Rule) (nest : ℕ) where
       let d = dids_append h.given (x ∷ []) in
       omega (arith, a, b, d, none)
 
-  -- what is left above a node isn't below it
+  -- visits that are left above a node aren't below it
   pub above_elsewhere : (root : Node) (ls : List Level) → AreReached rules nest root ls
       → All (λ v. begins (path_to rules nest ls) v.path ≡ false) (rest_after rules nest ls)
   above_elsewhere root [] h = All-nil (λ v. begins [] v.path ≡ false)
@@ -151,7 +151,7 @@ module _ (rules : List Rule) (nest : ℕ) where
       (visits_elsewhere rules nest l.node p (given_at rules nest l) j l.left (omega arith))
       (elsewhere_further p (j ∷ []) (rest_after rules nest ls) (above_elsewhere root ls h.2))
 
-  -- ---- where a step leads
+  -- ---- the place after a step
 
   -- a step takes the next successor, and leads here
   pub record Steps (s : Stack) (x : Successor) (new : Stack) : Type 0 where
@@ -369,7 +369,7 @@ module _ (rules : List Rule) (nest : ℕ) where
       (above_elsewhere (root_of s.top s.above) s.above h.above) in
       (none, none_rests s h none)
 
-  -- ---- where the other calls lead
+  -- ---- the places after the other calls
 
   parent_push : (p : List ℕ) (j : ℕ) → parent (p ++ j ∷ []) ≡ p
   parent_push [] j = refl

@@ -163,14 +163,14 @@ module _ (rules : List Rule) (nest : ℕ) where
       All-weaker (IsBeyond p i) (λ v. begins (p ++ j ∷ []) v.path ≡ false) (λ v h. not_below p [] i j v l h)
       (visits_of rules nest n p i cs) (beyond n p i cs)
 
--- what isn't below a node isn't below what is below it
+-- a visit that isn't below a node isn't below the nodes below it
 pub elsewhere_further : (p r : List ℕ) (vs : List Visit) → All (λ v. begins p v.path ≡ false) vs
     → All (λ v. begins (p ++ r) v.path ≡ false) vs
 elsewhere_further p r vs h =
     All-weaker (λ v. begins p v.path ≡ false) (λ v. begins (p ++ r) v.path ≡ false)
     (λ v k. begins_further p r v.path k) vs h
 
--- ---- what is next
+-- ---- the next visit
 
 -- nothing is next below a node where all is elsewhere
 pub next_none : (p : List ℕ) (vs : List Visit) → All (λ v. begins p v.path ≡ false) vs → next_below p vs ≡ None
@@ -188,13 +188,13 @@ none_below p [] ys h e = refl
 none_below p (x ∷ xs) ys h e =
     let some = next_first p x (xs ++ ys) (All-head (λ v. begins p v.path ≡ true) x xs h) in absurd cc
 
--- what is elsewhere isn't skipped
+-- visits elsewhere aren't skipped
 skip_none : (p : List ℕ) (vs : List Visit) → All (λ v. begins p v.path ≡ false) vs → skip p vs ≡ vs
 skip_none p [] h = refl
 skip_none p (v ∷ vs) h =
     ap (λ b. cond b (skip p vs) (v ∷ vs)) (All-head (λ v. begins p v.path ≡ false) v vs h)
 
--- what is below is skipped
+-- visits below are skipped
 pub skip_below : (p : List ℕ) (xs ys : List Visit) → All (λ v. begins p v.path ≡ true) xs
     → All (λ v. begins p v.path ≡ false) ys → skip p (xs ++ ys) ≡ ys
 skip_below p [] ys h k = skip_none p ys k

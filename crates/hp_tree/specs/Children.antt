@@ -1,5 +1,5 @@
--- The children of a node: by the tasks that may be done next, by the rules relevant to each, and by what a rule's
--- precondition gives.
+-- The children of a node: by the tasks that may be done next, by the rules relevant to each, and by the events of a
+-- rule's precondition.
 use Rattle.std.specs.Prelude.{◌≡◌, ℕ, List, [], ◌∷◌, ◌++◌, drop, Option, Some, None, flat_map, slice_get}
 use Rattle.hp_syntax.specs.Changes.{effects}
 use Rattle.hp_syntax.specs.Events.{Event, axioms_of}

@@ -7,8 +7,8 @@ use Rattle.hp_syntax.specs.Walk.{Node}
 use Rattle.hp_world.specs.Stages.{Stage, AllBelow, StageBelow, terms_at, state_of, guards_of}
 use Rattle.hp_net.specs.FlatNetworks.{FlatNetwork, focused, EntryBelow}
 
--- a search node as it stands in memory: what stands in its world, its network, the cells of its steps, what these cost,
--- and how many decompositions may follow
+-- a search node as it stands in memory: the stage of its world, its network, the cells of its steps, their cost, and
+-- the number of decompositions that may follow
 pub record HeldNode : Type 0 where
   pub stage : Stage
   pub network : FlatNetwork

@@ -1,4 +1,4 @@
--- Where a walk stands, told by the successors that are left at each node on its way.
+-- The place of a walk, told by the successors that are left at each node on its way.
 use Rattle.std.specs.Prelude.{◌≡◌, ℕ, ◌-◌, ◌<◌, Bool, true, false, cond, List, [], ◌∷◌, ◌++◌, Some}
 use Rattle.hp_syntax.specs.Syntax.{Rule}
 use Rattle.hp_syntax.specs.Walk.{Node, DidChild, CutChild, FaultChild, Visit, node_at}
@@ -53,7 +53,7 @@ abbrev pub root_of : Level → List Level → Node
 root_of l [] = l.node
 root_of l (k ∷ ls) = root_of k ls
 
--- ---- where a walk stands
+-- ---- the place of a walk
 
 -- the level reached, those above it, the nearest first, whether the last call answered a Did, and whether it or one
 -- before answered a fault

@@ -1,4 +1,4 @@
--- What applying changes answers.
+-- Answers of applying changes.
 use Rattle.std.proofs.Common.{◌≡◌, ◌<◌, ℕ, Bool, true, false, cond, not, ◌||◌, List, [], ◌∷◌, ◌++◌, Option, None, Some, option_map, filter, length, refl, sym, ap, ap₂, ◌∙◌, subst, Result, Ok, Err, IfOk, OnErr}
 use Rattle.std.specs.List.{All}
 use Rattle.std.proofs.lemmas.List.{map-append}
@@ -40,7 +40,7 @@ pub deleted_is : (atoms ds : List ℕ) → deleted atoms ds ≡ filter (λ a. no
 deleted_is atoms [] = deleted_none atoms
 deleted_is atoms (d ∷ ds) = deleted_is (without d atoms) ds ∙ deleted_twice d ds atoms
 
--- what applying the changes gives where this is the first protected atom to delete, if there is one
+-- the result of applying the changes where this is the first protected atom to delete, if there is one
 abbrev outcome : ChangesOf ℕ → History Stage → Option ℕ → AppliedOf ℕ
 outcome c old o =
     unless_guarded o (changed same_cell (live_atoms old.now.places) c)
@@ -62,7 +62,7 @@ pub gives_done : (c : ChangesOf ℕ) (old new : History Stage)
 gives_done c old new e atoms guards keeps =
     subst (λ (o : Option ℕ). Gives Done (outcome c old o) old new) (sym e) (atoms, guards, keeps)
 
--- what was answered leaves what stands below a count, where the old world and the changes were below it
+-- where the old world and the changes are below a count, so is the new world
 gives_below : (n : ℕ) (a : Applied) (o : Option ℕ) (c : ChangesOf ℕ) (old new : History Stage)
     → Gives a (outcome c old o) old new → StageBelow n old.now → ChangesBelow n c → StageBelow n new.now
 gives_below n Done None c old new g s b =
@@ -89,7 +89,7 @@ applied_below (Err x) c old new h e n s b = subst (λ (g : History Stage). Stage
 
 -- ---- the terms that cells name
 
--- what was applied to cells is named by the terms that these name
+-- the result on cells names that on the terms of these
 of_outcome : (terms : List Term) (o : Option ℕ) (s g : List ℕ)
     → of_terms terms (unless_guarded o s g)
     ≡ unless_guarded (option_map (term_at terms) o) (terms_at terms s) (terms_at terms g)

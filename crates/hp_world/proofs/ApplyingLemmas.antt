@@ -1,4 +1,4 @@
--- What applying changes keeps of all atoms, and what it does to atoms under other names.
+-- Applying changes keeps facts of all atoms, and is the same under other names of the atoms.
 use Rattle.std.proofs.Common.{◌≡◌, Bool, true, false, cond, not, ◌||◌, List, [], ◌∷◌, ◌++◌, Some, map, filter, option_map, refl, ap, ap₂, ◌∙◌}
 use Rattle.std.specs.List.{All}
 use Rattle.std.proofs.lemmas.List.{map-append}

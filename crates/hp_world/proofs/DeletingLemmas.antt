@@ -37,7 +37,7 @@ without_first_at a (x ∷ xs) (suc i) h =
     ap (λ t. cond t xs (x ∷ without_first same_cell a xs)) (ne_eqb a x (λ e. h.first 0 (omega arith) (sym e)))
     ∙ ap (λ ys. x ∷ ys) (without_first_at a xs i behind)
 
--- what was removed comes back where it stood
+-- a removed protection comes back where it stood
 pub put_back : {A : Type 0} (xs : List A) (i : ℕ) (x : A) → i < length xs → get_or xs i x ≡ x
     → insert (remove xs i) i x ≡ xs
 put_back [] i x l e = absurd (omega arith)

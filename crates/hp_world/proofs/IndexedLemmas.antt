@@ -8,13 +8,13 @@ use Rattle.hp_cells.proofs.PlaceLemmas.{before_or_last, stands_last}
 use Rattle.hp_world.specs.Indexed.{Row, IsAbsent, IsOnlyAt, IsIndex, row_of, IsIndexed}
 use Rattle.hp_world.specs.declared.places.Places.TheInside.{Inside}
 
--- what stands at a place stands within the list
+-- the place of an element is within the list
 some_within : (xs : List (Option ℕ)) (i x : ℕ) → get_or xs i None ≡ Some x → i < length xs
 some_within [] i x h = absurd (cc)
 some_within (y ∷ xs) zero x h = omega arith
 some_within (y ∷ xs) (suc i) x h = let l = some_within xs i x h in omega arith
 
--- what is read at a place stands there
+-- an element that is read at a place stands there
 stands_at : (xs : List (Option ℕ)) (i x : ℕ) → get_or xs i None ≡ Some x → slice_get xs i ≡ Some (Some x)
 stands_at xs i x h = slice_get-get_or xs i None (some_within xs i x h) ∙ ap Some h
 
@@ -56,7 +56,7 @@ stays_at : (ps : List (Option ℕ)) (q : Option ℕ) (i b : ℕ) → get_or ps i
     → get_or (ps ++ q ∷ []) i None ≡ Some b
 stays_at ps q i b h = get_or_append_left ps (q ∷ []) None i (some_within ps i b h) ∙ h
 
--- what comes last is read behind the others
+-- the last element is read behind the others
 pub last_at : (ps : List (Option ℕ)) (q : Option ℕ) → get_or (ps ++ q ∷ []) (length ps) None ≡ q
 last_at ps q = get_or_from_slice_get (ps ++ q ∷ []) (length ps) q None (stands_last ps q)
 

@@ -69,7 +69,7 @@ named_as_told terms name atom cell v b cells within shows is tells places i stan
     let named = named_as_shown terms name cell v places i cells within shows (stands ∙ ap Some is) in
     (λ e. named.0 (tells.0 e), λ k. tells.1 (named.1 k))
 
--- what is no list with a first part has no name
+-- a term that is no list with a first part has no name
 pub cons_named : (v : View) (name : ℕ) → ((head tail : ℕ) → v ≡ Cons head tail → ⊥) → IsNamed v name → ⊥
 cons_named Nil name h n = n
 cons_named (Sym text) name h n = n

@@ -1,4 +1,4 @@
--- What applying changes to a world answers.
+-- The answers of applying changes to a world.
 use Rattle.std.specs.Prelude.{◌≡◌, ℕ, List}
 use Rattle.hp_syntax.specs.Terms.{Term}
 use Rattle.hp_syntax.specs.Applying as plain
@@ -9,14 +9,14 @@ use Rattle.hp_world.specs.Histories.{History, KeepsPasts}
 use Rattle.hp_world.specs.declared.store.Applied.{Applied}
 use Rattle.hp_world.specs.declared.store.Applied.TheVariants.{Done, Guarded}
 
--- the answer is this one, and so is what then stands; a guarded application changes nothing
+-- the answer is this one, and so is the new stage; a guarded application changes nothing
 abbrev pub Gives : Applied → AppliedOf ℕ → History Stage → History Stage → Type 0
 Gives Done (plain.Now atoms guards) old new =
     (live_atoms new.now.places ≡ atoms) × (new.now.guards ≡ guards) × KeepsPasts old new
 Gives (Guarded a) (plain.Guarded d) old new = (a ≡ d) × (new ≡ old)
 Gives _ _ old new = ⊥
 
--- the answer is what applying the changes to what stands gives
+-- the answer is that of applying the changes to the present
 abbrev pub Applies : Applied → ChangesOf ℕ → History Stage → History Stage → Type 0
 Applies a c old new = Gives a (applied same_cell (live_atoms old.now.places) old.now.guards c) old new
 

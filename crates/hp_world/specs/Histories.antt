@@ -1,13 +1,13 @@
--- What stood before, and what stands now.
+-- Histories: the past before each change, and the present.
 use Rattle.std.specs.Prelude.{ℕ, List, length, take, slice_index_or}
 use Rattle.hp_world.specs.Trails.{pasts, Keeps}
 
--- what stood before each change, oldest first, and what stands now
+-- the past before each change, oldest first, and the present
 pub record History (S : Type 0) : Type 0 where
   pub past : List S
   pub now : S
 
--- the history that a trail of changes makes of what stands
+-- the history by a trail of changes and the present
 abbrev pub history : {C S : Type 0} → (C → S → S) → List C → S → History S
 history undone trail s = record { past = pasts undone trail s; now = s }
 
@@ -15,14 +15,14 @@ history undone trail s = record { past = pasts undone trail s; now = s }
 abbrev pub mark_of : {S : Type 0} → History S → ℕ
 mark_of h = length h.past
 
--- what stood at a mark
+-- the past at a mark
 abbrev pub past_at : {S : Type 0} → History S → ℕ → S
 past_at h m = slice_index_or h.past m h.now
 
--- what stood at a mark is the present, and what stood before it is kept
+-- the past at a mark is the present, and the pasts before it are kept
 abbrev pub undone_to : {S : Type 0} → ℕ → History S → History S
 undone_to m h = record { past = take m h.past; now = past_at h m }
 
--- what stood up to the old mark is kept, the old present at that mark
+-- the pasts up to the old mark are kept, the old present at that mark
 abbrev pub KeepsPasts : {S : Type 0} → History S → History S → Type 0
 KeepsPasts old new = Keeps old.past old.now new.past new.now

@@ -2,8 +2,8 @@
 use Rattle.std.specs.Prelude.{◌≡◌, ℕ, ◌<◌, List, Option, Some, None, length, slice_index_or, vec_capacity}
 use Rattle.hp_world.specs.declared.places.Places.TheInside.{Inside}
 
--- places with their atoms, the bound of the atoms that the table has entries for, and how many places there is room
--- for
+-- places with their atoms, the bound of the atoms that the table has entries for, and the number of places that there
+-- is room for
 pub record Row : Type 0 where
   pub places : List (Option ℕ)
   pub width : ℕ
@@ -24,7 +24,7 @@ pub record IsIndex (table : List (Option ℕ)) (places : List (Option ℕ)) : Ty
   pub found : (a i : ℕ) → slice_index_or table a None ≡ Some i → slice_index_or places i None ≡ Some a
   pub finds : (a i : ℕ) → slice_index_or places i None ≡ Some a → slice_index_or table a None ≡ Some i
 
--- what contracts see of places
+-- the view of places
 abbrev pub row_of : Inside → Row
 row_of p = record { places = p.places.items; width = length p.table.items; room = vec_capacity p.places }
 

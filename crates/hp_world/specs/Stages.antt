@@ -1,4 +1,4 @@
--- What holds and what is protected, by cells: places in a row, each with an atom or empty, and protections.
+-- Stages, by cells: places in a row, each with an atom or empty, and protections.
 use Rattle.std.specs.Prelude.{◌≡◌, ◌⊎◌, ℕ, ◌<◌, ◌==◌, Bool, List, [], ◌∷◌, map, Option, Some, None, slice_get}
 use Rattle.std.specs.List.{All}
 use Rattle.hp_syntax.specs.Terms.{Term}

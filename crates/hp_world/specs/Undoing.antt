@@ -1,4 +1,4 @@
--- The histories of stores, and when what is on a trail can be undone.
+-- The histories of stores, and trails that can be undone.
 use Rattle.std.specs.Prelude.{◌≡◌, ℕ, ◌+◌, ◌-◌, ◌<◌, ◌≤◌, List, length, take, Option, Some, None, slice_index_or, slice_set, vec_len, vec_capacity}
 use Rattle.std.specs.List.{insert}
 use Rattle.hp_world.specs.declared.store.Change.{Change}
@@ -13,7 +13,7 @@ use Rattle.hp_world.specs.Trails.{IsUndoable}
 abbrev pub all_but_last : {A : Type 0} → List A → List A
 all_but_last xs = take (length xs - 1) xs
 
--- what stood before a change
+-- the stage before a change
 abbrev pub undone : Change → Stage → Stage
 undone (Deleted i a) s = record { places = slice_set s.places i (Some a); guards = s.guards }
 undone Added s = record { places = all_but_last s.places; guards = s.guards }
@@ -34,15 +34,15 @@ Fits width room Added s = Unit {0}
 Fits width room (Cancelled i a) s = (i ≤ length s.guards) × (length s.guards < room)
 Fits width room Protected s = Unit {0}
 
--- nothing is asked of what stood at a time
+-- nothing is asked of a stage
 abbrev pub IsAny : Stage → Type 0
 IsAny s = Unit {0}
 
--- what stands in a store
+-- the stage of a store
 abbrev pub stage_of : Store → Stage
 stage_of s = record { places = s.places.places; guards = s.guards.items }
 
--- what stood before in a store, and what stands
+-- the history of a store
 abbrev pub history_of : Store → History Stage
 history_of s = history undone s.trail.items (stage_of s)
 

@@ -64,7 +64,7 @@ impl Places {
         self.places.len()
     }
 
-    /// What stands at a place.
+    /// The atom of a place, if one stands there.
     pub fn at(&self, place: usize) -> Option<Cell>
         requires { place < length self.now.places }
         ensures { slice_get self.now.places place ≡ Some result }

@@ -1,4 +1,4 @@
-//! Places, protections and the trail of what changed them.
+//! Places, protections and the trail of their changes.
 ghost use Rattle.std.specs.Prelude.{◌≡◌, ◌≢◌, ℕ, ◌↔◌, ◌+◌, ◌<◌, List, Option, Some, MatchOption, IfOk, IsTrue, length, slice_get, slice_index};
 ghost use Rattle.hp_world.specs.Deleting.{IsFirstAt};
 ghost use Rattle.hp_world.specs.Named.{IsNamedAt};
@@ -7,7 +7,7 @@ use crate::places::Places;
 use hp_cells::{Cell, Cells, View};
 use std::alloc::{AllocError, Global};
 
-/// What is noted of one change, so that it can be undone.
+/// A change as the trail has it, so that it can be undone.
 #[derive(Clone, Copy)]
 pub enum Change {
     Deleted(usize, Cell),
@@ -16,7 +16,7 @@ pub enum Change {
     Protected,
 }
 
-/// What applying changes comes to.
+/// The answer of applying changes.
 #[derive(Clone, Copy, Debug, PartialEq, Eq)]
 pub enum Applied {
     Done,
@@ -24,7 +24,7 @@ pub enum Applied {
     Guarded(Cell),
 }
 
-/// Places, protections and the trail of what changed them.
+/// Places, protections and the trail of their changes.
 pub struct Store {
     places: Places,
     guards: Vec<Cell>,
@@ -45,7 +45,8 @@ impl Drop for Store {
 }
 
 impl Store {
-    ghost use Rattle.std.specs.Prelude.{◌≡◌, ◌+◌, ◌<◌, ◌≤◌, [], ◌∷◌, ◌++◌, Some, IfOk, OnOk, OnErr, length, slice_get, vec_len, vec_capacity};
+    ghost use Rattle.std.specs.Prelude.{◌≡◌, ◌+◌, ◌<◌, ◌≤◌, [], ◌∷◌, ◌++◌, Some, IfOk, OnOk, OnErr};
+    ghost use Rattle.std.specs.Prelude.{length, slice_get, vec_len, vec_capacity};
     ghost use Rattle.hp_syntax.specs.Applying as plain;
     ghost use Rattle.hp_syntax.specs.Applying.{is_among, without_first, cancelled, with_added};
     ghost use Rattle.hp_world.specs.Answers.{Applies};
@@ -87,7 +88,7 @@ impl Store {
         self.places.len()
     }
 
-    /// What stands at a place.
+    /// The atom of a place, if one stands there.
     pub fn at(&self, place: usize) -> Option<Cell>
         requires { place < length (stage_of self.now).places }
         ensures { slice_get (stage_of self.now).places place ≡ Some result }
@@ -354,7 +355,7 @@ fn is_named(atom: Option<Cell>, name: Cell, cells: &Cells) -> bool
     }
 }
 
-// How many changes are noted at most.
+// The largest number of changes that are noted.
 fn most_changes(
     unguard: &[Cell],
     del: &[Cell],

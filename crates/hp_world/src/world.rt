@@ -1,4 +1,4 @@
-//! The world: what holds and is protected, and what stood before.
+//! The world: the atoms that hold and the protections, and the pasts.
 ghost use Rattle.std.specs.Prelude.{◌≡◌, ℕ, ◌≤◌, ◌<◌, [], IfOk, OnErr, Some, length, slice_get};
 ghost use Rattle.hp_world.specs.Answers.{Applies};
 ghost use Rattle.hp_world.specs.Histories.{mark_of, undone_to};
@@ -10,7 +10,7 @@ use hp_cells::{Cell, Cells};
 use std::alloc::{AllocError, Global};
 use std::marker::Model;
 
-/// Atoms in order of place, each once, and protections, with a trail of what changed them.
+/// Atoms in order of place, each once, and protections, with the trail of their changes.
 pub struct World {
     store: Store,
 }
@@ -122,8 +122,7 @@ impl World {
         self.store.mark()
     }
 
-    /// Makes what stood when there were so many changes the present: places, atoms and protections. It takes no
-    /// memory.
+    /// Makes the past at a mark the present: places, atoms and protections. It takes no memory.
     pub fn undo_to(&mut self, mark: usize)
         requires { mark ≤ mark_of self.old }
         ensures { self.new ≡ undone_to mark self.old }

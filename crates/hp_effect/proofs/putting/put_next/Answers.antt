@@ -1,11 +1,11 @@
 use Rattle.std.proofs.Common.{◌≡◌, length, sym, ap, subst, ◌∙◌, arith}
 use Rattle.hp_syntax.specs.Views.{atoms_of}
-use Rattle.hp_eval.specs.Slotted.{undone}
 use Rattle.hp_eval.specs.Events.{left_after}
-use Rattle.hp_eval.proofs.GrowthLemmas.{grows_on, grows_length}
+use Rattle.hp_eval.proofs.GrowthLemmas.{grows_on, grows_length, kept_agree}
+use Rattle.hp_eval.proofs.SlotLemmas.{undone_start}
 use Rattle.hp_world.specs.Stages.{changes_of}
 use Rattle.hp_effect.specs.Gathering.{PutsNext, each_going}
-use Rattle.hp_effect.proofs.GatheringLemmas.{changes_stay, changes_grow, kept_agree, undone_above}
+use Rattle.hp_effect.proofs.GatheringLemmas.{changes_stay, changes_grow}
 use Rattle.hp_effect.proofs.putting.put_next.Goals as goal
 
 pub next-requires-clause-live : goal.next-requires-clause-live
@@ -45,7 +45,7 @@ returns-clause-puts g c =
     let sats = c.next.new.self in
     let slots = c.next.new.slots in
     let same = g.met.S.Sats.same_cells sats c.args.base.now between new slots c.next.ensures.base c.next.ensures.slots
-    (kept_agree (g.S.Sats.kept sats) between new c.put_event.ensures.cells (c.next.ensures.kept.1)) in
+    (kept_agree between new c.put_event.ensures.cells (g.S.Sats.kept sats) c.next.ensures.kept.1) in
     let left : each_going as' (left_after xs) ≡ each_going as' (g.S.Sats.rest sats c.args.base.now new slots)
     = ap (each_going as')
     (sym {a = g.S.Sats.rest sats c.args.base.now between slots} {b = left_after xs} c.in_ok-event.ensures.rest
@@ -67,7 +67,7 @@ returns-clause-fewer g c =
     let sats = c.next.new.self in
     let slots = c.next.new.slots in
     let same = g.met.S.Sats.same_cells sats c.args.base.now between new slots c.next.ensures.base c.next.ensures.slots
-    (kept_agree (g.S.Sats.kept sats) between new c.put_event.ensures.cells (c.next.ensures.kept.1)) in
+    (kept_agree between new c.put_event.ensures.cells (g.S.Sats.kept sats) c.next.ensures.kept.1) in
     let fewer = c.put_event.ensures.fewer xs c.in_ok-event.ensures.event e in
     let there = g.S.Sats.rest sats c.args.base.now between slots in
     let after = g.S.Sats.rest sats c.args.base.now new slots in
@@ -119,12 +119,12 @@ returns-clause-open g c = c.next.ensures.open
 
 pub returns-in_err-event-clause-undone : goal.returns-in_err-event-clause-undone
 returns-in_err-event-clause-undone g c =
-    ap (λ n. undone n c.next.new.slots) c.next.ensures.start
-    ∙ undone_above (g.S.Sats.start c.args.sats.now) c.args.slots.now c.next.new.slots
-    (g.met.S.Sats.fits_hold c.args.sats.now c.args.slots.now c.requires.slots).0 c.next.ensures.above
+    undone_start (g.S.Sats.start c.args.sats.now) (g.S.Sats.start c.next.new.self) c.args.slots.now c.next.new.slots
+    c.next.ensures.start (g.met.S.Sats.fits_hold c.args.sats.now c.args.slots.now c.requires.slots).0
+    c.next.ensures.above
 
 pub returns-clause-undone : goal.returns-clause-undone
 returns-clause-undone g c =
-    ap (λ n. undone n c.next.new.slots) c.next.ensures.start
-    ∙ undone_above (g.S.Sats.start c.args.sats.now) c.args.slots.now c.next.new.slots
-    (g.met.S.Sats.fits_hold c.args.sats.now c.args.slots.now c.requires.slots).0 c.next.ensures.above
+    undone_start (g.S.Sats.start c.args.sats.now) (g.S.Sats.start c.next.new.self) c.args.slots.now c.next.new.slots
+    c.next.ensures.start (g.met.S.Sats.fits_hold c.args.sats.now c.args.slots.now c.requires.slots).0
+    c.next.ensures.above

@@ -2,7 +2,7 @@ use Rattle.std.proofs.Common.{ap, sym, ◌∙◌, pos, unsigned_abs, to_z, of_z,
 use Rattle.std.specs.Int.{w64}
 use Rattle.std.proofs.lemmas.Int.{to_z-of_z}
 use Rattle.hp_syntax.specs.Calls as plain
-use Rattle.hp_eval.proofs.CallLemmas.{size_iff, of_one_first}
+use Rattle.hp_eval.proofs.CallRowLemmas.{size_iff, of_one_first}
 use Rattle.hp_eval.proofs.arithmetic.absolute.Goals as goal
 
 pub returns-in-len1 : goal.returns-in-len1

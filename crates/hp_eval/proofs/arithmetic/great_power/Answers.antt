@@ -3,7 +3,7 @@ use Rattle.std.proofs.Common.{◌≡◌, ap, sym, ◌∙◌, pos, to_z, of_z, Fi
 use Rattle.std.specs.Int.{w64, int_pow}
 use Rattle.std.proofs.lemmas.Int.{to_z-of_z}
 use Rattle.std.proofs.Math.Facts.{sfits_lit}
-use Rattle.hp_eval.proofs.PowerLemmas.{zero_power, one_power, even_power, odd_power, great_power_leaves}
+use Rattle.hp_eval.proofs.PowerSteps.{zero_power, one_power, even_power, odd_power, great_power_leaves}
 use Rattle.hp_eval.proofs.arithmetic.great_power.Goals as goal
 
 -- a power that is a number that fits

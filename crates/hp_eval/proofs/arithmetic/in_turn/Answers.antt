@@ -4,7 +4,7 @@ use Rattle.std.proofs.lemmas.Int.{to_z-of_z}
 use Rattle.std.proofs.lemmas.Result.{err_from_is_err_and}
 use Rattle.hp_syntax.specs.Calls as plain
 use Rattle.hp_eval.specs.CallRows.{step_of, as_number}
-use Rattle.hp_eval.proofs.CallLemmas.{turned_on, turned_off}
+use Rattle.hp_eval.proofs.CallRowLemmas.{turned_on, turned_off}
 use Rattle.hp_eval.proofs.arithmetic.in_turn.Goals as goal
 
 pub loop-n-preserved : goal.loop-n-preserved

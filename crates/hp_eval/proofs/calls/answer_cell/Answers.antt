@@ -1,5 +1,5 @@
 use Rattle.hp_eval.proofs.GrowthLemmas.{grows_self}
-use Rattle.hp_eval.proofs.ConsLemmas.{intern_grows}
+use Rattle.hp_eval.proofs.ListSteps.{intern_grows}
 use Rattle.hp_eval.proofs.calls.answer_cell.Goals as goal
 
 pub returns-in-Number-clause-cells : goal.returns-in-Number-clause-cells

@@ -4,7 +4,7 @@ use Rattle.std.proofs.lemmas.Result.{err_from_is_err_and}
 use Rattle.hp_syntax.specs.Calls as plain
 use Rattle.hp_eval.specs.CallRows.{answer_term, table_row, all_numbers}
 use Rattle.hp_eval.specs.GoalViews.{term_at, row_of}
-use Rattle.hp_eval.proofs.CallLemmas.{numbers_fault, numbers_called_are}
+use Rattle.hp_eval.proofs.CallRowLemmas.{numbers_fault, numbers_called_are}
 use Rattle.hp_eval.proofs.Stops.{stops_too, stop_by, gives_stop_by}
 use Rattle.hp_eval.proofs.calls.answer_of.Goals as goal
 

@@ -2,7 +2,7 @@ use Rattle.std.proofs.Common.{sym, ◌∙◌, subst, map}
 use Rattle.std.proofs.lemmas.Result.{err_from_is_err_and}
 use Rattle.hp_eval.specs.CallRows.{answer_term, table_row}
 use Rattle.hp_eval.specs.GoalViews.{term_at, row_of}
-use Rattle.hp_eval.proofs.CallLemmas.{named_call}
+use Rattle.hp_eval.proofs.CallRowLemmas.{named_call}
 use Rattle.hp_eval.proofs.Stops.{StopsAt, stop_by, gives_stop}
 use Rattle.hp_eval.proofs.calls.call.Goals as goal
 

@@ -9,7 +9,7 @@ use Rattle.hp_syntax.specs.Terms.{Number, Listed}
 use Rattle.hp_syntax.specs.Views.{pattern_of, patterns_of}
 use Rattle.hp_eval.specs.GoalViews.{term_at}
 use Rattle.hp_eval.proofs.CellViews.{named_at, at_named}
-use Rattle.hp_eval.proofs.ConsLemmas.{interns_grows}
+use Rattle.hp_eval.proofs.ListSteps.{interns_grows}
 use Rattle.hp_eval.proofs.GroundSteps.{first_ground, said_more, said_all, said-sym, said-num, said-list, ground-var, ground-call, ground-list}
 use Rattle.hp_eval.proofs.GrowthLemmas.{grows_on, grows_self, grows_same}
 use Rattle.hp_eval.proofs.ValueSteps.{terms_pushed, below_pushed}

@@ -100,7 +100,7 @@ ground_tasks-returns-in_ok-trees-in-Unordered-clause-below t c =
     below-unordered (length c.ground_task_list-in-Unordered.new.cells) c.in_ok-trees-in-Unordered.trees
     c.in_ok-trees-in-Unordered.ensures.below
 
--- ---- what is ground
+-- ---- ground lists
 
 pub ground_tasks-ground_atom-requires : goal.ground_tasks-ground_atom-requires
 ground_tasks-ground_atom-requires t c = record {

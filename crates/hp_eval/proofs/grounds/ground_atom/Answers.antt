@@ -4,7 +4,7 @@ use Rattle.hp_syntax.specs.GroundPatterns.{AreGroundPatterns, terms_said}
 use Rattle.hp_syntax.specs.Terms.{Symbol, Listed, More}
 use Rattle.hp_syntax.specs.Views.{patterns_of}
 use Rattle.hp_eval.proofs.CellViews.{at_named}
-use Rattle.hp_eval.proofs.ConsLemmas.{interns_grows, names_named, named_grows}
+use Rattle.hp_eval.proofs.ListSteps.{interns_grows, names_named, named_grows}
 use Rattle.hp_eval.proofs.GrowthLemmas.{grows_on, grows_same, still_names}
 use Rattle.hp_eval.proofs.grounds.ground_atom.Goals as goal
 

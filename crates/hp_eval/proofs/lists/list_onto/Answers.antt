@@ -1,9 +1,10 @@
 use Rattle.std.proofs.Common.{ap, sym, ◌∙◌, map, Some}
+use Rattle.std.proofs.lemmas.List.{nil_from_length}
 use Rattle.hp_syntax.specs.Terms.{Listed}
 use Rattle.hp_eval.specs.GoalViews.{term_at}
 use Rattle.hp_eval.specs.Steps.{onto}
 use Rattle.hp_eval.proofs.GrowthLemmas.{grows_on, all_below}
-use Rattle.hp_eval.proofs.ConsLemmas.{no_element, kept_below, interned_list, list_grows, onto_same}
+use Rattle.hp_eval.proofs.ListSteps.{kept_below, interned_list, list_grows, onto_same}
 use Rattle.hp_eval.proofs.lists.list_onto.Goals as goal
 
 pub loop-part-preserved : goal.loop-part-preserved
@@ -39,7 +40,7 @@ returns-clause-names c = λ ts is.
     let terms = c.loop-part.cells in
     let held = c.loop-part.invariant in
     let us = held.list.0 in
-    let none = no_element c.loop-part.parts.items (sym c.loop-part.parts.ok.0 ∙ c.in_default.ensures.cases.0) in
+    let none = nil_from_length c.loop-part.parts.items (sym c.loop-part.parts.ok.0 ∙ c.in_default.ensures.cases.0) in
     held.list.1
     ∙ ap (λ vs. Some (Listed vs))
     (sym (ap (λ cs. onto (map (term_at terms) cs) us) none) ∙ held.whole ts us is held.list.1)

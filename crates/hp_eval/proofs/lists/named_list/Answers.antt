@@ -2,7 +2,7 @@ use Rattle.std.proofs.lemmas.Option.{slice_get_within}
 use Rattle.std.proofs.lemmas.Result.{err_from_is_err_and}
 use Rattle.hp_syntax.specs.Terms.{Symbol, Listed, More}
 use Rattle.hp_eval.proofs.GrowthLemmas.{still_names, grows_same, grows_on}
-use Rattle.hp_eval.proofs.ConsLemmas.{interns_grows, names_named, named_grows}
+use Rattle.hp_eval.proofs.ListSteps.{interns_grows, names_named, named_grows}
 use Rattle.hp_eval.proofs.lists.named_list.Goals as goal
 
 pub cons-requires-clause-tail : goal.cons-requires-clause-tail

@@ -8,7 +8,7 @@ use Rattle.hp_eval.specs.FillSteps.{parts_at}
 use Rattle.hp_eval.proofs.SlotLemmas.{binds_through}
 use Rattle.hp_eval.proofs.GoalViewLemmas.{below_cell}
 use Rattle.hp_eval.proofs.AttemptLemmas.{tries_here, tries_as, tries_above, then_fails, then_goes_on, names_list}
-use Rattle.hp_eval.proofs.GoalMatchLemmas.{below_part, matches_known, matches_free, matches_partly, fillings_missing, fillings_step, fillings_end}
+use Rattle.hp_eval.proofs.GoalMatchSteps.{below_part, matches_known, matches_free, matches_partly, fillings_missing, fillings_step, fillings_end}
 use Rattle.hp_eval.specs.declared.goals.Filled.TheViews.{sized-List}
 use Rattle.hp_eval.proofs.matching.+filled.Goals as goal
 

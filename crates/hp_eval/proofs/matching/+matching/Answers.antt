@@ -12,7 +12,7 @@ use Rattle.hp_eval.specs.FillSteps.{parts_at}
 use Rattle.hp_eval.proofs.SlotLemmas.{binds_through}
 use Rattle.hp_eval.proofs.CellViews.{named_at}
 use Rattle.hp_eval.proofs.AttemptLemmas.{tries_here, tries_as, tries_above, then_fails, then_goes_on, names_list}
-use Rattle.hp_eval.proofs.MatchingLemmas.{matches_variable, matches_symbol, matches_number, matches_list, matches_call, parts_missing, parts_step, parts_end}
+use Rattle.hp_eval.proofs.MatchingSteps.{matches_variable, matches_symbol, matches_number, matches_list, matches_call, parts_missing, parts_step, parts_end}
 use Rattle.std.proofs.lemmas.Grind.{common_steps}
 use Rattle.hp_syntax.specs.declared.pattern.PatKind.TheViews.{sized-List, size_is-Pat}
 use Rattle.hp_eval.proofs.matching.+matching.Goals as goal
@@ -73,10 +73,12 @@ match_pattern-returns-in-Var t c =
 pub match_pattern-returns-in-Sym : goal.match_pattern-returns-in-Sym
 match_pattern-returns-in-Sym t c =
     let p = c.args.pat.now in
-    let e = bindings_of c.args.cells.now c.args.slots.now in
-    tries_here c.is_symbol.result _ c.args.cells.now c.args.slots.now c.requires.slots
+    let terms = c.args.cells.now in
+    let e = bindings_of terms c.args.slots.now in
+    let same = c.is_symbol.ensures (term_at terms c.args.cell) (named_at terms c.args.cell c.requires.cell) in
+    tries_here c.is_symbol.result _ terms c.args.slots.now c.requires.slots
     (matches_symbol (pattern_of p) p.span c.in-Sym.name _ e (pattern_of-sym p c.in-Sym.name c.in-Sym.is)
-    ∙ ap (λ does. extended does e) (sym (c.is_symbol.ensures (term_at c.args.cells.now c.args.cell) (named_at c.args.cells.now c.args.cell c.requires.cell))))
+    ∙ ap (λ does. extended does e) (sym same))
 
 pub match_pattern-returns-in-Num : goal.match_pattern-returns-in-Num
 match_pattern-returns-in-Num t c =

@@ -1,5 +1,4 @@
-use Rattle.std.proofs.Common.{ap, sym, ◌∙◌, false, Bool, cond, None, inl, inr}
-use Rattle.hp_syntax.specs.Terms.{Term}
+use Rattle.std.proofs.Common.{◌≡◌, ap, sym, refl, ◌∙◌, false, Bool, cond, None}
 use Rattle.hp_syntax.specs.Views.{atom_of}
 use Rattle.hp_syntax.specs.Matching.{match_parts, match_atom}
 use Rattle.hp_cells.specs.Compared.{is_symbol}
@@ -8,8 +7,8 @@ use Rattle.hp_eval.specs.Slotted.{bindings_of}
 use Rattle.hp_eval.specs.Attempts.{extended}
 use Rattle.hp_eval.specs.FillSteps.{parts_at}
 use Rattle.hp_eval.proofs.CellViews.{named_at}
-use Rattle.hp_eval.proofs.AttemptLemmas.{view_nil, view_symbol, view_number, cons_at, compared_at, whole_at, tries_here, tries_as}
-use Rattle.hp_eval.proofs.MatchingLemmas.{matches_atom}
+use Rattle.hp_eval.proofs.AttemptLemmas.{without_first, cons_at, compared_at, whole_at, tries_here, tries_as}
+use Rattle.hp_eval.proofs.MatchingSteps.{matches_atom}
 use Rattle.hp_eval.proofs.matching.try_head.Goals as goal
 
 pub match_parts-requires-clause-list : goal.match_parts-requires-clause-list
@@ -55,12 +54,6 @@ returns-in-Nil c =
     let terms = c.args.cells.now in
     let t = term_at terms c.args.atom in
     let shown = c.get.ensures.shows t (named_at terms c.args.atom c.requires.atom) in
-    let nothing = λ (u : Term). match_atom (atom_of c.args.head.now) u (bindings_of terms c.args.slots.now) in
     tries_here false _ terms c.args.slots.now c.requires.slots
-    (elim c.in-Nil.is [
-      | inl h ↦ ap nothing (view_nil terms c.get.result t shown h)
-      | inr q ↦ elim q [
-        | inl p ↦ ap nothing (view_symbol terms c.get.result t p.0 shown p.1)
-        | inr p ↦ ap nothing (view_number terms c.get.result t p.0 shown p.1)
-      ]
-    ])
+    (without_first (λ u. match_atom (atom_of c.args.head.now) u (bindings_of terms c.args.slots.now) ≡ None) terms
+    c.get.result t shown c.in-Nil.is refl (λ name. refl) (λ n. refl))

@@ -14,8 +14,8 @@ use Rattle.hp_eval.proofs.SlotLemmas.{binds_through}
 use Rattle.hp_eval.proofs.GrowthLemmas.{grows_length, grows_on, grows_self}
 use Rattle.hp_eval.proofs.GoalViewLemmas.{below_cell, all_below_grow}
 use Rattle.hp_eval.proofs.AttemptLemmas.{tries_here, tries_as, starts_same, starts_above, starts_failed, then_fails, then_goes_on}
-use Rattle.hp_eval.proofs.GoalMatchLemmas.{below_part}
-use Rattle.hp_eval.proofs.StartLemmas.{starts_known, starts_free, starts_variable, starts_list, starts_never, starts_missing, starts_next, starts_rest}
+use Rattle.hp_eval.proofs.GoalMatchSteps.{below_part}
+use Rattle.hp_eval.proofs.StartingSteps.{starts_known, starts_free, starts_variable, starts_list, starts_never, starts_missing, starts_next, starts_rest}
 use Rattle.hp_eval.proofs.starting.+starting.Goals as goal
 
 pub start_part-match_pattern-requires-clause-cell : goal.start_part-match_pattern-requires-clause-cell

@@ -6,8 +6,8 @@ use Rattle.hp_eval.specs.FillSteps.{parts_at}
 use Rattle.hp_cells.specs.Keys.{parts_of}
 use Rattle.hp_eval.proofs.GrowthLemmas.{grows_self, grows_length, grows_on, grows_same}
 use Rattle.hp_eval.proofs.CellViews.{at_named, names_parts}
-use Rattle.hp_eval.proofs.ConsLemmas.{interns_grows}
-use Rattle.hp_eval.proofs.StartLemmas.{ground_onto, ground_onto_none, ground_last, grows_names, last_below, front_below}
+use Rattle.hp_eval.proofs.ListSteps.{interns_grows}
+use Rattle.hp_eval.proofs.StartingSteps.{ground_onto, ground_onto_none, ground_last, grows_names, last_below, prefix_below}
 use Rattle.hp_eval.proofs.starting.ground_list.Goals as goal
 
 pub loop-last-init : goal.loop-last-init
@@ -66,7 +66,7 @@ loop-last-preserved c =
       list = (More (term_at old cell) behind, interns.names);
       grows = grows_on old cells new held.grows
           (interns_grows (Listed (More (term_at old cell) behind)) c.in_ok-list.list cells new interns);
-      below = front_below (length old) before part c.loop-last.left.now c.in-Some.ensures.cases.0 held.below;
+      below = prefix_below (length old) before part c.loop-last.left.now c.in-Some.ensures.cases.0 held.below;
       so_far =
           ap (λ t. ground_onto (fillings_of old before) (parts_of t)) (at_named new c.in_ok-list.list _ interns.names)
           ∙ (sym (ap (λ fs. ground_onto (fillings_of old fs) behind) c.in-Some.ensures.cases.0

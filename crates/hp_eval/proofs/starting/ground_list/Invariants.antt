@@ -4,7 +4,7 @@ use Rattle.hp_cells.specs.Cells.{NamesList}
 use Rattle.hp_eval.specs.Growth.{Grows}
 use Rattle.hp_eval.specs.GoalViews.{fillings_of}
 use Rattle.hp_eval.specs.FillSteps.{AreFilledBelow, parts_at}
-use Rattle.hp_eval.proofs.StartLemmas.{ground_onto}
+use Rattle.hp_eval.proofs.StartingSteps.{ground_onto}
 use Rattle.hp_eval.proofs.starting.ground_list.Given as goal
 
 abbrev pub invariant-loop-last : goal.invariant-loop-last

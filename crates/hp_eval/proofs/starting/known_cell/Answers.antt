@@ -1,6 +1,6 @@
 use Rattle.std.proofs.Common.{inl, inr}
 use Rattle.hp_eval.proofs.GoalViewLemmas.{below_cell}
-use Rattle.hp_eval.proofs.StartLemmas.{known_part, free_part, list_part}
+use Rattle.hp_eval.proofs.StartingSteps.{known_part, free_part, list_part}
 use Rattle.hp_eval.proofs.starting.known_cell.Goals as goal
 
 pub returns-in-Known-clause-term : goal.returns-in-Known-clause-term

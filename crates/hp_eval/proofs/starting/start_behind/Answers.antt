@@ -5,7 +5,7 @@ use Rattle.hp_eval.specs.GoalViews.{fillings_of}
 use Rattle.hp_eval.specs.Slotted.{bindings_of}
 use Rattle.hp_eval.specs.Attempts.{extended}
 use Rattle.hp_eval.proofs.AttemptLemmas.{tries_here, starts_same}
-use Rattle.hp_eval.proofs.StartLemmas.{starts_bare, starts_open, starts_tail}
+use Rattle.hp_eval.proofs.StartingSteps.{starts_bare, starts_open, starts_tail}
 use Rattle.hp_eval.proofs.starting.start_behind.Goals as goal
 
 pub returns-in-None-default-clause-started : goal.returns-in-None-default-clause-started

@@ -19,7 +19,7 @@ use Rattle.hp_eval.proofs.TaskSteps.{tasks_step, tasks_none, networks_in_front, 
 use Rattle.hp_eval.proofs.TreeViews.{network_of-task, network_of-ordered, network_of-unordered, below-task, below-ordered, below-unordered, trees_pushed, trees_below_pushed}
 use Rattle.hp_eval.proofs.tasks.+tasks.Goals as goal
 
--- what trees stand for
+-- the networks of trees
 abbrev all_networks : List Term → Vec TaskTree Global → Networks
 all_networks terms v = networks_of terms v.items
 

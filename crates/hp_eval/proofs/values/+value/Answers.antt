@@ -13,7 +13,7 @@ use Rattle.hp_eval.proofs.GrowthLemmas.{bindings_stay, grows_on, below_grows, gr
 use Rattle.hp_eval.proofs.Loops.{values_more, values_stop, values_all}
 use Rattle.hp_eval.proofs.Stops.{stop_of_cell, gives_same}
 use Rattle.hp_eval.proofs.ValueSteps.{values_step, values_none, part_stops, terms_pushed, below_pushed, tail_faults, tail_gives, parts_give, variable_gives, value_of-var, value_of-sym, value_of-num, value_of-list, value_of-call}
-use Rattle.hp_eval.proofs.ConsLemmas.{interns_grows}
+use Rattle.hp_eval.proofs.ListSteps.{interns_grows}
 use Rattle.hp_eval.proofs.values.+value.Goals as goal
 
 -- ---- parts

@@ -6,7 +6,7 @@ use Rattle.hp_net.proofs.EditSteps.{past, found}
 use Rattle.hp_net.proofs.EntryPathLemmas.{entry_path_first}
 use Rattle.hp_net.proofs.edits.list_of.Goals as goal
 
--- what stands behind the entry before a place is what stands at the place
+-- the first entry behind the one before a place is the one at the place
 before_place : (es : List Entry) (task place before : ℕ) → 0 < place
     → entry_path (task - place) (drop place es) ≡ Some (before ∷ [])
     → entry_path (task - suc (place - 1)) (drop (suc (place - 1)) es) ≡ Some (before ∷ [])

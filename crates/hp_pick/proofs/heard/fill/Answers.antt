@@ -1,6 +1,6 @@
 use Rattle.std.proofs.Common.{sym, ◌∙◌}
 use Rattle.hp_eval.proofs.AttemptLemmas.{place_free}
-use Rattle.hp_pick.proofs.FillLemmas.{stays_unbound, stays_bound, bound_above}
+use Rattle.hp_pick.proofs.FillSteps.{stays_unbound, stays_bound, bound_above}
 use Rattle.hp_pick.proofs.heard.fill.Goals as goal
 
 pub returns-in_default-clause-value : goal.returns-in_default-clause-value

@@ -2,7 +2,7 @@ use Rattle.std.proofs.Common.{Some, sym, ap, ◌∙◌, arith, ◌++◌, ap₂, 
 use Rattle.std.specs.Prelude.{slice_set}
 use Rattle.std.proofs.lemmas.Option.{slice_get-get_or}
 use Rattle.hp_eval.proofs.SlotLemmas.{binds_through, binds_self}
-use Rattle.hp_pick.proofs.FillLemmas.{filled_more}
+use Rattle.hp_pick.proofs.FillSteps.{filled_more}
 use Rattle.std.proofs.lemmas.List.{append-nil, drop_all, take_all}
 use Rattle.hp_pick.proofs.heard.fill_all.Goals as goal
 

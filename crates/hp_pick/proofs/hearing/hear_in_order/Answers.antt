@@ -3,7 +3,7 @@ use Rattle.std.proofs.lemmas.List.Sorted.{All-permutation}
 use Rattle.hp_syntax.specs.Views.{key_of}
 use Rattle.hp_pick.specs.Noted.{IsNoted}
 use Rattle.std.proofs.Common.{length}
-use Rattle.hp_pick.proofs.HearingLemmas.{stops_in_order, heard_in_order}
+use Rattle.hp_pick.proofs.HearingSteps.{stops_in_order, heard_in_order}
 use Rattle.hp_pick.proofs.hearing.hear_in_order.Goals as goal
 
 pub hear_whole-requires-clause-live : goal.hear_whole-requires-clause-live

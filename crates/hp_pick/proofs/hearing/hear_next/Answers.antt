@@ -1,11 +1,12 @@
-use Rattle.std.proofs.Common.{length, sym, ap, subst, ◌∙◌}
+use Rattle.std.proofs.Common.{length, sym, ap, subst}
 use Rattle.std.specs.List.{All}
 use Rattle.hp_syntax.specs.Views.{key_of}
 use Rattle.hp_syntax.specs.Preconditions.{keyed}
 use Rattle.hp_eval.specs.Slotted.{undone}
 use Rattle.hp_eval.specs.Events.{left_after}
+use Rattle.hp_eval.proofs.SlotLemmas.{undone_start}
 use Rattle.hp_pick.specs.Noted.{IsNoted, with_notes}
-use Rattle.hp_pick.proofs.HearingLemmas.{undone_above, noted_grown, with_notes_grown, hears_same}
+use Rattle.hp_pick.proofs.HearingSteps.{noted_grown, with_notes_grown, hears_same}
 use Rattle.hp_pick.proofs.hearing.hear_next.Goals as goal
 
 pub returns-clause-step : goal.returns-clause-step
@@ -28,10 +29,10 @@ returns-clause-noted g c =
     let new = c.next.new.cells in
     let mark = g.S.Sats.start c.args.inner.now in
     let start = undone mark c.args.slots.now in
-    let above = (g.met.S.Sats.fits_hold c.args.inner.now c.args.slots.now c.requires.slots).0 in
-    let back = undone_above mark c.args.slots.now c.next.new.slots above c.next.ensures.above in
+    let back = undone_start mark (g.S.Sats.start c.next.new.self) c.args.slots.now c.next.new.slots c.next.ensures.start
+    (g.met.S.Sats.fits_hold c.args.inner.now c.args.slots.now c.requires.slots).0 c.next.ensures.above in
     subst (λ e. All (IsNoted (length new) e) c.note.new.notes.sats.items)
-    (sym back ∙ ap (λ n. undone n c.next.new.slots) (sym c.next.ensures.start))
+    (sym back)
     (c.note.ensures.noted start c.next.ensures.above
     (noted_grown old new c.next.ensures.cells start c.args.notes.now.sats.items c.requires.noted))
 
@@ -88,15 +89,15 @@ returns-clause-open g c = c.next.ensures.open
 
 pub returns-in_err-event-clause-undone : goal.returns-in_err-event-clause-undone
 returns-in_err-event-clause-undone g c =
-    ap (λ n. undone n c.next.new.slots) c.next.ensures.start
-    ∙ undone_above (g.S.Sats.start c.args.inner.now) c.args.slots.now c.next.new.slots
-    (g.met.S.Sats.fits_hold c.args.inner.now c.args.slots.now c.requires.slots).0 c.next.ensures.above
+    undone_start (g.S.Sats.start c.args.inner.now) (g.S.Sats.start c.next.new.self) c.args.slots.now c.next.new.slots
+    c.next.ensures.start (g.met.S.Sats.fits_hold c.args.inner.now c.args.slots.now c.requires.slots).0
+    c.next.ensures.above
 
 pub returns-clause-undone : goal.returns-clause-undone
 returns-clause-undone g c =
-    ap (λ n. undone n c.next.new.slots) c.next.ensures.start
-    ∙ undone_above (g.S.Sats.start c.args.inner.now) c.args.slots.now c.next.new.slots
-    (g.met.S.Sats.fits_hold c.args.inner.now c.args.slots.now c.requires.slots).0 c.next.ensures.above
+    undone_start (g.S.Sats.start c.args.inner.now) (g.S.Sats.start c.next.new.self) c.args.slots.now c.next.new.slots
+    c.next.ensures.start (g.met.S.Sats.fits_hold c.args.inner.now c.args.slots.now c.requires.slots).0
+    c.next.ensures.above
 
 pub returns-in_err-event-clause-noted : goal.returns-in_err-event-clause-noted
 returns-in_err-event-clause-noted g c =
@@ -104,8 +105,8 @@ returns-in_err-event-clause-noted g c =
     let new = c.next.new.cells in
     let mark = g.S.Sats.start c.args.inner.now in
     let start = undone mark c.args.slots.now in
-    let above = (g.met.S.Sats.fits_hold c.args.inner.now c.args.slots.now c.requires.slots).0 in
-    let back = undone_above mark c.args.slots.now c.next.new.slots above c.next.ensures.above in
+    let back = undone_start mark (g.S.Sats.start c.next.new.self) c.args.slots.now c.next.new.slots c.next.ensures.start
+    (g.met.S.Sats.fits_hold c.args.inner.now c.args.slots.now c.requires.slots).0 c.next.ensures.above in
     subst (λ e. All (IsNoted (length new) e) c.args.notes.now.sats.items)
-    (sym back ∙ ap (λ n. undone n c.next.new.slots) (sym c.next.ensures.start))
+    (sym back)
     (noted_grown old new c.next.ensures.cells start c.args.notes.now.sats.items c.requires.noted)

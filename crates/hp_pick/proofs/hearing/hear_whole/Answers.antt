@@ -1,7 +1,7 @@
 use Rattle.std.proofs.Common.{IfOk, length, sym, subst}
 use Rattle.std.specs.List.{All}
 use Rattle.hp_pick.specs.Noted.{IsNoted}
-use Rattle.hp_pick.proofs.HearingLemmas.{below_undone_more}
+use Rattle.hp_pick.proofs.HearingSteps.{below_undone_more}
 use Rattle.hp_pick.proofs.hearing.hear_whole.Goals as goal
 
 pub returns-clause-noted : goal.returns-clause-noted

@@ -4,7 +4,7 @@ use Rattle.hp_syntax.specs.Syntax.{Down, Up}
 use Rattle.hp_syntax.specs.Views.{order_of}
 use Rattle.hp_syntax.specs.Preconditions.{sorts_before, sorted}
 use Rattle.hp_pick.specs.Noted.{entry_of}
-use Rattle.hp_pick.proofs.OrderLemmas.{is_lt-int_cmp, sort_by_order}
+use Rattle.hp_pick.proofs.SortSteps.{is_lt-int_cmp, sort_by_order}
 use Rattle.hp_pick.proofs.hearing.sort.Goals as goal
 
 pub returns-in-Down-clause-sorted : goal.returns-in-Down-clause-sorted

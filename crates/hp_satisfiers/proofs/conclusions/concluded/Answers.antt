@@ -4,7 +4,7 @@ use Rattle.hp_syntax.specs.Events.{concluded}
 use Rattle.hp_syntax.specs.Views.{atom_of}
 use Rattle.hp_eval.specs.GoalViews.{goal_of}
 use Rattle.hp_eval.specs.Slotted.{named, bindings_of}
-use Rattle.hp_eval.proofs.CopyLemmas.{same_below}
+use Rattle.hp_eval.proofs.Copies.{same_below}
 use Rattle.hp_eval.proofs.GrowthLemmas.{grows_self}
 use Rattle.hp_satisfiers.proofs.ConclusionSteps.{concluded_met, concluded_none, concluded_stopped}
 use Rattle.hp_satisfiers.proofs.AnswerLemmas.{finds_same}

@@ -4,7 +4,7 @@ use Rattle.hp_syntax.specs.Goals.{start_goal}
 use Rattle.hp_syntax.specs.Views.{axiom_of}
 use Rattle.hp_eval.specs.GoalViews.{goal_of}
 use Rattle.hp_satisfiers.proofs.AxiomSteps.{new_bind_none}
-use Rattle.hp_satisfiers.proofs.MatchSteps.{binds_vars, match_failed, match_made}
+use Rattle.hp_eval.proofs.SlotLemmas.{binds_vars, match_failed, match_made}
 use Rattle.hp_eval.proofs.GrowthLemmas.{grows_self}
 use Rattle.hp_satisfiers.proofs.conclusions.own_slots.Goals as goal
 

@@ -1,7 +1,7 @@
 use Rattle.std.proofs.Common.{◌+◌, ◌<◌, length, sym, ◌∙◌, subst, arith}
 use Rattle.hp_eval.specs.Slotted.{Binds}
 use Rattle.hp_eval.proofs.SlotLemmas.{binds_bound, binds_through}
-use Rattle.hp_eval.proofs.CopyLemmas.{IsCopiedTo, copied_free, copied_bound, copied_all}
+use Rattle.hp_eval.proofs.Copies.{IsCopiedTo, copied_free, copied_bound, copied_all}
 use Rattle.hp_satisfiers.proofs.listed.fill.Goals as goal
 use Rattle.hp_satisfiers.proofs.listed.fill.Goals.{in-Some, in_default}
 

@@ -1,5 +1,5 @@
 use Rattle.hp_eval.specs.Slotted.{Binds}
-use Rattle.hp_eval.proofs.CopyLemmas.{IsCopiedTo}
+use Rattle.hp_eval.proofs.Copies.{IsCopiedTo}
 use Rattle.hp_satisfiers.proofs.listed.fill.Given as goal
 
 abbrev pub invariant-loop-v : goal.invariant-loop-v

@@ -6,7 +6,7 @@ use Rattle.hp_eval.specs.Slotted.{bindings_of, undone}
 use Rattle.hp_eval.proofs.CellViews.{named_at}
 use Rattle.hp_satisfiers.specs.AnswerViews.{Finds}
 use Rattle.hp_satisfiers.proofs.AnswerLemmas.{finds_same}
-use Rattle.hp_satisfiers.proofs.MatchSteps.{binds_vars, match_failed, match_made}
+use Rattle.hp_eval.proofs.SlotLemmas.{binds_vars, match_failed, match_made}
 use Rattle.hp_satisfiers.proofs.matches.matched.Goals as goal
 
 pub returns-then-not-match_goal-clause-slots : goal.returns-then-not-match_goal-clause-slots

@@ -1,6 +1,6 @@
 use Rattle.std.proofs.lemmas.Result.{IfOk-weaker}
 use Rattle.hp_syntax.specs.Matching.{meet}
-use Rattle.hp_eval.proofs.CopyLemmas.{same_below}
+use Rattle.hp_eval.proofs.Copies.{same_below}
 use Rattle.hp_eval.specs.GoalViews.{term_at}
 use Rattle.std.proofs.Common.{length}
 use Rattle.hp_satisfiers.proofs.MatchSteps.{met_in_copy, none_in_copy}

@@ -3,7 +3,7 @@ use Rattle.hp_syntax.specs.Preconditions.{heard}
 use Rattle.hp_eval.proofs.GrowthLemmas.{grows_self, grows_on}
 use Rattle.hp_satisfiers.specs.AnswerViews.{Finds, FindsUpTo}
 use Rattle.hp_satisfiers.proofs.AnswerLemmas.{upto_none}
-use Rattle.hp_satisfiers.proofs.PreconditionLemmas.{more_left, none_left}
+use Rattle.hp_satisfiers.proofs.PreconditionSteps.{more_left, none_left}
 use Rattle.hp_satisfiers.proofs.preconditions.drained.Goals as goal
 
 pub loop-found-preserved : goal.loop-found-preserved

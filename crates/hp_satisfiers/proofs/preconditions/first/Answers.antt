@@ -3,7 +3,7 @@ use Rattle.std.proofs.lemmas.Result.{IfOk-weaker}
 use Rattle.hp_syntax.specs.Preconditions.{heard, up_to_sat}
 use Rattle.hp_satisfiers.specs.AnswerViews.{Finds, answer_events, AllFit}
 use Rattle.hp_satisfiers.proofs.AnswerLemmas.{finds_same}
-use Rattle.hp_satisfiers.proofs.PreconditionLemmas.{new_vars, first_heard_whole}
+use Rattle.hp_satisfiers.proofs.PreconditionSteps.{new_vars, first_heard_whole}
 use Rattle.hp_eval.proofs.GrowthLemmas.{grows_self}
 use Rattle.hp_eval.specs.Slotted.{no_bindings}
 use Rattle.hp_satisfiers.proofs.preconditions.first.Goals as goal

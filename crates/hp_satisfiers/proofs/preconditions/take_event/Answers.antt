@@ -1,5 +1,5 @@
 use Rattle.std.proofs.Common.{length, sym, ◌∙◌}
-use Rattle.hp_satisfiers.proofs.PreconditionLemmas.{takes_sat, takes_cut, takes_fault, takes_end}
+use Rattle.hp_satisfiers.proofs.PreconditionSteps.{takes_sat, takes_cut, takes_fault, takes_end}
 use Rattle.hp_satisfiers.proofs.preconditions.take_event.Goals as goal
 
 pub returns-in_ok-push-in-Sat-clause-takes : goal.returns-in_ok-push-in-Sat-clause-takes

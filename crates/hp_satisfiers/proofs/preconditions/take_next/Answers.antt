@@ -5,7 +5,7 @@ use Rattle.hp_eval.specs.Events.{left_after}
 use Rattle.hp_satisfiers.specs.AnswerViews.{FindsUpTo}
 use Rattle.hp_satisfiers.specs.Listed.{FindsMore}
 use Rattle.hp_satisfiers.proofs.AnswerLemmas.{upto_grow}
-use Rattle.hp_satisfiers.proofs.PreconditionLemmas.{vars_above}
+use Rattle.hp_satisfiers.proofs.PreconditionSteps.{vars_above}
 use Rattle.hp_satisfiers.proofs.preconditions.take_next.Goals as goal
 
 pub returns-in_err-event-clause-vars : goal.returns-in_err-event-clause-vars

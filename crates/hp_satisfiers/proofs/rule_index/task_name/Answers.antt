@@ -1,8 +1,8 @@
-use Rattle.std.proofs.Common.{ap, sym, ◌∙◌, inl, inr}
+use Rattle.std.proofs.Common.{◌≡◌, None, ap, sym, refl, ◌∙◌}
 use Rattle.std.proofs.lemmas.Option.{slice_get_within}
 use Rattle.hp_eval.specs.GoalViews.{term_at}
 use Rattle.hp_eval.proofs.CellViews.{named_at}
-use Rattle.hp_eval.proofs.AttemptLemmas.{view_nil, view_symbol, view_number, cons_at, whole_at}
+use Rattle.hp_eval.proofs.AttemptLemmas.{without_first, cons_at, whole_at}
 use Rattle.hp_laws.specs.RulesByName.{task_name}
 use Rattle.hp_satisfiers.proofs.rule_index.task_name.Goals as goal
 
@@ -23,10 +23,4 @@ returns-in-Nil c =
     let terms = c.args.cells.now in
     let t = term_at terms c.args.task in
     let shown = c.get.ensures.shows t (named_at terms c.args.task c.requires) in
-    elim c.in-Nil.is [
-      | inl h ↦ sym (ap task_name (view_nil terms c.get.result t shown h))
-      | inr q ↦ elim q [
-        | inl p ↦ sym (ap task_name (view_symbol terms c.get.result t p.0 shown p.1))
-        | inr p ↦ sym (ap task_name (view_number terms c.get.result t p.0 shown p.1))
-      ]
-    ]
+    without_first (λ u. None ≡ task_name u) terms c.get.result t shown c.in-Nil.is refl (λ name. refl) (λ n. refl)

@@ -1,5 +1,5 @@
 use Rattle.std.proofs.Common.{length, ap, arith}
-use Rattle.hp_cells.proofs.InternLemmas.{as_many, read_at}
+use Rattle.hp_cells.proofs.InternSteps.{as_many, read_at}
 use Rattle.hp_cells.proofs.cells.Cells.get.Goals as goal
 
 pub bounds-as_slice-cell-inside : goal.bounds-as_slice-cell-inside

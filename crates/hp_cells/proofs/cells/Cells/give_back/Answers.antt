@@ -1,7 +1,7 @@
 use Rattle.std.proofs.Common.{◌≤◌, length, take, ap, ◌∙◌, arith}
 use Rattle.hp_cells.specs.Keys.{terms_of}
 use Rattle.hp_cells.proofs.KeyLemmas.{terms_of_take}
-use Rattle.hp_cells.proofs.InternLemmas.{as_many, interned_take}
+use Rattle.hp_cells.proofs.InternSteps.{as_many, interned_take}
 use Rattle.hp_cells.proofs.cells.Cells.give_back.Goals as goal
 
 pub invariant_of-self : goal.invariant_of-self

@@ -1,6 +1,6 @@
 use Rattle.std.proofs.Common.{◌+◌, ◌<◌, ◌^◌, length, subst, arith}
 use Rattle.hp_cells.specs.Cells.{AreCells}
-use Rattle.hp_cells.proofs.InternLemmas.{as_many, nesting_of_key, after_insert}
+use Rattle.hp_cells.proofs.InternSteps.{as_many, nesting_of_key, after_insert}
 use Rattle.hp_cells.proofs.cells.Cells.intern.Goals as goal
 
 pub overflow_cast-depth : goal.overflow_cast-depth

@@ -1,5 +1,5 @@
 use Rattle.std.proofs.Common.{sym, ◌∙◌}
-use Rattle.hp_cells.proofs.InternLemmas.{as_many}
+use Rattle.hp_cells.proofs.InternSteps.{as_many}
 use Rattle.hp_cells.proofs.cells.Cells.len.Goals as goal
 
 pub returns-clause-count : goal.returns-clause-count

@@ -1,7 +1,7 @@
 use Rattle.std.proofs.Common.{ap}
 use Rattle.hp_cells.specs.Keys.{terms_of}
 use Rattle.hp_cells.specs.declared.keys.Key.TheVariants.{Nil}
-use Rattle.hp_cells.proofs.InternLemmas.{inserted_first, interned_first}
+use Rattle.hp_cells.proofs.InternSteps.{inserted_first, interned_first}
 use Rattle.hp_cells.proofs.cells.Cells.new.Goals as goal
 
 pub invariant_of-result : goal.invariant_of-result

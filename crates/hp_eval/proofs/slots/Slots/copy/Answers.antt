@@ -1,5 +1,5 @@
 use Rattle.std.proofs.Common.{◌+◌, ◌<◌, length, sym, ◌∙◌, subst, arith}
-use Rattle.hp_eval.proofs.CopyLemmas.{IsCopiedTo, copied_free, copied_bound, copied_all}
+use Rattle.hp_eval.proofs.Copies.{IsCopiedTo, copied_free, copied_bound, copied_all}
 use Rattle.hp_eval.proofs.slots.Slots.copy.Goals as goal
 use Rattle.hp_eval.proofs.slots.Slots.copy.Goals.{in-Some, in_default}
 

@@ -1,4 +1,4 @@
-use Rattle.hp_eval.proofs.CopyLemmas.{IsCopiedTo}
+use Rattle.hp_eval.proofs.Copies.{IsCopiedTo}
 use Rattle.hp_eval.proofs.slots.Slots.copy.Given as goal
 
 abbrev pub invariant-loop-v : goal.invariant-loop-v

@@ -13,7 +13,7 @@ use Rattle.hp_tree.specs.Children.{branch_done}
 use Rattle.hp_tree.proofs.ChildLemmas.{branch_chosen}
 use Rattle.hp_plain.specs.Candidates.{rules_at, nest_at, own_node, place_at}
 use Rattle.hp_plain.proofs.CandidateSteps.{precondition_stays, branch_met, branch_there, finds_below}
-use Rattle.hp_satisfiers.proofs.ChosenLemmas.{chosen_left, chosen_here, chosen_passes}
+use Rattle.hp_satisfiers.proofs.ChosenBranches.{chosen_left, chosen_here, chosen_passes}
 use Rattle.hp_plain.proofs.candidate.Candidate.first_branch.Goals as goal
 
 pub returns-then-not-is_empty-clause-chooses : goal.returns-then-not-is_empty-clause-chooses

@@ -1,14 +1,15 @@
 use Rattle.std.proofs.Common.{◌≡◌, length, sym, subst, refl, rules}
+use Rattle.std.proofs.lemmas.List.{nil_from_length}
 use Rattle.hp_net.specs.Standings.{gone_back}
 use Rattle.hp_plain.specs.Searches.{stands_in, Goes}
-use Rattle.hp_plain.proofs.SearchLemmas.{goes_back, back_at_root, none_from_length}
+use Rattle.hp_plain.proofs.SearchSteps.{goes_back, back_at_root}
 use Rattle.hp_plain.proofs.search.Search.back.Goals as goal
 
 pub returns-in-None : goal.returns-in-None
 returns-in-None c =
     let s = c.args.self.now in
     let few : length s.above.items ≡ 0 = search rules in
-    absurd (c.requires.below (back_at_root s (none_from_length s.above.items few)))
+    absurd (c.requires.below (back_at_root s (nil_from_length s.above.items few)))
 
 pub returns-in-Some : goal.returns-in-Some
 returns-in-Some c =

@@ -5,7 +5,7 @@ use Rattle.hp_plain.specs.declared.search.Search.{Search}
 use Rattle.hp_plain.specs.Searches.{BeginsAt}
 use Rattle.hp_syntax.specs.Checks.{HasFewVariables}
 use Rattle.hp_plain.specs.SearchNodes.{node_in}
-use Rattle.hp_plain.proofs.SearchLemmas.{search_begins, few_axioms}
+use Rattle.hp_plain.proofs.SearchSteps.{search_begins, few_axioms}
 use Rattle.hp_plain.proofs.search.Search.new.Goals as goal
 
 pub new-requires : goal.new-requires

@@ -1,5 +1,5 @@
 use Rattle.std.proofs.Common.{◌≡◌, length, rules}
-use Rattle.hp_plain.proofs.SearchLemmas.{goes_pruned}
+use Rattle.hp_plain.proofs.SearchSteps.{goes_pruned}
 use Rattle.hp_plain.proofs.search.Search.prune.Goals as goal
 
 pub returns : goal.returns

@@ -1,6 +1,6 @@
 use Rattle.std.proofs.Common.{◌∙◌}
 use Rattle.std.proofs.lemmas.Result.{IfOk-weaker}
-use Rattle.hp_plain.proofs.SearchLemmas.{moves_over, moves_on, tree_stays}
+use Rattle.hp_plain.proofs.SearchSteps.{moves_over, moves_on, tree_stays}
 use Rattle.hp_plain.proofs.search.Search.step.Goals as goal
 
 pub returns-then-self-clause-moves : goal.returns-then-self-clause-moves

@@ -22,12 +22,12 @@ use Rattle.hp_laws.specs.RulesByName.{concluding}
 use Rattle.hp_satisfiers.specs.RuleIndexes.{axiom_at}
 use Rattle.hp_satisfiers.specs.Scenes.{rules_in, axioms_in, stage_in, state_in, below_at, placed_events}
 use Rattle.hp_eval.proofs.GoalViewLemmas.{goal_below_grows, goal_stays}
-use Rattle.hp_satisfiers.proofs.AnswerLemmas.{finds_none, sat_replaced, cut_replaced, fault_replaced, fits_below, fits_grow, stage_below_grows, state_stays, item_holds, sat_fits}
+use Rattle.hp_satisfiers.proofs.AnswerLemmas.{finds_none, finds_vars, sat_replaced, cut_replaced, fault_replaced, fits_below, fits_grow, stage_below_grows, state_stays, item_holds, sat_fits}
 use Rattle.hp_satisfiers.proofs.Sizes.{size, sizes, left_to_do, less_to_do_below, branch_size, size_of-atom, size_of-and, size_of-or, size_of-not, size_of-forall, part_size}
 use Rattle.hp_satisfiers.proofs.SearchSteps.{sat_of-atom, sat_of-and, sat_of-or, sat_of-not, sat_of-forall, sat_of-assign, sat_of-call, forall_sat, all_of, all_begin, all_go_on, all_end, any_of, any_end}
 use Rattle.hp_satisfiers.proofs.AxiomSteps.{goal_begins, axioms_end, placed_axiom, few_at, axiom_among, axiom_unstarted, axiom_started, some_met, none_met}
-use Rattle.hp_satisfiers.proofs.ChosenLemmas.{chosen_left, chosen_here, chosen_passes}
-use Rattle.hp_satisfiers.proofs.SceneGrowth.{turned_sat, turned_stays, sat_stays, turn_gives, negation_gives, finds_vars}
+use Rattle.hp_satisfiers.proofs.ChosenBranches.{chosen_left, chosen_here, chosen_passes}
+use Rattle.hp_satisfiers.proofs.SceneGrowth.{turned_sat, turned_stays, sat_stays, turn_gives, negation_gives}
 use Rattle.hp_laws.proofs.HeardAlikeLemmas.{alike_through}
 use Rattle.hp_satisfiers.proofs.HeardLemmas.{hears_found, hears_begin, hears_same, hears_vars, hears_all, hears_over, hears_replaced_all}
 use Rattle.hp_satisfiers.proofs.HeardSteps.{any_next, each_next, goal_next}
@@ -826,7 +826,7 @@ axiom_events-returns-in_ok-found-in-Some-started-clause-cells t c =
     grows_on old new c.conclusions.new.cells
     (grows_on old mid new c.own_slots.ensures.cells c.branch_events.ensures.cells) c.conclusions.ensures.cells
 
--- ---- what an expression meets fits, and only adds cells
+-- ---- answers fit, and cells are only added
 
 pub events-returns-in-Atom-clause-fit : goal.events-returns-in-Atom-clause-fit
 events-returns-in-Atom-clause-fit t c =
@@ -941,7 +941,7 @@ all_events-returns-in_err-found-clause-cells t c = grows_self c.args.cells.now
 pub goal_events-returns-in_err-found-clause-cells : goal.goal_events-returns-in_err-found-clause-cells
 goal_events-returns-in_err-found-clause-cells t c = grows_self c.args.cells.now
 
--- ---- where one call is all
+-- ---- functions of one call
 
 pub forall_events-returns-in_err-found-clause-cells : goal.forall_events-returns-in_err-found-clause-cells
 forall_events-returns-in_err-found-clause-cells t c = c.events.ensures.cells

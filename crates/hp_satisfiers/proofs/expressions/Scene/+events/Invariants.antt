@@ -13,7 +13,7 @@ use Rattle.hp_satisfiers.specs.Scenes.{rules_in, axioms_in, state_in, atoms_at, 
 use Rattle.hp_satisfiers.proofs.Sizes.{size, sizes, left_to_do}
 use Rattle.hp_satisfiers.proofs.expressions.Scene.+events.Given as goal
 
--- ---- by what the calls end
+-- ---- the measures of the calls
 
 abbrev pub decreases-events : goal.decreases-events
 decreases-events l = left_to_do (axioms_in l.self.now) l.level (8 * size (expression_of l.expr.now))
@@ -47,7 +47,7 @@ decreases-axiom_events l = left_to_do (axioms_in l.self.now) l.level 5
 abbrev pub decreases-branch_events : goal.decreases-branch_events
 decreases-branch_events l = left_to_do (axioms_in l.self.now) l.level 4
 
--- ---- what loops keep
+-- ---- the invariants of the loops
 
 abbrev pub invariant-all_events-loop-part : goal.invariant-all_events-loop-part
 invariant-all_events-loop-part l =

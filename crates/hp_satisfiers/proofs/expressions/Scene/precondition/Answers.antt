@@ -6,8 +6,8 @@ use Rattle.hp_syntax.specs.Views.{key_of, expression_of}
 use Rattle.hp_eval.specs.Slotted.{bindings_of}
 use Rattle.hp_satisfiers.specs.AnswerViews.{Hears, AllFit}
 use Rattle.hp_satisfiers.specs.Scenes.{axioms_in, state_in}
-use Rattle.hp_satisfiers.proofs.AnswerLemmas.{finds_same}
-use Rattle.hp_satisfiers.proofs.PreconditionLemmas.{plain_events, first_events, ordered_events, finds_vars}
+use Rattle.hp_satisfiers.proofs.AnswerLemmas.{finds_same, finds_vars}
+use Rattle.hp_satisfiers.proofs.PreconditionSteps.{plain_events, first_events, ordered_events}
 use Rattle.hp_eval.proofs.GrowthLemmas.{grows_on}
 use Rattle.hp_satisfiers.proofs.expressions.Scene.precondition.Goals as goal
 
@@ -71,7 +71,8 @@ returns-in_ok-found-in-Sorted-clause-cells c =
 pub first-requires-clause-fit : goal.first-requires-clause-fit
 first-requires-clause-fit c =
     let n = length c.events-in-First.new.cells in
-    subst (λ m. AllFit m n c.in_ok-found-in-First.found.items) (sym c.vars.ensures.vars) c.in_ok-found-in-First.ensures.fit
+    subst (λ m. AllFit m n c.in_ok-found-in-First.found.items) (sym c.vars.ensures.vars)
+    c.in_ok-found-in-First.ensures.fit
 
 pub sorted-requires-clause-fit : goal.sorted-requires-clause-fit
 sorted-requires-clause-fit c =

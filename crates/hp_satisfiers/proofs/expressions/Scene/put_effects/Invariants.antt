@@ -4,7 +4,7 @@ use Rattle.hp_eval.specs.Slotted.{bindings_of}
 use Rattle.hp_world.specs.Stages.{changes_of}
 use Rattle.hp_satisfiers.specs.Scenes.{axioms_in, state_in}
 use Rattle.hp_effect.proofs.GatheringLemmas.{Along}
-use Rattle.hp_satisfiers.proofs.EffectLemmas.{list_going}
+use Rattle.hp_satisfiers.proofs.EffectSteps.{list_going}
 use Rattle.hp_satisfiers.proofs.expressions.Scene.put_effects.Given as goal
 
 abbrev pub invariant-loop-effect : goal.invariant-loop-effect

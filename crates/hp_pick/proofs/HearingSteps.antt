@@ -1,8 +1,8 @@
 -- Notes while cells grow and further events are heard.
 use Rattle.std.proofs.Common.{◌≡◌, ℕ, ◌≤◌, Bool, true, false, cond, ℤ, List, [], ◌∷◌, ◌++◌, ◌||◌, map, length, Result, Ok, Err, refl, sym, ◌∙◌, ap, ap₂, subst, arith}
 use Rattle.std.specs.List.{All}
-use Rattle.std.proofs.lemmas.List.{append-nil, length-take-le}
-use Rattle.std.proofs.lemmas.List.Elements.{All-head, All-tail, All-weaker}
+use Rattle.std.proofs.lemmas.List.{append-nil}
+use Rattle.std.proofs.lemmas.List.Elements.{All-weaker}
 use Rattle.hp_syntax.specs.Terms.{Term}
 use Rattle.hp_syntax.specs.Syntax.{Order}
 use Rattle.hp_syntax.specs.Values.{Bindings}
@@ -10,21 +10,18 @@ use Rattle.hp_syntax.specs.Events.{Sat, Cut}
 use Rattle.hp_syntax.specs.Preconditions.{Keyed, Keys, NoKey, sorts_before, sorted, sorted_events}
 use Rattle.hp_eval.specs.declared.event.EvalStop.{EvalStop}
 use Rattle.hp_eval.specs.declared.event.EvalStop.TheVariants as stops
-use Rattle.hp_eval.specs.Slotted.{Slotted, slotted, AreBelow, Binds, undone}
+use Rattle.hp_eval.specs.Slotted.{Slotted, slotted, AreBelow, undone}
 use Rattle.hp_eval.specs.Growth.{Grows}
 use Rattle.hp_eval.proofs.SlotLemmas.{below_undone}
-use Rattle.hp_eval.proofs.GrowthLemmas.{bindings_stay, below_grows}
+use Rattle.hp_eval.proofs.GrowthLemmas.{kept_agree, below_grows}
 use Rattle.hp_pick.specs.declared.noted.Noted.{Noted}
 use Rattle.hp_pick.specs.declared.noted.NotedSats.{NotedSats}
 use Rattle.hp_eval.specs.Events.{PlainEvent}
 use Rattle.hp_pick.specs.Noted.{IsNoted, entry_of, noted_events, with_notes, HearsOn, Hears, HearsInOrder}
-
--- bindings that stand above those of a mark are undone to these
-pub undone_above : (n : ℕ) (e f : Slotted) → n ≤ length e.trail → Binds (undone n e) f → undone n f ≡ undone n e
-undone_above n e f h b = ap (λ m. undone m f) (sym (length-take-le n e.trail h)) ∙ b.undoes
+use Rattle.hp_pick.specs.SortedLaws.{entries_agree}
 
 module _ (c d : List Term) (g : Grows c d) (start : Slotted) where
-  -- what is noted stays so while cells are added
+  -- noted satisfiers stay so while cells are added
   pub noted_grown : (ns : List Noted) → All (IsNoted (length c) start) ns → All (IsNoted (length d) start) ns
   noted_grown ns h =
       All-weaker (IsNoted (length c) start) (IsNoted (length d) start)
@@ -35,13 +32,10 @@ module _ (c d : List Term) (g : Grows c d) (start : Slotted) where
       })
       ns h
 
-  -- what noted cells name stays while cells are added
+  -- entries stay while cells are added
   entries_stay : (ns : List Noted) → All (IsNoted (length c) start) ns → map (entry_of d) ns ≡ map (entry_of c) ns
-  entries_stay [] h = refl
-  entries_stay (n ∷ ns) h =
-      let p = All-head (IsNoted (length c) start) n ns h in
-      ap₂ (λ e es. (n.number, e) ∷ es) (bindings_stay c d g (slotted n.values.items []) p.below)
-      (entries_stay ns (All-tail (IsNoted (length c) start) n ns h))
+  entries_stay ns h =
+      sym (entries_agree c d (length c) start ns h (kept_agree c d g (length c) (omega arith)))
 
   -- notes give the same over cells that were added to
   pub with_notes_grown : (notes : NotedSats) (k : Keyed) → All (IsNoted (length c) start) notes.sats.items
@@ -50,13 +44,13 @@ module _ (c d : List Term) (g : Grows c d) (start : Slotted) where
   with_notes_grown notes (Keys xs cut) h =
       ap (λ es. Keys (es ++ xs) (notes.cut || cut)) (entries_stay notes.sats.items h)
 
--- with no notes a list gives what it gives
+-- with no notes the entries of a list are its own
 pub with_no_notes : (c : List Term) (notes : NotedSats) (k : Keyed) → notes.sats.items ≡ [] → notes.cut ≡ false
     → with_notes c notes k ≡ k
 with_no_notes c notes (NoKey f) h q = refl
 with_no_notes c notes (Keys xs cut) h q = ap₂ (λ ns b. Keys (map (entry_of c) ns ++ xs) (b || cut)) h q
 
--- an event is heard of what equals the whole, and what equals the remainder is left
+-- an event is heard of an equal whole, and an equal remainder is left
 pub hears_same : (r : Result Bool EvalStop) (v w k l alone : Keyed) → v ≡ w → l ≡ k → HearsOn r v k alone
     → HearsOn r w l alone
 hears_same (Ok true) v w k l alone p q h = sym p ∙ (h ∙ sym q)
@@ -75,7 +69,7 @@ pub stops_in_order : (c : List Term) (order : Order) (e : EvalStop) (k : Keyed) 
 stops_in_order c order (stops.Fault f) k h = ap (sorted_events order) h
 stops_in_order c order stops.NoMemory k h = tt
 
--- what was heard of a whole list is given in order, where its satisfiers were put in order
+-- a whole list that was heard is given in order, where its satisfiers were put in order
 pub heard_in_order : (c : List Term) (order : Order) (notes : NotedSats) (k : Keyed) (ns : List Noted)
     → k ≡ with_notes c notes (Keys [] false)
     → map (entry_of c) ns ≡ sorted (sorts_before order) (map (entry_of c) notes.sats.items)

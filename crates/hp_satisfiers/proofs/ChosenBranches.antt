@@ -1,4 +1,4 @@
--- The first of some branches that meets anything.
+-- The first of some branches that has events.
 use Rattle.std.proofs.Common.{◌≡◌, ℕ, ◌+◌, ◌<◌, List, [], ◌∷◌, length, map, drop, get_or, Option, Some, refl, ap, arith}
 use Rattle.hp_syntax.specs.Events.{Event, chosen, chosen_or}
 use Rattle.hp_eval.proofs.Loops.{left_more}

@@ -1,4 +1,4 @@
--- Starting a head for a goal: by the kinds of its parts, one part after the other, and what stands behind them.
+-- Starting a head for a goal: by the kinds of its parts, one part after the other, and behind them.
 use Rattle.std.proofs.Common.{◌≡◌, ℕ, suc, ◌+◌, ◌<◌, ◌≤◌, true, false, List, [], ◌∷◌, ◌++◌, length, drop, get_or, Option, Some, None, option_map, ℤ, ◌⊎◌, inl, inr, slice_get, refl, sym, ◌∙◌, ap, subst, arith}
 use Rattle.std.specs.Prelude.{Vec, is_some, ◌==◌}
 use Rattle.std.specs.Global.{Global}
@@ -58,7 +58,7 @@ starts_free terms p f v b h = ap (λ g. start p g b) (ap (filled_of terms) h ∙
     by (Listing s ps tail) = refl
     by (Call s name args) = refl
 
--- what a pattern starts for is told by what it and the part stand for
+-- equal patterns start alike for a list that isn't ground
 starts_as : (terms : List Term) (p q : Pattern) (f : Filled) (parts : Vec Filled Global) (free : Option ℕ)
     (b : Bindings) → p ≡ q → f ≡ filled.List parts free
     → start p (filled_of terms f) b ≡ start q (Partly (fillings_of terms parts.items) free) b
@@ -177,7 +177,7 @@ starts_rest old terms parts own fs free i b g h e =
     (sym (fillings_grow old terms (drop (length parts) fs) g
     (All-drop (λ f. is_below (length old) f ≡ true) (length parts) fs h))))
 
--- ---- what stands behind the parts of the head
+-- ---- behind the parts of the head
 
 -- a number and one isn't none
 some_left : (n : ℕ) → (suc n == 0) ≡ false
@@ -273,8 +273,8 @@ last_below n fs f gs e h =
     All-contains (λ g. is_below n g ≡ true) (fs ++ f ∷ []) f (subst (AreFilledBelow n) e h) (Contains-push fs f)
 
 -- those before the last part are below a count where all are
-pub front_below : (n : ℕ) (fs : List Filled) (f : Filled) (gs : List Filled) → gs ≡ fs ++ f ∷ [] → AreFilledBelow n gs
+pub prefix_below : (n : ℕ) (fs : List Filled) (f : Filled) (gs : List Filled) → gs ≡ fs ++ f ∷ [] → AreFilledBelow n gs
     → AreFilledBelow n fs
-front_below n fs f gs e h =
+prefix_below n fs f gs e h =
     subst (AreFilledBelow n) (take_at fs (f ∷ []) (length fs) refl)
     (All-take (λ g. is_below n g ≡ true) (length fs) (fs ++ f ∷ []) (subst (AreFilledBelow n) e h))

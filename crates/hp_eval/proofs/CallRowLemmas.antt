@@ -40,7 +40,7 @@ module _ (f : ℤ → ℤ → ℤ) (s : Span) (ns : List ℤ) (i : ℕ) (m n : �
       by_case v true h = absurd (cc)
       by_case v false h = let same : e ≡ fault_at Overflow s = cc in ap Err same
 
--- ---- how far a number is from 0
+-- ---- absolute values
 
 -- the opposite of a number that fits, fits where the number's size does
 opposite_fits : (n : ℤ) → FitsSigned w64 n → FitsSigned w64 (neg_ℤ n) → FitsSigned w64 (pos (unsigned_abs n))
@@ -103,7 +103,7 @@ numbers_called_are f ts s ns ms same h = by_function f ∙ ap (numbers_called f 
 
 -- ---- the call of a name
 
--- what a row gives is what the call of its name gives
+-- the value of a row is that of the call of its name
 pub named_call : (name : List ℕ) (ts : Terms) (s : Span) (r : Row) → r ≡ row name → called r ts s ≡ call name ts s
 unfolding call
 named_call name ts s r h = ap (λ q. called q ts s) h

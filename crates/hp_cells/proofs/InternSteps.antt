@@ -131,7 +131,7 @@ module _ {keys : List Key} {depths : List ℕ} (all : AreInterned keys depths) w
           few = (let l = length_push keys key in omega arith);
         }
 
-    -- what interning leaves, where the key was among the others or not
+    -- the keys once one is interned, where it was among the others or not
     abbrev Interned : ℕ → Bool → Type 0
     Interned place was =
         let after : List Key = if was then keys else keys ++ key ∷ [] in
@@ -178,7 +178,7 @@ after_insert {before} {after} {depths} {held} {noted} {terms} {added} {depth} {p
     notes ∙ (λ i. if new i then keeps i ++ depth_is i ∷ [] else keeps i) in
     (rw (inserted, noted_is) p.0, subst (λ ts. Interns t place ts (terms_of after)) view (rw inserted p.1))
 
--- what is read at a place is a key that names only cells before it, and that stands for the term there
+-- the key at a place names only cells before it, and stands for the term there
 pub read_at : {keys items : List Key} {depths : List ℕ} {terms : List Term} {cell place : ℕ} {key : Key}
     → AreInterned keys depths → terms_of keys ≡ terms → items ≡ keys → place ≡ cell → cell < length terms
     → key ≡ get_or items place key

@@ -1,4 +1,4 @@
--- A list that grows at its front.
+-- A list to which first parts are added.
 use Rattle.std.proofs.Common.{◌≡◌, ℕ, ◌<◌, Bool, true, false, cond, List, [], ◌∷◌, ◌++◌, length, map, slice_get, Some, Result, Ok, Err, refl, ap, ap₂, sym, ◌∙◌, subst}
 use Rattle.std.specs.List.{All}
 use Rattle.std.specs.Result.{IfOk, OnErr}
@@ -27,11 +27,6 @@ pub intern_grows : {E : Type 0} (t : Term) (old new : List Term) (r : Result ℕ
 intern_grows t old new (Ok cell) ok err = interns_grows t cell old new ok
 intern_grows t old new (Err e) ok err = grows_same old new err
 
--- a list without elements is empty
-pub no_element : {X : Type 0} (xs : List X) → length xs ≡ 0 → xs ≡ []
-no_element [] h = refl
-no_element (x ∷ xs) h = absurd (cc)
-
 -- the last of the cells, put in front of the list
 module _ (old new : List Term) (before after : List ℕ) (part list cell : ℕ) (us : Terms)
     (items : before ≡ after ++ part ∷ []) (below : All (λ c. c < length old) before)
@@ -50,7 +45,7 @@ module _ (old new : List Term) (before after : List ℕ) (part list cell : ℕ) 
   pub list_grows : Grows old new
   list_grows = interns_grows (Listed (More (term_at old part) us)) cell old new interned_list
 
-  -- what is left in front of the longer list is what was in front of the list
+  -- the cells that are left in front of the longer list are those in front of the list
   pub onto_same : (vs : Terms) → slice_get new cell ≡ Some (Listed vs)
       → onto (map (term_at new) after) vs ≡ onto (map (term_at old) before) us
   onto_same vs h =

@@ -1,4 +1,4 @@
--- Where a search goes.
+-- The calls of a search, step by step.
 use Rattle.std.proofs.Common.{◌≡◌, ℕ, suc, ◌+◌, ◌-◌, ◌^◌, ◌<◌, ◌≤◌, min, Bool, true, false, List, [], ◌∷◌, ◌++◌, length, map, reverse, take, Option, Some, None, option_map, refl, sym, ◌∙◌, ap, ap₂, subst, arith}
 use Rattle.std.specs.Prelude.{Vec}
 use Rattle.std.specs.Global.{Global}
@@ -7,6 +7,7 @@ use Rattle.std.proofs.lemmas.List.{append-nil, drop_all, length-append, map-appe
 use Rattle.std.proofs.Math.Seq.{take-append_seam}
 use Rattle.hp_laws.proofs.JoinLemmas.{all_left, all_right}
 use Rattle.std.proofs.lemmas.List.Elements.{All-nil, All-cons, All-append, All-head, All-tail, All-weaker, All-same}
+use Rattle.hp_syntax.specs.declared.limits.TheConstants.{MOST_VARIABLES}
 use Rattle.hp_syntax.specs.Checks.{HasFewVariables}
 use Rattle.hp_syntax.specs.Syntax.{Rule, Does, Refines, Concludes}
 use Rattle.hp_syntax.specs.Terms.{Term}
@@ -67,17 +68,17 @@ module _ (rules : List Rule) (nest : ℕ) (old new : List Term) (g : Grows old n
         (level_stays f h)) h.dids;
   }
 
-  levels_stay_front : (fs : List Frame) → All (IsFrame rules nest old) fs
+  each_level_stays : (fs : List Frame) → All (IsFrame rules nest old) fs
       → map (level_of rules nest new) fs ≡ map (level_of rules nest old) fs
-  levels_stay_front [] h = refl
-  levels_stay_front (f ∷ fs) h =
+  each_level_stays [] h = refl
+  each_level_stays (f ∷ fs) h =
       ap₂ ◌∷◌ (level_stays f (All-head (IsFrame rules nest old) f fs h))
-      (levels_stay_front fs (All-tail (IsFrame rules nest old) f fs h))
+      (each_level_stays fs (All-tail (IsFrame rules nest old) f fs h))
 
   -- frames are the same levels
   pub levels_stay : (fs : List Frame) → All (IsFrame rules nest old) fs
       → levels_of rules nest new fs ≡ levels_of rules nest old fs
-  levels_stay fs h = ap reverse (levels_stay_front fs h)
+  levels_stay fs h = ap reverse (each_level_stays fs h)
 
 -- frames with one more are levels, of which that is the nearest
 pub levels_push : (rules : List Rule) (nest : ℕ) (terms : List Term) (fs : List Frame) (f : Frame)
@@ -340,8 +341,8 @@ moves_over s h over =
 -- ---- the other calls
 
 -- all but the last of a list with one more
-front_push : {X : Type 0} (xs : List X) (x : X) → take (length (xs ++ x ∷ []) - 1) (xs ++ x ∷ []) ≡ xs
-front_push xs x =
+prefix_push : {X : Type 0} (xs : List X) (x : X) → take (length (xs ++ x ∷ []) - 1) (xs ++ x ∷ []) ≡ xs
+prefix_push xs x =
     let l = length-append xs (x ∷ []) in
     let n : length (xs ++ x ∷ []) - 1 ≡ length xs = omega (arith, l) in
     ap (λ k. take k (xs ++ x ∷ [])) n ∙ take-append_seam xs (x ∷ [])
@@ -353,7 +354,7 @@ pub goes_back : (s : Search) → IsSearch s
     → path.items ≡ take (length s.path.items - 1) s.path.items
     → next_below (stands_in s).path (stands_in s).rest ≡ None
     → Goes s (gone_back (stands_in s)) (record s { top = f; above = above; path = path; at_did = false })
-goes_back s h f fs above path pushed is front e =
+goes_back s h f fs above path pushed is shorter e =
     let rules = rules_in_search s in
     let l = level_of rules s.nest s.cells f in
     let ls = levels_of rules s.nest s.cells fs in
@@ -379,9 +380,9 @@ goes_back s h f fs above path pushed is front e =
                 (all_left (IsFrame rules s.nest s.cells) fs (f ∷ []) frames);
             stack = subst (IsStack rules s.nest) (sym stack) leads.stack;
             path =
-                front
+                shorter
                 ∙ (ap (λ xs. take (length xs - 1) xs) told_is
-                ∙ (front_push (told (path_to rules s.nest ls)) (min (given_at rules s.nest l - 1) (2 ^ 64 - 1))
+                ∙ (prefix_push (told (path_to rules s.nest ls)) (min (given_at rules s.nest l - 1) (2 ^ 64 - 1))
                 ∙ ap (λ ks. told (path_to rules s.nest ks)) (sym same)));
             few = h.few;
           };
@@ -440,12 +441,7 @@ goes_pruned s h did n is =
           };
     }
 
--- a list of no elements is empty
-pub none_from_length : {X : Type 0} (xs : List X) → length xs ≡ 0 → xs ≡ []
-none_from_length [] e = refl
-none_from_length (x ∷ xs) e = absurd (omega arith)
-
--- ---- how a search begins
+-- ---- the beginning of a search
 
 begin_stack : (rules : List Rule) (nest : ℕ) (n : Node)
     → IsStack rules nest (stack_by (level_by n (successors rules nest n)) [] false false)
@@ -495,9 +491,9 @@ search_begins s node fits opens few above path did on =
 
 -- where rules have few variables, axioms do
 pub few_axioms : (rules : List Rule) → All HasFewVariables rules → AreFew (axioms_of rules)
-few_axioms [] h = All-nil (λ x. length x.vars ≤ 256)
+few_axioms [] h = All-nil (λ x. length x.vars ≤ MOST_VARIABLES)
 few_axioms (Does o ∷ rs) h = few_axioms rs (All-tail HasFewVariables (Does o) rs h)
 few_axioms (Refines m ∷ rs) h = few_axioms rs (All-tail HasFewVariables (Refines m) rs h)
 few_axioms (Concludes x ∷ rs) h =
-    All-cons (λ x. length x.vars ≤ 256) x (axioms_of rs) (All-head HasFewVariables (Concludes x) rs h)
+    All-cons (λ x. length x.vars ≤ MOST_VARIABLES) x (axioms_of rs) (All-head HasFewVariables (Concludes x) rs h)
     (few_axioms rs (All-tail HasFewVariables (Concludes x) rs h))

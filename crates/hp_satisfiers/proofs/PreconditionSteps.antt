@@ -1,4 +1,4 @@
--- What is heard of lists, and events that are taken one by one.
+-- Heard prefixes of lists, and events that are taken one by one.
 use Rattle.std.proofs.Common.{append_assoc, ◌≡◌, ℕ, ◌+◌, ◌<◌, ◌≤◌, Bool, true, false, cond, ℤ, List, [], ◌∷◌, ◌++◌, length, map, take, drop, get_or, Option, None, refl, sym, ◌∙◌, ap, subst, arith}
 use Rattle.std.proofs.lemmas.List.{length-replicate, map-append, append-nil, length-take-le, take_more, take_all, drop_all}
 use Rattle.std.proofs.lemmas.List.Elements.{All-take}
@@ -18,7 +18,7 @@ use Rattle.hp_eval.specs.declared.event.Event.TheVariants as events
 use Rattle.hp_eval.specs.Events.{event_of, left_after, AreOfFirst}
 use Rattle.hp_satisfiers.specs.Listed.{FindsMore}
 use Rattle.hp_satisfiers.proofs.AnswerLemmas.{finds_one, finds_same, finds_copy, upto_more, upto_all}
-use Rattle.hp_satisfiers.proofs.MatchSteps.{binds_vars}
+use Rattle.hp_eval.proofs.SlotLemmas.{binds_vars}
 use Rattle.hp_syntax.specs.declared.fault.RunFault.{RunFault}
 use Rattle.hp_eval.proofs.Loops.{left_more}
 use Rattle.hp_satisfiers.specs.declared.answer.Answer.{Answer}
@@ -26,17 +26,17 @@ use Rattle.hp_satisfiers.specs.declared.answer.Answer.TheVariants.{Sat, Cut, Fau
 use Rattle.hp_satisfiers.specs.AnswerViews.{answer_event, answer_events, Fits, Finds, FindsUpTo, Hears}
 
 module _ (terms : List Term) (found : List Answer) (i : ℕ) where
-  -- the front with the next behind it
-  front_more : (x : Answer) → i < length found → x ≡ get_or found i x
+  -- the events of a prefix grow by the next
+  prefix_more : (x : Answer) → i < length found → x ≡ get_or found i x
       → answer_events terms (take (i + 1) found) ≡ answer_events terms (take i found) ++ answer_event terms x ∷ []
-  front_more x l is =
+  prefix_more x l is =
       ap (answer_events terms) (take_more found i x l)
       ∙ (map-append (answer_event terms) (take i found) (get_or found i x ∷ [])
       ∙ ap (λ y. answer_events terms (take i found) ++ answer_event terms y ∷ []) (sym is))
 
   module _ (whole : List Event)
       (so_far : whole ≡ answer_events terms (take i found) ++ heard (answer_events terms (drop i found))) where
-    -- what is left begins with the next
+    -- the events that are left begin with the next
     next_left : (x : Answer) → i < length found → x ≡ get_or found i x
         → whole
         ≡ answer_events terms (take i found)
@@ -50,12 +50,12 @@ module _ (terms : List Term) (found : List Answer) (i : ℕ) where
         → answer_events terms (take (i + 1) found) ≡ whole
     heard_fault x f l is fault =
         let rest = answer_events terms (drop (i + 1) found) in
-        front_more x l is
+        prefix_more x l is
         ∙ ap (λ y. answer_events terms (take i found) ++ answer_event terms y ∷ []) fault
         ∙ sym (next_left x l is
         ∙ ap (λ y. answer_events terms (take i found) ++ heard (answer_event terms y ∷ rest)) fault)
 
-    -- behind what is no fault the list is heard on
+    -- behind an answer that is no fault the list is heard on
     pub heard_more : (x : Answer) → i < length found → x ≡ get_or found i x → ((f : RunFault) → x ≡ Fault f → ⊥)
         → whole ≡ answer_events terms (take (i + 1) found) ++ heard (answer_events terms (drop (i + 1) found))
     heard_more x l is sound =
@@ -63,7 +63,7 @@ module _ (terms : List Term) (found : List Answer) (i : ℕ) where
         next_left x l is
         ∙ ap (λ ys. answer_events terms (take i found) ++ ys) (first_heard x rest sound)
         ∙ (sym (append_assoc (answer_events terms (take i found)) (answer_event terms x ∷ []) (heard rest))
-        ∙ ap (λ ys. ys ++ heard rest) (sym (front_more x l is)))
+        ∙ ap (λ ys. ys ++ heard rest) (sym (prefix_more x l is)))
       where
         first_heard : (y : Answer) (ys : List Event) → ((f : RunFault) → y ≡ Fault f → ⊥)
             → heard (answer_event terms y ∷ ys) ≡ answer_event terms y ∷ heard ys
@@ -79,7 +79,7 @@ module _ (terms : List Term) (found : List Answer) (i : ℕ) where
         ∙ (ap (λ xs. answer_events terms (take i found) ++ heard (answer_events terms xs)) (drop_all i found l)
         ∙ append-nil (answer_events terms (take i found))))
 
--- what is heard of a list is a front of it
+-- the heard prefix of a list stands for the heard events
 pub heard_found : (terms : List Term) (vars n : ℕ) (found : List Answer) (events : List Event)
     → answer_events terms (take n found) ≡ heard (answer_events terms found) → Hears terms vars found events
     → Finds terms vars (take n found) (heard events)
@@ -157,15 +157,15 @@ pub more_left : (terms : List Term) (vars : ℕ) (found : List Answer) (whole : 
 more_left terms vars found whole more left is h =
     subst (λ b. FindsMore terms vars found whole b left) is h
 
--- where no more come, what is found is the whole
+-- where no more come, the answers stand for the whole
 pub none_left : (terms : List Term) (vars : ℕ) (found : List Answer) (whole : List Event) (more : Bool)
     (left : List Event) → more ≡ false → FindsMore terms vars found whole more left → Finds terms vars found whole
 none_left terms vars found whole more left is h =
     subst (λ b. FindsMore terms vars found whole b left) is h
 
--- ---- what is heard of what was heard
+-- ---- heard lists of heard ones
 
--- what is heard up to the first Sat is heard whole
+-- a heard list up to its first Sat is heard whole
 pub first_heard_whole : (xs : List Event) → heard (up_to_sat (heard xs)) ≡ up_to_sat (heard xs)
 first_heard_whole [] = refl
 first_heard_whole (plain.Sat e ∷ xs) = refl
@@ -180,7 +180,7 @@ sats_heard [] true = refl
 sats_heard [] false = refl
 sats_heard (x ∷ xs) cut = ap (λ ys. plain.Sat x.1 ∷ ys) (sats_heard xs cut)
 
--- what is heard in order is heard whole
+-- a list in order is heard whole
 pub sorted_heard_whole : (order : Order) (k : Keyed) → heard (sorted_events order k) ≡ sorted_events order k
 sorted_heard_whole order (NoKey f) = refl
 sorted_heard_whole order (Keys xs cut) = sats_heard (sorted (sorts_before order) xs) cut
@@ -207,8 +207,3 @@ module _ (axioms : List Axiom) (nest : ℕ) (s : State) (pre : Pre) (e : Binding
       ≡ precondition_events axioms nest s (precondition_of pre) e
   unfolding precondition_events
   ordered_events k x h = ap (λ p. precondition_events axioms nest s (precondition_of p) e) (sym h)
-
--- what fits slots of so many variables fits as many
-pub finds_vars : (terms : List Term) (m n : ℕ) (found : List Answer) (events : List Event) → m ≡ n
-    → Finds terms m found events → Finds terms n found events
-finds_vars terms m n found events e h = subst (λ k. Finds terms k found events) e h

@@ -1,4 +1,4 @@
--- What effects come to, one after another.
+-- Outcomes of effects, one after another.
 use Rattle.std.specs.Prelude.{Vec}
 use Rattle.std.specs.Global.{Global}
 use Rattle.std.proofs.Common.{◌≡◌, ℕ, ℤ, ◌+◌, ◌<◌, List, [], length, map, drop, get_or, Err, refl, sym, ◌∙◌, ap, ap₂, subst}
@@ -23,14 +23,14 @@ use Rattle.hp_eval.proofs.Loops.{left_more}
 use Rattle.hp_world.specs.Stages.{Stage, StageBelow, state_of}
 use Rattle.hp_effect.specs.declared.side.Side.TheVariants.{Deletes, Adds}
 use Rattle.hp_effect.specs.declared.obstacle.Obstacle.{Obstacle}
-use Rattle.hp_effect.specs.declared.obstacle.Obstacle.TheVariants.{Cut, Fault, NoMemory}
 use Rattle.hp_effect.specs.Costs.{Costs}
 use Rattle.hp_effect.specs.Gathering.{obstacle_of, with_gathered, both, each_going, StopsHere}
+use Rattle.hp_effect.proofs.GatheringLemmas.{stops_go, stops_same}
 use Rattle.hp_satisfiers.proofs.AnswerLemmas.{state_stays}
 
 -- ---- lists of effects
 
--- what a list of effects comes to
+-- the outcome of a list of effects
 abbrev pub list_going : List Axiom → ℕ → State → Bindings → List public_effect.Effect → Going Gathered
 list_going axioms nest s e effects = effects_values axioms nest s (map effect_of effects) e
 
@@ -50,24 +50,13 @@ each_effect axioms nest s e x vars expr atoms h = ap (λ y. effect_values axioms
 
 -- ---- an operator's effects and its cost
 
--- what stops stops what would go on
-stops_go : {A B : Type 0} (obstacle : Obstacle) (x : Going A) (f : A → Going B) → StopsHere obstacle x
-    → StopsHere obstacle (and_go x f)
-stops_go Cut x f h = ap (λ y. and_go y f) h
-stops_go (Fault k) x f h = ap (λ y. and_go y f) h
-stops_go NoMemory x f h = tt
-
--- the same of what equals it
-stops_same : {A : Type 0} (obstacle : Obstacle) (x y : Going A) → x ≡ y → StopsHere obstacle y → StopsHere obstacle x
-stops_same obstacle x y e h = subst (StopsHere obstacle) (sym e) h
-
 -- a cost that stops stops the effects
 pub cost_stops : (stop : EvalStop) (going : Going ℤ) → Costs (Err stop) going → StopsHere (obstacle_of stop) going
 cost_stops (stops.Fault f) going h = h
 cost_stops stops.NoMemory going h = tt
 
 module _ (axioms : List Axiom) (nest : ℕ) (s : State) (o : Operator) (e : Bindings) where
-  -- what the delete list comes to, and the add list, and the whole
+  -- the outcome of the delete list, of the add list, and of the whole
   abbrev dels_going : Going Gathered
   dels_going = list_going axioms nest s e o.dels.items
 
@@ -115,7 +104,7 @@ module _ (axioms : List Axiom) (nest : ℕ) (s : State) (o : Operator) (e : Bind
       pub all_go : (n : ℤ) → cost_value (pattern_of o.cost) e ≡ Went n → whole_going ≡ Went (gathered_changes d a, n)
       all_go n h = behind_adds ∙ ap (λ x. and_go x (λ c. Went (gathered_changes d a, c))) h
 
--- what both lists gathered, from no changes on, are the changes
+-- the atoms that both lists gathered, from no changes on, are the changes
 pub gathered_both : (none dels adds : Changes) (d a : Gathered)
     → none ≡ record { unguard = []; delete = []; add = []; guard = [] } → dels ≡ with_gathered Deletes d none
     → adds ≡ with_gathered Adds a dels → adds ≡ gathered_changes d a
@@ -124,7 +113,7 @@ gathered_both none dels adds d a e f g =
 
 module _ (old new : List Term) (g : Grows old new) (stage : Stage) (there : StageBelow (length old) stage) (s : Slotted)
     (below : AreBelow (length old) s) where
-  -- what a state and bindings determine is the same over terms that were added to
+  -- a function of a state and bindings has the same value over terms that were added to
   pub seen_stays : {X : Type 0} (f : State → Bindings → X)
       → f (state_of new stage) (bindings_of new s) ≡ f (state_of old stage) (bindings_of old s)
   seen_stays f = ap₂ f (state_stays old new g stage there) (bindings_stay old new g s below)

@@ -1,4 +1,4 @@
--- Variables that are bound in their turn to what they are to stand for.
+-- Variables that are bound in their turn to the cells that they are to stand for.
 use Rattle.std.proofs.Common.{◌≡◌, ℕ, zero, suc, ◌+◌, ◌<◌, List, [], ◌∷◌, ◌++◌, length, take, drop, Option, Some, None, refl, sym, ◌∙◌, ap, subst, arith, add-one}
 use Rattle.std.specs.Prelude.{slice_get, slice_set}
 use Rattle.std.proofs.lemmas.List.{set-get_or}
@@ -7,7 +7,7 @@ use Rattle.hp_eval.specs.Slotted.{Slotted, Binds, flat, with_bound}
 use Rattle.hp_eval.proofs.SlotLemmas.{binds_bound}
 use Rattle.hp_eval.proofs.AttemptLemmas.{place_free, place_bound}
 
--- what a variable stands for, within the variables
+-- the cell of one of the variables
 stands_for : (values : List (Option ℕ)) (v : ℕ) → v < length values
     → slice_get values v ≡ Some (flat (slice_get values v))
 stands_for values v h = let e = slice_get-get_or values v None h in e ∙ ap Some (sym (ap flat e))
@@ -41,9 +41,9 @@ pub bound_above : (s t : Slotted) (v cell : ℕ) → v < length s.values → fla
     → t ≡ with_bound v cell s → Binds s t
 bound_above s t v cell l h e = subst (Binds s) (sym e) (binds_bound s v cell (place_free s v l h))
 
--- ---- values whose front is filled
+-- ---- values with a prefix that is filled
 
--- where the front is filled there are as many values
+-- with a prefix filled there are as many values
 pub length-filled : (v : ℕ) (xs ys : List (Option ℕ)) → length ys ≡ length xs
     → length (take v xs ++ drop v ys) ≡ length xs
 length-filled zero xs ys h = h
@@ -52,7 +52,7 @@ length-filled (suc v) [] (y ∷ ys) h = absurd (omega arith)
 length-filled (suc v) (x ∷ xs) [] h = absurd (omega arith)
 length-filled (suc v) (x ∷ xs) (y ∷ ys) h = ap suc (length-filled v xs ys (omega arith))
 
--- behind the front stands what stood
+-- the value behind the prefix is as it was
 pub behind_filled : (v : ℕ) (xs ys : List (Option ℕ)) → length ys ≡ length xs
     → slice_get (take v xs ++ drop v ys) v ≡ slice_get ys v
 behind_filled zero xs ys h = refl
@@ -61,7 +61,7 @@ behind_filled (suc v) [] (y ∷ ys) h = absurd (omega arith)
 behind_filled (suc v) (x ∷ xs) [] h = absurd (omega arith)
 behind_filled (suc v) (x ∷ xs) (y ∷ ys) h = behind_filled v xs ys (omega arith)
 
--- the front with the value behind it
+-- the prefix grows by the value behind it
 pub filled_more : (v : ℕ) (xs ys : List (Option ℕ)) (o : Option ℕ) → length ys ≡ length xs → slice_get xs v ≡ Some o
     → slice_set (take v xs ++ drop v ys) v o ≡ take (v + 1) xs ++ drop (v + 1) ys
 filled_more v xs ys o h k = at v xs ys h k ∙ ap (λ n. take n xs ++ drop n ys) (sym (add-one v))
