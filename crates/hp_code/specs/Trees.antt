@@ -62,6 +62,11 @@ unfoldable mutual
   all_laid i NoTree = []
   all_laid i (More t ts) = laid i t ++ all_laid (i + size t) ts
 
+-- the indices of the first nodes of trees, of which the first has this index
+unfoldable pub roots : ℕ → Trees → List ℕ
+roots i NoTree = []
+roots i (More t ts) = i ∷ roots (i + size t) ts
+
 -- ---- reading back
 
 -- the first of some trees, as far as so many nodes go

@@ -2,4 +2,11 @@
 //! compiler itself is to come.
 #![tactic(auto)]
 
+mod effects;
+mod expressions;
 pub mod laws;
+mod laying;
+mod node;
+mod rules;
+
+pub use node::{CodeNode, Op};
