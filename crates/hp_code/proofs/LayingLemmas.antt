@@ -6,7 +6,7 @@ use Rattle.hp_code.specs.declared.node.CodeNode.{CodeNode}
 use Rattle.hp_code.specs.Compiled.{only}
 use Rattle.hp_code.specs.Laying.{Lays, Opens, with_end, Closes}
 use Rattle.hp_code.specs.NodeViews.{operation_of, laid_of}
-use Rattle.hp_code.specs.Trees.{Operation, Laid, Tree, Trees, Node, NoTree, More, size, sizes, laid, all_laid, roots}
+use Rattle.hp_code.specs.Trees.{Operation, Laid, Tree, Trees, Node, NoTree, More, size, sizes, laid, all_laid}
 use Rattle.hp_code.proofs.TreeLemmas.{followed}
 
 -- ---- trees
@@ -65,7 +65,7 @@ pub lays_both : (ts us : Trees) (a b c : List CodeNode) → Lays ts a b → Lays
 lays_both ts us a b c h k = k ∙ laid_on ts us a b h
 
 -- a tree that is laid down, and trees behind it, are all of these
-pub lays_more : (t : Tree) (ts : Trees) (a b c : List CodeNode) → Lays (only t) a b → Lays ts b c
+lays_more : (t : Tree) (ts : Trees) (a b c : List CodeNode) → Lays (only t) a b → Lays ts b c
     → Lays (More t ts) a c
 lays_more t ts a b c h k = lays_both (only t) ts a b c h k
 
@@ -129,3 +129,13 @@ module _ {op : Operation} {s : Span} {at : ℕ} {a b : List CodeNode} (opened : 
       ∙ ap (λ m. xs ++ record n { to = length c } ∷ all_laid m ts) j
       ∙ ap (λ m. xs ++ record n { to = m } ∷ all_laid (suc (length a)) ts) k
       ∙ ap (λ zs. xs ++ zs) (sym (append-nil (laid (length a) (Node op s ts))))
+
+  -- so is a node below which a tree and others are laid down
+  pub open_within_more : (t : Tree) (ts : Trees) (c d : List CodeNode) → Lays (only t) b c → Lays ts c d
+      → at < length d
+  open_within_more t ts c d first rest = open_within (More t ts) d (lays_more t ts b c d first rest)
+
+  -- and when it is closed it is a tree with all of these
+  pub node_lays_more : (t : Tree) (ts : Trees) (c d e : List CodeNode) → Lays (only t) b c → Lays ts c d
+      → Closes at d e → Lays (only (Node op s (More t ts))) a e
+  node_lays_more t ts c d e first rest closed = node_lays (More t ts) d e (lays_more t ts b c d first rest) closed

@@ -4,7 +4,7 @@ use Rattle.std.proofs.lemmas.List.{append_assoc, append-nil}
 use Rattle.hp_code.specs.Trees.{Laid, Tree, Trees, Node, NoTree, More, size, sizes, laid, all_laid, within, behind, trees}
 
 -- trees before trees
-abbrev followed : Trees → Trees → Trees
+abbrev pub followed : Trees → Trees → Trees
 followed NoTree us = us
 followed (More t ts) us = More t (followed ts us)
 

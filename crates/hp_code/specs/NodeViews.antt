@@ -1,4 +1,4 @@
--- The plain value that each node stands for.
+-- The plain value that each node, and each list of an operator, stands for.
 use Rattle.hp_syntax.specs.Views.{atom_of, key_of, pattern_of, tasks_of}
 use Rattle.hp_code.specs.declared.effects.Side as public_side
 use Rattle.hp_code.specs.declared.effects.Side.TheVariants as sides

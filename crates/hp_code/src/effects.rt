@@ -8,7 +8,7 @@ ghost use Rattle.hp_code.specs.NodeViews.{operation_of, side_of};
 ghost use Rattle.hp_code.specs.Trees.{Node, NoTree, More, Each};
 
 use crate::expressions::lay_expression;
-use crate::laying::{close, leaf, open};
+use crate::laying::{close_node, leaf, open_node};
 use crate::node::{CodeNode, Op};
 use hp_syntax::{AtomPat, Effect, Expr, Span};
 use std::alloc::{AllocError, Global};
@@ -97,10 +97,10 @@ fn lay_each(
     ensures { OnOk result (Lays (only (Node Each span (More (expression_tree (expression_of expr.now))
         (change_trees (side_of side) (atoms_of atoms.now))))) nodes.old.items nodes.new.items) }
 {
-    let at = open(nodes, Op::Each, span)?;
+    let at = open_node(nodes, Op::Each, span)?;
     lay_expression(nodes, alloc, expr)?;
     lay_changes(nodes, alloc, side, atoms)?;
-    close(nodes, at);
+    close_node(nodes, at);
     Ok(())
 }
 

@@ -7,7 +7,7 @@ ghost use Rattle.hp_code.specs.Laying.{Lays};
 ghost use Rattle.hp_code.specs.NodeViews.{operation_of};
 ghost use Rattle.hp_code.specs.Trees.{Node, Holds, Assign, Test};
 
-use crate::laying::{close, leaf, open};
+use crate::laying::{close_node, leaf, open_node};
 use crate::node::{CodeNode, Op};
 use hp_syntax::{AtomPat, Expr, ExprKind, Pat, Pre, Span};
 use std::alloc::{AllocError, Global};
@@ -72,10 +72,10 @@ pub(crate) fn lay_expression(
         ExprKind::Or(parts) => lay_parts(nodes, alloc, Op::Or, span, parts.as_slice()),
         ExprKind::Not(part) => lay_part(nodes, alloc, Op::Not, span, part),
         ExprKind::Forall(_, range, body) => {
-            let at = open(nodes, Op::Forall, span)?;
+            let at = open_node(nodes, Op::Forall, span)?;
             lay_expression(nodes, alloc, range)?;
             lay_expression(nodes, alloc, body)?;
-            close(nodes, at);
+            close_node(nodes, at);
             Ok(())
         }
         ExprKind::Assign(v, value) => lay_assigned(nodes, alloc, span, *v, value),
@@ -110,9 +110,9 @@ fn lay_parts(
     ensures { OnOk result (Lays (only (Node (operation_of op) span (expression_trees (expressions_of parts.now))))
         nodes.old.items nodes.new.items) }
 {
-    let at = open(nodes, op, span)?;
+    let at = open_node(nodes, op, span)?;
     lay_expressions(nodes, alloc, parts)?;
-    close(nodes, at);
+    close_node(nodes, at);
     Ok(())
 }
 
@@ -128,9 +128,9 @@ pub(crate) fn lay_part(
     ensures { OnOk result (Lays (only (Node (operation_of op) span (only (expression_tree (expression_of part.now)))))
         nodes.old.items nodes.new.items) }
 {
-    let at = open(nodes, op, span)?;
+    let at = open_node(nodes, op, span)?;
     lay_expression(nodes, alloc, part)?;
-    close(nodes, at);
+    close_node(nodes, at);
     Ok(())
 }
 

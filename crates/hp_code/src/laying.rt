@@ -11,7 +11,7 @@ use std::alloc::AllocError;
 
 /// Opens a node behind those that there are, and returns its index. What is laid down from now on is below it, until it
 /// is closed.
-pub(crate) fn open(nodes: &mut Vec<CodeNode>, op: Op, span: Span) -> Result<usize, AllocError>
+pub(crate) fn open_node(nodes: &mut Vec<CodeNode>, op: Op, span: Span) -> Result<usize, AllocError>
     ensures { IfOk result (λ at. Opens (operation_of op) span at nodes.old.items nodes.new.items) }
 {
     let at = nodes.len();
@@ -20,7 +20,7 @@ pub(crate) fn open(nodes: &mut Vec<CodeNode>, op: Op, span: Span) -> Result<usiz
 }
 
 /// Closes the node with this index: it ends behind all nodes.
-pub(crate) fn close(nodes: &mut Vec<CodeNode>, at: usize)
+pub(crate) fn close_node(nodes: &mut Vec<CodeNode>, at: usize)
     requires { at < length nodes.old.items }
     ensures { Closes at nodes.old.items nodes.new.items }
 {
@@ -32,7 +32,7 @@ pub(crate) fn close(nodes: &mut Vec<CodeNode>, at: usize)
 pub(crate) fn leaf(nodes: &mut Vec<CodeNode>, op: Op, span: Span) -> Result<(), AllocError>
     ensures { OnOk result (Lays (only (compiled.leaf (operation_of op) span)) nodes.old.items nodes.new.items) }
 {
-    let at = open(nodes, op, span)?;
-    close(nodes, at);
+    let at = open_node(nodes, op, span)?;
+    close_node(nodes, at);
     Ok(())
 }

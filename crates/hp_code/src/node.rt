@@ -55,8 +55,8 @@ pub struct CodeNode {
     pub op: Op,
     /// The index behind the last node below it.
     pub to: usize,
-    /// The byte offsets at which stands what the node holds: a rule, a sort key, an expression, an atom or a cost; where
-    /// it is a branch, a precondition without a key, a `forall` effect or tasks, those of the rule.
+    /// Byte offsets: where the rule, the sort key, the expression, the atom or the cost stands that the node holds. A
+    /// `Branch`, a `Plain`, a `First`, an `Each` and a `Tasks` stand where their rule does.
     pub span: Span,
 }
 

@@ -11,7 +11,7 @@ ghost use Rattle.hp_code.specs.Trees.{BranchOf, CostOf, TasksOf, all_laid, roots
 
 use crate::effects::{Side, lay_effects};
 use crate::expressions::{lay_part, lay_precondition};
-use crate::laying::{close, leaf, open};
+use crate::laying::{close_node, leaf, open_node};
 use crate::node::{CodeNode, Op};
 use hp_syntax::{Axiom, Branch, Clause, Method, Name, NetPat, Operator, Pat, Rule, Span};
 use std::alloc::{AllocError, Global};
@@ -51,10 +51,10 @@ fn lay_operator(
         nodes.old.items nodes.new.items) }
 {
     let op = Op::Operator(operator.head.copy(alloc)?);
-    let at = open(nodes, op, operator.span)?;
+    let at = open_node(nodes, op, operator.span)?;
     lay_precondition(nodes, alloc, operator.span, &operator.pre)?;
     lay_effects_and_cost(nodes, alloc, operator)?;
-    close(nodes, at);
+    close_node(nodes, at);
     Ok(())
 }
 
@@ -93,10 +93,10 @@ fn lay_branch(
         nodes.old.items nodes.new.items) }
 {
     let op = named(alloc, &branch.name)?;
-    let at = open(nodes, op, span)?;
+    let at = open_node(nodes, op, span)?;
     lay_precondition(nodes, alloc, span, &branch.pre)?;
     lay_tasks(nodes, alloc, span, &branch.tasks)?;
-    close(nodes, at);
+    close_node(nodes, at);
     Ok(())
 }
 
@@ -122,9 +122,9 @@ fn lay_method(nodes: &mut Vec<CodeNode>, alloc: Global, method: &Method) -> Resu
         nodes.old.items nodes.new.items) }
 {
     let op = Op::Method(method.head.copy(alloc)?);
-    let at = open(nodes, op, method.span)?;
+    let at = open_node(nodes, op, method.span)?;
     lay_branches(nodes, alloc, method.span, method.branches.as_slice())?;
-    close(nodes, at);
+    close_node(nodes, at);
     Ok(())
 }
 
@@ -164,9 +164,9 @@ fn lay_axiom(nodes: &mut Vec<CodeNode>, alloc: Global, rule: &Axiom) -> Result<(
         nodes.old.items nodes.new.items) }
 {
     let op = Op::Axiom(rule.head.copy(alloc)?);
-    let at = open(nodes, op, rule.span)?;
+    let at = open_node(nodes, op, rule.span)?;
     lay_clauses(nodes, alloc, rule.span, rule.clauses.as_slice())?;
-    close(nodes, at);
+    close_node(nodes, at);
     Ok(())
 }
 
@@ -186,11 +186,18 @@ pub(crate) fn lay_rule(
 }
 
 /// Rules that are laid down one behind the other.
-#[derive(Drop)]
 pub(crate) struct LaidRules {
     pub nodes: Vec<CodeNode>,
     /// The index of each rule's node.
     pub places: Vec<usize>,
+}
+
+impl Drop for LaidRules {
+    fn drop(self) {
+        let LaidRules { nodes, places } = self;
+        drop(nodes);
+        drop(places);
+    }
 }
 
 /// Lays rules down.

@@ -1,9 +1,8 @@
 use Rattle.std.proofs.Common.{refl}
-use Rattle.hp_syntax.specs.ViewLaws.{expression_of-atom, expression_of-and, expression_of-or, expression_of-not, expression_of-forall, expression_of-assign, expression_of-call}
+use Rattle.hp_syntax.specs.ViewLaws.{expression_of-forall}
 use Rattle.hp_syntax.specs.Views.{expression_of, expressions_of}
 use Rattle.hp_code.specs.Compiled.{expression_tree, expression_trees, only}
-use Rattle.hp_code.specs.Trees.{More}
-use Rattle.hp_code.proofs.LayingLemmas.{open_within, node_lays, lays_more}
+use Rattle.hp_code.proofs.LayingLemmas.{open_within, open_within_more, node_lays, node_lays_more}
 use Rattle.hp_code.proofs.LayingSteps.{laid_one_more, all_parts_laid}
 use Rattle.hp_code.proofs.expressions.+expression.Goals as goal
 
@@ -20,40 +19,38 @@ lay_expressions-returns t c =
     all_parts_laid (λ es. expression_trees (expressions_of es)) c.args.parts.now c.loop-part.part-index
     c.loop-part-test.false refl c.loop-part.nodes.items _ c.loop-part.invariant
 
-pub lay_parts-close-requires : goal.lay_parts-close-requires
-lay_parts-close-requires t c =
+pub lay_parts-close_node-requires : goal.lay_parts-close_node-requires
+lay_parts-close_node-requires t c =
     open_within c.in_ok-at.ensures _ c.lay_expressions.new.nodes.items c.in_ok-lay_expressions.ensures
 
 pub lay_parts-returns : goal.lay_parts-returns
 lay_parts-returns t c =
-    node_lays c.in_ok-at.ensures _ c.lay_expressions.new.nodes.items c.close.new.nodes.items
-    c.in_ok-lay_expressions.ensures c.close.ensures
+    node_lays c.in_ok-at.ensures _ c.lay_expressions.new.nodes.items c.close_node.new.nodes.items
+    c.in_ok-lay_expressions.ensures c.close_node.ensures
 
-pub lay_part-close-requires : goal.lay_part-close-requires
-lay_part-close-requires t c =
+pub lay_part-close_node-requires : goal.lay_part-close_node-requires
+lay_part-close_node-requires t c =
     open_within c.in_ok-at.ensures _ c.lay_expression.new.nodes.items c.in_ok-lay_expression.ensures
 
 pub lay_part-returns : goal.lay_part-returns
 lay_part-returns t c =
-    node_lays c.in_ok-at.ensures _ c.lay_expression.new.nodes.items c.close.new.nodes.items
-    c.in_ok-lay_expression.ensures c.close.ensures
+    node_lays c.in_ok-at.ensures _ c.lay_expression.new.nodes.items c.close_node.new.nodes.items
+    c.in_ok-lay_expression.ensures c.close_node.ensures
 
-pub lay_expression-close-requires : goal.lay_expression-close-requires
-lay_expression-close-requires t c =
-    let f = c.in-Forall in
-    let body = c.lay_expression-2.new.nodes.items in
-    open_within c.in_ok-at.ensures _ body
-    (lays_more (expression_tree (expression_of f.range.value)) (only (expression_tree (expression_of f.body.value)))
-    c.open-at.new.nodes.items c.lay_expression.new.nodes.items body c.in_ok-lay_expression.ensures
-    c.in_ok-lay_expression-2.ensures)
+pub lay_expression-close_node-requires : goal.lay_expression-close_node-requires
+lay_expression-close_node-requires t c =
+    open_within_more c.in_ok-at-in-Forall.ensures _ _ c.lay_expression.new.nodes.items
+    c.lay_expression-in-Forall.new.nodes.items c.in_ok-lay_expression-in-Forall.ensures
+    c.in_ok-lay_expression-in-Forall-2.ensures
 
-pub lay_expression-returns-in-Forall : goal.lay_expression-returns-in-Forall
+pub lay_expression-returns-in_ok-lay_expression-in-Forall-2 :
+    goal.lay_expression-returns-in_ok-lay_expression-in-Forall-2
 unfolding expression_tree expression_trees
-lay_expression-returns-in-Forall t c =
+lay_expression-returns-in_ok-lay_expression-in-Forall-2 t c =
     let f = c.in-Forall in
-    let body = c.lay_expression-2.new.nodes.items in
     rw (expression_of-forall c.args.expr.now f.field-0 f.range f.body f.is)
-    (node_lays c.in_ok-at.ensures _ body c.close.new.nodes.items
-    (lays_more (expression_tree (expression_of f.range.value)) (only (expression_tree (expression_of f.body.value)))
-    c.open-at.new.nodes.items c.lay_expression.new.nodes.items body c.in_ok-lay_expression.ensures
-    c.in_ok-lay_expression-2.ensures) c.close.ensures)
+    (node_lays_more c.in_ok-at-in-Forall.ensures (expression_tree (expression_of f.range.value))
+    (only (expression_tree (expression_of f.body.value))) c.lay_expression.new.nodes.items
+    c.lay_expression-in-Forall.new.nodes.items c.close_node.new.nodes.items
+    (rw c.deref-in-Forall.ensures at c.in_ok-lay_expression-in-Forall.ensures)
+    (rw c.deref-in-Forall-2.ensures at c.in_ok-lay_expression-in-Forall-2.ensures) c.close_node.ensures)

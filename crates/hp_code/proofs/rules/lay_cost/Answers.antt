@@ -1,5 +1,4 @@
 use Rattle.std.proofs.Common.{ap}
-use Rattle.hp_syntax.specs.Views.{pattern_of}
 use Rattle.hp_code.specs.Trees.{NoTree, CostOf}
 use Rattle.hp_code.proofs.LayingSteps.{node_of_equal, pattern_span-of}
 use Rattle.hp_code.proofs.rules.lay_cost.Goals as goal

@@ -1,4 +1,3 @@
-use Rattle.std.proofs.Common.{ap, subst}
 use Rattle.std.proofs.lemmas.Result.{on_ok_weaker}
 use Rattle.hp_syntax.specs.Changes.{pattern_span}
 use Rattle.hp_syntax.specs.Views.{operator_of}

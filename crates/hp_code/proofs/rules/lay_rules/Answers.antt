@@ -1,7 +1,6 @@
-use Rattle.std.proofs.Common.{[], ◌∷◌, ◌++◌, map, refl, ap, ◌∙◌}
+use Rattle.std.proofs.Common.{◌≡◌, [], ◌∷◌, ◌++◌, length, map, refl, ap, ◌∙◌}
 use Rattle.hp_syntax.specs.Views.{rule_of}
 use Rattle.hp_code.specs.Compiled.{rule_tree, rule_trees}
-use Rattle.hp_code.specs.Trees.{roots}
 use Rattle.hp_code.proofs.LayingSteps.{laid_one_more, placed_one_more, all_parts_laid, all_parts_placed}
 use Rattle.hp_code.proofs.rules.lay_rules.Goals as goal
 
@@ -10,7 +9,8 @@ loop-rule-preserved c =
     let i = c.loop-rule.rule-index in
     let before = c.loop-rule.nodes in
     let after = c.lay_rule.new.nodes.items in
-    let pushed = c.in_ok-push.ensures.items ∙ ap (λ n. c.loop-rule.places.items ++ n ∷ []) (c.len.ensures ∙ before.ok.0) in
+    let pushed : c.push.new.self.items ≡ c.loop-rule.places.items ++ length before.items ∷ [] =
+    c.in_ok-push.ensures.items ∙ ap (λ n. c.loop-rule.places.items ++ n ∷ []) (c.len.ensures ∙ before.ok.0) in
     record {
       nodes =
           laid_one_more (λ rs. rule_trees (map rule_of rs)) (λ r. rule_tree (rule_of r)) c.args.rules.now i
