@@ -52,7 +52,7 @@ module _ {X : Type 0} (rest : List X → Trees) (tree : X → Tree) (xs : List X
   pub placed_one_more : (places : List ℕ) (whole : List ℕ)
       → places ++ roots (length old) (rest (drop i xs)) ≡ whole
       → (places ++ length old ∷ []) ++ roots (length new) (rest (drop (i + 1) xs)) ≡ whole
-  unfolding roots sizes
+  unfolding sizes
   placed_one_more places whole left =
       let e : size (tree x) + zero ≡ size (tree x) = omega arith in
       let behind = rest (drop (i + 1) xs) in
@@ -73,7 +73,6 @@ module _ {X : Type 0} (rest : List X → Trees) (xs : List X) (i : ℕ) (past : 
     -- and all of their indices are there
     pub all_parts_placed : (n : ℕ) (places whole : List ℕ)
         → places ++ roots n (rest (drop i xs)) ≡ whole → places ≡ whole
-    unfolding roots
     all_parts_placed n places whole left =
         sym (append-nil places) ∙ ap (λ ts. places ++ roots n ts) (sym (at_drop_all rest xs i past ∙ none)) ∙ left
 

@@ -186,18 +186,11 @@ pub(crate) fn lay_rule(
 }
 
 /// Rules that are laid down one behind the other.
+#[derive(Drop)]
 pub(crate) struct LaidRules {
     pub nodes: Vec<CodeNode>,
     /// The index of each rule's node.
     pub places: Vec<usize>,
-}
-
-impl Drop for LaidRules {
-    fn drop(self) {
-        let LaidRules { nodes, places } = self;
-        drop(nodes);
-        drop(places);
-    }
 }
 
 /// Lays rules down.
