@@ -1,6 +1,6 @@
 //! Logical expressions.
 
-ghost use Rattle.std.specs.Prelude.{◌≡◌, false};
+ghost use Rattle.std.specs.Prelude.{◌≡◌, false, IfOk};
 ghost use Rattle.hp_syntax.specs.declared.pattern.Span.{Span};
 ghost use Rattle.hp_syntax.specs.Forest.{Word, Grow};
 ghost use Rattle.hp_syntax.specs.Steps as steps;
@@ -18,6 +18,7 @@ use hp_terms::nodes::{closing, ended, expected, next};
 use hp_terms::scope::Scope;
 use hp_terms::terms::{Setting, called, named_atom, term};
 use hp_text::{Node, NodeKind};
+use std::alloc::{AllocError, Global};
 
 /// The expression that a node is.
 #[cycle(expression)]
@@ -163,13 +164,19 @@ fn implied(scope: &mut Scope, span: Span, rest: &[Node]) -> Result<ExprKind, For
         scope.old.names.keys scope.new.names.keys }
 {
     let (first, second) = two_expressions(scope, closing(span), rest)?;
+    Ok(implication(scope.alloc, span, first, second)?)
+}
+
+/// That one expression doesn't hold or another does.
+fn implication(alloc: Global, span: Span, first: Expr, second: Expr) -> Result<ExprKind, AllocError>
+    ensures { IfOk result (λ kind. expression_of (record { span = span; kind = kind })
+        ≡ grammar.implied span (expression_of first, expression_of second)) }
+{
     let not = Expr {
         span,
-        kind: ExprKind::Not(Box::new(scope.alloc, first)?),
+        kind: ExprKind::Not(Box::new(alloc, first)?),
     };
-    let mut parts = Vec::with_capacity(scope.alloc, 2)?;
-    parts.push(not)?;
-    parts.push(second)?;
+    let parts = vec![in alloc; not, second]?;
     Ok(ExprKind::Or(parts))
 }
 
