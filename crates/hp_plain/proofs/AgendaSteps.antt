@@ -10,8 +10,8 @@ use Rattle.hp_syntax.specs.Walk.{Child, child_of}
 use Rattle.hp_eval.proofs.Loops.{left_more}
 use Rattle.hp_eval.specs.Growth.{Grows}
 use Rattle.hp_eval.proofs.GrowthLemmas.{grows_length}
-use Rattle.hp_satisfiers.specs.declared.answer.Answer.{Answer}
-use Rattle.hp_satisfiers.specs.AnswerViews.{answer_event, answer_events, BindsBelow}
+use Rattle.hp_answers.specs.declared.answer.Answer.{Answer}
+use Rattle.hp_answers.specs.AnswerViews.{answer_event, answer_events, BindsBelow}
 use Rattle.hp_tree.specs.Children.{place_in, done_by, by_candidates}
 use Rattle.hp_tree.proofs.SearchNodeLemmas.{node_stays, term_stays}
 use Rattle.hp_plain.specs.declared.agenda.Agenda.{Agenda}

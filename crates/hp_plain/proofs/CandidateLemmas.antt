@@ -6,10 +6,10 @@ use Rattle.std.proofs.lemmas.List.Elements.{All-head, All-tail, All-weaker}
 use Rattle.hp_syntax.specs.Terms.{Term}
 use Rattle.hp_eval.specs.Growth.{Grows}
 use Rattle.hp_eval.proofs.GrowthLemmas.{below_grows, grows_length}
-use Rattle.hp_satisfiers.specs.declared.answer.Answer.{Answer}
-use Rattle.hp_satisfiers.specs.declared.answer.Answer.TheVariants.{Sat, Cut, Fault}
-use Rattle.hp_satisfiers.specs.AnswerViews.{answer_events, BindsBelow}
-use Rattle.hp_satisfiers.proofs.AnswerLemmas.{event_stays}
+use Rattle.hp_answers.specs.declared.answer.Answer.{Answer}
+use Rattle.hp_answers.specs.declared.answer.Answer.TheVariants.{Sat, Cut, Fault}
+use Rattle.hp_answers.specs.AnswerViews.{answer_events, BindsBelow}
+use Rattle.hp_answers.proofs.AnswerLemmas.{event_stays}
 use Rattle.hp_tree.specs.Children.{done_by}
 use Rattle.hp_tree.proofs.SearchNodeLemmas.{node_stays, node_grows, term_stays}
 use Rattle.hp_plain.specs.declared.candidate.Candidate.{Candidate}

@@ -14,9 +14,9 @@ use Rattle.hp_syntax.specs.Syntax.{Atom, Branch, Method, Operator, Rule, Does, R
 use Rattle.hp_syntax.specs.Matching.{match_atom}
 use Rattle.hp_eval.specs.Growth.{Grows}
 use Rattle.hp_eval.proofs.GrowthLemmas.{bindings_stay}
-use Rattle.hp_satisfiers.specs.declared.answer.Answer.{Answer}
-use Rattle.hp_satisfiers.specs.declared.answer.Answer.TheVariants.{Sat, Cut, Fault}
-use Rattle.hp_satisfiers.specs.AnswerViews.{BindsBelow, Fits, Finds, answer_events}
+use Rattle.hp_answers.specs.declared.answer.Answer.{Answer}
+use Rattle.hp_answers.specs.declared.answer.Answer.TheVariants.{Sat, Cut, Fault}
+use Rattle.hp_answers.specs.AnswerViews.{BindsBelow, Fits, Finds, answer_events}
 use Rattle.hp_satisfiers.proofs.MatchSteps.{binds_vars, match_failed, match_made}
 use Rattle.hp_satisfiers.proofs.AxiomSteps.{none_bound}
 use Rattle.hp_syntax.specs.declared.expression.Pre.{Pre}

@@ -1,0 +1,23 @@
+use Rattle.std.proofs.Common.{map, sym, ◌∙◌, ap}
+use Rattle.std.specs.Option.{option_copied}
+use Rattle.hp_syntax.specs.Views.{domain_of}
+use Rattle.hp_answers.specs.RuleIndexes.{axiom_at}
+use Rattle.hp_answers.specs.Tables.{listed}
+use Rattle.hp_answers.proofs.RuleIndexLemmas.{all_conclude}
+use Rattle.hp_answers.proofs.rule_index.RuleIndex.axioms.Goals as goal
+
+pub returns-in-Some : goal.returns-in-Some
+returns-in-Some c =
+    let book = c.args.self.now in
+    let all = (domain_of book.domain.now).rules in
+    let name = c.args.name.now in
+    let found = ap (λ o. listed (option_copied o)) (sym c.in-Some.is) ∙ ap listed c.get.ensures.value in
+    ap (map (axiom_at all)) (c.as_slice.ensures.value ∙ (found ∙ book.listed name)) ∙ all_conclude all name
+
+pub returns-in-None : goal.returns-in-None
+returns-in-None c =
+    let book = c.args.self.now in
+    let all = (domain_of book.domain.now).rules in
+    let name = c.args.name.now in
+    let found = ap (λ o. listed (option_copied o)) (sym c.in-None.is) ∙ ap listed c.get.ensures.value in
+    ap (map (axiom_at all)) (found ∙ book.listed name) ∙ all_conclude all name

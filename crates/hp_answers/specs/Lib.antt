@@ -1,0 +1,3 @@
+pub mod AnswerViews
+pub mod RuleIndexes
+pub mod Tables
