@@ -1,3 +1,2 @@
-pub mod RuleLemmas
 pub mod FileLemmas
 pub mod NumberedForms

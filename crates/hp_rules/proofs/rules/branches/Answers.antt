@@ -3,9 +3,9 @@ use Rattle.std.proofs.lemmas.Result.{err_from_is_err_and}
 use Rattle.hp_syntax.specs.Grammar as grammar
 use Rattle.hp_syntax.specs.Views.{branch_of}
 use Rattle.hp_text.specs.Nodes.{nodes_of}
-use Rattle.hp_forms.specs.Branches.{branch}
-use Rattle.hp_forms.proofs.RuleLemmas.{turn_read, turn_refused, branches-turn, branches_done, branches_go_on}
-use Rattle.hp_forms.proofs.rules.branches.Goals as goal
+use Rattle.hp_rules.specs.Branches.{branch}
+use Rattle.hp_rules.proofs.RuleLemmas.{turn_read, turn_refused, branches-turn, branches_done, branches_go_on}
+use Rattle.hp_rules.proofs.rules.branches.Goals as goal
 
 pub returns-in_err-next : goal.returns-in_err-next
 returns-in_err-next c =

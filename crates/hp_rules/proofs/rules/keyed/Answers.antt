@@ -2,8 +2,8 @@ use Rattle.std.proofs.Common.{◌≡◌, ◌∙◌, sym, ap, true, [], bytes_eq,
 use Rattle.hp_syntax.specs.Steps.{value_in}
 use Rattle.hp_syntax.specs.Views.{rule_of}
 use Rattle.hp_text.specs.Nodes.{nodes_of}
-use Rattle.hp_forms.proofs.RuleLemmas.{keyed-operator, gives_same}
-use Rattle.hp_forms.proofs.rules.keyed.Goals as goal
+use Rattle.hp_rules.proofs.RuleLemmas.{keyed-operator, gives_same}
+use Rattle.hp_rules.proofs.rules.keyed.Goals as goal
 
 pub returns-then-is : goal.returns-then-is
 returns-then-is c =

@@ -4,7 +4,7 @@ use Rattle.hp_syntax.specs.Grammar as grammar
 use Rattle.hp_syntax.specs.Views.{effect_of}
 use Rattle.hp_text.specs.Nodes.{nodes_of}
 use Rattle.hp_terms.proofs.Turns.{prepend, from_here}
-use Rattle.hp_forms.proofs.effects.each_effect.Given as goal
+use Rattle.hp_rules.proofs.effects.each_effect.Given as goal
 
 abbrev pub invariant-loop-node : goal.invariant-loop-node
 invariant-loop-node l =

@@ -6,7 +6,7 @@ use Rattle.hp_terms.specs.FormReads.{setting_of}
 use Rattle.hp_terms.proofs.Turns.{one_viewed}
 use Rattle.hp_terms.proofs.PartLemmas.{task_list_read, task_list_refused, reads_same, ordered-list, ordered-none, word_first}
 use Rattle.hp_terms.proofs.Sizes.{item-smaller}
-use Rattle.hp_forms.proofs.tasks.+tasks.Goals as goal
+use Rattle.hp_rules.proofs.tasks.+tasks.Goals as goal
 
 pub task_list-tasks-requires : goal.task_list-tasks-requires
 task_list-tasks-requires t c =

@@ -3,7 +3,7 @@ use Rattle.hp_syntax.specs.Grammar as grammar
 use Rattle.hp_syntax.specs.Views.{branch_of}
 use Rattle.hp_text.specs.Nodes.{nodes_of}
 use Rattle.hp_terms.proofs.Turns.{prepend}
-use Rattle.hp_forms.proofs.rules.branches.Given as goal
+use Rattle.hp_rules.proofs.rules.branches.Given as goal
 
 -- what was read so far, and what is read from here on, is what is read of all
 abbrev pub invariant-loop-branches : goal.invariant-loop-branches

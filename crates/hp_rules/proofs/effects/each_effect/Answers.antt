@@ -3,7 +3,7 @@ use Rattle.std.proofs.lemmas.Result.{err_from_is_err_and}
 use Rattle.hp_syntax.specs.Grammar as grammar
 use Rattle.hp_syntax.specs.Views.{effect_of}
 use Rattle.hp_terms.proofs.Turns.{one_refused, one_viewed, all_read}
-use Rattle.hp_forms.proofs.effects.each_effect.Goals as goal
+use Rattle.hp_rules.proofs.effects.each_effect.Goals as goal
 
 pub returns-in_err-effect : goal.returns-in_err-effect
 returns-in_err-effect c =

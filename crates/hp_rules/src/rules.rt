@@ -7,8 +7,8 @@ ghost use Rattle.hp_syntax.specs.Views.{pattern_of, atom_of, precondition_of, ef
 ghost use Rattle.hp_text.specs.Nodes.{node_of, nodes_of};
 ghost use Rattle.hp_syntax.specs.Steps.{Names};
 ghost use Rattle.hp_terms.specs.FormReads.{Reads, Gives};
-ghost use Rattle.hp_forms.specs.Branches as branches;
-ghost use Rattle.hp_forms.specs.Operators as operators;
+ghost use Rattle.hp_rules.specs.Branches as branches;
+ghost use Rattle.hp_rules.specs.Operators as operators;
 
 use crate::effects::effects;
 use crate::tasks::tasks;

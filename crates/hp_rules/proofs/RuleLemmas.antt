@@ -7,9 +7,9 @@ use Rattle.hp_syntax.specs.Forest.{Node, Forest, Bare, Grow}
 use Rattle.hp_syntax.specs.Steps.{Misform, Expected, SeveralPairs, Names, Parse, and_then, pure, next, ◌>>=◌, value_in, by_itself}
 use Rattle.hp_syntax.specs.Syntax.{Precondition, Branch, Clause}
 use Rattle.hp_syntax.specs.Grammar.{InRule, precondition, tasks, expression, branches, named_branch, branch_tasks, branch_name, begins_named, make_branch, clauses, named_clause, make_clause}
-use Rattle.hp_forms.specs.Branches.{start, branch, clause, behind_name}
+use Rattle.hp_rules.specs.Branches.{start, branch, clause, behind_name}
 use Rattle.hp_syntax.specs.Grammar as grammar
-use Rattle.hp_forms.specs.Operators.{operator, opening, changes}
+use Rattle.hp_rules.specs.Operators.{operator, opening, changes}
 use Rattle.hp_terms.specs.FormReads.{Refuses, Gives, Reads}
 use Rattle.hp_terms.specs.declared.refusal.FormRefusal.{FormRefusal}
 use Rattle.hp_terms.specs.declared.refusal.FormRefusal.TheVariants as refusals

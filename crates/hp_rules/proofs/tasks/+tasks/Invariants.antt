@@ -6,7 +6,7 @@ use Rattle.hp_text.specs.Nodes.{node_of, nodes_of}
 use Rattle.hp_terms.specs.FormReads.{setting_of}
 use Rattle.hp_terms.proofs.Turns.{prepend, from_here}
 use Rattle.hp_terms.proofs.Sizes.{node_size, forest_size}
-use Rattle.hp_forms.proofs.tasks.+tasks.Given as goal
+use Rattle.hp_rules.proofs.tasks.+tasks.Given as goal
 
 abbrev pub decreases-tasks : goal.decreases-tasks
 decreases-tasks l = 3 * node_size (node_of l.node.now)
