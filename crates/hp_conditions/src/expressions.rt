@@ -1,6 +1,6 @@
 //! Logical expressions.
 
-ghost use Rattle.std.specs.Prelude.{◌≡◌, false, IfOk};
+ghost use Rattle.std.specs.Prelude.{◌≡◌, false};
 ghost use Rattle.hp_syntax.specs.declared.pattern.Span.{Span};
 ghost use Rattle.hp_syntax.specs.Forest.{Word, Grow};
 ghost use Rattle.hp_syntax.specs.Steps as steps;
@@ -11,14 +11,13 @@ ghost use Rattle.hp_syntax.specs.Views.{expression_of, expressions_of};
 ghost use Rattle.hp_text.specs.Nodes.{node_of, nodes_of};
 ghost use Rattle.hp_terms.specs.FormReads.{Reads};
 
-use hp_syntax::{Expr, ExprKind, Name, Span, What};
+use hp_syntax::{Expr, ExprKind, Name, Span, What, implication};
 use hp_terms::FormRefusal;
 use hp_terms::names::{is, is_plain};
 use hp_terms::nodes::{closing, ended, expected, next};
 use hp_terms::scope::Scope;
 use hp_terms::terms::{Setting, called, named_atom, term};
 use hp_text::{Node, NodeKind};
-use std::alloc::{AllocError, Global};
 
 /// The expression that a node is.
 #[cycle(expression)]
@@ -165,19 +164,6 @@ fn implied(scope: &mut Scope, span: Span, rest: &[Node]) -> Result<ExprKind, For
 {
     let (first, second) = two_expressions(scope, closing(span), rest)?;
     Ok(implication(scope.alloc, span, first, second)?)
-}
-
-/// That one expression doesn't hold or another does.
-fn implication(alloc: Global, span: Span, first: Expr, second: Expr) -> Result<ExprKind, AllocError>
-    ensures { IfOk result (λ kind. expression_of (record { span = span; kind = kind })
-        ≡ grammar.implied span (expression_of first, expression_of second)) }
-{
-    let not = Expr {
-        span,
-        kind: ExprKind::Not(Box::new(alloc, first)?),
-    };
-    let parts = vec![in alloc; not, second]?;
-    Ok(ExprKind::Or(parts))
 }
 
 /// `(forall VARIABLES expression expression)`

@@ -1,7 +1,7 @@
 use Rattle.std.proofs.Common.{refl}
 use Rattle.hp_syntax.specs.declared.expression.ExprKind.TheVariants as exprs
 use Rattle.hp_syntax.specs.ViewLaws.{expression_of-not, expression_of-or}
-use Rattle.hp_conditions.proofs.expressions.implication.Goals as goal
+use Rattle.hp_syntax.proofs.implications.implication.Goals as goal
 
 pub returns : goal.returns
 returns c =
