@@ -11,7 +11,7 @@ ghost use Rattle.hp_syntax.specs.Views.{expression_of, expressions_of};
 ghost use Rattle.hp_text.specs.Nodes.{node_of, nodes_of};
 ghost use Rattle.hp_terms.specs.FormReads.{Reads};
 
-use hp_syntax::{Expr, ExprKind, Name, Span, What};
+use hp_syntax::{Expr, ExprKind, Name, Span, What, implication};
 use hp_terms::FormRefusal;
 use hp_terms::names::{is, is_plain};
 use hp_terms::nodes::{closing, ended, expected, next};
@@ -163,14 +163,7 @@ fn implied(scope: &mut Scope, span: Span, rest: &[Node]) -> Result<ExprKind, For
         scope.old.names.keys scope.new.names.keys }
 {
     let (first, second) = two_expressions(scope, closing(span), rest)?;
-    let not = Expr {
-        span,
-        kind: ExprKind::Not(Box::new(scope.alloc, first)?),
-    };
-    let mut parts = Vec::with_capacity(scope.alloc, 2)?;
-    parts.push(not)?;
-    parts.push(second)?;
-    Ok(ExprKind::Or(parts))
+    Ok(implication(scope.alloc, span, first, second)?)
 }
 
 /// `(forall VARIABLES expression expression)`

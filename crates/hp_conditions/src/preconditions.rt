@@ -9,10 +9,11 @@ ghost use Rattle.hp_text.specs.Nodes.{node_of, nodes_of};
 ghost use Rattle.hp_terms.specs.FormReads.{Reads, Gives};
 
 use crate::expressions::{expressions, list_expression};
-use hp_syntax::{Expr, ExprKind, Name, Pre, SortKey, SortOrder, Span, What};
+use hp_syntax::{Expr, ExprKind, Pre, SortKey, SortOrder, Span, What};
 use hp_terms::FormRefusal;
 use hp_terms::names::is;
 use hp_terms::nodes::{behind, closing, expected, next};
+use hp_terms::orders::order_named;
 use hp_terms::scope::Scope;
 use hp_text::{Node, NodeKind};
 
@@ -28,19 +29,6 @@ fn gathered(span: Span, mut expressions: Vec<Expr>) -> Expr
             span,
             kind: ExprKind::And(expressions),
         }
-    }
-}
-
-/// The order that a name is, which stands at this span.
-fn order_named(scope: &Scope, span: Span, name: &Name) -> Result<SortOrder, FormRefusal>
-    ensures { Gives order_of result (Ok (grammar.order_named span name.now)) }
-{
-    if is(name, b"<") || is(name, b"<=") {
-        Ok(SortOrder::Up)
-    } else if is(name, b">") || is(name, b">=") {
-        Ok(SortOrder::Down)
-    } else {
-        Ok(SortOrder::Unknown(name.copy(scope.alloc)?, span))
     }
 }
 

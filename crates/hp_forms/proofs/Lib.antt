@@ -1,3 +1,2 @@
-pub mod RuleSteps
 pub mod FileSteps
 pub mod NumberedForms

@@ -11,8 +11,8 @@ ghost use Rattle.hp_syntax.specs.Views.{atom_of, domain_of, pair_of, problem_of,
 ghost use Rattle.hp_text.specs.Nodes.{node_of, nodes_of, forest_of};
 ghost use Rattle.hp_terms.specs.FormReads.{Reads, Gives};
 
-use crate::rules::rule;
-use crate::tasks::tasks;
+use hp_rules::rules::rule;
+use hp_rules::tasks::tasks;
 use hp_syntax::{AtomPat, Domain, Name, Pair, Problem, Rule, Span, What};
 use hp_terms::FormRefusal;
 use hp_terms::nodes::{closing, ended, expected, is_word, list, name, next};

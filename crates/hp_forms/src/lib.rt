@@ -12,10 +12,7 @@ ghost use Rattle.hp_syntax.specs.Views.{domain_of, problem_of};
 ghost use Rattle.hp_text.specs.Nodes.{forest_of};
 ghost use Rattle.hp_terms.specs.FormReads.{Gives};
 
-mod effects;
 mod files;
-mod rules;
-mod tasks;
 
 pub use hp_syntax::What;
 use hp_syntax::laws::forms_are_numbered;

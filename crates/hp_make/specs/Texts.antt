@@ -15,11 +15,13 @@ domain_text =
     ++ codes "(:method (all) next ((goal ?p ?b) (not (at ?p ?b))) ((deliver ?p ?b) (all)) done () ())\n"
     ++ codes "))\n"
 
+-- an atom of package i and place a, by what it begins with
+abbrev pub atom_text : List ℕ → ℕ → ℕ → List ℕ
+atom_text opening i a = opening ++ decimal i ++ codes " t" ++ decimal a ++ codes ")"
+
 -- package i, which is at place a and is to be at place b
 abbrev pub package_text : ℕ → ℕ → ℕ → List ℕ
-package_text i a b =
-    codes " (at p" ++ decimal i ++ codes " t" ++ decimal a
-    ++ codes ") (goal p" ++ decimal i ++ codes " t" ++ decimal b ++ codes ")"
+package_text i a b = atom_text (codes " (at p") i a ++ atom_text (codes " (goal p") i b
 
 -- n packages from number i on: from state s, the place of each is the next draw, and where it is to be the draw
 -- after that

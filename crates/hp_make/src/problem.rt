@@ -1,7 +1,7 @@
 //! The text of a problem that is made.
 
 ghost use Rattle.std.specs.Prelude.{◌≡◌, ◌++◌, IfOk, OnOk, decimal};
-ghost use Rattle.hp_make.specs.Texts.{package_text, packages_text, problem_text};
+ghost use Rattle.hp_make.specs.Texts.{atom_text, package_text, packages_text, problem_text};
 
 use crate::draws::Draws;
 use itoa::Buffer;
@@ -15,19 +15,23 @@ fn write_number(text: &mut Vec<u8>, number: u32) -> Result<(), AllocError>
     text.extend_from_slice(buffer.format(number).as_bytes())
 }
 
+/// An atom of a package and a place, by what it begins with.
+fn write_atom(text: &mut Vec<u8>, opening: &[u8], number: u32, place: u32) -> Result<(), AllocError>
+    ensures { OnOk result (text.new.items ≡ text.old.items ++ atom_text opening.now number place) }
+{
+    text.extend_from_slice(opening)?;
+    write_number(text, number)?;
+    text.extend_from_slice(b" t")?;
+    write_number(text, place)?;
+    text.extend_from_slice(b")")
+}
+
 /// A package: its number, where it is, and where it is to be.
 fn write_package(text: &mut Vec<u8>, number: u32, from: u32, to: u32) -> Result<(), AllocError>
     ensures { OnOk result (text.new.items ≡ text.old.items ++ package_text number from to) }
 {
-    text.extend_from_slice(b" (at p")?;
-    write_number(text, number)?;
-    text.extend_from_slice(b" t")?;
-    write_number(text, from)?;
-    text.extend_from_slice(b") (goal p")?;
-    write_number(text, number)?;
-    text.extend_from_slice(b" t")?;
-    write_number(text, to)?;
-    text.extend_from_slice(b")")
+    write_atom(text, b" (at p", number, from)?;
+    write_atom(text, b" (goal p", number, to)
 }
 
 /// `n` packages, at places that are drawn.

@@ -10,8 +10,8 @@ use Rattle.hp_syntax.specs.Walk.{Child, child_of}
 use Rattle.hp_eval.proofs.Loops.{left_more}
 use Rattle.hp_eval.specs.Growth.{Grows}
 use Rattle.hp_eval.proofs.GrowthLemmas.{grows_length}
-use Rattle.hp_satisfiers.specs.declared.answer.Answer.{Answer}
-use Rattle.hp_satisfiers.specs.AnswerViews.{answer_event, answer_events, BindsBelow}
+use Rattle.hp_answers.specs.declared.answer.Answer.{Answer}
+use Rattle.hp_answers.specs.AnswerViews.{answer_event, answer_events, BindsBelow}
 use Rattle.hp_tree.specs.Children.{place_in, done_by, by_candidates}
 use Rattle.hp_tree.proofs.SearchNodeLemmas.{node_stays, term_stays}
 use Rattle.hp_plain.specs.declared.agenda.Agenda.{Agenda}
@@ -22,7 +22,7 @@ use Rattle.hp_plain.specs.declared.search_node.SearchNode.{SearchNode}
 use Rattle.hp_plain.specs.Agendas.{done_in, choice_children, if_open, queue_children, agenda_children, IsChoice, MaybeChoice, IsQueue, IsAgenda, Takes}
 use Rattle.hp_plain.specs.Children.{Makes, children_in}
 use Rattle.hp_plain.specs.SearchNodes.{held, node_in, IsSearchNode}
-use Rattle.hp_satisfiers.proofs.AnswerLemmas.{all_bind_below, found_stays}
+use Rattle.hp_answers.proofs.AnswerLemmas.{all_bind_below, found_stays}
 
 -- ---- the next child
 

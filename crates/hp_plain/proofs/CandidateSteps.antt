@@ -14,10 +14,10 @@ use Rattle.hp_syntax.specs.Syntax.{Atom, Branch, Method, Operator, Rule, Does, R
 use Rattle.hp_syntax.specs.Matching.{match_atom}
 use Rattle.hp_eval.specs.Growth.{Grows}
 use Rattle.hp_eval.proofs.GrowthLemmas.{bindings_stay}
-use Rattle.hp_satisfiers.specs.declared.answer.Answer.{Answer}
-use Rattle.hp_satisfiers.specs.AnswerViews.{BindsBelow, Fits, Finds, answer_events}
+use Rattle.hp_answers.specs.declared.answer.Answer.{Answer}
+use Rattle.hp_answers.specs.AnswerViews.{BindsBelow, Fits, Finds, answer_events}
 use Rattle.hp_eval.proofs.SlotLemmas.{binds_vars, match_failed, match_made}
-use Rattle.hp_satisfiers.proofs.AnswerLemmas.{fits_below}
+use Rattle.hp_answers.proofs.AnswerLemmas.{fits_below}
 use Rattle.hp_satisfiers.proofs.AxiomSteps.{none_bound}
 use Rattle.hp_syntax.specs.declared.expression.Pre.{Pre}
 use Rattle.hp_syntax.specs.Events.{Event, State, axioms_of}

@@ -13,7 +13,7 @@ use Rattle.hp_syntax.specs.Syntax.{Rule, Does, Refines, Concludes}
 use Rattle.hp_syntax.specs.Terms.{Term}
 use Rattle.hp_syntax.specs.Walk.{Node, DidChild, CutChild, FaultChild, visits, node_at}
 use Rattle.hp_syntax.specs.Events.{axioms_of}
-use Rattle.hp_satisfiers.specs.RuleIndexes.{AreFew}
+use Rattle.hp_answers.specs.RuleIndexes.{AreFew}
 use Rattle.hp_eval.specs.Growth.{Grows}
 use Rattle.hp_net.specs.declared.walk.Step.{Step}
 use Rattle.hp_net.specs.declared.walk.Step.TheVariants as steps

@@ -7,7 +7,7 @@ use Rattle.hp_syntax.specs.Values.{Bindings}
 use Rattle.hp_syntax.specs.Views.{domain_of}
 use Rattle.hp_syntax.specs.Walk.{Child, child_of}
 use Rattle.hp_eval.specs.GoalViews.{term_at}
-use Rattle.hp_satisfiers.specs.AnswerViews.{answer_events, BindsBelow}
+use Rattle.hp_answers.specs.AnswerViews.{answer_events, BindsBelow}
 use Rattle.hp_tree.specs.Children.{place_in, IsCandidate, done_by, by_candidates}
 use Rattle.hp_plain.specs.declared.agenda.Agenda.{Agenda}
 use Rattle.hp_plain.specs.declared.agenda.CandidateQueue.{CandidateQueue}

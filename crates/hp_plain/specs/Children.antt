@@ -6,8 +6,8 @@ use Rattle.hp_syntax.specs.Syntax.{Branch}
 use Rattle.hp_syntax.specs.Events.{Event}
 use Rattle.hp_syntax.specs.Networks.{Place}
 use Rattle.hp_syntax.specs.Walk.{Node, Child, DidChild, CutChild, FaultChild, child_of}
-use Rattle.hp_satisfiers.specs.declared.answer.Answer.{Answer}
-use Rattle.hp_satisfiers.specs.AnswerViews.{answer_events, BindsBelow}
+use Rattle.hp_answers.specs.declared.answer.Answer.{Answer}
+use Rattle.hp_answers.specs.AnswerViews.{answer_events, BindsBelow}
 use Rattle.hp_tree.specs.Children.{branch_done}
 use Rattle.hp_plain.specs.declared.candidate.Candidate.{Candidate}
 use Rattle.hp_plain.specs.declared.candidate.Child as made

@@ -15,12 +15,12 @@ use Rattle.hp_syntax.specs.declared.domain.Axiom as public_axiom
 use Rattle.hp_eval.specs.Slotted.{Slotted, no_bindings, bindings_of}
 use Rattle.hp_eval.proofs.Loops.{left_at}
 use Rattle.hp_laws.specs.RulesByName.{concluding}
-use Rattle.hp_satisfiers.specs.RuleIndexes.{axiom_at, AreFew}
+use Rattle.hp_answers.specs.RuleIndexes.{axiom_at, AreFew}
 use Rattle.hp_satisfiers.specs.Scenes.{placed_events}
 use Rattle.hp_laws.proofs.JoinLemmas.{contains_first, contains_later}
 use Rattle.hp_syntax.specs.Preconditions.{heard}
-use Rattle.hp_satisfiers.specs.declared.answer.Answer.{Answer}
-use Rattle.hp_satisfiers.specs.AnswerViews.{answer_event, answer_events}
+use Rattle.hp_answers.specs.declared.answer.Answer.{Answer}
+use Rattle.hp_answers.specs.AnswerViews.{answer_event, answer_events}
 use Rattle.hp_laws.specs.HeardAlike.{AreHeardAlike}
 use Rattle.hp_laws.proofs.HeardAlikeLemmas.{alike_empty}
 

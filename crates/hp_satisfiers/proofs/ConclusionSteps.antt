@@ -12,10 +12,10 @@ use Rattle.hp_eval.specs.Slotted.{Slotted, AreBelow, bindings_of}
 use Rattle.hp_eval.specs.declared.goals.Goal as open_goal
 use Rattle.hp_eval.proofs.GoalViewLemmas.{goal_stays}
 use Rattle.hp_eval.proofs.GrowthLemmas.{bindings_stay}
-use Rattle.hp_satisfiers.specs.declared.answer.Answer.{Answer}
-use Rattle.hp_satisfiers.specs.declared.answer.Answer.TheVariants.{Sat, Fault}
-use Rattle.hp_satisfiers.specs.AnswerViews.{answer_event, BindsBelow, Hears, Finds, FindsStop}
-use Rattle.hp_satisfiers.proofs.AnswerLemmas.{finds_none, finds_one, finds_same, event_stays}
+use Rattle.hp_answers.specs.declared.answer.Answer.{Answer}
+use Rattle.hp_answers.specs.declared.answer.Answer.TheVariants.{Sat, Fault}
+use Rattle.hp_answers.specs.AnswerViews.{answer_event, BindsBelow, Hears, Finds, FindsStop}
+use Rattle.hp_answers.proofs.AnswerLemmas.{finds_none, finds_one, finds_same, event_stays}
 use Rattle.hp_satisfiers.proofs.HeardLemmas.{hears_found}
 use Rattle.hp_satisfiers.proofs.MatchSteps.{bound_copy}
 

@@ -26,7 +26,7 @@ use Rattle.hp_effect.specs.declared.obstacle.Obstacle.{Obstacle}
 use Rattle.hp_effect.specs.Costs.{Costs}
 use Rattle.hp_effect.specs.Gathering.{obstacle_of, with_gathered, both, each_going, StopsHere}
 use Rattle.hp_effect.proofs.GatheringLemmas.{stops_go, stops_same}
-use Rattle.hp_satisfiers.proofs.AnswerLemmas.{state_stays}
+use Rattle.hp_answers.proofs.AnswerLemmas.{state_stays}
 
 -- ---- lists of effects
 

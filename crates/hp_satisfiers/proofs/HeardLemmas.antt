@@ -10,10 +10,10 @@ use Rattle.hp_syntax.specs.Preconditions.{heard}
 use Rattle.hp_laws.specs.HeardAlike.{AreHeardAlike}
 use Rattle.hp_laws.proofs.HeardAlikeLemmas.{alike_behind, alike_before}
 use Rattle.hp_eval.specs.Growth.{Grows}
-use Rattle.hp_satisfiers.specs.declared.answer.Answer.{Answer}
-use Rattle.hp_satisfiers.specs.declared.answer.Answer.TheVariants.{Sat, Cut, Fault}
-use Rattle.hp_satisfiers.specs.AnswerViews.{answer_event, answer_events, Fits, Finds, Hears, HearsUpTo, is_found_fault, ends_in_fault}
-use Rattle.hp_satisfiers.proofs.AnswerLemmas.{all_fit_grow, events_stay, left_replaced}
+use Rattle.hp_answers.specs.declared.answer.Answer.{Answer}
+use Rattle.hp_answers.specs.declared.answer.Answer.TheVariants.{Sat, Cut, Fault}
+use Rattle.hp_answers.specs.AnswerViews.{answer_event, answer_events, Fits, Finds, Hears, HearsUpTo, is_found_fault, ends_in_fault}
+use Rattle.hp_answers.proofs.AnswerLemmas.{all_fit_grow, events_stay, left_replaced}
 
 -- ---- lists that end in a fault
 

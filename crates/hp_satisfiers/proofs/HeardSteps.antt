@@ -12,13 +12,13 @@ use Rattle.hp_eval.specs.Growth.{Grows}
 use Rattle.hp_eval.specs.Slotted.{Slotted, AreBelow, bindings_of}
 use Rattle.hp_eval.specs.declared.goals.Goal as open_goal
 use Rattle.hp_world.specs.Stages.{Stage, StageBelow, state_of}
-use Rattle.hp_satisfiers.specs.declared.answer.Answer.{Answer}
-use Rattle.hp_satisfiers.specs.AnswerViews.{answer_event, answer_events, Fits, AllFit, Hears, HearsUpTo}
+use Rattle.hp_answers.specs.declared.answer.Answer.{Answer}
+use Rattle.hp_answers.specs.AnswerViews.{answer_event, answer_events, Fits, AllFit, Hears, HearsUpTo}
 use Rattle.hp_laws.specs.HeardAlike.{AreHeardAlike}
 use Rattle.hp_laws.specs.RulesByName.{concluding}
-use Rattle.hp_satisfiers.specs.RuleIndexes.{axiom_at}
+use Rattle.hp_answers.specs.RuleIndexes.{axiom_at}
 use Rattle.hp_satisfiers.specs.Scenes.{below_at, placed_events}
-use Rattle.hp_satisfiers.proofs.AnswerLemmas.{fits_below, event_stays}
+use Rattle.hp_answers.proofs.AnswerLemmas.{fits_below, event_stays}
 use Rattle.hp_satisfiers.proofs.HeardLemmas.{hears_same, hears_left, hears_next, hears_replaced}
 use Rattle.hp_satisfiers.proofs.SearchSteps.{any_of, any_left}
 use Rattle.hp_satisfiers.proofs.AxiomSteps.{axioms_left}

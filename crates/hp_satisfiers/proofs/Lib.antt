@@ -1,8 +1,6 @@
-pub mod AnswerLemmas
 pub mod HeardLemmas
 pub mod MatchSteps
 pub mod ConclusionSteps
-pub mod RuleIndexLemmas
 pub mod Sizes
 pub mod SearchSteps
 pub mod ChosenBranches

@@ -3,8 +3,8 @@ use Rattle.std.proofs.Common.{◌≡◌, ℕ, ◌≤◌, Option, None, List, len
 use Rattle.std.proofs.lemmas.List.{length-replicate}
 use Rattle.hp_eval.proofs.SlotLemmas.{binds_vars, undone_above}
 use Rattle.hp_eval.specs.Slotted.{Slotted, AreBelow, Binds, no_bindings, undone}
-use Rattle.hp_satisfiers.specs.declared.answer.Answer.{Answer}
-use Rattle.hp_satisfiers.specs.AnswerViews.{AllFit}
+use Rattle.hp_answers.specs.declared.answer.Answer.{Answer}
+use Rattle.hp_answers.specs.AnswerViews.{AllFit}
 use Rattle.hp_satisfiers.specs.Listed.{FitsListed}
 
 module _ (kept : ℕ) (found : List Answer) (s : Slotted) (h : FitsListed kept found s) where

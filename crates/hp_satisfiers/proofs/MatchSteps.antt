@@ -16,15 +16,15 @@ use Rattle.hp_eval.specs.Growth.{Grows, Gives}
 use Rattle.hp_eval.specs.GoalViews.{term_at}
 use Rattle.hp_eval.specs.Attempts.{extended, Tries}
 use Rattle.hp_eval.specs.Slotted.{Slotted, AreBelow, Binds, Matched, named, bindings_of}
-use Rattle.hp_satisfiers.specs.declared.answer.Answer.TheVariants as plain_found
-use Rattle.hp_satisfiers.proofs.AnswerLemmas.{finds_none, finds_one, finds_same}
+use Rattle.hp_answers.specs.declared.answer.Answer.TheVariants as plain_found
+use Rattle.hp_answers.proofs.AnswerLemmas.{finds_none, finds_one, finds_same}
 use Rattle.hp_eval.proofs.CellViews.{at_named}
 use Rattle.hp_eval.proofs.GrowthLemmas.{bindings_stay}
 use Rattle.hp_eval.proofs.SlotLemmas.{binds_vars}
 use Rattle.hp_world.specs.Stages.{live_atoms, terms_at}
 use Rattle.hp_world.proofs.StageLemmas.{atom_below}
-use Rattle.hp_satisfiers.specs.declared.answer.Answer.{Answer}
-use Rattle.hp_satisfiers.specs.AnswerViews.{Finds}
+use Rattle.hp_answers.specs.declared.answer.Answer.{Answer}
+use Rattle.hp_answers.specs.AnswerViews.{Finds}
 use Rattle.hp_satisfiers.specs.Places.{place_events, IsAtomBelow}
 
 -- ---- values

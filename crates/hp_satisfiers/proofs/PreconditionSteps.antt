@@ -17,13 +17,13 @@ use Rattle.hp_eval.specs.Slotted.{Slotted, AreBelow, Binds, no_bindings, undone,
 use Rattle.hp_eval.specs.declared.event.Event.TheVariants as events
 use Rattle.hp_eval.specs.Events.{event_of, left_after, AreOfFirst}
 use Rattle.hp_satisfiers.specs.Listed.{FindsMore}
-use Rattle.hp_satisfiers.proofs.AnswerLemmas.{finds_one, finds_same, finds_copy, upto_more, upto_all}
+use Rattle.hp_answers.proofs.AnswerLemmas.{finds_one, finds_same, finds_copy, upto_more, upto_all}
 use Rattle.hp_eval.proofs.SlotLemmas.{binds_vars}
 use Rattle.hp_syntax.specs.declared.fault.RunFault.{RunFault}
 use Rattle.hp_eval.proofs.Loops.{left_more}
-use Rattle.hp_satisfiers.specs.declared.answer.Answer.{Answer}
-use Rattle.hp_satisfiers.specs.declared.answer.Answer.TheVariants.{Sat, Cut, Fault}
-use Rattle.hp_satisfiers.specs.AnswerViews.{answer_event, answer_events, Fits, Finds, FindsUpTo, Hears}
+use Rattle.hp_answers.specs.declared.answer.Answer.{Answer}
+use Rattle.hp_answers.specs.declared.answer.Answer.TheVariants.{Sat, Cut, Fault}
+use Rattle.hp_answers.specs.AnswerViews.{answer_event, answer_events, Fits, Finds, FindsUpTo, Hears}
 
 module _ (terms : List Term) (found : List Answer) (i : ℕ) where
   -- the events of a prefix grow by the next

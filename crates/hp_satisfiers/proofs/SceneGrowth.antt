@@ -12,12 +12,12 @@ use Rattle.hp_eval.specs.declared.goals.Goal as open_goal
 use Rattle.hp_eval.specs.Slotted.{Slotted, AreBelow, bindings_of}
 use Rattle.hp_eval.proofs.GrowthLemmas.{bindings_stay}
 use Rattle.hp_world.specs.Stages.{Stage, StageBelow, state_of}
-use Rattle.hp_satisfiers.specs.declared.answer.Answer.{Answer}
+use Rattle.hp_answers.specs.declared.answer.Answer.{Answer}
 use Rattle.hp_eval.proofs.GoalViewLemmas.{goal_stays}
-use Rattle.hp_satisfiers.proofs.AnswerLemmas.{finds_same, state_stays}
+use Rattle.hp_answers.proofs.AnswerLemmas.{finds_same, state_stays}
 use Rattle.hp_laws.proofs.HeardAlikeLemmas.{alike_turned, alike_decide}
 use Rattle.hp_satisfiers.proofs.HeardLemmas.{hears_found, hears_same}
-use Rattle.hp_satisfiers.specs.AnswerViews.{answer_events, Finds, Hears}
+use Rattle.hp_answers.specs.AnswerViews.{answer_events, Finds, Hears}
 use Rattle.hp_laws.specs.HeardAlike.{AreHeardAlike, turned}
 use Rattle.hp_satisfiers.specs.Scenes.{below_at, placed_events}
 

@@ -14,9 +14,9 @@ use Rattle.hp_syntax.specs.Preconditions.{heard}
 use Rattle.hp_eval.specs.Slotted.{Slotted, AreBelow, named, no_bindings, undone, bindings_of}
 use Rattle.hp_eval.specs.SlotLaws.{bindings_agree}
 use Rattle.hp_laws.proofs.HearingLemmas.{all_up_to}
-use Rattle.hp_satisfiers.specs.declared.answer.Answer.{Answer}
-use Rattle.hp_satisfiers.specs.declared.answer.Answer.TheVariants.{Sat, Cut, Fault}
-use Rattle.hp_satisfiers.specs.AnswerViews.{answer_event, answer_events, Fits, AllFit, Finds, FindsUpTo}
+use Rattle.hp_answers.specs.declared.answer.Answer.{Answer}
+use Rattle.hp_answers.specs.declared.answer.Answer.TheVariants.{Sat, Cut, Fault}
+use Rattle.hp_answers.specs.AnswerViews.{answer_event, answer_events, Fits, AllFit, Finds, FindsUpTo}
 
 -- the heard events of a list from a place on
 abbrev pub left_from : List Term → List Answer → ℕ → List Event

@@ -9,9 +9,9 @@ ghost use Rattle.hp_syntax.specs.Views.{atom_of, axiom_of};
 ghost use Rattle.hp_eval.specs.GoalViews.{goal_of, GoalBelow};
 ghost use Rattle.hp_eval.specs.Growth.{Grows};
 ghost use Rattle.hp_eval.specs.Slotted.{AreBelow, bindings_of};
-ghost use Rattle.hp_satisfiers.specs.AnswerViews.{Finds, Hears, answer_event, answer_events, BindsBelow, MeetsHead};
+ghost use Rattle.hp_answers.specs.AnswerViews.{Finds, Hears, answer_event, answer_events, BindsBelow, MeetsHead};
 
-use crate::answer::{Answer, add, only, stopped};
+use hp_answers::answer::{Answer, add, only, stopped};
 use hp_cells::Cells;
 use hp_eval::{Goal, Slots, conclude, start_goal};
 use hp_syntax::{AtomPat, Axiom};

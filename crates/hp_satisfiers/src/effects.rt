@@ -8,13 +8,13 @@ ghost use Rattle.hp_eval.specs.Growth.{Grows};
 ghost use Rattle.hp_eval.specs.Slotted.{AreBelow, bindings_of};
 ghost use Rattle.hp_world.specs.Stages.{StageBelow, ChangesBelow, changes_of};
 ghost use Rattle.hp_effect.specs.Gathering.{each_going, PutsAll};
-ghost use Rattle.hp_satisfiers.specs.AnswerViews.{answer_events, AllFit};
+ghost use Rattle.hp_answers.specs.AnswerViews.{answer_events, AllFit};
 ghost use Rattle.hp_satisfiers.specs.Scenes.{axioms_in, stage_in, state_in};
 ghost use Rattle.hp_satisfiers.specs.EffectsOutcomes.{GoesAll, GoesInto, ComesTo};
 
-use crate::answer::Answer;
 use crate::expressions::Scene;
 use crate::listed::Listed;
+use hp_answers::answer::Answer;
 use hp_cells::Cells;
 use hp_effect::{Changes, Obstacle, Side, cost, put_atom, put_each, put_protection};
 use hp_eval::Slots;

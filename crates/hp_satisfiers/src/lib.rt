@@ -2,12 +2,9 @@
 //! outcome of an operator's effects. Each list is that of the definitions.
 #![tactic(auto)]
 
-pub mod answer;
 pub mod conclusions;
 pub mod effects;
 pub mod expressions;
 pub mod listed;
 pub mod matches;
 pub mod preconditions;
-pub mod rule_index;
-pub mod tables;

@@ -4,10 +4,10 @@ ghost use Rattle.hp_syntax.specs.Terms.{Term};
 ghost use Rattle.hp_eval.specs.Events.{event_of, left_after, AreOfFirst};
 ghost use Rattle.hp_eval.specs.Slotted.{AreBelow, Binds, no_bindings, bindings_of};
 ghost use Rattle.hp_syntax.specs.Preconditions.{heard};
-ghost use Rattle.hp_satisfiers.specs.AnswerViews.{AllFit, answer_events};
+ghost use Rattle.hp_answers.specs.AnswerViews.{AllFit, answer_events};
 ghost use Rattle.hp_satisfiers.specs.Listed.{left_from};
 
-use crate::answer::Answer;
+use hp_answers::answer::Answer;
 use hp_cells::Cells;
 use hp_eval::{Event, Sats, Slots};
 use std::alloc::AllocError;

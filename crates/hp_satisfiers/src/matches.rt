@@ -9,10 +9,10 @@ ghost use Rattle.hp_eval.specs.GoalViews.{term_at, goal_of, GoalBelow};
 ghost use Rattle.hp_eval.specs.Growth.{Grows};
 ghost use Rattle.hp_eval.specs.Slotted.{AreBelow, bindings_of};
 ghost use Rattle.hp_world.specs.Stages.{StageBelow, state_of};
-ghost use Rattle.hp_satisfiers.specs.AnswerViews.{Finds};
+ghost use Rattle.hp_answers.specs.AnswerViews.{Finds};
 ghost use Rattle.hp_satisfiers.specs.Places.{place_events, IsAtomBelow};
 
-use crate::answer::{Answer, only, satisfied, stopped};
+use hp_answers::answer::{Answer, only, satisfied, stopped};
 use hp_cells::{Cell, Cells, View};
 use hp_eval::{Goal, Slots, match_goal, meet, value};
 use hp_syntax::Pat;

@@ -8,13 +8,13 @@ ghost use Rattle.hp_eval.specs.Events.{PlainEvent, event_of, left_after, AreOfFi
 ghost use Rattle.hp_eval.specs.Growth.{Grows};
 ghost use Rattle.hp_eval.specs.Slotted.{AreBelow, bindings_of};
 ghost use Rattle.hp_world.specs.Stages.{StageBelow};
-ghost use Rattle.hp_satisfiers.specs.AnswerViews.{answer_events, AllFit, Finds, FindsUpTo, Hears};
+ghost use Rattle.hp_answers.specs.AnswerViews.{answer_events, AllFit, Finds, FindsUpTo, Hears};
 ghost use Rattle.hp_satisfiers.specs.Scenes.{axioms_in, stage_in, state_in};
 ghost use Rattle.hp_satisfiers.specs.Listed.{FindsMore};
 
-use crate::answer::Answer;
 use crate::expressions::Scene;
 use crate::listed::Listed;
+use hp_answers::answer::Answer;
 use hp_cells::Cells;
 use hp_eval::{Event, Sats, Slots};
 use hp_pick::{First, Sorted};

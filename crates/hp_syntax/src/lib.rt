@@ -11,6 +11,7 @@ mod domain;
 mod expression;
 mod fault;
 mod form;
+mod implications;
 pub mod laws;
 pub mod limits;
 mod name;
@@ -25,6 +26,7 @@ pub use domain::{Axiom, Branch, Clause, Domain, Effect, Method, Operator, Pair, 
 pub use expression::{Expr, ExprKind, Pre, SortKey, SortOrder};
 pub use fault::{FaultKind, RunFault};
 pub use form::What;
+pub use implications::implication;
 pub use name::Name;
 pub use pattern::{AtomPat, Ground, Pat, PatKind, Span, Tail};
 pub use status::Status;

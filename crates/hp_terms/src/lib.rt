@@ -6,6 +6,7 @@
 
 pub mod names;
 pub mod nodes;
+pub mod orders;
 mod refusal;
 pub mod scope;
 pub mod terms;

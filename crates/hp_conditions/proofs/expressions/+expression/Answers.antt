@@ -47,19 +47,8 @@ list_kind-returns-in-List t c =
 
 pub implied-returns : goal.implied-returns
 implied-returns t c =
-    let span = c.args.span in
-    let not = c.in_ok-new.field-0 in
-    let parts = c.push-2.new.self in
     let both = rw c.closing.ensures at c.in_ok-first.ensures in
-    rw (
-      expression_of-or (record { span = span; kind = exprs.Or parts }) parts refl,
-      c.in_ok-push-2.ensures.items,
-      c.in_ok-push.ensures.items,
-      c.in_ok-parts.ensures.items,
-      expression_of-not (record { span = span; kind = exprs.Not not }) not refl,
-      c.in_ok-new.ensures.ok,
-    )
-    (ap (λ r. and_then r (λ both. pure (grammar.implied span both))) both)
+    rw c.in_ok-implication.ensures (ap (λ r. and_then r (λ both. pure (grammar.implied c.args.span both))) both)
 
 pub keyed-returns-then-is : goal.keyed-returns-then-is
 keyed-returns-then-is t c = λ s.

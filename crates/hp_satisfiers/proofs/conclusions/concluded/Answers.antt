@@ -7,7 +7,7 @@ use Rattle.hp_eval.specs.Slotted.{named, bindings_of}
 use Rattle.hp_eval.proofs.Copies.{same_below}
 use Rattle.hp_eval.proofs.GrowthLemmas.{grows_self}
 use Rattle.hp_satisfiers.proofs.ConclusionSteps.{concluded_met, concluded_none, concluded_stopped}
-use Rattle.hp_satisfiers.proofs.AnswerLemmas.{finds_same}
+use Rattle.hp_answers.proofs.AnswerLemmas.{finds_same}
 use Rattle.hp_satisfiers.proofs.conclusions.concluded.Goals as goal
 
 pub conclude-requires-clause-slots : goal.conclude-requires-clause-slots

@@ -6,8 +6,8 @@ use Rattle.hp_syntax.specs.Views.{atom_of}
 use Rattle.hp_eval.specs.GoalViews.{goal_of}
 use Rattle.hp_eval.specs.Slotted.{bindings_of}
 use Rattle.hp_eval.proofs.GrowthLemmas.{grows_self}
-use Rattle.hp_satisfiers.specs.AnswerViews.{BindsBelow}
-use Rattle.hp_satisfiers.proofs.AnswerLemmas.{finds_same, sat_replaced, cut_replaced, fault_replaced}
+use Rattle.hp_answers.specs.AnswerViews.{BindsBelow}
+use Rattle.hp_answers.proofs.AnswerLemmas.{finds_same, sat_replaced, cut_replaced, fault_replaced}
 use Rattle.hp_satisfiers.proofs.conclusions.conclusion.Goals as goal
 
 pub concluded-requires-clause-own : goal.concluded-requires-clause-own

@@ -5,9 +5,9 @@ use Rattle.hp_syntax.specs.Views.{atom_of}
 use Rattle.hp_eval.specs.GoalViews.{goal_of}
 use Rattle.hp_eval.specs.Slotted.{bindings_of}
 use Rattle.hp_eval.proofs.GrowthLemmas.{below_grows, grows_on, grows_self}
-use Rattle.hp_satisfiers.specs.AnswerViews.{BindsBelow, answer_events}
+use Rattle.hp_answers.specs.AnswerViews.{BindsBelow, answer_events}
 use Rattle.hp_eval.proofs.GoalViewLemmas.{goal_below_grows}
-use Rattle.hp_satisfiers.proofs.AnswerLemmas.{binds_grow, item_holds}
+use Rattle.hp_answers.proofs.AnswerLemmas.{binds_grow, item_holds}
 use Rattle.hp_satisfiers.proofs.HeardLemmas.{hears_replaced, hears_replaced_all, hears_over, hears_begin}
 use Rattle.hp_satisfiers.proofs.ConclusionSteps.{conclusion_heard}
 use Rattle.hp_satisfiers.proofs.conclusions.conclusions.Goals as goal

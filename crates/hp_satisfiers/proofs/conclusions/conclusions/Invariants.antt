@@ -5,7 +5,7 @@ use Rattle.hp_syntax.specs.Views.{atom_of}
 use Rattle.hp_eval.specs.GoalViews.{goal_of}
 use Rattle.hp_eval.specs.Growth.{Grows}
 use Rattle.hp_eval.specs.Slotted.{bindings_of}
-use Rattle.hp_satisfiers.specs.AnswerViews.{HearsUpTo, answer_events}
+use Rattle.hp_answers.specs.AnswerViews.{HearsUpTo, answer_events}
 use Rattle.hp_satisfiers.proofs.conclusions.conclusions.Given as goal
 
 abbrev pub invariant-loop-x : goal.invariant-loop-x

@@ -4,7 +4,7 @@ use Rattle.hp_eval.specs.Slotted.{no_bindings}
 use Rattle.hp_eval.proofs.GrowthLemmas.{grows_self}
 use Rattle.hp_world.specs.Stages.{changes_of}
 use Rattle.hp_effect.specs.Gathering.{each_going, PutsAll}
-use Rattle.hp_satisfiers.specs.AnswerViews.{AllFit}
+use Rattle.hp_answers.specs.AnswerViews.{AllFit}
 use Rattle.hp_satisfiers.proofs.PreconditionSteps.{new_vars}
 use Rattle.hp_satisfiers.proofs.effects.put_listed.Goals as goal
 

@@ -2,7 +2,7 @@ use Rattle.std.proofs.lemmas.Result.{IfOk-weaker}
 use Rattle.hp_syntax.specs.Values.{value}
 use Rattle.hp_syntax.specs.Views.{pattern_of}
 use Rattle.hp_eval.specs.Slotted.{bindings_of}
-use Rattle.hp_satisfiers.proofs.AnswerLemmas.{finds_same}
+use Rattle.hp_answers.proofs.AnswerLemmas.{finds_same}
 use Rattle.hp_satisfiers.proofs.MatchSteps.{assigned_given}
 use Rattle.std.proofs.lemmas.Option.{slice_get_within}
 use Rattle.hp_eval.proofs.GrowthLemmas.{below_grows}

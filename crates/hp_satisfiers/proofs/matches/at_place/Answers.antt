@@ -3,7 +3,7 @@ use Rattle.std.proofs.lemmas.Result.{IfOk-weaker}
 use Rattle.hp_eval.specs.GoalViews.{goal_of}
 use Rattle.hp_eval.specs.Slotted.{bindings_of}
 use Rattle.hp_satisfiers.specs.Places.{place_events, IsAtomBelow}
-use Rattle.hp_satisfiers.proofs.AnswerLemmas.{finds_none, finds_same}
+use Rattle.hp_answers.proofs.AnswerLemmas.{finds_none, finds_same}
 use Rattle.hp_satisfiers.proofs.matches.at_place.Goals as goal
 
 pub returns-in-Some-clause-found : goal.returns-in-Some-clause-found

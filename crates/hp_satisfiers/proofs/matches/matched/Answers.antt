@@ -4,8 +4,8 @@ use Rattle.hp_syntax.specs.Events.{sat_if}
 use Rattle.hp_eval.specs.GoalViews.{term_at, goal_of}
 use Rattle.hp_eval.specs.Slotted.{bindings_of, undone}
 use Rattle.hp_eval.proofs.CellViews.{named_at}
-use Rattle.hp_satisfiers.specs.AnswerViews.{Finds}
-use Rattle.hp_satisfiers.proofs.AnswerLemmas.{finds_same}
+use Rattle.hp_answers.specs.AnswerViews.{Finds}
+use Rattle.hp_answers.proofs.AnswerLemmas.{finds_same}
 use Rattle.hp_eval.proofs.SlotLemmas.{binds_vars, match_failed, match_made}
 use Rattle.hp_satisfiers.proofs.matches.matched.Goals as goal
 

@@ -4,9 +4,9 @@ use Rattle.hp_eval.specs.GoalViews.{goal_of}
 use Rattle.hp_eval.specs.Slotted.{named, bindings_of}
 use Rattle.hp_eval.proofs.Loops.{left_at}
 use Rattle.hp_world.specs.Stages.{live_atoms, terms_at, state_of}
-use Rattle.hp_satisfiers.specs.AnswerViews.{Finds}
+use Rattle.hp_answers.specs.AnswerViews.{Finds}
 use Rattle.hp_satisfiers.specs.Places.{place_events}
-use Rattle.hp_satisfiers.proofs.AnswerLemmas.{upto_none, upto_more, upto_same}
+use Rattle.hp_answers.proofs.AnswerLemmas.{upto_none, upto_more, upto_same}
 use Rattle.hp_satisfiers.proofs.MatchSteps.{live_at, places_step}
 use Rattle.std.specs.Prelude.{slice_get}
 use Rattle.hp_satisfiers.proofs.matches.state_events.Goals as goal

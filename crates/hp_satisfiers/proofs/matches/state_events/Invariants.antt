@@ -3,7 +3,7 @@ use Rattle.hp_syntax.specs.Events.{state_events}
 use Rattle.hp_eval.specs.GoalViews.{goal_of}
 use Rattle.hp_eval.specs.Slotted.{bindings_of}
 use Rattle.hp_world.specs.Stages.{live_atoms, terms_at, state_of}
-use Rattle.hp_satisfiers.specs.AnswerViews.{FindsUpTo}
+use Rattle.hp_answers.specs.AnswerViews.{FindsUpTo}
 use Rattle.hp_satisfiers.proofs.matches.state_events.Given as goal
 
 abbrev pub invariant-loop-place : goal.invariant-loop-place

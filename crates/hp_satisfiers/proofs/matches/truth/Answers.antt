@@ -4,7 +4,7 @@ use Rattle.hp_eval.specs.GoalViews.{term_at}
 use Rattle.hp_eval.specs.Slotted.{bindings_of}
 use Rattle.hp_eval.proofs.CellViews.{named_at}
 use Rattle.hp_cells.specs.declared.keys.View.TheVariants.{Nil}
-use Rattle.hp_satisfiers.proofs.AnswerLemmas.{finds_same}
+use Rattle.hp_answers.proofs.AnswerLemmas.{finds_same}
 use Rattle.hp_satisfiers.proofs.MatchSteps.{shown_true}
 use Rattle.hp_satisfiers.proofs.matches.truth.Goals as goal
 

@@ -1,8 +1,8 @@
 use Rattle.std.proofs.Common.{length, refl, sym, ◌∙◌, subst}
 use Rattle.hp_syntax.specs.Preconditions.{heard}
 use Rattle.hp_eval.proofs.GrowthLemmas.{grows_self, grows_on}
-use Rattle.hp_satisfiers.specs.AnswerViews.{Finds, FindsUpTo}
-use Rattle.hp_satisfiers.proofs.AnswerLemmas.{upto_none}
+use Rattle.hp_answers.specs.AnswerViews.{Finds, FindsUpTo}
+use Rattle.hp_answers.proofs.AnswerLemmas.{upto_none}
 use Rattle.hp_satisfiers.proofs.PreconditionSteps.{more_left, none_left}
 use Rattle.hp_satisfiers.proofs.preconditions.drained.Goals as goal
 

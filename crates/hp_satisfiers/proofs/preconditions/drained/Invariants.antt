@@ -1,7 +1,7 @@
 use Rattle.std.proofs.Common.{◌≡◌, ◌≤◌, true, length}
 use Rattle.hp_syntax.specs.Preconditions.{heard}
 use Rattle.hp_eval.specs.Growth.{Grows}
-use Rattle.hp_satisfiers.specs.AnswerViews.{FindsUpTo}
+use Rattle.hp_answers.specs.AnswerViews.{FindsUpTo}
 use Rattle.hp_satisfiers.proofs.preconditions.drained.Given as goal
 
 abbrev pub invariant-loop-found : goal.invariant-loop-found

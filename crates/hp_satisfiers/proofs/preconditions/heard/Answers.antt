@@ -1,6 +1,6 @@
 use Rattle.std.proofs.Common.{sym, ap, ◌∙◌, subst, take}
 use Rattle.hp_syntax.specs.Preconditions.{heard}
-use Rattle.hp_satisfiers.specs.AnswerViews.{Finds, answer_events}
+use Rattle.hp_answers.specs.AnswerViews.{Finds, answer_events}
 use Rattle.hp_satisfiers.proofs.PreconditionSteps.{heard_found}
 use Rattle.hp_satisfiers.proofs.preconditions.heard.Goals as goal
 

@@ -1,5 +1,5 @@
 use Rattle.hp_syntax.specs.Preconditions.{heard}
-use Rattle.hp_satisfiers.specs.AnswerViews.{answer_events}
+use Rattle.hp_answers.specs.AnswerViews.{answer_events}
 use Rattle.hp_satisfiers.proofs.PreconditionSteps.{heard_more, heard_fault, heard_all}
 use Rattle.hp_satisfiers.proofs.preconditions.heard_len.Goals as goal
 

@@ -1,7 +1,7 @@
 use Rattle.std.proofs.Common.{◌≡◌, ◌++◌, List, take, drop}
 use Rattle.hp_syntax.specs.Preconditions.{heard}
 use Rattle.hp_syntax.specs.Terms.{Term}
-use Rattle.hp_satisfiers.specs.AnswerViews.{answer_events}
+use Rattle.hp_answers.specs.AnswerViews.{answer_events}
 use Rattle.hp_satisfiers.proofs.preconditions.heard_len.Given as goal
 
 abbrev pub invariant-loop-i : goal.invariant-loop-i

@@ -2,8 +2,8 @@ use Rattle.std.proofs.Common.{◌≤◌, length, sym, ◌∙◌, ap, subst}
 use Rattle.std.proofs.lemmas.Result.{IfOk-weaker}
 use Rattle.hp_syntax.specs.Preconditions.{heard, keyed, sorted_events}
 use Rattle.hp_syntax.specs.Views.{key_of}
-use Rattle.hp_satisfiers.specs.AnswerViews.{Finds, answer_events, AllFit}
-use Rattle.hp_satisfiers.proofs.AnswerLemmas.{finds_same}
+use Rattle.hp_answers.specs.AnswerViews.{Finds, answer_events, AllFit}
+use Rattle.hp_answers.proofs.AnswerLemmas.{finds_same}
 use Rattle.hp_satisfiers.proofs.PreconditionSteps.{new_vars, sorted_heard_whole}
 use Rattle.hp_eval.proofs.GrowthLemmas.{grows_self}
 use Rattle.hp_eval.specs.Slotted.{no_bindings}

@@ -2,9 +2,9 @@ use Rattle.std.proofs.Common.{length, ◌≤◌, sym, subst, arith}
 use Rattle.std.proofs.lemmas.Result.{IfOk-weaker}
 use Rattle.hp_syntax.specs.Preconditions.{heard}
 use Rattle.hp_eval.specs.Events.{left_after}
-use Rattle.hp_satisfiers.specs.AnswerViews.{FindsUpTo}
+use Rattle.hp_answers.specs.AnswerViews.{FindsUpTo}
 use Rattle.hp_satisfiers.specs.Listed.{FindsMore}
-use Rattle.hp_satisfiers.proofs.AnswerLemmas.{upto_grow}
+use Rattle.hp_answers.proofs.AnswerLemmas.{upto_grow}
 use Rattle.hp_satisfiers.proofs.PreconditionSteps.{vars_above}
 use Rattle.hp_satisfiers.proofs.preconditions.take_next.Goals as goal
 

@@ -4,7 +4,7 @@ use Rattle.std.proofs.lemmas.Option.{slice_get_within}
 use Rattle.hp_syntax.specs.Networks.{part_at}
 use Rattle.hp_laws.specs.RulesByName.{relevant_to}
 use Rattle.hp_laws.proofs.RuleNameLemmas.{relevant_few}
-use Rattle.hp_satisfiers.proofs.RuleIndexLemmas.{rule_at_place, no_place}
+use Rattle.hp_answers.proofs.RuleIndexLemmas.{rule_at_place, no_place}
 use Rattle.hp_eval.proofs.GrowthLemmas.{grows_self}
 use Rattle.hp_tree.specs.Children.{place_in, IsCandidate}
 use Rattle.hp_tree.proofs.ChildLemmas.{candidate_next, candidate_done}

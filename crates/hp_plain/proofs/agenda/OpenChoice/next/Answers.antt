@@ -4,7 +4,7 @@ use Rattle.std.proofs.lemmas.List.Elements.{All-get_or}
 use Rattle.hp_syntax.specs.Walk.{child_of}
 use Rattle.hp_eval.specs.GoalViews.{term_at}
 use Rattle.hp_eval.proofs.GrowthLemmas.{grows_on, grows_self, grows_length}
-use Rattle.hp_satisfiers.specs.AnswerViews.{answer_event, BindsBelow}
+use Rattle.hp_answers.specs.AnswerViews.{answer_event, BindsBelow}
 use Rattle.hp_tree.specs.Children.{place_in, done_by}
 use Rattle.hp_tree.proofs.SearchNodeLemmas.{node_grows}
 use Rattle.hp_plain.specs.Agendas.{rules_of}

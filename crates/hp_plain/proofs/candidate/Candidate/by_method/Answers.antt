@@ -8,7 +8,7 @@ use Rattle.hp_eval.specs.Slotted.{bindings_of}
 use Rattle.hp_eval.proofs.GrowthLemmas.{grows_self}
 use Rattle.hp_plain.specs.Candidates.{rules_at, nest_at, own_node, place_at, own_task}
 use Rattle.hp_plain.specs.Children.{ChoosesBranch}
-use Rattle.hp_satisfiers.specs.AnswerViews.{MeetsHead}
+use Rattle.hp_answers.specs.AnswerViews.{MeetsHead}
 use Rattle.hp_plain.proofs.candidate.Candidate.by_method.Goals as goal
 
 pub returns-in-None-clause-cells : goal.returns-in-None-clause-cells

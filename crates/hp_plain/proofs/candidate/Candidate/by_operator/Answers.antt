@@ -9,7 +9,7 @@ use Rattle.hp_eval.proofs.GrowthLemmas.{grows_self}
 use Rattle.hp_world.specs.Stages.{StageBelow}
 use Rattle.hp_tree.specs.Children.{if_matched}
 use Rattle.hp_plain.specs.Candidates.{rules_at, nest_at, own_node, own_task}
-use Rattle.hp_satisfiers.specs.AnswerViews.{MeetsHead}
+use Rattle.hp_answers.specs.AnswerViews.{MeetsHead}
 use Rattle.hp_plain.proofs.CandidateSteps.{precondition_stays, finds_below}
 use Rattle.hp_plain.proofs.candidate.Candidate.by_operator.Goals as goal
 

@@ -2,7 +2,7 @@ use Rattle.std.proofs.Common.{length, ap, sym, subst}
 use Rattle.std.proofs.lemmas.Result.{IfOk-weaker}
 use Rattle.hp_syntax.specs.Walk.{child_of}
 use Rattle.hp_eval.proofs.GrowthLemmas.{grows_self}
-use Rattle.hp_satisfiers.specs.AnswerViews.{answer_event, BindsBelow}
+use Rattle.hp_answers.specs.AnswerViews.{answer_event, BindsBelow}
 use Rattle.hp_plain.specs.Candidates.{done_at}
 use Rattle.hp_plain.proofs.CandidateSteps.{makes_same}
 use Rattle.hp_plain.proofs.candidate.Candidate.child.Goals as goal

@@ -6,7 +6,7 @@ use Rattle.hp_syntax.specs.Checks.{HasFewVariables}
 use Rattle.hp_tree.specs.Children.{children_by}
 use Rattle.hp_plain.specs.Candidates.{nest_at, own_node, place_at, rules_at, own_task}
 use Rattle.hp_plain.proofs.CandidateSteps.{holds_there, chooses_operator, chooses_method, chooses_nothing}
-use Rattle.hp_satisfiers.proofs.RuleIndexLemmas.{rule_there, rule_missing}
+use Rattle.hp_answers.proofs.RuleIndexLemmas.{rule_there, rule_missing}
 use Rattle.hp_eval.proofs.GrowthLemmas.{grows_self}
 use Rattle.hp_plain.proofs.candidate.Candidate.choice.Goals as goal
 

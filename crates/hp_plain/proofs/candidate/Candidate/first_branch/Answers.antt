@@ -3,12 +3,12 @@ use Rattle.std.specs.Prelude.{flat_map, slice_get}
 use Rattle.std.proofs.lemmas.List.{length-map}
 use Rattle.hp_syntax.specs.Events.{chosen}
 use Rattle.hp_syntax.specs.Views.{branch_of}
-use Rattle.hp_satisfiers.specs.AnswerViews.{answer_event}
+use Rattle.hp_answers.specs.AnswerViews.{answer_event}
 use Rattle.hp_eval.specs.Slotted.{bindings_of}
 use Rattle.hp_eval.proofs.GrowthLemmas.{below_grows, grows_on}
 use Rattle.hp_syntax.specs.Walk.{child_of}
 use Rattle.hp_world.specs.Stages.{StageBelow}
-use Rattle.hp_satisfiers.proofs.AnswerLemmas.{stage_below_grows}
+use Rattle.hp_answers.proofs.AnswerLemmas.{stage_below_grows}
 use Rattle.hp_tree.specs.Children.{branch_done}
 use Rattle.hp_tree.proofs.ChildLemmas.{branch_chosen}
 use Rattle.hp_plain.specs.Candidates.{rules_at, nest_at, own_node, place_at}

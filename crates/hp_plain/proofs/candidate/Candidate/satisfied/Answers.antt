@@ -1,7 +1,7 @@
 use Rattle.std.proofs.lemmas.Result.{IfOk-weaker}
 use Rattle.hp_eval.specs.Slotted.{bindings_of}
 use Rattle.hp_plain.proofs.CandidateSteps.{done_there, makes_same}
-use Rattle.hp_satisfiers.proofs.RuleIndexLemmas.{rule_there, rule_missing}
+use Rattle.hp_answers.proofs.RuleIndexLemmas.{rule_there, rule_missing}
 use Rattle.hp_eval.proofs.GrowthLemmas.{grows_self}
 use Rattle.hp_plain.proofs.candidate.Candidate.satisfied.Goals as goal
 

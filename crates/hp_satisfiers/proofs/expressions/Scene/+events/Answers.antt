@@ -16,13 +16,13 @@ use Rattle.hp_eval.proofs.GrowthLemmas.{grows_self, grows_on, bindings_stay, bel
 use Rattle.hp_syntax.specs.Preconditions.{heard}
 use Rattle.std.specs.List.{All}
 use Rattle.std.proofs.lemmas.List.Elements.{All-weaker}
-use Rattle.hp_satisfiers.specs.AnswerViews.{answer_events, Fits, AllFit, BindsBelow, MeetsHead}
+use Rattle.hp_answers.specs.AnswerViews.{answer_events, Fits, AllFit, BindsBelow, MeetsHead}
 use Rattle.hp_laws.specs.HeardAlike.{AreHeardAlike}
 use Rattle.hp_laws.specs.RulesByName.{concluding}
-use Rattle.hp_satisfiers.specs.RuleIndexes.{axiom_at}
+use Rattle.hp_answers.specs.RuleIndexes.{axiom_at}
 use Rattle.hp_satisfiers.specs.Scenes.{rules_in, axioms_in, stage_in, state_in, below_at, placed_events}
 use Rattle.hp_eval.proofs.GoalViewLemmas.{goal_below_grows, goal_stays}
-use Rattle.hp_satisfiers.proofs.AnswerLemmas.{finds_none, finds_vars, sat_replaced, cut_replaced, fault_replaced, fits_below, fits_grow, stage_below_grows, state_stays, item_holds, sat_fits}
+use Rattle.hp_answers.proofs.AnswerLemmas.{finds_none, finds_vars, sat_replaced, cut_replaced, fault_replaced, fits_below, fits_grow, stage_below_grows, state_stays, item_holds, sat_fits}
 use Rattle.hp_satisfiers.proofs.Sizes.{size, sizes, left_to_do, less_to_do_below, branch_size, size_of-atom, size_of-and, size_of-or, size_of-not, size_of-forall, part_size}
 use Rattle.hp_satisfiers.proofs.SearchSteps.{sat_of-atom, sat_of-and, sat_of-or, sat_of-not, sat_of-forall, sat_of-assign, sat_of-call, forall_sat, all_of, all_begin, all_go_on, all_end, any_of, any_end}
 use Rattle.hp_satisfiers.proofs.AxiomSteps.{goal_begins, axioms_end, placed_axiom, few_at, axiom_among, axiom_unstarted, axiom_started, some_met, none_met}

@@ -6,7 +6,7 @@ use Rattle.hp_syntax.specs.Views.{axiom_of, clause_of, expression_of, expression
 use Rattle.hp_eval.specs.GoalViews.{goal_of}
 use Rattle.hp_eval.specs.Growth.{Grows}
 use Rattle.hp_eval.specs.Slotted.{bindings_of}
-use Rattle.hp_satisfiers.specs.AnswerViews.{answer_events, AllFit, HearsUpTo}
+use Rattle.hp_answers.specs.AnswerViews.{answer_events, AllFit, HearsUpTo}
 use Rattle.hp_laws.specs.HeardAlike.{AreHeardAlike, turned}
 use Rattle.hp_laws.specs.RulesByName.{concluding}
 use Rattle.hp_satisfiers.specs.Scenes.{rules_in, axioms_in, state_in, atoms_at, below_at}

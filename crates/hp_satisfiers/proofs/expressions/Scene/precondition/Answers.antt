@@ -4,9 +4,9 @@ use Rattle.hp_syntax.specs.Events.{sat}
 use Rattle.hp_syntax.specs.Preconditions.{up_to_sat, keyed, sorted_events}
 use Rattle.hp_syntax.specs.Views.{key_of, expression_of}
 use Rattle.hp_eval.specs.Slotted.{bindings_of}
-use Rattle.hp_satisfiers.specs.AnswerViews.{Hears, AllFit}
+use Rattle.hp_answers.specs.AnswerViews.{Hears, AllFit}
 use Rattle.hp_satisfiers.specs.Scenes.{axioms_in, state_in}
-use Rattle.hp_satisfiers.proofs.AnswerLemmas.{finds_same, finds_vars}
+use Rattle.hp_answers.proofs.AnswerLemmas.{finds_same, finds_vars}
 use Rattle.hp_satisfiers.proofs.PreconditionSteps.{plain_events, first_events, ordered_events}
 use Rattle.hp_eval.proofs.GrowthLemmas.{grows_on}
 use Rattle.hp_satisfiers.proofs.expressions.Scene.precondition.Goals as goal

@@ -7,7 +7,7 @@ use Rattle.hp_eval.proofs.GrowthLemmas.{grows_on}
 use Rattle.hp_world.specs.Stages.{changes_of}
 use Rattle.hp_effect.specs.Gathering.{each_going, PutsAll}
 use Rattle.hp_effect.proofs.GatheringLemmas.{changes_stay, changes_grow}
-use Rattle.hp_satisfiers.specs.AnswerViews.{AllFit, answer_events}
+use Rattle.hp_answers.specs.AnswerViews.{AllFit, answer_events}
 use Rattle.hp_satisfiers.specs.Scenes.{axioms_in, state_in}
 use Rattle.hp_satisfiers.proofs.EffectSteps.{each_effect}
 use Rattle.hp_satisfiers.proofs.expressions.Scene.put_effect.Goals as goal

@@ -9,7 +9,7 @@ use Rattle.hp_satisfiers.specs.Scenes.{axioms_in, stage_in, state_in}
 use Rattle.hp_effect.specs.Gathering.{HasPut, StopsHere}
 use Rattle.hp_effect.proofs.GatheringLemmas.{along_none, along_more, along_stops}
 use Rattle.hp_satisfiers.proofs.EffectSteps.{list_going, effects_left, seen_stays}
-use Rattle.hp_satisfiers.proofs.AnswerLemmas.{stage_below_grows}
+use Rattle.hp_answers.proofs.AnswerLemmas.{stage_below_grows}
 use Rattle.hp_satisfiers.proofs.expressions.Scene.put_effects.Goals as goal
 
 pub loop-effect-init : goal.loop-effect-init

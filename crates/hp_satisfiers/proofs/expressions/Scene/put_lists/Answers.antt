@@ -10,7 +10,7 @@ use Rattle.hp_satisfiers.specs.Scenes.{axioms_in, stage_in, state_in}
 use Rattle.hp_effect.specs.Gathering.{obstacle_of, StopsHere}
 use Rattle.hp_effect.proofs.GatheringLemmas.{changes_stay, changes_grow}
 use Rattle.hp_satisfiers.proofs.EffectSteps.{list_stays, list_going, dels_stop, adds_stop, cost_stop, cost_stops, all_go, gathered_both}
-use Rattle.hp_satisfiers.proofs.AnswerLemmas.{stage_below_grows}
+use Rattle.hp_answers.proofs.AnswerLemmas.{stage_below_grows}
 use Rattle.hp_satisfiers.proofs.expressions.Scene.put_lists.Goals as goal
 
 pub returns-in_err-put_effects-clause-goes : goal.returns-in_err-put_effects-clause-goes

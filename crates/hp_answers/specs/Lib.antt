@@ -1,0 +1,2 @@
+pub mod AnswerViews
+pub mod RuleIndexes

@@ -1,5 +1,0 @@
-use Rattle.std.proofs.Common.{rules}
-use Rattle.hp_conditions.proofs.preconditions.order_named.Goals as goal
-
-pub returns-then-is-2 : goal.returns-then-is-2
-returns-then-is-2 c = search rules

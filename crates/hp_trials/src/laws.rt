@@ -1,0 +1,52 @@
+//! Laws and samples. A law does nothing, and so can always be cited.
+
+use hp_check::laws::{no_fault_is_left_out, the_first_fault_is_told};
+use hp_make::samples::two_packages_are_made;
+use hp_syntax::laws::{
+    every_text_is_one_or_the_other, forests_have_one_form, forms_are_numbered, limits_are_kept,
+    misforms_are_decided_by_the_prefix, no_text_is_both, reading_goes_on_in_one_way,
+    refusals_are_decided_by_the_prefix, terms_are_compared, texts_have_one_refusal,
+    texts_spell_one_forest,
+};
+use hp_syntax::samples::samples_are_spelled;
+use hp_top::laws::{every_run_has_an_outcome, outcomes_are_one};
+use hp_top::samples::{basic_comes_to_its_plan, makings_are_read};
+
+fn laws_of_texts_and_forms_can_be_cited() {
+    texts_spell_one_forest();
+    texts_have_one_refusal();
+    no_text_is_both();
+    every_text_is_one_or_the_other();
+    refusals_are_decided_by_the_prefix();
+    limits_are_kept();
+    reading_goes_on_in_one_way();
+    forests_have_one_form();
+    terms_are_compared();
+    forms_are_numbered();
+    misforms_are_decided_by_the_prefix();
+}
+
+fn laws_of_checks_can_be_cited() {
+    the_first_fault_is_told();
+    no_fault_is_left_out();
+}
+
+fn laws_of_runs_can_be_cited() {
+    outcomes_are_one();
+    every_run_has_an_outcome();
+}
+
+fn samples_can_be_cited() {
+    samples_are_spelled();
+    two_packages_are_made();
+    basic_comes_to_its_plan();
+    makings_are_read();
+}
+
+/// Cites all of them.
+pub fn cite_all() {
+    laws_of_texts_and_forms_can_be_cited();
+    laws_of_checks_can_be_cited();
+    laws_of_runs_can_be_cited();
+    samples_can_be_cited();
+}

@@ -1,0 +1,116 @@
+//! The cases of `data/cases.txt`.
+
+ghost use Rattle.std.specs.Prelude.{◌≡◌, false};
+ghost use Rattle.hp_io.specs.declared.folder.Input.{Input};
+ghost use Rattle.hp_io.specs.Files.{is_begun};
+
+use crate::runs::trial::{ROOM, tell, try_words, words_of};
+use hp_io::MemFolder;
+use std::alloc::{AllocError, Global};
+use std::rt::Files;
+use std::{fs, io};
+
+/// A text that stands in the file of cases, and the name that a command finds it by.
+#[derive(Drop)]
+struct Given {
+    name: String,
+    text: String,
+}
+
+/// Tries the file of cases line by line, and then sinks without room for the whole text.
+pub fn try_all(rt: &(impl Files + AllocGlobal), out: &mut Vec<u8>) -> io::Result<()> {
+    let text = fs::read_to_string(rt, "cases.txt")?;
+    let mut given = Vec::new(rt.alloc());
+    for line in text.as_str().lines() {
+        if !line.is_empty() && !line.starts_with('#') {
+            try_line(rt, out, &mut given, line)?;
+        }
+    }
+    try_full_sinks(rt, out)
+}
+
+/// Runs a line that is a command, and keeps the text that another line gives.
+fn try_line(
+    rt: &(impl Files + AllocGlobal),
+    out: &mut Vec<u8>,
+    given: &mut Vec<Given>,
+    line: &str,
+) -> io::Result<()> {
+    tell(out, line)?;
+    if line.starts_with('$') {
+        return try_command(rt, out, given.as_slice(), line, ROOM);
+    }
+    match line.split_once(" =") {
+        Some((name, text)) => Ok(give(rt.alloc(), given, name, text)?),
+        None => Err(io::Error::from(io::ErrorKind::InvalidData)),
+    }
+}
+
+/// Keeps a text, without the space before it.
+fn give(alloc: Global, given: &mut Vec<Given>, name: &str, text: &str) -> Result<(), AllocError> {
+    let text = text.strip_prefix(' ').unwrap_or(text);
+    let name = String::from_str(alloc, name)?;
+    let text = String::from_str(alloc, text)?;
+    given.push(Given { name, text })?;
+    Ok(())
+}
+
+/// Runs a command over the files that it names, into a sink with so much room.
+fn try_command(
+    rt: &(impl Files + AllocGlobal),
+    out: &mut Vec<u8>,
+    given: &[Given],
+    line: &str,
+    room: usize,
+) -> io::Result<()> {
+    let words = words_of(rt.alloc(), line)?;
+    let mut folder = MemFolder::new(rt.alloc());
+    if let [_, domain, problem, ..] = words.as_slice() {
+        put_word(rt, given, &mut folder, domain.as_str())?;
+        put_word(rt, given, &mut folder, problem.as_str())?;
+    }
+    Ok(try_words(rt.alloc(), out, &mut folder, words.as_slice(), room)?)
+}
+
+/// Puts into a folder, from which nothing is read yet, what was given last by that name, or the file of that name. What
+/// is not there stays missing.
+fn put_word(
+    rt: &(impl Files + AllocGlobal),
+    given: &[Given],
+    folder: &mut MemFolder,
+    name: &str,
+) -> io::Result<()>
+    requires { (w : Input) → is_begun folder.old w ≡ false }
+    ensures { (w : Input) → is_begun folder.new w ≡ false }
+{
+    if let Some(text) = text_of(given, name) {
+        return Ok(folder.put(name, text.as_bytes())?);
+    }
+    match fs::read(rt, name) {
+        Ok(bytes) => Ok(folder.put(name, bytes.as_slice())?),
+        Err(error) if error.kind() == io::ErrorKind::NotFound => Ok(()),
+        Err(error) => Err(error),
+    }
+}
+
+/// The text that was given last by that name.
+fn text_of<'a>(given: &'a [Given], name: &str) -> Option<&'a str> {
+    let mut found = None;
+    for one in given {
+        if one.name.as_str() == name {
+            found = Some(one.text.as_str());
+        }
+    }
+    found
+}
+
+/// A sink without room for the whole text has the front of it.
+fn try_full_sinks(rt: &(impl Files + AllocGlobal), out: &mut Vec<u8>) -> io::Result<()> {
+    let line = "$ plan basic.domain swap.problem 5 10";
+    for room in [0, 6] {
+        tell(out, "# into a sink that is soon full")?;
+        tell(out, line)?;
+        try_command(rt, out, &[], line, room)?;
+    }
+    Ok(())
+}

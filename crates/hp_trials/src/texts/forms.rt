@@ -1,0 +1,65 @@
+//! How wide domains and problems may be, and what is left out. What the grammar refuses is shown by whole runs.
+
+use crate::long_texts::between;
+use crate::page::Page;
+use crate::texts::reading::{domain_of, is_domain, is_problem};
+use hp_syntax::{Domain, PatKind, Rule};
+use std::alloc::{AllocError, Global};
+
+/// Lists may be as wide as a text is long: only nesting takes room on the stack.
+fn show_wide_domains(page: &mut Page, alloc: Global) -> Result<(), AllocError> {
+    page.title("Wide lists of a domain are read and dropped");
+    for (front, part, count, end) in [
+        ("(defdomain d ((:- (p) (", "(q)", 300_000, "))))"),
+        ("(defdomain d ((:method (p)", " () ()", 60_000, ")))"),
+        ("(defdomain d ((:- (p", " ?x", 300_000, ") ())))"),
+        ("(defdomain d ((:- (p (a", " b", 300_000, ")) ())))"),
+        ("(defdomain d ((:- (p) (call +", " 1", 200_000, "))))"),
+        ("(defdomain d (", "(:- (p) ())", 60_000, "))"),
+    ] {
+        let text = between(alloc, front, (part, count), end)?;
+        page.line(front, &is_domain(alloc, text.as_str()));
+    }
+    Ok(())
+}
+
+/// So may those of a problem.
+fn show_wide_problems(page: &mut Page, alloc: Global) -> Result<(), AllocError> {
+    page.title("Wide lists of a problem are read and dropped");
+    for (front, part, count, end) in [
+        ("(defproblem p d (", "(q)", 60_000, ") ())"),
+        ("(defproblem p d () (", "(q)", 60_000, "))"),
+        ("(defproblem p d () (:unordered", " (q)", 60_000, "))"),
+        ("(defproblem p d () (:ordered (nil", " (q)", 60_000, ")))"),
+    ] {
+        let text = between(alloc, front, (part, count), end)?;
+        page.line(front, &is_problem(alloc, text.as_str()));
+    }
+    Ok(())
+}
+
+/// Whether the one rule is an operator whose cost is one, and stands where the operator does.
+fn costs_one(domain: &Domain) -> bool {
+    match domain.rules.as_slice() {
+        [Rule::Operator(operator)] => {
+            matches!(operator.cost.kind, PatKind::Num(1)) && operator.cost.span == operator.span
+        }
+        _ => false,
+    }
+}
+
+fn show_cost(page: &mut Page, alloc: Global) {
+    page.title("A cost that is left out is one, and stands where its operator does");
+    let text = "(defdomain d ((:operator (!go) () () ())))";
+    match domain_of(alloc, text) {
+        Some(domain) => page.line(text, &costs_one(&domain)),
+        None => page.line(text, &"no domain"),
+    }
+}
+
+/// Domains and problems.
+pub fn show_forms(page: &mut Page, alloc: Global) -> Result<(), AllocError> {
+    show_cost(page, alloc);
+    show_wide_domains(page, alloc)?;
+    show_wide_problems(page, alloc)
+}
