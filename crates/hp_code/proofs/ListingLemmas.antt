@@ -26,7 +26,7 @@ pub listing_same : (rules : List Rule) (c : CodeView) → IsCodeOf rules c
 unfolding listing_text
 listing_same rules c is =
     let names : vars_at c ≡ vars_at (compiled rules) =
-        ap₂ (λ ns vs. λ i. or_empty (beside i (roots 0 (trees 0 ns)) vs)) is.nodes is.vars in
+    ap₂ (λ ns vs. λ i. or_empty (beside i (roots 0 (trees 0 ns)) vs)) is.nodes is.vars in
     ap₂ ◌++◌
     (ap₂ ◌++◌ (ap₂ (λ names ns. node_lines names 0 [] ns) names is.nodes)
     (names_same Task c.task_rules (compiled rules).task_rules is.task_rules 0 c.nodes

@@ -124,10 +124,10 @@ reads_from : (ts : Trees) (nodes : List Laid) → nodes ≡ all_laid 0 ts → (i
     → slice_get nodes i ≡ Some n → ReadsFrom nodes i n.to
 reads_from ts nodes laid_down i n e =
     let inside : i < sizes ts =
-        omega (arith, slice_get_within nodes i n e, ap length laid_down, length-all_laid 0 ts) in
+    omega (arith, slice_get_within nodes i n e, ap length laid_down, length-all_laid 0 ts) in
     let b = trees_begin 0 i i ts [] (omega arith) inside in
     let here : drop i nodes ≡ laid i b.tree ++ b.rest =
-        ap (drop i) (laid_down ∙ sym (append-nil (all_laid 0 ts))) ∙ b.is in
+    ap (drop i) (laid_down ∙ sym (append-nil (all_laid 0 ts))) ∙ b.is in
     let ends = first_ends i b.tree n (drop (suc i) nodes) b.rest (sym (drop_there nodes i n e) ∙ here) in
     let rest : drop n.to nodes ≡ b.rest = behind_tree nodes i n.to b.tree b.rest here ends in
     record {
@@ -240,4 +240,3 @@ pub laid_by_ends : (nodes : List Laid) → map (λ n. n.to) nodes ≡ map (λ n.
 laid_by_ends nodes e =
     same_nodes nodes (all_laid 0 (trees 0 nodes))
     (sym (all_laid_said 0 (trees 0 nodes) ∙ read_said 0 nodes)) e
-

@@ -20,8 +20,7 @@ pub struct Code {
     pub(crate) vars: Vec<Vec<Name>>,
     pub(crate) task_rules: Table,
     pub(crate) axiom_rules: Table,
-    ghost kept: { IsCode (value_of nodes.items vars.items task_rules axiom_rules) }
-        by { code_prop (value_of nodes.items vars.items task_rules axiom_rules) },
+    ghost kept: { IsCode (value_of nodes.items vars.items task_rules axiom_rules) } by { code_prop (value_of nodes.items vars.items task_rules axiom_rules) },
     ghost rules_are: { rules.items ≡ rule_nodes (value_of nodes.items vars.items task_rules axiom_rules) },
 }
 

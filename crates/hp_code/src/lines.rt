@@ -12,8 +12,8 @@ ghost use Rattle.hp_code.specs.NodeViews.{laid_of, operation_of};
 
 use crate::code::Code;
 use crate::node::{CodeNode, Op};
-use hp_print::{atom_pat_text, pat_text, tasks_text};
 use hp_print::words::{order_word, push_all, variable_name};
+use hp_print::{atom_pat_text, pat_text, tasks_text};
 use hp_syntax::{AtomPat, Name, NetPat, Pat, SortKey};
 use hp_tables::Kind;
 use itoa::Buffer;

@@ -47,12 +47,7 @@ fn all_names(alloc: Global, rules: &[Rule]) -> Result<Vec<Vec<Name>>, AllocError
 }
 
 // The nodes of the rules of a kind by their names, where each rule has the node of its number.
-fn table_of(
-    alloc: Global,
-    kind: Kind,
-    rules: &[Rule],
-    nodes: &[usize],
-) -> Result<Table, AllocError>
+fn table_of(alloc: Global, kind: Kind, rules: &[Rule], nodes: &[usize]) -> Result<Table, AllocError>
     requires { length nodes.now ≡ length rules.now }
     ensures { IfOk result (λ table. (name : List ℕ) → places_in table name
         ≡ places_of kind name nodes.now (map rule_of rules.now)) }

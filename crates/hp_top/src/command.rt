@@ -13,9 +13,9 @@ ghost use Rattle.hp_top.specs.Touching.{Touches, TouchesNamed, input_run};
 ghost use Rattle.hp_top.specs.Words.{IsAsked, job_of};
 ghost use Rattle.hp_out.specs.Writing.{sink_run};
 
+use crate::coding::serve_code;
 use crate::laws::every_run_has_an_outcome;
 use crate::loading::load;
-use crate::coding::serve_code;
 use crate::making::serve_made;
 use crate::refusing::{refuse, refuse_files};
 use crate::serving::serve_job;

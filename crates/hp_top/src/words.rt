@@ -235,7 +235,11 @@ fn asked_by_two<'a>(word: &str, name: &'a str) -> Option<Request<'a>>
     ensures spelled { option_map request_of result ≡ accepts (word.now ∷ name.now ∷ []) }
     ensures some { IfSome result IsRequested }
 {
-    if word == "code" { Some(Request::Code { domain: name }) } else { None }
+    if word == "code" {
+        Some(Request::Code { domain: name })
+    } else {
+        None
+    }
 }
 
 /// The request of words, where they are a command.
