@@ -45,8 +45,8 @@ abbrev pub laid_behind : List CodeNode → Trees → List Laid
 laid_behind ns ts = map laid_of ns ++ all_laid (length ns) ts
 
 -- trees add as many nodes as they have
-pub length_laid : (ts : Trees) (old new : List CodeNode) → Lays ts old new → length new ≡ length old + sizes ts
-length_laid ts old new h =
+pub length_after : (ts : Trees) (old new : List CodeNode) → Lays ts old new → length new ≡ length old + sizes ts
+length_after ts old new h =
     sym (length-map new laid_of) ∙ ap length h ∙ length-append (map laid_of old) (all_laid (length old) ts)
     ∙ ap (λ n. n + length (all_laid (length old) ts)) (length-map old laid_of)
     ∙ ap (λ n. length old + n) (length-all_laid (length old) ts)
@@ -57,7 +57,7 @@ pub laid_on : (ts us : Trees) (old new : List CodeNode) → Lays ts old new
 laid_on ts us old new h =
     ap (λ xs. xs ++ all_laid (length new) us) h
     ∙ append_assoc (map laid_of old) (all_laid (length old) ts) (all_laid (length new) us)
-    ∙ ap (λ n. map laid_of old ++ (all_laid (length old) ts ++ all_laid n us)) (length_laid ts old new h)
+    ∙ ap (λ n. map laid_of old ++ (all_laid (length old) ts ++ all_laid n us)) (length_after ts old new h)
     ∙ ap (λ xs. map laid_of old ++ xs) (sym (all_laid-followed (length old) ts us))
 
 -- trees that are laid down behind others follow them
@@ -110,7 +110,7 @@ module _ {op : Operation} {s : Span} {at : ℕ} {a b : List CodeNode} (opened : 
   open_within ts c below =
       let index = opened.index in
       let j = length_opened in
-      let k = length_laid ts b c below in
+      let k = length_after ts b c below in
       omega arith
 
   -- a node that was opened, and is closed behind what is below it, is a tree with it
@@ -120,7 +120,7 @@ module _ {op : Operation} {s : Span} {at : ℕ} {a b : List CodeNode} (opened : 
       let xs = map laid_of a in
       let n : Laid = record { op = op; to = 0; span = s } in
       let j = length_opened in
-      let k = length_laid ts b c below ∙ ap (λ m. m + sizes ts) j in
+      let k = length_after ts b c below ∙ ap (λ m. m + sizes ts) j in
       closed
       ∙ ap (with_end at (length c)) (below ∙ ap (λ zs. zs ++ all_laid (length b) ts) opened.behind
       ∙ append_assoc xs (n ∷ []) (all_laid (length b) ts))

@@ -16,7 +16,7 @@ use Rattle.hp_code.specs.Compiled.{only, Side, effect_tree, effect_trees}
 use Rattle.hp_code.specs.Laying.{Lays, Opens}
 use Rattle.hp_code.specs.NodeViews.{laid_of}
 use Rattle.hp_code.specs.Trees.{Operation, Laid, Tree, Trees, Node, NoTree, More, size, sizes, roots}
-use Rattle.hp_code.proofs.LayingLemmas.{laid_behind, laid_behind-none, laid_on, lays_both, length_laid}
+use Rattle.hp_code.proofs.LayingLemmas.{laid_behind, laid_behind-none, laid_on, lays_both, length_after}
 use Rattle.hp_code.proofs.TreeLemmas.{followed}
 
 -- ---- equal operations
@@ -58,23 +58,23 @@ module _ {X : Type 0} (rest : List X → Trees) (tree : X → Tree) (xs : List X
       let behind = rest (drop (i + 1) xs) in
       append_assoc places (length old ∷ []) (roots (length new) behind)
       ∙ ap (λ n. places ++ length old ∷ roots n behind)
-      (length_laid (only (tree x)) old new put ∙ ap (λ n. length old + n) e)
+      (length_after (only (tree x)) old new put ∙ ap (λ n. length old + n) e)
       ∙ ap (λ ts. places ++ roots (length old) ts) (sym rest_here)
       ∙ left
 
-module _ {X : Type 0} (rest : List X → Trees) (xs : List X) (i : ℕ) (past : length xs ≤ i) (none : rest [] ≡ NoTree)
-  where
-    -- when all parts of a list are laid down, the nodes are the whole
-    pub all_parts_laid : (nodes : List CodeNode) (whole : List Laid)
-        → laid_behind nodes (rest (drop i xs)) ≡ whole → map laid_of nodes ≡ whole
-    all_parts_laid nodes whole left =
-        sym (laid_behind-none nodes) ∙ ap (laid_behind nodes) (sym (at_drop_all rest xs i past ∙ none)) ∙ left
+module _ {X : Type 0} (rest : List X → Trees) (xs : List X) (i : ℕ) (past : length xs ≤ i)
+    (none : rest [] ≡ NoTree) where
+  -- when all parts of a list are laid down, the nodes are the whole
+  pub all_parts_laid : (nodes : List CodeNode) (whole : List Laid)
+      → laid_behind nodes (rest (drop i xs)) ≡ whole → map laid_of nodes ≡ whole
+  all_parts_laid nodes whole left =
+      sym (laid_behind-none nodes) ∙ ap (laid_behind nodes) (sym (at_drop_all rest xs i past ∙ none)) ∙ left
 
-    -- and all of their indices are there
-    pub all_parts_placed : (n : ℕ) (places whole : List ℕ)
-        → places ++ roots n (rest (drop i xs)) ≡ whole → places ≡ whole
-    all_parts_placed n places whole left =
-        sym (append-nil places) ∙ ap (λ ts. places ++ roots n ts) (sym (at_drop_all rest xs i past ∙ none)) ∙ left
+  -- and all of their indices are there
+  pub all_parts_placed : (n : ℕ) (places whole : List ℕ)
+      → places ++ roots n (rest (drop i xs)) ≡ whole → places ≡ whole
+  all_parts_placed n places whole left =
+      sym (append-nil places) ∙ ap (λ ts. places ++ roots n ts) (sym (at_drop_all rest xs i past ∙ none)) ∙ left
 
 -- ---- effects
 

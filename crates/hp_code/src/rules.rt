@@ -195,7 +195,8 @@ pub(crate) struct LaidRules {
 
 /// Lays rules down.
 pub(crate) fn lay_rules(alloc: Global, rules: &[Rule]) -> Result<LaidRules, AllocError>
-    ensures nodes { IfOk result (λ laid. map laid_of laid.nodes.items ≡ all_laid 0 (rule_trees (map rule_of rules.now))) }
+    ensures nodes { IfOk result (λ laid.
+        map laid_of laid.nodes.items ≡ all_laid 0 (rule_trees (map rule_of rules.now))) }
     ensures places { IfOk result (λ laid. laid.places.items ≡ roots 0 (rule_trees (map rule_of rules.now))) }
 {
     let mut nodes = Vec::new(alloc);
