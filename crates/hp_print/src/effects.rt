@@ -1,35 +1,15 @@
 //! Delete lists and add lists.
 
 ghost use Rattle.std.specs.Prelude.{◌≡◌, ◌++◌, OnOk, codes, map};
-ghost use Rattle.hp_syntax.specs.Views.{atoms_of, effect_of, expression_of};
-ghost use Rattle.hp_syntax.specs.Syntax.{Each};
+ghost use Rattle.hp_syntax.specs.Views.{effect_of};
 ghost use Rattle.hp_syntax.specs.Written as written;
 ghost use Rattle.hp_syntax.specs.Written.{node_text, rest_text, group};
 
 use crate::expressions::push_expression;
 use crate::terms::{push_atom, push_atoms, push_begun_forall};
 use crate::words::push_begun;
-use hp_syntax::{AtomPat, Effect, Expr, Name};
+use hp_syntax::{Effect, Name};
 use std::alloc::AllocError;
-
-/// `(forall (VARIABLE ..) expression (atom ..))`
-#[tactic(auto, unfolding(hp_syntax::specs::Written::effect, hp_syntax::specs::Written::node_text))]
-fn push_each(
-    text: &mut Vec<u8>,
-    vars: &[Name],
-    list: &[u32],
-    expr: &Expr,
-    atoms: &[AtomPat],
-) -> Result<(), AllocError>
-    ensures { OnOk result (text.new.items ≡ text.old.items
-        ++ node_text (written.effect vars.now (Each list.now (expression_of expr.now) (atoms_of atoms.now)))) }
-{
-    push_begun_forall(text, vars, list)?;
-    push_expression(text, vars, expr)?;
-    text.push(b' ')?;
-    push_atoms(text, vars, atoms)?;
-    text.extend_from_slice(b")")
-}
 
 /// An effect.
 #[tactic(auto, unfolding(hp_syntax::specs::Written::effect, hp_syntax::specs::Written::node_text))]
@@ -45,7 +25,11 @@ fn push_effect(text: &mut Vec<u8>, vars: &[Name], effect: &Effect) -> Result<(),
             text.extend_from_slice(b")")
         }
         Effect::Forall(list, expr, atoms) => {
-            push_each(text, vars, list.as_slice(), expr, atoms.as_slice())
+            push_begun_forall(text, vars, list.as_slice())?;
+            push_expression(text, vars, expr)?;
+            text.push(b' ')?;
+            push_atoms(text, vars, atoms.as_slice())?;
+            text.extend_from_slice(b")")
         }
     }
 }

@@ -3,7 +3,7 @@
 ghost use Rattle.std.specs.Prelude.{◌≡◌, ◌++◌, OnOk, codes, map, Option};
 ghost use Rattle.hp_syntax.specs.Views.{operator_of, branch_of, method_of, clause_of, axiom_of, rule_of};
 ghost use Rattle.hp_syntax.specs.Written as written;
-ghost use Rattle.hp_syntax.specs.Written.{node_text, rest_text, group};
+ghost use Rattle.hp_syntax.specs.Written.{node_text, rest_text};
 
 use crate::effects::push_effects;
 use crate::expressions::{push_expression, push_precondition};
@@ -12,21 +12,6 @@ use crate::terms::{push_atom, push_pattern};
 use crate::words::{push_all, push_begun};
 use hp_syntax::{Axiom, Branch, Clause, Method, Name, Operator, Rule};
 use std::alloc::AllocError;
-
-/// What an operator changes and costs, and the closing bracket: `deletes adds cost)`
-fn push_changes(text: &mut Vec<u8>, vars: &[Name], operator: &Operator) -> Result<(), AllocError>
-    ensures { OnOk result (text.new.items ≡ text.old.items
-        ++ node_text (group (written.effects vars.now (operator_of operator.now).dels)) ++ codes " "
-        ++ node_text (group (written.effects vars.now (operator_of operator.now).adds)) ++ codes " "
-        ++ node_text (written.pattern vars.now (operator_of operator.now).cost) ++ codes ")") }
-{
-    push_effects(text, vars, operator.dels.as_slice())?;
-    text.push(b' ')?;
-    push_effects(text, vars, operator.adds.as_slice())?;
-    text.push(b' ')?;
-    push_pattern(text, vars, &operator.cost)?;
-    text.extend_from_slice(b")")
-}
 
 /// `(:operator head precondition deletes adds cost)`
 #[tactic(auto, unfolding(hp_syntax::specs::Written::operator, hp_syntax::specs::Written::node_text))]
@@ -40,7 +25,12 @@ fn push_operator(text: &mut Vec<u8>, operator: &Operator) -> Result<(), AllocErr
     text.push(b' ')?;
     push_precondition(text, vars, &operator.pre)?;
     text.push(b' ')?;
-    push_changes(text, vars, operator)
+    push_effects(text, vars, operator.dels.as_slice())?;
+    text.push(b' ')?;
+    push_effects(text, vars, operator.adds.as_slice())?;
+    text.push(b' ')?;
+    push_pattern(text, vars, &operator.cost)?;
+    text.extend_from_slice(b")")
 }
 
 /// The name of a branch, where it has one, as what follows in a list.

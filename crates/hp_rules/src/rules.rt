@@ -256,7 +256,7 @@ fn keyed(scope: &mut Scope, span: Span, key: &Name, rest: &[Node]) -> Result<Rul
 }
 
 /// The rule that a node is, with variables of its own.
-#[tactic(auto, unfolding(hp_syntax::specs::Grammar::rule), using(crate::proofs::RuleLemmas::reads_by_itself))]
+#[tactic(auto, unfolding(hp_syntax::specs::Grammar::rule), using(crate::proofs::RuleSteps::reads_by_itself))]
 pub fn rule(scope: &mut Scope, node: &Node) -> Result<Rule, FormRefusal>
     ensures { (names : Names) → Reads rule_of result (grammar.rule (node_of node.now)) names names }
 {
