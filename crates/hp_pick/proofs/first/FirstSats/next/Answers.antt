@@ -1,4 +1,4 @@
-use Rattle.std.proofs.Common.{refl, rules}
+use Rattle.std.proofs.Common.{refl}
 use Rattle.hp_eval.proofs.GrowthLemmas.{grows_self}
 use Rattle.hp_pick.proofs.first.FirstSats.next.Goals as goal
 
@@ -85,6 +85,3 @@ returns-clause-open g c = c.next.ensures.open
 
 pub returns-clause-live : goal.returns-clause-live
 returns-clause-live g c = c.in_ok-event.ensures.live
-
-pub returns-clause-rest : goal.returns-clause-rest
-returns-clause-rest g c = search rules

@@ -1,4 +1,4 @@
-use Rattle.std.proofs.Common.{refl, rules}
+use Rattle.std.proofs.Common.{refl}
 use Rattle.hp_eval.proofs.SlotLemmas.{binds_self}
 use Rattle.hp_pick.proofs.heard.Heard.give_next.Goals as goal
 
@@ -52,6 +52,3 @@ returns-then-self-clause-below c = λ h. h
 
 pub returns-clause-below : goal.returns-clause-below
 returns-clause-below c = λ h. h
-
-pub returns-then-self-clause-rest : goal.returns-then-self-clause-rest
-returns-then-self-clause-rest c = search rules
