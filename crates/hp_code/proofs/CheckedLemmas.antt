@@ -5,10 +5,10 @@ use Rattle.std.proofs.lemmas.Grind.{flat_map-append}
 use Rattle.std.proofs.lemmas.List.{append_assoc}
 use Rattle.std.proofs.lemmas.List.Elements.{All-append, All-cons, All-head, All-nil, All-tail}
 use Rattle.hp_syntax.specs.declared.check.CheckFault.{CheckFault}
-use Rattle.hp_syntax.specs.Syntax.{Expression, Expressions, Holds, And, Or, Not, Forall, Assign, Test, NoExpression, Also, Precondition, Plain, First, Sorted, Effect, Change, Protection, Each, Operator, Branch, Method, Clause, Axiom, Rule, Does, Refines, Concludes}
+use Rattle.hp_syntax.specs.Syntax.{Expression, Expressions, Holds, And, Or, Not, Forall, Assign, Test, NoExpression, Also, Precondition, Plain, First, Sorted, Effect, Change, Protection, Each, Branch, Clause, Rule, Does, Refines, Concludes}
 use Rattle.hp_syntax.specs.Checks.{InHead, InBody, expression_faults, expressions_faults, precondition_faults, effect_faults, branch_faults, clause_faults, rule_faults, level_faults, atom_faults, atoms_faults, vars_faults, order_faults, pattern_faults, tasks_faults}
-use Rattle.hp_syntax.specs.Numbered.{ExpressionBelow, ExpressionsBelow, PreconditionBelow, EffectBelow, BranchBelow, ClauseBelow, IsNumberedOperator, IsNumberedMethod, IsNumberedAxiom, IsNumberedRule}
-use Rattle.hp_code.specs.Lowered.{lowered, all_lowered, lowered_precondition, lowered_effect, if_idle, idle_prefix, unless_idle, behind_idle, lowered_operator, lowered_branch, lowered_clause, lowered_rule, lowered_rules}
+use Rattle.hp_syntax.specs.Numbered.{ExpressionBelow, ExpressionsBelow, PreconditionBelow, EffectBelow, BranchBelow, ClauseBelow, IsNumberedRule}
+use Rattle.hp_code.specs.Lowered.{lowered, all_lowered, lowered_precondition, lowered_effect, idle_prefix, behind_idle, lowered_branch, lowered_clause, lowered_rule, lowered_rules}
 
 -- the effects of a list are its idle prefix and those behind it
 idle_and_behind : (xs : List Effect) → idle_prefix xs ++ behind_idle xs ≡ xs

@@ -1,5 +1,5 @@
 -- What rules are compiled to is a code, and a code's tables find its rules.
-use Rattle.std.proofs.Common.{◌≡◌, ℕ, suc, ◌+◌, ◌<◌, ◌≤◌, ◌==◌, Bool, true, false, cond, List, [], ◌∷◌, ◌++◌, map, length, Option, Some, None, is_some, refl, ap, ap₂, sym, ◌∙◌, subst, arith}
+use Rattle.std.proofs.Common.{◌≡◌, ℕ, suc, ◌+◌, ◌≤◌, ◌==◌, Bool, true, false, cond, List, [], ◌∷◌, map, length, Option, Some, None, is_some, refl, ap, ap₂, sym, ◌∙◌, subst, arith}
 use Rattle.std.specs.Prelude.{filter, flat_map}
 use Rattle.std.specs.List.{All}
 use Rattle.std.proofs.lemmas.Bool.{eq-eqb, ne_eqb}
@@ -15,7 +15,7 @@ use Rattle.hp_code.specs.CodeViews.{CodeView, IsCodeOf, IsCode, beside, ends, or
 use Rattle.hp_code.specs.Compiled.{rule_tree, rule_trees, vars_of}
 use Rattle.hp_code.specs.Lowered.{lowered_rule, lowered_rules}
 use Rattle.hp_code.specs.Sources.{made_of, rule_read, rules_read}
-use Rattle.hp_code.specs.Trees.{Tree, Trees, Node, NoTree, More, size, roots, trees, all_laid}
+use Rattle.hp_code.specs.Trees.{Trees, NoTree, More, size, roots, trees, all_laid}
 use Rattle.hp_code.proofs.CheckedLemmas.{rules_checked, rules_numbered}
 use Rattle.hp_code.proofs.NodeLemmas.{positive}
 use Rattle.hp_code.proofs.SourceLemmas.{rules_back}
@@ -69,7 +69,8 @@ module _ (rules : List Rule) (c : CodeView) (of : IsCodeOf rules c) where
     ends = ap ends (of.nodes ∙ ap (all_laid 0) (sym code_trees));
     vars = of.vars ∙ sym (vars_lowered rules) ∙ ap (map vars_of) (sym code_rules);
     numbered = subst (All IsNumberedRule) (sym code_rules) (rules_numbered rules numbered);
-    faultless = ap (λ rs. first_of (flat_map rule_faults rs)) code_rules ∙ ap first_of (rules_checked rules) ∙ faultless;
+    faultless =
+        ap (λ rs. first_of (flat_map rule_faults rs)) code_rules ∙ ap first_of (rules_checked rules) ∙ faultless;
     task_rules =
         λ name.
         of.task_rules name ∙ sym (places_lowered kinds.Task name (roots 0 (rule_trees rules)) rules)

@@ -82,7 +82,8 @@ module _ {X : Type 0} (rest : List X → Trees) (xs : List X) (i : ℕ) (past : 
 effect_trees-followed : (side : Side) (s : Span) (xs : List Effect) (ts : Trees)
     → followed (effect_trees side s xs NoTree) ts ≡ effect_trees side s xs ts
 effect_trees-followed side s [] ts = refl
-effect_trees-followed side s (x ∷ xs) ts = ap (λ us. More (effect_tree side s x) us) (effect_trees-followed side s xs ts)
+effect_trees-followed side s (x ∷ xs) ts =
+    ap (λ us. More (effect_tree side s x) us) (effect_trees-followed side s xs ts)
 
 -- effects that are laid down, and trees behind them, are all of these
 pub effects_before : (side : Side) (s : Span) (xs : List Effect) (ts : Trees) (a b c : List CodeNode)

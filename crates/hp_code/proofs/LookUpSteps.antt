@@ -1,7 +1,7 @@
 -- The names of a rule's variables are found by a search among the rules' nodes.
-use Rattle.std.proofs.Common.{◌≡◌, ◌≢◌, ◌⊎◌, inl, inr, ℕ, zero, suc, ◌+◌, ◌<◌, ◌≤◌, ◌==◌, Bool, cond, List, [], ◌∷◌, length, get_or, map, slice_get, Option, Some, None, option_map, Err, refl, ap, sym, ◌∙◌, subst, arith}
+use Rattle.std.proofs.Common.{◌≡◌, ◌≢◌, ◌⊎◌, inl, inr, ℕ, zero, suc, ◌<◌, ◌≤◌, cond, List, [], ◌∷◌, length, get_or, map, slice_get, Some, None, option_map, Err, refl, ap, sym, ◌∙◌, subst, arith}
 use Rattle.std.specs.Ordering.{nat_cmp, ordering_index}
-use Rattle.std.specs.declared.cmp.Ordering.TheVariants.{Less, Equal, Greater}
+use Rattle.std.specs.declared.cmp.Ordering.TheVariants.{Equal}
 use Rattle.std.specs.List.Sorted.{IsBinarySearchResult, IsNonDecreasingBy}
 use Rattle.std.proofs.lemmas.Bool.{eq-eqb, ne_eqb}
 use Rattle.std.proofs.lemmas.Bool.Decides.{nat_tests}
@@ -10,7 +10,7 @@ use Rattle.std.proofs.lemmas.List.Sorted.{IsNonDecreasingBy-from_default}
 use Rattle.std.proofs.lemmas.Option.{slice_get_past, slice_get-get_or, slice_get-map}
 use Rattle.hp_code.specs.CodeViews.{CodeView, beside, or_empty, rule_nodes, vars_at}
 use Rattle.hp_code.specs.Trees.{trees}
-use Rattle.hp_code.proofs.CodeLemmas.{AscendFrom, beside_first, beside_later, roots_ascend}
+use Rattle.hp_code.proofs.CodeLemmas.{AscendFrom, beside_later, roots_ascend}
 
 -- numbers that ascend from one are at least that
 at_least : (j : ℕ) (ns : List ℕ) → AscendFrom j ns → (k d : ℕ) → k < length ns → j ≤ get_or ns k d

@@ -1,11 +1,10 @@
 -- What a code keeps has one proof at most.
-use Rattle.std.proofs.Common.{◌≡◌, ℕ, List}
+use Rattle.std.proofs.Common.{ℕ}
 use Rattle.std.proofs.Props.{props}
-use Rattle.std.specs.List.{All}
 use Rattle.hp_syntax.specs.declared.pattern.Tail.{Tail}
-use Rattle.hp_syntax.specs.Syntax.{Pattern, Patterns, Variable, Symbol, Number, Listing, Call, NoPattern, Before, Atom, Expression, Expressions, Holds, And, Or, Not, Forall, Assign, Test, NoExpression, Also, Precondition, Plain, First, Sorted, Tasks, TaskList, Task, Ordered, Unordered, NoTasks, Then, Effect, Change, Protection, Each, Branch, Clause, Rule, Does, Refines, Concludes}
+use Rattle.hp_syntax.specs.Syntax.{Pattern, Patterns, Variable, Symbol, Number, Listing, Call, NoPattern, Before, Atom, Expression, Expressions, Holds, And, Or, Not, Forall, Assign, Test, NoExpression, Also, Precondition, Plain, First, Sorted, Tasks, TaskList, Task, Ordered, Unordered, NoTasks, Then, Effect, Change, Protection, Each, Rule, Does, Refines, Concludes}
 use Rattle.std.specs.Prelude.{Option, Some, None}
-use Rattle.hp_syntax.specs.Numbered.{TailBelow, PatternBelow, PatternsBelow, AtomBelow, ExpressionBelow, ExpressionsBelow, PreconditionBelow, TasksBelow, TaskListBelow, EffectBelow, BranchBelow, ClauseBelow, IsNumberedRule}
+use Rattle.hp_syntax.specs.Numbered.{TailBelow, PatternBelow, PatternsBelow, AtomBelow, ExpressionBelow, ExpressionsBelow, PreconditionBelow, TasksBelow, TaskListBelow, EffectBelow, IsNumberedRule}
 use Rattle.hp_code.specs.CodeViews.{CodeView, IsCode}
 
 module _ (n : ℕ) where

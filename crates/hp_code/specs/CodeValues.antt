@@ -4,7 +4,7 @@ use Rattle.std.specs.Global.{Global}
 use Rattle.hp_tables.specs.declared.Table.{Table}
 use Rattle.hp_tables.specs.Tables.{places_in}
 use Rattle.hp_code.specs.declared.node.CodeNode.{CodeNode}
-use Rattle.hp_code.specs.CodeViews.{CodeView}
+use Rattle.hp_code.specs.CodeViews.{CodeView, IsCode}
 use Rattle.hp_code.specs.NodeViews.{laid_of}
 
 -- nodes, names and tables as plain values
@@ -15,3 +15,7 @@ value_of nodes vars task_rules axiom_rules = record {
   task_rules = places_in task_rules;
   axiom_rules = places_in axiom_rules;
 }
+
+-- these parts keep what a code keeps
+abbrev pub IsKept : List CodeNode → List (Vec (List ℕ) Global) → Table → Table → Type 0
+IsKept nodes vars task_rules axiom_rules = IsCode (value_of nodes vars task_rules axiom_rules)

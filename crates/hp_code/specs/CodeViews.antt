@@ -8,7 +8,7 @@ use Rattle.hp_tables.specs.declared.Kind.TheVariants.{Task, Axiom}
 use Rattle.hp_tables.specs.Tables.{places_of}
 use Rattle.hp_code.specs.Compiled.{rule_trees, vars_of}
 use Rattle.hp_code.specs.Sources.{rules_read}
-use Rattle.hp_code.specs.Trees.{Laid, Trees, all_laid, roots, trees}
+use Rattle.hp_code.specs.Trees.{Laid, all_laid, roots, trees}
 
 -- the nodes of all rules, the names of each rule's variables, and by each name the nodes of the rules for its tasks and
 -- of the axioms that conclude it
@@ -64,8 +64,8 @@ pub record IsCodeOf (rules : List Rule) (c : CodeView) : Type 0 where
 abbrev pub ends : List Laid → List ℕ
 ends nodes = map (λ n. n.to) nodes
 
--- what a code keeps: its nodes read back as numbered rules in which the checks find nothing, each node holds where those
--- below it end, and by each name stand the nodes of its rules, in their order
+-- what a code keeps: its nodes read back as numbered rules in which the checks find nothing, each node holds where
+-- those below it end, and by each name stand the nodes of its rules, in their order
 pub record IsCode (c : CodeView) : Type 0 where
   pub reads : is_some (rules_of c) ≡ true
   pub ends : ends c.nodes ≡ ends (all_laid 0 (trees 0 c.nodes))

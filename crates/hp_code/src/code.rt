@@ -1,7 +1,7 @@
 //! The compiled code of a domain.
 ghost use Rattle.std.specs.Prelude.{◌≡◌};
-ghost use Rattle.hp_code.specs.CodeValues.{value_of};
-ghost use Rattle.hp_code.specs.CodeViews.{IsCode, rule_nodes};
+ghost use Rattle.hp_code.specs.CodeValues.{IsKept, value_of};
+ghost use Rattle.hp_code.specs.CodeViews.{rule_nodes};
 ghost use Rattle.hp_code.specs.CodeProps.{code_prop};
 
 use crate::node::CodeNode;
@@ -20,7 +20,7 @@ pub struct Code {
     pub(crate) vars: Vec<Vec<Name>>,
     pub(crate) task_rules: Table,
     pub(crate) axiom_rules: Table,
-    ghost kept: { IsCode (value_of nodes.items vars.items task_rules axiom_rules) } by { code_prop (value_of nodes.items vars.items task_rules axiom_rules) },
+    ghost kept: { IsKept nodes.items vars.items task_rules axiom_rules } by { Prim.hlevel code_prop },
     ghost rules_are: { rules.items ≡ rule_nodes (value_of nodes.items vars.items task_rules axiom_rules) },
 }
 

@@ -71,9 +71,9 @@ pub fn compiled_rules_are_a_code()
         → first_of (flat_map rule_faults rules) ≡ None → IsCode c }
 {}
 
-/// A code reads back as the rules in it, and its nodes are their trees laid down. A node reads back as what it does, over the trees that stand between it and the index that it holds; and
-/// trees between two indices are that of the first node, and those from the index that it holds on. So what a node
-/// means is said by what the nodes below it mean.
+/// A code reads back as the rules in it, and its nodes are their trees laid down. A node reads back as what it does,
+/// over the trees that stand between it and the index that it holds; and trees between two indices are that of the
+/// first node, and those from the index that it holds on. So what a node means is said by what the nodes below it mean.
 pub fn nodes_read_back_over_those_below()
     ensures rules { (c : CodeView) → IsCode c → rules_of c ≡ Some (rules_in c) }
     ensures laid { (c : CodeView) → IsCode c → c.nodes ≡ all_laid 0 (trees.trees 0 c.nodes) }

@@ -263,7 +263,8 @@ fn push_head(
     op: &Op,
 ) -> Result<(), AllocError>
     ensures { OnOk result (text.new.items ≡ text.old.items
-        ++ head_line (word_of kind) (table_of (code_of code.now) kind) (plain.head_of kind (operation_of op.now)) index) }
+        ++ head_line (word_of kind) (table_of (code_of code.now) kind)
+        (plain.head_of kind (operation_of op.now)) index) }
 {
     match head_of(kind, op) {
         Some(name) => push_name(text, word_of(kind), name, rules_of(kind, code, name), index),

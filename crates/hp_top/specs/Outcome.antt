@@ -134,7 +134,8 @@ Both first second loaded = Then first (λ x. Then second (λ y both. both ≡ Ok
 -- the load of the files of a command: its domain, and then its problem
 abbrev pub LoadsFiles : Files → Command → Result (Domain × Problem) Refusal → Type 0
 LoadsFiles files c =
-    Both (LoadsFile inputs.Domain domain_form (files c.domain)) (LoadsFile inputs.Problem problem_form (files c.problem))
+    Both (LoadsFile inputs.Domain domain_form (files c.domain))
+    (LoadsFile inputs.Problem problem_form (files c.problem))
 
 -- the load of the file of a domain alone
 abbrev pub LoadsDomain : Files → List ℕ → Result Domain Refusal → Type 0

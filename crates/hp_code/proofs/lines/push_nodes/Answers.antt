@@ -11,5 +11,5 @@ loop-index-preserved c =
     node_more c.nodes-node-items.result.now code.nodes c.nodes-node-items.ensures c.loop-index.index c.node-item.result
     c.loop-index-test.true c.node-item.is (vars_at code) c.loop-index.vars.now c.names_from-vars.result.now
     c.loop-index.text.items c.push_node.new.text.items
-    (c.args.text.now.items ++ node_lines (vars_at code) 0 [] code.nodes) c.loop-index.invariant c.names_from-vars.ensures
-    c.in_ok-push_node.ensures
+    (c.args.text.now.items ++ node_lines (vars_at code) 0 [] code.nodes) c.loop-index.invariant
+    c.names_from-vars.ensures c.in_ok-push_node.ensures
