@@ -75,9 +75,3 @@ returns-in-Ok-Fault-clause-err g c =
     fault_left c.in-Ok-Fault.fault (g.W.Walk.stands c.args.walk.now).rest
     (subst (λ x. x ≡ step_or_end (next_of (g.W.Walk.stands c.args.walk.now).rest)) c.in-Ok-Fault.field-0-is
     c.in-Ok-Fault.ensures.answer)
-
-pub returns-in-Ok-Fault-clause-turned : goal.returns-in-Ok-Fault-clause-turned
-returns-in-Ok-Fault-clause-turned g c = tt
-
-pub returns-in-Ok-Fault-clause-at : goal.returns-in-Ok-Fault-clause-at
-returns-in-Ok-Fault-clause-at g c = tt
