@@ -35,14 +35,24 @@ within_most least most n bs e = within (is_number bs) (nat_le least (number_from
     within true false e = absurd cc
     within false b e = absurd cc
 
--- words of another number than three and than five and more are no command
-pub accepts_few : (ws : List (String Global)) → length ws < 5 → length ws ≢ 3 → accepts (map string_bytes ws) ≡ None
-accepts_few [] a h = refl
-accepts_few (v ∷ []) a h = refl
-accepts_few (v ∷ d ∷ []) a h = refl
-accepts_few (v ∷ d ∷ q ∷ []) a h = absurd (h refl)
-accepts_few (v ∷ d ∷ q ∷ x ∷ []) a h = refl
-accepts_few (v ∷ d ∷ q ∷ x ∷ y ∷ zs) a h = absurd (omega arith)
+-- words of another number than two, three, and five and more are no command
+pub accepts_few : (ws : List (String Global)) → length ws < 5 → length ws ≢ 2 → length ws ≢ 3
+    → accepts (map string_bytes ws) ≡ None
+accepts_few [] a g h = refl
+accepts_few (v ∷ []) a g h = refl
+accepts_few (v ∷ d ∷ []) a g h = absurd (g refl)
+accepts_few (v ∷ d ∷ q ∷ []) a g h = absurd (h refl)
+accepts_few (v ∷ d ∷ q ∷ x ∷ []) a g h = refl
+accepts_few (v ∷ d ∷ q ∷ x ∷ y ∷ zs) a g h = absurd (omega arith)
+
+-- two words are asked by the first
+pub accepts_two : (ws : List (String Global)) (w x : String Global) (u v : List ℕ) → 2 ≤ length ws
+    → length ws < 3 → w ≡ get_or ws 0 w → x ≡ get_or ws 1 x → u ≡ string_bytes w → v ≡ string_bytes x
+    → accepts (u ∷ v ∷ []) ≡ accepts (map string_bytes ws)
+accepts_two [] w x u v a b i j l m = absurd (omega arith)
+accepts_two (p ∷ []) w x u v a b i j l m = absurd (omega arith)
+accepts_two (p ∷ d ∷ []) w x u v a b i j l m = rw (l, m, i, j) refl
+accepts_two (p ∷ d ∷ z ∷ zs) w x u v a b i j l m = absurd (omega arith)
 
 -- three words are asked by their first word
 pub accepts_three : (ws : List (String Global)) (w x y : String Global) (u v t : List ℕ) → 3 ≤ length ws

@@ -48,7 +48,7 @@ returns-in-Some-Code-clause-touched g c = λ w.
     (subst (λ r. Some (request_of r) ≡ accepts (map string_bytes c.args.words.now)) c.in-Some-Code.field-0-is
     c.in-Some-Code.ensures.asks))
     (λ is. subst (λ w. Touches (g.F.Folder.file c.args.folder.now c.in-Some-Code.domain.now) (input_run
-    (g.F.Folder.begun c.args.folder.now w) (g.F.Folder.begun c.serve_code.folder.new w)
-    (g.F.Folder.rest c.args.folder.now w) (g.F.Folder.rest c.serve_code.folder.new w))) (sym is)
+    (g.F.Folder.begun c.args.folder.now w) (g.F.Folder.begun c.serve_code.new.folder w)
+    (g.F.Folder.rest c.args.folder.now w) (g.F.Folder.rest c.serve_code.new.folder w))) (sym is)
     c.serve_code.ensures.touched)
     (c.serve_code.ensures.others w)
