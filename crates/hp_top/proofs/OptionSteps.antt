@@ -3,7 +3,7 @@ use Rattle.std.proofs.Common.{◌≡◌, ◌≢◌, ℕ, Bool, true, false, ◌&
 use Rattle.std.proofs.lemmas.Slice.Eq.{bytes_eq-Decides}
 use Rattle.std.specs.Option.{option_and_then}
 use Rattle.hp_syntax.specs.declared.limits.TheConstants.{MOST_LEVELS, USUAL_LEVELS}
-use Rattle.hp_top.specs.Command.{CommandOption, Nest, States, Options, options, only_if, number_within, options_spelled, is_named_in, are_allowed, levels_in, has_states, options_in, plan_options}
+use Rattle.hp_top.specs.Command.{are_named_once, CommandOption, Nest, States, Options, options, only_if, number_within, options_spelled, is_named_in, are_allowed, levels_in, has_states, options_in, plan_options}
 
 -- the options that words ask for behind those that were read
 abbrev pub options_after : Option ℕ → Bool → List (List ℕ) → Option Options

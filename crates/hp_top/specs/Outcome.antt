@@ -149,9 +149,9 @@ answer_to refuse answer (Ok x) = answer x
 -- ---- outcomes
 
 -- the answer to something that is loaded
-pub record Comes {X : Type 0} (loads : Result X Refusal → Type 0) (answer : X → Answer) (a : Answer) : Type 0 where
+pub record Comes {X : Type 0} (Loads : Result X Refusal → Type 0) (answer : X → Answer) (a : Answer) : Type 0 where
   pub loaded : Result X Refusal
-  pub loads : loads loaded
+  pub loads : Loads loaded
   pub comes : a ≡ answer_to refusal_answer answer loaded
 
 -- the answer to a command with these files

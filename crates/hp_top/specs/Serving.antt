@@ -20,10 +20,10 @@ load_answer causes.NoMemory = (codes "", status.NoMemory)
 load_answer (causes.Refused r) = refusal_answer r
 
 -- something is loaded, and what comes of it is told
-pub record Serves {X : Type 0} (loads : Result X LoadError → Type 0) (answer : X → Answer) (s : Status) (r : SinkRun)
+pub record Serves {X : Type 0} (Loads : Result X LoadError → Type 0) (answer : X → Answer) (s : Status) (r : SinkRun)
     : Type 0 where
   pub loaded : Result X LoadError
-  pub loads : loads loaded
+  pub loads : Loads loaded
   pub tells : Tells (answer_to load_answer answer loaded) s r
 
 -- how a command over two files ends
