@@ -8,7 +8,7 @@ ghost use Rattle.hp_top.specs.Command.{accepts, make_command};
 ghost use Rattle.hp_top.specs.Loading.{folder_run};
 ghost use Rattle.hp_top.specs.Outcome.{Files};
 ghost use Rattle.hp_top.specs.Run.{TellsFiles, IsOutcome, RefusesWords, ReadFails, WritesPrefix, WritesProperPrefix};
-ghost use Rattle.hp_top.specs.Serving.{Serves, Ends};
+ghost use Rattle.hp_top.specs.Serving.{ServesCommand, Ends};
 ghost use Rattle.hp_top.specs.Touching.{Touches, TouchesNamed, input_run};
 ghost use Rattle.hp_top.specs.Words.{IsAsked, job_of};
 ghost use Rattle.hp_out.specs.Writing.{sink_run};
@@ -35,7 +35,7 @@ fn serve_command<F: Folder, K: Sink>(
     out: &mut K,
 ) -> Status
     requires { IsAsked job }
-    ensures serves { Serves (make_command domain.now problem.now (job_of job))
+    ensures serves { ServesCommand (make_command domain.now problem.now (job_of job))
         (folder_run (F.file folder.old) (F.faults folder.old) (F.faults folder.new)) result
         (sink_run (K.faults out.old) (K.faults out.new) (K.bytes out.old) (K.bytes out.new)) }
     ensures files { (n : List ℕ) → F.file folder.new n ≡ F.file folder.old n }

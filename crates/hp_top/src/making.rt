@@ -6,7 +6,7 @@ ghost use Rattle.hp_syntax.specs.Grammar.{problem_form};
 ghost use Rattle.hp_syntax.specs.Views.{problem_of};
 ghost use Rattle.hp_top.specs.Loading.{HasText, LoadsBoth, plain_of};
 ghost use Rattle.hp_top.specs.Making.{made_command};
-ghost use Rattle.hp_top.specs.Serving.{Serves, made_run};
+ghost use Rattle.hp_top.specs.Serving.{ServesCommand, made_run};
 ghost use Rattle.hp_top.specs.Words.{IsMakeable};
 
 use crate::loading::{LoadError, Loaded, domain_in, problem_in};
@@ -40,7 +40,7 @@ fn load_made(alloc: Global, seed: u32, packages: u32) -> Result<Loaded, LoadErro
 /// Makes the problem of a seed with so many packages, and sums up its first plan.
 pub fn serve_made<K: Sink>(alloc: Global, seed: u32, packages: u32, out: &mut K) -> Status
     requires { IsMakeable seed packages }
-    ensures serves { Serves (made_command seed packages) (made_run seed packages) result
+    ensures serves { ServesCommand (made_command seed packages) (made_run seed packages) result
         (sink_run (K.faults out.old) (K.faults out.new) (K.bytes out.old) (K.bytes out.new)) }
     ensures later { K.faults out.old ≤ K.faults out.new }
 {
