@@ -55,7 +55,7 @@ fn give(alloc: Global, given: &mut Vec<Given>, name: &str, text: &str) -> Result
     Ok(())
 }
 
-/// Runs a command over the files that it names, into a sink with so much room.
+/// Runs a command over the files that its second and its third word name, into a sink with so much room.
 fn try_command(
     rt: &(impl Files + AllocGlobal),
     out: &mut Vec<u8>,
@@ -65,9 +65,11 @@ fn try_command(
 ) -> io::Result<()> {
     let words = words_of(rt.alloc(), line)?;
     let mut folder = MemFolder::new(rt.alloc());
-    if let [_, domain, problem, ..] = words.as_slice() {
+    if let Some(domain) = words.get(1) {
         put_word(rt, given, &mut folder, domain.as_str())?;
-        put_word(rt, given, &mut folder, problem.as_str())?;
+        if let Some(problem) = words.get(2) {
+            put_word(rt, given, &mut folder, problem.as_str())?;
+        }
     }
     Ok(try_words(rt.alloc(), out, &mut folder, words.as_slice(), room)?)
 }
