@@ -1,21 +1,18 @@
 -- Answers stand for the same events where terms are added.
-use Rattle.std.specs.Prelude.{slice_get, slice_set, unwrap_or}
-use Rattle.std.proofs.Common.{append_assoc, ◌≡◌, ℕ, ◌+◌, ◌<◌, ◌≤◌, below_more, Bool, true, false, List, [], ◌∷◌, ◌++◌, length, map, drop, get_or, Option, Some, None, refl, sym, ◌∙◌, ap, ap₂, subst, arith}
+use Rattle.std.proofs.Common.{append_assoc, ◌≡◌, ℕ, ◌+◌, ◌<◌, ◌≤◌, Bool, true, false, List, [], ◌∷◌, ◌++◌, length, map, drop, get_or, refl, sym, ◌∙◌, ap, ap₂, subst}
 use Rattle.std.specs.List.{All}
-use Rattle.std.proofs.lemmas.List.{ext_get_or, map-append, append-nil, length-set, drop_all}
-use Rattle.std.proofs.lemmas.Option.{unwrap_or-slice_get}
-use Rattle.hp_laws.proofs.BindingLemmas.{slice_get-set_same, slice_get-set_other}
+use Rattle.std.proofs.lemmas.List.{map-append, append-nil, drop_all}
 use Rattle.hp_eval.proofs.Copies.{same_below}
 use Rattle.hp_eval.proofs.Loops.{left_more}
 use Rattle.std.proofs.lemmas.List.Elements.{All-get_or, All-nil, All-cons, All-append, All-head, All-tail, All-weaker, All-same}
 use Rattle.hp_syntax.specs.Terms.{Term}
 use Rattle.hp_syntax.specs.Values.{Bindings}
 use Rattle.hp_syntax.specs.Events as plain
-use Rattle.hp_syntax.specs.Events.{Event, State}
+use Rattle.hp_syntax.specs.Events.{Event}
 use Rattle.hp_syntax.specs.declared.fault.RunFault.{RunFault}
-use Rattle.hp_eval.specs.Slotted.{Slotted, AreBelow, named, bindings_of, with_bound, flat}
+use Rattle.hp_eval.specs.Slotted.{Slotted, AreBelow, named, bindings_of}
 use Rattle.hp_eval.specs.Growth.{Grows}
-use Rattle.hp_eval.proofs.GrowthLemmas.{bindings_stay, below_grows, terms_stay, all_below, grows_length}
+use Rattle.hp_eval.proofs.GrowthLemmas.{bindings_stay, below_grows, terms_stay, all_below}
 use Rattle.hp_world.specs.Stages.{Stage, StageBelow, live_atoms, state_of}
 use Rattle.hp_answers.specs.declared.answer.Answer.{Answer}
 use Rattle.hp_answers.specs.declared.answer.Answer.TheVariants.{Sat, Cut, Fault}

@@ -1,25 +1,20 @@
 -- Rules by their names.
-use Rattle.std.proofs.Common.{◌≡◌, ℕ, suc, ◌+◌, ◌<◌, ◌≤◌, Bool, true, false, cond, not, List, [], ◌∷◌, ◌++◌, length, drop, get_or, map, slice_get, Option, None, Some, option_map, Bor, inl, inr, refl, sym, ◌∙◌, ap, ap₂, arith}
-use Rattle.std.specs.Prelude.{bytes_eq, filter, flat_map, MatchOption}
+use Rattle.std.proofs.Common.{◌≡◌, ℕ, suc, ◌+◌, ◌<◌, ◌≤◌, true, false, cond, List, [], ◌∷◌, ◌++◌, length, drop, get_or, map, slice_get, Option, None, Some, option_map, Bor, inl, inr, refl, sym, ◌∙◌, ap, ap₂, arith}
+use Rattle.std.specs.Prelude.{bytes_eq, MatchOption}
 use Rattle.std.specs.List.{HoldsAt}
 use Rattle.std.specs.Option.{option_and_then, option_copied}
 use Rattle.std.proofs.lemmas.List.{append-nil, append_assoc, drop_all}
-use Rattle.std.proofs.lemmas.List.Filters.{length-filter_both}
 use Rattle.std.proofs.lemmas.Option.{none-some, slice_get_cases, slice_get_past, slice_get-get_or, slice_get-map}
 use Rattle.hp_syntax.specs.declared.domain.Rule as public_rule
 use Rattle.hp_syntax.specs.Views.{rule_of}
 use Rattle.hp_eval.proofs.Loops.{left_more}
-use Rattle.hp_syntax.specs.Syntax.{Rule, Does, Refines, Concludes, Atom}
-use Rattle.hp_syntax.specs.Terms.{Term, Terms, Symbol, Number, Listed, NoTerm, More}
-use Rattle.hp_syntax.specs.Values.{Bindings, unbound}
-use Rattle.hp_syntax.specs.Matching.{match_parts, match_atom}
-use Rattle.hp_syntax.specs.Networks.{Network, Empty, Task, Ordered, Unordered, Place}
-use Rattle.hp_syntax.specs.Walk.{Node, operator_children, method_children, rule_children}
+use Rattle.hp_syntax.specs.Syntax.{Rule, Does, Refines, Concludes}
+use Rattle.hp_syntax.specs.Networks.{Task}
 use Rattle.hp_syntax.specs.Events.{axiom_if}
 use Rattle.hp_laws.proofs.ResultLemmas.{map_some}
 use Rattle.hp_tables.specs.declared.Kind.{Kind}
 use Rattle.hp_tables.specs.declared.Kind.TheVariants as kinds
-use Rattle.hp_laws.specs.RulesByName.{concluding, task_name, relevant, relevant_to, is_name}
+use Rattle.hp_laws.specs.RulesByName.{concluding, relevant, is_name}
 use Rattle.hp_answers.specs.RuleIndexes.{axiom_at, places_from}
 use Rattle.hp_tables.specs.Tables.{name_as, with_place}
 

@@ -1,5 +1,5 @@
 //! Answers: events with slots of their own, in lists.
-ghost use Rattle.std.specs.Prelude.{◌≡◌, ◌≤◌, [], ◌∷◌, ◌++◌, IfOk, OnOk, List, length};
+ghost use Rattle.std.specs.Prelude.{◌≡◌, [], ◌∷◌, ◌++◌, IfOk, OnOk, List, length};
 ghost use Rattle.hp_syntax.specs.Terms.{Term};
 ghost use Rattle.hp_syntax.specs.Events as plain;
 ghost use Rattle.hp_eval.specs.Slotted.{AreBelow, bindings_of};

@@ -1,5 +1,5 @@
-//! What satisfiers as lists are made of: what is met, each Sat with slots of its own, and the rules of a domain by their
-//! names.
+//! What satisfiers as lists are made of: what is met, each Sat with slots of its own, and the rules of a domain by
+//! their names.
 #![tactic(auto)]
 
 pub mod answer;

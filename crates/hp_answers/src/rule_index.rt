@@ -1,5 +1,5 @@
 //! The rules of a domain by their names.
-ghost use Rattle.std.specs.Prelude.{◌≡◌, ◌<◌, List, ℕ, length, map, Some, IfOk, option_map, slice_get};
+ghost use Rattle.std.specs.Prelude.{◌≡◌, ◌<◌, length, map, Some, IfOk, option_map, slice_get};
 ghost use Rattle.std.specs.Option.{option_copied};
 ghost use Rattle.hp_syntax.specs.Events.{axioms_of};
 ghost use Rattle.hp_syntax.specs.Views.{axiom_of, domain_of, rule_of};

@@ -1,5 +1,5 @@
 //! The terms that cells name.
-ghost use Rattle.std.specs.Prelude.{◌≡◌, ℕ, ◌+◌, ◌<◌, ◌≤◌, ◌^◌, [], ◌∷◌, ◌++◌, Some, IfOk, OnErr, length, take, slice_get, vec_len, vec_capacity, if◌then◌else◌};
+ghost use Rattle.std.specs.Prelude.{◌≡◌, ◌+◌, ◌<◌, ◌≤◌, ◌^◌, [], ◌∷◌, ◌++◌, Some, IfOk, OnErr, length, take, slice_get, vec_len, vec_capacity, if◌then◌else◌};
 ghost use Rattle.hp_syntax.specs.Terms.{Term, Terms, Symbol, Number, Listed, NoTerm, More, term_nesting};
 ghost use Rattle.hp_cells.specs.Cells.{AreCells, NamesList, Interns};
 ghost use Rattle.hp_cells.specs.Compared.{is_symbol, is_number};

@@ -1,6 +1,6 @@
 //! Expressions and preconditions.
 
-ghost use Rattle.std.specs.Prelude.{◌≡◌, ◌<◌, ◌^◌};
+ghost use Rattle.std.specs.Prelude.{◌≡◌};
 ghost use Rattle.hp_syntax.specs.Checks as checks;
 ghost use Rattle.hp_syntax.specs.Checks.{earlier, first_of};
 ghost use Rattle.hp_syntax.specs.Views.{expression_of, expressions_of, order_of, precondition_of};

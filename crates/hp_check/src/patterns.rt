@@ -1,6 +1,6 @@
 //! Terms and atoms.
 
-ghost use Rattle.std.specs.Prelude.{◌≡◌, ◌++◌};
+ghost use Rattle.std.specs.Prelude.{◌≡◌};
 ghost use Rattle.hp_syntax.specs.Calls as calls;
 ghost use Rattle.hp_syntax.specs.Checks as checks;
 ghost use Rattle.hp_syntax.specs.Checks.{earlier, first_of};

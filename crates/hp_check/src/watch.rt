@@ -1,7 +1,7 @@
 //! The first fault so far.
 
 ghost use Rattle.std.specs.Prelude.{◌≡◌, None};
-ghost use Rattle.hp_syntax.specs.Checks.{number_of, comes_before, earlier, first_of, found, found_if};
+ghost use Rattle.hp_syntax.specs.Checks.{comes_before, earlier, first_of, found, found_if};
 ghost use Rattle.hp_check.specs.Places.{place_of};
 
 use hp_syntax::{CheckFault, CheckKind, Span};

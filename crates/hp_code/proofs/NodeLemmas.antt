@@ -4,7 +4,7 @@ use Rattle.std.proofs.lemmas.List.{append_assoc, append-nil, drop-drop, length-a
 use Rattle.std.proofs.lemmas.Option.{slice_get_cases, slice_get_within}
 use Rattle.std.proofs.Math.Seq.{drop-append-add, drop-append_seam}
 use Rattle.hp_syntax.specs.declared.pattern.Span.{Span}
-use Rattle.hp_code.specs.Trees.{Operation, Laid, Tree, Trees, Node, NoTree, More, size, sizes, laid, all_laid, within, behind, trees, first_tree, tree_at, trees_between}
+use Rattle.hp_code.specs.Trees as trees
 use Rattle.hp_code.proofs.TreeLemmas.{tree_back, within_more}
 
 -- ---- what stands at an index
@@ -16,127 +16,130 @@ drop_there (y ∷ ys) zero x e = ap (λ z. z ∷ ys) cc
 drop_there (y ∷ ys) (suc i) x e = drop_there ys i x e
 
 -- a node reads back with those that stand between it and where those below it end
-pub node_there : (nodes : List Laid) (i : ℕ) (n : Laid) → slice_get nodes i ≡ Some n
-    → tree_at nodes i ≡ Some (Node n.op n.span (trees_between nodes (suc i) n.to))
-unfolding trees
-node_there nodes i n e = ap (λ ns. first_tree (trees i ns)) (drop_there nodes i n e)
+pub node_there : (nodes : List trees.Laid) (i : ℕ) (n : trees.Laid) → slice_get nodes i ≡ Some n
+    → trees.tree_at nodes i ≡ Some (trees.Node n.op n.span (trees.trees_between nodes (suc i) n.to))
+unfolding trees.trees
+node_there nodes i n e = ap (λ ns. trees.first_tree (trees.trees i ns)) (drop_there nodes i n e)
 
 -- as far as no node goes there is no tree
-within_none : (ts : Trees) → within zero ts ≡ NoTree
-unfolding within
-within_none NoTree = refl
-within_none (More t ts) = refl
+within_none : (ts : trees.Trees) → trees.within zero ts ≡ trees.NoTree
+unfolding trees.within
+within_none trees.NoTree = refl
+within_none (trees.More t ts) = refl
 
 -- between an index and itself is none
-pub none_between : (nodes : List Laid) (i : ℕ) → trees_between nodes i i ≡ NoTree
+pub none_between : (nodes : List trees.Laid) (i : ℕ) → trees.trees_between nodes i i ≡ trees.NoTree
 none_between nodes i =
     let e : i - i ≡ zero = omega arith in
-    ap (λ n. within n (trees i (drop i nodes))) e ∙ within_none (trees i (drop i nodes))
+    ap (λ n. trees.within n (trees.trees i (drop i nodes))) e ∙ within_none (trees.trees i (drop i nodes))
 
 -- ---- trees that are laid down
 
 -- nodes begin with those of a tree, of which the first has this index
-record BeginsTree (i : ℕ) (ns : List Laid) : Type 0 where
-  tree : Tree
-  rest : List Laid
-  is : ns ≡ laid i tree ++ rest
+record BeginsTree (i : ℕ) (ns : List trees.Laid) : Type 0 where
+  tree : trees.Tree
+  rest : List trees.Laid
+  is : ns ≡ trees.laid i tree ++ rest
 
 mutual
-  unfolding laid all_laid size sizes
+  unfolding trees.laid trees.all_laid trees.size trees.sizes
 
   -- a tree has as many nodes as it says
-  pub length-laid : (i : ℕ) (t : Tree) → length (laid i t) ≡ size t
-  length-laid i (Node op s ts) = ap suc (length-all_laid (suc i) ts)
+  pub length-laid : (i : ℕ) (t : trees.Tree) → length (trees.laid i t) ≡ trees.size t
+  length-laid i (trees.Node op s ts) = ap suc (length-all_laid (suc i) ts)
 
   -- so have trees
-  pub length-all_laid : (i : ℕ) (ts : Trees) → length (all_laid i ts) ≡ sizes ts
-  length-all_laid i NoTree = refl
-  length-all_laid i (More t ts) =
-      length-append (laid i t) (all_laid (i + size t) ts)
-      ∙ ap (λ n. n + length (all_laid (i + size t) ts)) (length-laid i t)
-      ∙ ap (λ n. size t + n) (length-all_laid (i + size t) ts)
+  pub length-all_laid : (i : ℕ) (ts : trees.Trees) → length (trees.all_laid i ts) ≡ trees.sizes ts
+  length-all_laid i trees.NoTree = refl
+  length-all_laid i (trees.More t ts) =
+      length-append (trees.laid i t) (trees.all_laid (i + trees.size t) ts)
+      ∙ ap (λ n. n + length (trees.all_laid (i + trees.size t) ts)) (length-laid i t)
+      ∙ ap (λ n. trees.size t + n) (length-all_laid (i + trees.size t) ts)
 
 -- the same nodes begin with a tree
-begins_alike : (i : ℕ) (ms ns : List Laid) → ms ≡ ns → BeginsTree i ns → BeginsTree i ms
+begins_alike : (i : ℕ) (ms ns : List trees.Laid) → ms ≡ ns → BeginsTree i ns → BeginsTree i ms
 begins_alike i ms ns e b = record { tree = b.tree; rest = b.rest; is = e ∙ b.is }
 
 mutual
-  unfolding laid all_laid size sizes
+  unfolding trees.laid trees.all_laid trees.size trees.sizes
 
   -- from each node of a tree on stands the tree of that node
-  tree_begins : (k i m : ℕ) (t : Tree) (ns : List Laid) → i ≡ k + m → m < size t
-      → BeginsTree i (drop m (laid k t ++ ns))
+  tree_begins : (k i m : ℕ) (t : trees.Tree) (ns : List trees.Laid) → i ≡ k + m → m < trees.size t
+      → BeginsTree i (drop m (trees.laid k t ++ ns))
   tree_begins k i zero t ns e l =
       let same : k ≡ i = omega arith in
-      record { tree = t; rest = ns; is = ap (λ j. laid j t ++ ns) same }
-  tree_begins k i (suc m) (Node op s ts) ns e l =
+      record { tree = t; rest = ns; is = ap (λ j. trees.laid j t ++ ns) same }
+  tree_begins k i (suc m) (trees.Node op s ts) ns e l =
       trees_begin (suc k) i m ts ns (omega arith) (omega arith)
 
   -- so it does from each node of trees
-  trees_begin : (k i m : ℕ) (ts : Trees) (ns : List Laid) → i ≡ k + m → m < sizes ts
-      → BeginsTree i (drop m (all_laid k ts ++ ns))
-  trees_begin k i m NoTree ns e l = absurd (omega arith)
-  trees_begin k i m (More t ts) ns e l =
-      let later = all_laid (k + size t) ts ++ ns in
-      let whole = append_assoc (laid k t) (all_laid (k + size t) ts) ns in
+  trees_begin : (k i m : ℕ) (ts : trees.Trees) (ns : List trees.Laid) → i ≡ k + m → m < trees.sizes ts
+      → BeginsTree i (drop m (trees.all_laid k ts ++ ns))
+  trees_begin k i m trees.NoTree ns e l = absurd (omega arith)
+  trees_begin k i m (trees.More t ts) ns e l =
+      let later = trees.all_laid (k + trees.size t) ts ++ ns in
+      let whole = append_assoc (trees.laid k t) (trees.all_laid (k + trees.size t) ts) ns in
       let long = length-laid k t in
-      begins_alike i (drop m ((laid k t ++ all_laid (k + size t) ts) ++ ns)) (drop m (laid k t ++ later))
+      begins_alike i (drop m ((trees.laid k t ++ trees.all_laid (k + trees.size t) ts) ++ ns))
+      (drop m (trees.laid k t ++ later))
       (ap (drop m) whole)
-      (elim ((slice_get_cases (laid k t) m).1) [
+      (elim ((slice_get_cases (trees.laid k t) m).1) [
         | inl w ↦ tree_begins k i m t later e (omega (arith, w.1, long))
         | inr w ↦
-            let n = m - length (laid k t) in
-            let past : m ≡ length (laid k t) + n = omega (arith, w.0) in
-            begins_alike i (drop m (laid k t ++ later)) (drop n later)
-            (ap (λ j. drop j (laid k t ++ later)) past ∙ drop-append-add (laid k t) later n)
-            (trees_begin (k + size t) i n ts ns (omega (arith, w.0, long)) (omega (arith, w.0, long)))
+            let n = m - length (trees.laid k t) in
+            let past : m ≡ length (trees.laid k t) + n = omega (arith, w.0) in
+            begins_alike i (drop m (trees.laid k t ++ later)) (drop n later)
+            (ap (λ j. drop j (trees.laid k t ++ later)) past ∙ drop-append-add (trees.laid k t) later n)
+            (trees_begin (k + trees.size t) i n ts ns (omega (arith, w.0, long)) (omega (arith, w.0, long)))
       ])
 
 -- the trees from an index on are the node's own, and those from where the nodes below it end
-record ReadsFrom (nodes : List Laid) (i to : ℕ) : Type 0 where
-  tree : Tree
-  ends : i + size tree ≡ to
-  is : trees i (drop i nodes) ≡ More tree (trees to (drop to nodes))
+record ReadsFrom (nodes : List trees.Laid) (i to : ℕ) : Type 0 where
+  tree : trees.Tree
+  ends : i + trees.size tree ≡ to
+  is : trees.trees i (drop i nodes) ≡ trees.More tree (trees.trees to (drop to nodes))
 
 -- the head of a list that is known in two ways
 head_same : {X : Type 0} (x y : X) (xs ys : List X) → x ∷ xs ≡ y ∷ ys → x ≡ y
 head_same x y xs ys e = cc
 
 -- where nodes begin with a tree, the first of them says where the tree ends
-first_ends : (i : ℕ) (t : Tree) (n : Laid) (ms ns : List Laid) → n ∷ ms ≡ laid i t ++ ns → i + size t ≡ n.to
-unfolding laid size
-first_ends i (Node op s ts) n ms ns e =
-    let own : Laid = record { op = op; to = suc i + sizes ts; span = s } in
-    let same = head_same n own ms (all_laid (suc i) ts ++ ns) e in
-    let ends : i + suc (sizes ts) ≡ suc i + sizes ts = omega arith in
+first_ends : (i : ℕ) (t : trees.Tree) (n : trees.Laid) (ms ns : List trees.Laid) → n ∷ ms ≡ trees.laid i t ++ ns
+    → i + trees.size t ≡ n.to
+unfolding trees.laid trees.size
+first_ends i (trees.Node op s ts) n ms ns e =
+    let own : trees.Laid = record { op = op; to = suc i + trees.sizes ts; span = s } in
+    let same = head_same n own ms (trees.all_laid (suc i) ts ++ ns) e in
+    let ends : i + suc (trees.sizes ts) ≡ suc i + trees.sizes ts = omega arith in
     ends ∙ sym (ap (λ l. l.to) same)
 
 -- where nodes from an index on begin with a tree, those behind it stand from where it ends on
-behind_tree : (nodes : List Laid) (i to : ℕ) (t : Tree) (rest : List Laid) → drop i nodes ≡ laid i t ++ rest
-    → i + size t ≡ to → drop to nodes ≡ rest
+behind_tree : (nodes : List trees.Laid) (i to : ℕ) (t : trees.Tree) (rest : List trees.Laid) → drop i nodes
+    ≡ trees.laid i t ++ rest
+    → i + trees.size t ≡ to → drop to nodes ≡ rest
 behind_tree nodes i to t rest e ends =
-    let far : to ≡ i + length (laid i t) = omega (arith, ends, length-laid i t) in
-    ap (λ j. drop j nodes) far ∙ sym (drop-drop (length (laid i t)) i nodes)
-    ∙ ap (drop (length (laid i t))) e ∙ drop-append_seam (laid i t) rest
+    let far : to ≡ i + length (trees.laid i t) = omega (arith, ends, length-laid i t) in
+    ap (λ j. drop j nodes) far ∙ sym (drop-drop (length (trees.laid i t)) i nodes)
+    ∙ ap (drop (length (trees.laid i t))) e ∙ drop-append_seam (trees.laid i t) rest
 
 -- each node of trees that are laid down reads back before what stands where the nodes below it end
-reads_from : (ts : Trees) (nodes : List Laid) → nodes ≡ all_laid 0 ts → (i : ℕ) (n : Laid)
+reads_from : (ts : trees.Trees) (nodes : List trees.Laid) → nodes ≡ trees.all_laid 0 ts → (i : ℕ) (n : trees.Laid)
     → slice_get nodes i ≡ Some n → ReadsFrom nodes i n.to
 reads_from ts nodes laid_down i n e =
-    let inside : i < sizes ts =
+    let inside : i < trees.sizes ts =
     omega (arith, slice_get_within nodes i n e, ap length laid_down, length-all_laid 0 ts) in
     let b = trees_begin 0 i i ts [] (omega arith) inside in
-    let here : drop i nodes ≡ laid i b.tree ++ b.rest =
-    ap (drop i) (laid_down ∙ sym (append-nil (all_laid 0 ts))) ∙ b.is in
+    let here : drop i nodes ≡ trees.laid i b.tree ++ b.rest =
+    ap (drop i) (laid_down ∙ sym (append-nil (trees.all_laid 0 ts))) ∙ b.is in
     let ends = first_ends i b.tree n (drop (suc i) nodes) b.rest (sym (drop_there nodes i n e) ∙ here) in
     let rest : drop n.to nodes ≡ b.rest = behind_tree nodes i n.to b.tree b.rest here ends in
     record {
       tree = b.tree;
       ends = ends;
       is =
-          ap (trees i) here ∙ tree_back i b.tree b.rest
-          ∙ ap (λ j. More b.tree (trees j b.rest)) ends
-          ∙ ap (λ ns. More b.tree (trees n.to ns)) (sym rest);
+          ap (trees.trees i) here ∙ tree_back i b.tree b.rest
+          ∙ ap (λ j. trees.More b.tree (trees.trees j b.rest)) ends
+          ∙ ap (λ ns. trees.More b.tree (trees.trees n.to ns)) (sym rest);
     }
 
 -- one thing that is there in two ways
@@ -144,79 +147,82 @@ some_same : {X : Type 0} (x y : X) → Some x ≡ Some y → x ≡ y
 some_same x y e = cc
 
 -- a tree has a node
-pub positive : (t : Tree) → 1 ≤ size t
-unfolding size
-positive (Node op s ts) = omega arith
+pub positive : (t : trees.Tree) → 1 ≤ trees.size t
+unfolding trees.size
+positive (trees.Node op s ts) = omega arith
 
 -- of the trees between two indices the first is that of the first node, and the others begin where that ends
-pub first_between : (ts : Trees) (nodes : List Laid) → nodes ≡ all_laid 0 ts → (i to : ℕ) (n : Laid)
-    → slice_get nodes i ≡ Some n → n.to ≤ to → (t : Tree) → tree_at nodes i ≡ Some t
-    → trees_between nodes i to ≡ More t (trees_between nodes n.to to)
-unfolding size
+pub first_between : (ts : trees.Trees) (nodes : List trees.Laid) → nodes ≡ trees.all_laid 0 ts
+    → (i to : ℕ) (n : trees.Laid)
+    → slice_get nodes i ≡ Some n → n.to ≤ to → (t : trees.Tree) → trees.tree_at nodes i ≡ Some t
+    → trees.trees_between nodes i to ≡ trees.More t (trees.trees_between nodes n.to to)
+unfolding trees.size
 first_between ts nodes laid_down i to n e l t at =
     from (reads_from ts nodes laid_down i n e)
   where
-    from : ReadsFrom nodes i n.to → trees_between nodes i to ≡ More t (trees_between nodes n.to to)
+    from : ReadsFrom nodes i n.to → trees.trees_between nodes i to ≡ trees.More t (trees.trees_between nodes n.to to)
     from r =
-        let own : r.tree ≡ t = some_same r.tree t (sym (ap first_tree r.is) ∙ at) in
+        let own : r.tree ≡ t = some_same r.tree t (sym (ap trees.first_tree r.is) ∙ at) in
         let some : to - i ≡ suc (to - i - 1) = omega (arith, l, r.ends, positive r.tree) in
-        let left : to - i - size r.tree ≡ to - n.to = omega (arith, r.ends) in
-        ap (within (to - i)) r.is
-        ∙ within_more (to - i) (to - i - 1) r.tree (trees n.to (drop n.to nodes)) some
-        ∙ ap (λ k. More r.tree (within k (trees n.to (drop n.to nodes)))) left
-        ∙ ap (λ u. More u (trees_between nodes n.to to)) own
+        let left : to - i - trees.size r.tree ≡ to - n.to = omega (arith, r.ends) in
+        ap (trees.within (to - i)) r.is
+        ∙ within_more (to - i) (to - i - 1) r.tree (trees.trees n.to (drop n.to nodes)) some
+        ∙ ap (λ k. trees.More r.tree (trees.within k (trees.trees n.to (drop n.to nodes)))) left
+        ∙ ap (λ u. trees.More u (trees.trees_between nodes n.to to)) own
 
 -- ---- nodes that hold where those below them end
 
 -- what a node does and where it stands
 record Said : Type 0 where
-  op : Operation
+  op : trees.Operation
   span : Span
 
-abbrev said : Laid → Said
+abbrev said : trees.Laid → Said
 said n = record { op = n.op; span = n.span }
 
 -- a tree and trees as what their nodes say, in order
 mutual
-  tree_said : Tree → List Said
-  tree_said (Node op s ts) = record { op = op; span = s } ∷ trees_said ts
+  tree_said : trees.Tree → List Said
+  tree_said (trees.Node op s ts) = record { op = op; span = s } ∷ trees_said ts
 
-  trees_said : Trees → List Said
-  trees_said NoTree = []
-  trees_said (More t ts) = tree_said t ++ trees_said ts
+  trees_said : trees.Trees → List Said
+  trees_said trees.NoTree = []
+  trees_said (trees.More t ts) = tree_said t ++ trees_said ts
 
 mutual
-  unfolding laid all_laid tree_said trees_said
+  unfolding trees.laid trees.all_laid tree_said trees_said
 
   -- nodes that are laid down say what their trees say
-  laid_said : (i : ℕ) (t : Tree) → map said (laid i t) ≡ tree_said t
-  laid_said i (Node op s ts) = ap (λ xs. record { op = op; span = s } ∷ xs) (all_laid_said (suc i) ts)
+  laid_said : (i : ℕ) (t : trees.Tree) → map said (trees.laid i t) ≡ tree_said t
+  laid_said i (trees.Node op s ts) = ap (λ xs. record { op = op; span = s } ∷ xs) (all_laid_said (suc i) ts)
 
-  all_laid_said : (i : ℕ) (ts : Trees) → map said (all_laid i ts) ≡ trees_said ts
-  all_laid_said i NoTree = refl
-  all_laid_said i (More t ts) =
-      map-append said (laid i t) (all_laid (i + size t) ts)
-      ∙ ap₂ ◌++◌ (laid_said i t) (all_laid_said (i + size t) ts)
+  all_laid_said : (i : ℕ) (ts : trees.Trees) → map said (trees.all_laid i ts) ≡ trees_said ts
+  all_laid_said i trees.NoTree = refl
+  all_laid_said i (trees.More t ts) =
+      map-append said (trees.laid i t) (trees.all_laid (i + trees.size t) ts)
+      ∙ ap₂ ◌++◌ (laid_said i t) (all_laid_said (i + trees.size t) ts)
 
 -- trees that are parted say what they say whole
-parted_said : (n : ℕ) (ts : Trees) → trees_said (within n ts) ++ trees_said (behind n ts) ≡ trees_said ts
-unfolding within behind trees_said
-parted_said zero NoTree = refl
-parted_said (suc n) NoTree = refl
-parted_said zero (More t ts) = refl
-parted_said (suc n) (More t ts) =
-    append_assoc (tree_said t) (trees_said (within (suc n - size t) ts)) (trees_said (behind (suc n - size t) ts))
-    ∙ ap (λ xs. tree_said t ++ xs) (parted_said (suc n - size t) ts)
+parted_said : (n : ℕ) (ts : trees.Trees) → trees_said (trees.within n ts) ++ trees_said (trees.behind n ts)
+    ≡ trees_said ts
+unfolding trees.within trees.behind trees_said
+parted_said zero trees.NoTree = refl
+parted_said (suc n) trees.NoTree = refl
+parted_said zero (trees.More t ts) = refl
+parted_said (suc n) (trees.More t ts) =
+    append_assoc (tree_said t) (trees_said (trees.within (suc n - trees.size t) ts))
+    (trees_said (trees.behind (suc n - trees.size t) ts))
+    ∙ ap (λ xs. tree_said t ++ xs) (parted_said (suc n - trees.size t) ts)
 
 -- the trees that nodes are say what the nodes say
-read_said : (i : ℕ) (ns : List Laid) → trees_said (trees i ns) ≡ map said ns
-unfolding trees tree_said trees_said
+read_said : (i : ℕ) (ns : List trees.Laid) → trees_said (trees.trees i ns) ≡ map said ns
+unfolding trees.trees tree_said trees_said
 read_said i [] = refl
 read_said i (n ∷ ns) =
-    ap (λ xs. said n ∷ xs) (parted_said (n.to - suc i) (trees (suc i) ns) ∙ read_said (suc i) ns)
+    ap (λ xs. said n ∷ xs) (parted_said (n.to - suc i) (trees.trees (suc i) ns) ∙ read_said (suc i) ns)
 
 -- nodes that say the same and end at the same are the same
-same_nodes : (xs ys : List Laid) → map said xs ≡ map said ys → map (λ n. n.to) xs ≡ map (λ n. n.to) ys → xs ≡ ys
+same_nodes : (xs ys : List trees.Laid) → map said xs ≡ map said ys → map (λ n. n.to) xs ≡ map (λ n. n.to) ys → xs ≡ ys
 same_nodes [] [] e h = refl
 same_nodes [] (y ∷ ys) e h = absurd cc
 same_nodes (x ∷ xs) [] e h = absurd cc
@@ -235,8 +241,9 @@ same_nodes (x ∷ xs) (y ∷ ys) e h =
     tail_same a b as' bs e = cc
 
 -- nodes that hold where those below them end are laid down
-pub laid_by_ends : (nodes : List Laid) → map (λ n. n.to) nodes ≡ map (λ n. n.to) (all_laid 0 (trees 0 nodes))
-    → nodes ≡ all_laid 0 (trees 0 nodes)
+pub laid_by_ends : (nodes : List trees.Laid) → map (λ n. n.to) nodes
+    ≡ map (λ n. n.to) (trees.all_laid 0 (trees.trees 0 nodes))
+    → nodes ≡ trees.all_laid 0 (trees.trees 0 nodes)
 laid_by_ends nodes e =
-    same_nodes nodes (all_laid 0 (trees 0 nodes))
-    (sym (all_laid_said 0 (trees 0 nodes) ∙ read_said 0 nodes)) e
+    same_nodes nodes (trees.all_laid 0 (trees.trees 0 nodes))
+    (sym (all_laid_said 0 (trees.trees 0 nodes) ∙ read_said 0 nodes)) e

@@ -7,7 +7,7 @@ use Rattle.hp_syntax.specs.Written.{node_text, name_of, order_word}
 use Rattle.hp_tables.specs.declared.Kind.{Kind}
 use Rattle.hp_tables.specs.declared.Kind.TheVariants.{Task, Axiom}
 use Rattle.hp_code.specs.CodeViews.{CodeView, vars_at}
-use Rattle.hp_code.specs.Trees.{Operation, OperatorOf, MethodOf, AxiomOf, BranchOf, AllOf, FirstOf, SortedBy, And, Or, Not, Forall, Holds, Assign, Test, Delete, Add, Unguard, Guard, Each, CostOf, TasksOf, Laid}
+use Rattle.hp_code.specs.Trees as trees
 
 -- ---- nodes
 
@@ -18,48 +18,48 @@ atom_text vars a = node_text (written.atom vars a)
 abbrev pub pattern_text : List (List ℕ) → Pattern → List ℕ
 pattern_text vars p = node_text (written.pattern vars p)
 
-abbrev pub operation_text : List (List ℕ) → Operation → List ℕ
-operation_text vars (OperatorOf head) = codes "operator " ++ atom_text vars head
-operation_text vars (MethodOf head) = codes "method " ++ atom_text vars head
-operation_text vars (AxiomOf head) = codes "axiom " ++ atom_text vars head
-operation_text vars (BranchOf None) = codes "branch"
-operation_text vars (BranchOf (Some name)) = codes "branch " ++ name
-operation_text vars AllOf = codes "plain"
-operation_text vars FirstOf = codes "first"
-operation_text vars (SortedBy key) = codes "sort " ++ name_of vars key.var ++ codes " " ++ order_word key.order
-operation_text vars And = codes "and"
-operation_text vars Or = codes "or"
-operation_text vars Not = codes "not"
-operation_text vars Forall = codes "forall"
-operation_text vars (Holds a) = codes "atom " ++ atom_text vars a
-operation_text vars (Assign v p) = codes "assign " ++ name_of vars v ++ codes " " ++ pattern_text vars p
-operation_text vars (Test p) = codes "call " ++ pattern_text vars p
-operation_text vars (Delete a) = codes "delete " ++ atom_text vars a
-operation_text vars (Add a) = codes "add " ++ atom_text vars a
-operation_text vars (Unguard a) = codes "unguard " ++ atom_text vars a
-operation_text vars (Guard a) = codes "guard " ++ atom_text vars a
-operation_text vars Each = codes "each"
-operation_text vars (CostOf p) = codes "cost " ++ pattern_text vars p
-operation_text vars (TasksOf ts) = codes "tasks " ++ node_text (written.tasks vars ts)
+abbrev pub operation_text : List (List ℕ) → trees.Operation → List ℕ
+operation_text vars (trees.OperatorOf head) = codes "operator " ++ atom_text vars head
+operation_text vars (trees.MethodOf head) = codes "method " ++ atom_text vars head
+operation_text vars (trees.AxiomOf head) = codes "axiom " ++ atom_text vars head
+operation_text vars (trees.BranchOf None) = codes "branch"
+operation_text vars (trees.BranchOf (Some name)) = codes "branch " ++ name
+operation_text vars trees.AllOf = codes "plain"
+operation_text vars trees.FirstOf = codes "first"
+operation_text vars (trees.SortedBy key) = codes "sort " ++ name_of vars key.var ++ codes " " ++ order_word key.order
+operation_text vars trees.And = codes "and"
+operation_text vars trees.Or = codes "or"
+operation_text vars trees.Not = codes "not"
+operation_text vars trees.Forall = codes "forall"
+operation_text vars (trees.Holds a) = codes "atom " ++ atom_text vars a
+operation_text vars (trees.Assign v p) = codes "assign " ++ name_of vars v ++ codes " " ++ pattern_text vars p
+operation_text vars (trees.Test p) = codes "call " ++ pattern_text vars p
+operation_text vars (trees.Delete a) = codes "delete " ++ atom_text vars a
+operation_text vars (trees.Add a) = codes "add " ++ atom_text vars a
+operation_text vars (trees.Unguard a) = codes "unguard " ++ atom_text vars a
+operation_text vars (trees.Guard a) = codes "guard " ++ atom_text vars a
+operation_text vars trees.Each = codes "each"
+operation_text vars (trees.CostOf p) = codes "cost " ++ pattern_text vars p
+operation_text vars (trees.TasksOf ts) = codes "tasks " ++ node_text (written.tasks vars ts)
 
 -- the line of a node: its index, the index behind the last node below it, and what it does
-abbrev pub node_line : ℕ → List (List ℕ) → Laid → List ℕ
+abbrev pub node_line : ℕ → List (List ℕ) → trees.Laid → List ℕ
 node_line i vars n =
     decimal i ++ codes " " ++ decimal n.to ++ codes " " ++ operation_text vars n.op ++ codes "\n"
 
 -- whether a node is a rule's
-abbrev pub is_rule : Operation → Bool
-is_rule (OperatorOf head) = true
-is_rule (MethodOf head) = true
-is_rule (AxiomOf head) = true
+abbrev pub is_rule : trees.Operation → Bool
+is_rule (trees.OperatorOf head) = true
+is_rule (trees.MethodOf head) = true
+is_rule (trees.AxiomOf head) = true
 is_rule op = false
 
 -- the names of variables at a node: a rule's own, and below a rule's node those of the rule
-abbrev pub names_from : (ℕ → List (List ℕ)) → ℕ → List (List ℕ) → Operation → List (List ℕ)
+abbrev pub names_from : (ℕ → List (List ℕ)) → ℕ → List (List ℕ) → trees.Operation → List (List ℕ)
 names_from names i vars op = cond (is_rule op) (names i) vars
 
 -- the lines of nodes, of which the first has this index and stands behind one with these names of variables
-abbrev pub node_lines : (ℕ → List (List ℕ)) → ℕ → List (List ℕ) → List Laid → List ℕ
+abbrev pub node_lines : (ℕ → List (List ℕ)) → ℕ → List (List ℕ) → List trees.Laid → List ℕ
 node_lines names i vars [] = []
 node_lines names i vars (n ∷ ns) =
     node_line i (names_from names i vars n.op) n ++ node_lines names (suc i) (names_from names i vars n.op) ns
@@ -67,10 +67,10 @@ node_lines names i vars (n ∷ ns) =
 -- ---- names
 
 -- the name of the head of a rule of a kind, where a node is such a rule's
-abbrev pub head_of : Kind → Operation → Option (List ℕ)
-head_of Task (OperatorOf head) = Some head.name
-head_of Task (MethodOf head) = Some head.name
-head_of Axiom (AxiomOf head) = Some head.name
+abbrev pub head_of : Kind → trees.Operation → Option (List ℕ)
+head_of Task (trees.OperatorOf head) = Some head.name
+head_of Task (trees.MethodOf head) = Some head.name
+head_of Axiom (trees.AxiomOf head) = Some head.name
 head_of kind op = None
 
 -- the nodes of the rules of a kind by their names
@@ -96,7 +96,7 @@ head_line word table None i = []
 head_line word table (Some name) i = name_line word name (table name) i
 
 -- the lines of the names of rules of a kind, each at the first of its rules; the first node has this index
-abbrev pub name_lines : Kind → (List ℕ → List ℕ) → ℕ → List Laid → List ℕ
+abbrev pub name_lines : Kind → (List ℕ → List ℕ) → ℕ → List trees.Laid → List ℕ
 name_lines kind table i [] = []
 name_lines kind table i (n ∷ ns) =
     head_line (word_of kind) table (head_of kind n.op) i ++ name_lines kind table (suc i) ns

@@ -1,5 +1,5 @@
 //! The listing of a code.
-ghost use Rattle.std.specs.Prelude.{◌≡◌, ◌++◌, ◌==◌, Bool, List, ℕ, [], cond, IfOk, OnOk, codes, decimal};
+ghost use Rattle.std.specs.Prelude.{◌≡◌, ◌++◌, [], IfOk, OnOk, codes, decimal};
 ghost use Rattle.std.specs.Option.{option_copied};
 ghost use Rattle.hp_syntax.specs.Views.{atom_of, key_of, pattern_of, tasks_of};
 ghost use Rattle.hp_syntax.specs.Written as written;

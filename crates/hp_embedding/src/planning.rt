@@ -1,5 +1,5 @@
 //! The top call over a folder and a sink of one's own.
-ghost use Rattle.std.specs.Prelude.{◌≡◌, ◌≢◌, [], Some, map, string_bytes};
+ghost use Rattle.std.specs.Prelude.{◌≢◌, [], Some, map, string_bytes};
 ghost use Rattle.hp_top.specs.Run.{IsOutcome};
 ghost use Rattle.hp_embedding.specs.Shelves.{texts};
 

@@ -1,5 +1,5 @@
 -- Conclusions of an axiom on a goal.
-use Rattle.std.proofs.Common.{◌≡◌, ℕ, ◌+◌, ◌<◌, ◌≤◌, Bool, true, false, ◌&&◌, cond, List, [], ◌∷◌, length, drop, get_or, slice_get, Option, Some, None, Ok, Err, ℤ, Vec, refl, sym, ◌∙◌, ap, ap₂, subst}
+use Rattle.std.proofs.Common.{◌≡◌, ℕ, ◌+◌, ◌<◌, ◌≤◌, Bool, true, false, ◌&&◌, cond, List, [], ◌∷◌, length, drop, get_or, Option, Ok, Err, ℤ, Vec, refl, sym, ◌∙◌, ap}
 use Rattle.std.specs.Global.{Global}
 use Rattle.std.proofs.lemmas.List.{drop_all}
 use Rattle.hp_syntax.specs.declared.name.Name.{Name}
@@ -12,7 +12,7 @@ use Rattle.hp_syntax.specs.Terms.{Term}
 use Rattle.hp_syntax.specs.Calls.{fault_at}
 use Rattle.hp_syntax.specs.Values.{Bindings, atom_value}
 use Rattle.hp_syntax.specs.Goals.{Goal, match_goal}
-use Rattle.hp_syntax.specs.Events.{Event, Sat, Fault, is_bound, tail_is_bound, all_bound, parts_bound, sat_if, concluded, concluded_value}
+use Rattle.hp_syntax.specs.Events.{Event, Fault, is_bound, tail_is_bound, all_bound, parts_bound, sat_if, concluded, concluded_value}
 use Rattle.hp_syntax.specs.Views.{pattern_of, patterns_of}
 use Rattle.hp_syntax.specs.ViewLaws.{pattern_of-var, pattern_of-sym, pattern_of-num, pattern_of-list, pattern_of-call}
 use Rattle.hp_eval.specs.declared.event.EvalStop.{EvalStop}
@@ -20,7 +20,7 @@ use Rattle.hp_eval.specs.declared.event.EvalStop.TheVariants as stops
 use Rattle.hp_eval.specs.Concluding.{head_bound, Concluded}
 use Rattle.hp_eval.specs.Growth.{Gives}
 use Rattle.hp_eval.specs.GoalViews.{term_at}
-use Rattle.hp_eval.specs.Slotted.{Slotted, Matched, bindings_of}
+use Rattle.hp_eval.specs.Slotted.{Slotted, Matched}
 use Rattle.hp_eval.proofs.CellViews.{at_named}
 use Rattle.hp_eval.proofs.Loops.{left_more}
 

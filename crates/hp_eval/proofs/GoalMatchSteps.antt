@@ -10,7 +10,7 @@ use Rattle.hp_syntax.specs.Terms.{Term, Terms, Symbol, Number, Listed, NoTerm, M
 use Rattle.hp_syntax.specs.Values.{Bindings}
 use Rattle.hp_syntax.specs.Matching.{meet}
 use Rattle.hp_syntax.specs.Goals as plain
-use Rattle.hp_syntax.specs.Goals.{Fillings, match_free_tail, match_filled, match_fillings, match_goal}
+use Rattle.hp_syntax.specs.Goals.{match_free_tail, match_filled, match_fillings, match_goal}
 use Rattle.hp_eval.specs.declared.goals.Filled.{Filled}
 use Rattle.hp_eval.specs.declared.goals.Filled.TheVariants as filled
 use Rattle.hp_eval.specs.GoalViews.{term_at, filled_of, fillings_of, is_below}

@@ -11,7 +11,7 @@ use Rattle.hp_syntax.specs.declared.pattern.Tail.{Tail}
 use Rattle.hp_syntax.specs.declared.pattern.Pat.{Pat}
 use Rattle.hp_syntax.specs.declared.pattern.PatKind.TheVariants as pats
 use Rattle.hp_syntax.specs.ViewLaws.{pattern_of-sym, pattern_of-num, pattern_of-call}
-use Rattle.hp_syntax.specs.Syntax.{Pattern, Patterns, Variable, Listing, Call, NoPattern, Before, Atom}
+use Rattle.hp_syntax.specs.Syntax.{Pattern, Patterns, Variable, Listing, Call, NoPattern}
 use Rattle.hp_syntax.specs.Syntax as syntax
 use Rattle.hp_syntax.specs.Terms.{Term, Terms, NoTerm, More}
 use Rattle.hp_syntax.specs.Values.{Bindings}

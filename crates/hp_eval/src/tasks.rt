@@ -1,5 +1,5 @@
 //! Trees of tasks.
-ghost use Rattle.std.specs.Prelude.{◌≡◌, IfOk, length};
+ghost use Rattle.std.specs.Prelude.{IfOk, length};
 ghost use Rattle.hp_syntax.specs.Networks as plain;
 ghost use Rattle.hp_syntax.specs.Views.{tasks_of, task_list_of};
 ghost use Rattle.hp_eval.specs.GoalViews.{network_of, networks_of, TreeBelow, TreesBelow};

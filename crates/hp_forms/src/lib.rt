@@ -5,7 +5,7 @@
 //! parts of a list there are loops.
 #![tactic(auto)]
 
-ghost use Rattle.std.specs.Prelude.{◌≡◌, IfOk};
+ghost use Rattle.std.specs.Prelude.{IfOk};
 ghost use Rattle.hp_syntax.specs.Grammar as grammar;
 ghost use Rattle.hp_syntax.specs.Numbered.{IsNumberedDomain, IsNumberedProblem};
 ghost use Rattle.hp_syntax.specs.Views.{domain_of, problem_of};

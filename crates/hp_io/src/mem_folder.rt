@@ -1,4 +1,4 @@
-ghost use Rattle.std.specs.Prelude.{◌≡◌, ◌≢◌, ◌≤◌, ◌<◌, ◌+◌, ℕ, true, false, List, Option, None, Some, IsOk, IsSome, IfSome, IfNone, IfOk, IfErr, OnOk, OnErr, IsErr, ◌⊎◌, ◌↔◌, length, min, take, slice_get};
+ghost use Rattle.std.specs.Prelude.{◌≡◌, ◌≢◌, ◌≤◌, ◌<◌, ◌+◌, ℕ, true, false, List, Option, None, Some, IsSome, IfSome, IfNone, IfOk, IfErr, OnOk, OnErr, IsErr, ◌⊎◌, ◌↔◌, length, min, take, slice_get};
 ghost use Rattle.std.specs.Bool.{OnTrue, OnFalse};
 ghost use Rattle.hp_io.specs.declared.folder.Input.{Input};
 ghost use Rattle.hp_io.specs.Files.{contents, rest_of, is_begun, SameInput, input_of, faults_of, next_call, fails_at, next_fails, file_of, bytes_at, IsFirst};

@@ -12,7 +12,7 @@ use Rattle.hp_syntax.specs.Forest.{Node, Word, Numeral, Group, Forest, Bare, Gro
 use Rattle.hp_syntax.specs.GroundPatterns.{term_said, terms_said}
 use Rattle.hp_syntax.specs.Names.{is_variable, is_plain}
 use Rattle.hp_syntax.specs.Steps.{closing, ended, is_word, names_so_far, next, numbered}
-use Rattle.hp_syntax.specs.Grammar.{InProblem, name, list, is_nil, tail_at, word_term, word_tail, term, list_term, items, dotted, tail, list_tail, make_atom, named_atom, headed, atom, atoms, task, immediate, tasks, list_tasks, task_list, no_more_pairs, pair, problem_list, file_list, file, end_of_file, problem_form}
+use Rattle.hp_syntax.specs.Grammar as grammar
 use Rattle.hp_syntax.specs.Syntax.{Patterns, Variable, Task, Ordered, Unordered, NoTasks, Then, Problem}
 use Rattle.hp_syntax.specs.TextForms.{IsRead}
 use Rattle.hp_syntax.proofs.LimitLemmas.{forest_keeps_limits}
@@ -24,36 +24,39 @@ abbrev PlainParts : ℕ → Patterns × Option Tail → Type 0
 PlainParts most x = ArePlain most x.0
 
 -- a word is read as a plain term, which nests at most once
-word_is_plain : (most : ℕ) (s : Span) (text : List ℕ) → 0 < most → Gives (IsPlain most) (word_term s text)
-unfolding word_term term_said terms_said
+word_is_plain : (most : ℕ) (s : Span) (text : List ℕ) → 0 < most → Gives (IsPlain most) (grammar.word_term s text)
+unfolding grammar.word_term term_said terms_said
 word_is_plain most s text l =
     gives_choice (bytes_eq text (codes ".")) (gives_refusal _)
-    (gives_choice (is_nil text) (gives_pure (record { call_free = tt; shallow = omega arith }))
+    (gives_choice (grammar.is_nil text) (gives_pure (record { call_free = tt; shallow = omega arith }))
     (gives_choice (is_variable text)
     (gives_made (Variable s) (gives_any (numbered text)) (λ v h. record { call_free = tt; shallow = omega arith }))
     (gives_pure (record { call_free = tt; shallow = omega arith }))))
 
 -- a word as a tail has no parts
-word_tail_is_plain : (most : ℕ) (s : Span) (text : List ℕ) → Gives (PlainParts most) (word_tail s text)
-unfolding word_tail terms_said
+word_tail_is_plain : (most : ℕ) (s : Span) (text : List ℕ) → Gives (PlainParts most) (grammar.word_tail s text)
+unfolding grammar.word_tail terms_said
 word_tail_is_plain most s text =
-    gives_choice (is_nil text) (gives_pure (record { call_free = tt; shallow = omega arith }))
+    gives_choice (grammar.is_nil text) (gives_pure (record { call_free = tt; shallow = omega arith }))
     (gives_choice (is_variable text)
-    (gives_made (tail_at s) (gives_any (numbered text)) (λ v h. record { call_free = tt; shallow = omega arith }))
+    (gives_made (grammar.tail_at s) (gives_any (numbered text)) (λ v h.
+    record { call_free = tt; shallow = omega arith }))
     (gives_refusal _))
 
 mutual
-  unfolding term list_term items dotted tail list_tail term_said terms_said
+  unfolding grammar.term grammar.list_term grammar.items grammar.dotted grammar.tail grammar.list_tail term_said
+      terms_said
 
   -- a node is read as a plain term, which nests one deeper at most
-  term_is_plain : (most : ℕ) (n : Node) → nesting_of_node n < most → Gives (IsPlain most) (term InProblem n)
+  term_is_plain : (most : ℕ) (n : Node) → nesting_of_node n < most
+      → Gives (IsPlain most) (grammar.term grammar.InProblem n)
   term_is_plain most (Word s text) l = word_is_plain most s text (omega arith)
   term_is_plain most (Numeral s n) l = gives_pure (record { call_free = tt; shallow = omega arith })
   term_is_plain most (Group s parts) l = list_is_plain most s parts (omega arith)
 
   -- a list of nodes is read as a plain term, which nests two deeper at most than its nodes
   list_is_plain : (most : ℕ) (s : Span) (f : Forest) → nesting f + 1 < most
-      → Gives (IsPlain most) (list_term InProblem s f)
+      → Gives (IsPlain most) (grammar.list_term grammar.InProblem s f)
   list_is_plain most s Bare l = gives_pure (record { call_free = tt; shallow = omega arith })
   list_is_plain most s (Grow n rest) l =
       gives_choice (is_word (codes "call") n) (gives_refusal _)
@@ -63,7 +66,7 @@ mutual
 
   -- a forest is read as plain terms, which nest one deeper at most
   items_are_plain : (most : ℕ) (end : Span) (f : Forest) → nesting f < most
-      → Gives (PlainParts most) (items InProblem end f)
+      → Gives (PlainParts most) (grammar.items grammar.InProblem end f)
   items_are_plain most end Bare l = gives_pure (record { call_free = tt; shallow = omega arith })
   items_are_plain most end (Grow n rest) l =
       gives_choice (is_word (codes ".") n) (dotted_is_plain most end rest (omega arith))
@@ -73,20 +76,21 @@ mutual
 
   -- the tail behind a dot is read as plain terms
   dotted_is_plain : (most : ℕ) (end : Span) (f : Forest) → nesting f < most
-      → Gives (PlainParts most) (dotted InProblem end f)
+      → Gives (PlainParts most) (grammar.dotted grammar.InProblem end f)
   dotted_is_plain most end Bare l = gives_refusal _
   dotted_is_plain most end (Grow n rest) l =
       gives_chain (tail_is_plain most n (omega arith)) (λ behind h. gives_then (ended rest) (λ x. gives_pure h))
 
   -- a tail is read as plain terms
-  tail_is_plain : (most : ℕ) (n : Node) → nesting_of_node n < most → Gives (PlainParts most) (tail InProblem n)
+  tail_is_plain : (most : ℕ) (n : Node) → nesting_of_node n < most
+      → Gives (PlainParts most) (grammar.tail grammar.InProblem n)
   tail_is_plain most (Word s text) l = word_tail_is_plain most s text
   tail_is_plain most (Numeral s n) l = gives_refusal _
   tail_is_plain most (Group s parts) l = list_tail_is_plain most s parts (omega arith)
 
   -- a list as a tail is read as plain terms
   list_tail_is_plain : (most : ℕ) (s : Span) (f : Forest) → nesting f < most
-      → Gives (PlainParts most) (list_tail InProblem s f)
+      → Gives (PlainParts most) (grammar.list_tail grammar.InProblem s f)
   list_tail_is_plain most s Bare l = gives_pure (record { call_free = tt; shallow = omega arith })
   list_tail_is_plain most s (Grow n rest) l =
       gives_choice (is_word (codes "call") n) (gives_refusal _)
@@ -99,15 +103,15 @@ module _ (most : ℕ) where
 
   -- an atom is plain that is read by its name
   named_is_plain : (s : Span) (text : List ℕ) (f : Forest) → nesting f + 1 < most
-      → Gives (IsPlainAtom most) (named_atom InProblem s text f)
-  unfolding named_atom
+      → Gives (IsPlainAtom most) (grammar.named_atom grammar.InProblem s text f)
+  unfolding grammar.named_atom
   named_is_plain s text f l =
-      gives_made (make_atom s text) (items_are_plain (most - 1) (closing s) f (omega arith))
+      gives_made (grammar.make_atom s text) (items_are_plain (most - 1) (closing s) f (omega arith))
       (λ x h. record { call_free = h.call_free; shallow = omega arith })
 
   -- a node is read as a plain atom
-  atom_is_plain : (n : Node) → nesting_of_node n < most → Gives (IsPlainAtom most) (atom InProblem n)
-  unfolding headed
+  atom_is_plain : (n : Node) → nesting_of_node n < most → Gives (IsPlainAtom most) (grammar.atom grammar.InProblem n)
+  unfolding grammar.headed
   atom_is_plain n l =
       gives_begun n
       (λ text rest m. gives_choice (is_plain text) (named_is_plain (span_of n) text rest (omega arith))
@@ -116,15 +120,16 @@ module _ (most : ℕ) where
 
   -- the items of a list nest less deep than the list
   items_within : (what : What) (n : Node) → nesting_of_node n < most
-      → Gives (λ f. nesting f < most) (list what n)
-  unfolding list
-  items_within what (Word s text) l = gives_choice (is_nil text) (gives_pure (omega arith)) (gives_refusal _)
+      → Gives (λ f. nesting f < most) (grammar.list what n)
+  unfolding grammar.list
+  items_within what (Word s text) l = gives_choice (grammar.is_nil text) (gives_pure (omega arith)) (gives_refusal _)
   items_within what (Numeral s n) l = gives_refusal _
   items_within what (Group s parts) l = gives_pure (omega arith)
 
   -- a node is read as plain atoms
-  atoms_are_plain : (n : Node) → nesting_of_node n < most → Gives (All (IsPlainAtom most)) (atoms InProblem n)
-  unfolding atoms
+  atoms_are_plain : (n : Node) → nesting_of_node n < most → Gives (All (IsPlainAtom most))
+      (grammar.atoms grammar.InProblem n)
+  unfolding grammar.atoms
   atoms_are_plain n l =
       gives_chain (items_within wants.Atoms n l) (λ f m.
       gives_each (IsPlainAtom most) (most - 1) f (omega arith) (λ x k. atom_is_plain x (omega arith)))
@@ -133,13 +138,13 @@ module _ (most : ℕ) where
 
   -- a task is plain that is read by its name
   task_is_plain : (s : Span) (b : Bool) (text : List ℕ) (f : Forest) → nesting f + 1 < most
-      → Gives (ArePlainTasks most) (task InProblem s b text f)
+      → Gives (ArePlainTasks most) (grammar.task grammar.InProblem s b text f)
   task_is_plain s b text f l = gives_made (λ a. Task a b) (named_is_plain s text f l) (λ a h. h)
 
   -- an immediate task is plain
   immediate_is_plain : (s : Span) (f : Forest) → nesting f + 1 < most
-      → Gives (ArePlainTasks most) (immediate InProblem s f)
-  unfolding immediate
+      → Gives (ArePlainTasks most) (grammar.immediate grammar.InProblem s f)
+  unfolding grammar.immediate
   immediate_is_plain s Bare l = gives_refusal _
   immediate_is_plain s (Grow (Word t text) rest) l =
       gives_choice (is_plain text) (task_is_plain s true text rest (omega arith)) (gives_refusal _)
@@ -147,20 +152,21 @@ module _ (most : ℕ) where
   immediate_is_plain s (Grow (Group t parts) rest) l = gives_refusal _
 
   mutual
-    unfolding tasks list_tasks task_list
+    unfolding grammar.tasks grammar.list_tasks grammar.task_list
 
     -- a node is read as plain tasks
-    tasks_are_plain : (n : Node) → nesting_of_node n < most → Gives (ArePlainTasks most) (tasks InProblem n)
-    tasks_are_plain (Word s text) l = gives_choice (is_nil text) (gives_pure tt) (gives_refusal _)
+    tasks_are_plain : (n : Node) → nesting_of_node n < most → Gives (ArePlainTasks most)
+        (grammar.tasks grammar.InProblem n)
+    tasks_are_plain (Word s text) l = gives_choice (grammar.is_nil text) (gives_pure tt) (gives_refusal _)
     tasks_are_plain (Numeral s n) l = gives_refusal _
     tasks_are_plain (Group s parts) l = list_tasks_are_plain s parts (omega arith)
 
     -- a list is read as plain tasks
     list_tasks_are_plain : (s : Span) (f : Forest) → nesting f + 1 < most
-        → Gives (ArePlainTasks most) (list_tasks InProblem s f)
+        → Gives (ArePlainTasks most) (grammar.list_tasks grammar.InProblem s f)
     list_tasks_are_plain s Bare l = gives_pure tt
     list_tasks_are_plain s (Grow (Word t key) rest) l =
-        gives_choice (is_nil key)
+        gives_choice (grammar.is_nil key)
         (gives_made (λ ts. Ordered (Then (Ordered NoTasks) ts)) (task_list_is_plain rest (omega arith))
         (λ ts h. (tt, h)))
         (gives_choice (bytes_eq key (codes ":ordered"))
@@ -175,7 +181,8 @@ module _ (most : ℕ) where
         gives_chain (task_list_is_plain rest (omega arith)) (λ others k. gives_pure (h, k)))
 
     -- a forest is read as plain tasks
-    task_list_is_plain : (f : Forest) → nesting f < most → Gives (IsPlainTaskList most) (task_list InProblem f)
+    task_list_is_plain : (f : Forest) → nesting f < most → Gives (IsPlainTaskList most)
+        (grammar.task_list grammar.InProblem f)
     task_list_is_plain Bare l = gives_pure tt
     task_list_is_plain (Grow n rest) l =
         gives_chain (tasks_are_plain n (omega arith)) (λ first h.
@@ -184,8 +191,8 @@ module _ (most : ℕ) where
   -- ---- problems
 
   -- the pair of a problem is plain
-  pair_is_plain : (end : Span) (f : Forest) → nesting f < most → Gives (IsPlainPair most) (pair end f)
-  unfolding pair
+  pair_is_plain : (end : Span) (f : Forest) → nesting f < most → Gives (IsPlainPair most) (grammar.pair end f)
+  unfolding grammar.pair
   pair_is_plain end f l =
       gives_chain (gives_next {most = most - 1} wants.Atoms end f (omega arith)) (λ x h.
       let a = h.first in
@@ -194,18 +201,18 @@ module _ (most : ℕ) where
       gives_chain (gives_next {most = most - 1} wants.Tasks end x.1 b) (λ y k.
       let c = k.first in
       gives_chain (tasks_are_plain y.0 (omega arith)) (λ ts t.
-      gives_then (no_more_pairs y.1) (λ z. gives_pure (record { state = s; tasks = t }))))))
+      gives_then (grammar.no_more_pairs y.1) (λ z. gives_pure (record { state = s; tasks = t }))))))
 
   -- the pairs of a problem are plain
   problem_is_plain : (s : Span) (f : Forest) → nesting f < most
-      → Gives (λ (p : Problem). All (IsPlainPair most) p.pairs) (problem_list s f)
-  unfolding problem_list
+      → Gives (λ (p : Problem). All (IsPlainPair most) p.pairs) (grammar.problem_list s f)
+  unfolding grammar.problem_list
   problem_is_plain s f l =
       gives_chain (gives_next {most = most - 1} wants.Name (closing s) f (omega arith)) (λ x h.
-      gives_then (name x.0) (λ text.
+      gives_then (grammar.name x.0) (λ text.
       gives_chain (gives_next {most = most - 1} wants.Name (closing s) x.1 h.rest) (λ y k.
       let b = k.rest in
-      gives_then (name y.0) (λ domain.
+      gives_then (grammar.name y.0) (λ domain.
       gives_chain (pair_is_plain (closing s) y.1 (omega arith)) (λ only q.
       gives_then names_so_far (λ vars.
       gives_pure (All-cons (IsPlainPair most) only [] q (All-nil (IsPlainPair most)))))))))
@@ -213,8 +220,8 @@ module _ (most : ℕ) where
   -- the pairs are plain of the problem that a node is read as
   node_is_plain : (n : Node) → nesting_of_node n ≤ most
       → Gives (λ (p : Problem). All (IsPlainPair most) p.pairs)
-      (file_list wants.Problem (codes "defproblem") problem_list n)
-  unfolding file_list
+      (grammar.file_list wants.Problem (codes "defproblem") grammar.problem_list n)
+  unfolding grammar.file_list
   node_is_plain n l =
       gives_begun n
       (λ text rest m. gives_choice (bytes_eq text (codes "defproblem"))
@@ -224,22 +231,22 @@ module _ (most : ℕ) where
   -- the pairs of the problem in a file are plain
   file_is_plain : (len : ℕ) (f : Forest) → nesting f ≤ most
       → Gives (λ (p : Problem). All (IsPlainPair most) p.pairs)
-      (file wants.Problem (file_list wants.Problem (codes "defproblem") problem_list) len f)
-  unfolding file
+      (grammar.file wants.Problem (grammar.file_list wants.Problem (codes "defproblem") grammar.problem_list) len f)
+  unfolding grammar.file
   file_is_plain len f l =
-      gives_chain (gives_next {most = most} wants.Problem (end_of_file len) f l) (λ x h.
+      gives_chain (gives_next {most = most} wants.Problem (grammar.end_of_file len) f l) (λ x h.
       gives_chain (node_is_plain x.0 h.first) (λ p q. gives_then (ended x.1) (λ y. gives_pure q)))
 
 -- the pairs of the problem that a forest is the form of are plain, and nest no deeper than the forest
-problem_form_is_plain : (most len : ℕ) (f : Forest) (p : Problem) → nesting f ≤ most → problem_form len f ≡ Ok p
+problem_form_is_plain : (most len : ℕ) (f : Forest) (p : Problem) → nesting f ≤ most → grammar.problem_form len f ≡ Ok p
     → All (IsPlainPair most) p.pairs
 problem_form_is_plain most len f p l e =
     given_value (λ (q : Problem). All (IsPlainPair most) q.pairs)
-    (file wants.Problem (file_list wants.Problem (codes "defproblem") problem_list) len f) p
+    (grammar.file wants.Problem (grammar.file_list wants.Problem (codes "defproblem") grammar.problem_list) len f) p
     (file_is_plain most len f l) e
 
 -- the pairs of the problem that a text is read as are plain, since a text's brackets nest no deeper than a term may
-pub read_problem_is_plain : (text : List ℕ) (p : Problem) → IsRead problem_form text p
+pub read_problem_is_plain : (text : List ℕ) (p : Problem) → IsRead grammar.problem_form text p
     → All (IsPlainPair DEEPEST_TERM) p.pairs
 read_problem_is_plain text p h =
     problem_form_is_plain DEEPEST_TERM _ h.forest p (forest_keeps_limits text h.forest h.spelled).2 h.form_is
@@ -250,18 +257,19 @@ read_problem_is_plain text p h =
 abbrev HasOnePair : Problem → Type 0
 HasOnePair p = length p.pairs ≡ 1
 
-list_has_one_pair : (s : Span) (f : Forest) → Gives HasOnePair (problem_list s f)
-unfolding problem_list
+list_has_one_pair : (s : Span) (f : Forest) → Gives HasOnePair (grammar.problem_list s f)
+unfolding grammar.problem_list
 list_has_one_pair s f =
     gives_then (next wants.Name (closing s) f) (λ x.
-    gives_then (name x.0) (λ text.
+    gives_then (grammar.name x.0) (λ text.
     gives_then (next wants.Name (closing s) x.1) (λ y.
-    gives_then (name y.0) (λ domain.
-    gives_then (pair (closing s) y.1) (λ only.
+    gives_then (grammar.name y.0) (λ domain.
+    gives_then (grammar.pair (closing s) y.1) (λ only.
     gives_then names_so_far (λ vars. gives_pure refl))))))
 
-node_has_one_pair : (n : Node) → Gives HasOnePair (file_list wants.Problem (codes "defproblem") problem_list n)
-unfolding file_list
+node_has_one_pair : (n : Node) → Gives HasOnePair (grammar.file_list wants.Problem
+    (codes "defproblem") grammar.problem_list n)
+unfolding grammar.file_list
 node_has_one_pair n =
     gives_begun n
     (λ text rest m. gives_choice (bytes_eq text (codes "defproblem")) (list_has_one_pair (span_of n) rest)
@@ -269,14 +277,16 @@ node_has_one_pair n =
     (gives_refusal _)
 
 file_has_one_pair : (len : ℕ) (f : Forest)
-    → Gives HasOnePair (file wants.Problem (file_list wants.Problem (codes "defproblem") problem_list) len f)
-unfolding file
+    → Gives HasOnePair (grammar.file wants.Problem (grammar.file_list wants.Problem
+    (codes "defproblem") grammar.problem_list) len f)
+unfolding grammar.file
 file_has_one_pair len f =
-    gives_then (next wants.Problem (end_of_file len) f) (λ x.
+    gives_then (next wants.Problem (grammar.end_of_file len) f) (λ x.
     gives_chain (node_has_one_pair x.0) (λ p q. gives_then (ended x.1) (λ y. gives_pure q)))
 
 -- the problem that a text is read as has one pair
-pub read_problem_has_one_pair : (text : List ℕ) (p : Problem) → IsRead problem_form text p → length p.pairs ≡ 1
+pub read_problem_has_one_pair : (text : List ℕ) (p : Problem) → IsRead grammar.problem_form text p → length p.pairs ≡ 1
 read_problem_has_one_pair text p h =
-    given_value HasOnePair (file wants.Problem (file_list wants.Problem (codes "defproblem") problem_list) _ h.forest) p
+    given_value HasOnePair (grammar.file wants.Problem (grammar.file_list wants.Problem
+    (codes "defproblem") grammar.problem_list) _ h.forest) p
     (file_has_one_pair _ h.forest) h.form_is

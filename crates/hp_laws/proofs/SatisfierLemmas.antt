@@ -12,7 +12,7 @@ use Rattle.hp_syntax.specs.Syntax.{Atom, Expression, Expressions, Holds, And, No
 use Rattle.hp_syntax.specs.Terms.{Term, Terms, More, Symbol}
 use Rattle.hp_syntax.specs.Values.{Bindings, list_of}
 use Rattle.hp_syntax.specs.Goals.{Goal, Filling, ground_parts, goal_of, fill_parts, fill_goal, match_goal}
-use Rattle.hp_syntax.specs.Events.{Event, Sat, Fault, State, Below, in_place, through, sat_if, state_events, axiom_events, goal_events, filled_events, atom_events, events, events_of_all, sat}
+use Rattle.hp_syntax.specs.Events as events
 use Rattle.hp_laws.specs.SatisfierLaws.{Matches, NoAtom, AtPlace, NamesNoneOf, AreAtoms, IsSat}
 use Rattle.hp_laws.specs.TreeLaws.{IsBefore}
 use Rattle.hp_laws.proofs.ResultLemmas.{on_ok_ok}
@@ -40,17 +40,17 @@ from_place f q e i [] = []
 from_place f q e i (g ∷ gs) = then_below f i (match_goal q g e) ++ from_place f q e (suc i) gs
 
 -- an atom that can't be filled is matched nowhere
-abbrev pub for_goal : (Bindings → List Selection) → State → Bindings → Result Goal RunFault → List Selection
+abbrev pub for_goal : (Bindings → List Selection) → events.State → Bindings → Result Goal RunFault → List Selection
 for_goal f s e (Err x) = []
 for_goal f s e (Ok q) = from_place f q e 0 s
 
 -- a term that is no atom is matched nowhere
-abbrev pub for_first : (Bindings → List Selection) → State → Bindings → Expression → List Selection
+abbrev pub for_first : (Bindings → List Selection) → events.State → Bindings → Expression → List Selection
 for_first f s e (Holds span a) = for_goal f s e (fill_goal a e)
 for_first f s e _ = []
 
 -- all places at which the atoms of a conjunction match, one after another
-abbrev pub selections : State → Expressions → Bindings → List Selection
+abbrev pub selections : events.State → Expressions → Bindings → List Selection
 selections s NoExpression e = ([], e) ∷ []
 selections s (Also p ps) e = for_first (selections s ps) s e p
 
@@ -114,13 +114,13 @@ from_in_order f h q e i (g ∷ gs) =
     (from_starts f q e (suc i) (suc i) (omega arith) gs))
 
 -- the selections for a goal are in order
-goal_in_order : (f : Bindings → List Selection) → ((b : Bindings) → AllPairs IsInOrder (f b)) → (s : State)
+goal_in_order : (f : Bindings → List Selection) → ((b : Bindings) → AllPairs IsInOrder (f b)) → (s : events.State)
     (e : Bindings) (r : Result Goal RunFault) → AllPairs IsInOrder (for_goal f s e r)
 goal_in_order f h s e (Err x) = λ k j d l m. absurd (omega arith)
 goal_in_order f h s e (Ok q) = from_in_order f h q e 0 s
 
 -- the selections of a conjunction are in order
-pub selections_in_order : (s : State) (ps : Expressions) (e : Bindings) → AllPairs IsInOrder (selections s ps e)
+pub selections_in_order : (s : events.State) (ps : Expressions) (e : Bindings) → AllPairs IsInOrder (selections s ps e)
 selections_in_order s NoExpression e = one_pair IsInOrder ([], e)
 selections_in_order s (Also (Holds span a) ps) e =
     goal_in_order (selections s ps) (selections_in_order s ps) s e (fill_goal a e)
@@ -129,14 +129,14 @@ selections_in_order s (Also _ ps) e = λ k j d l m. absurd (omega arith)
 -- ---- selections are the places at which the atoms match
 
 -- a state from a place on
-abbrev IsRestFrom : State → ℕ → List Term → Type 0
+abbrev IsRestFrom : events.State → ℕ → List Term → Type 0
 IsRestFrom s i gs = (j : ℕ) → slice_get s (i + j) ≡ slice_get gs j
 
 -- the atoms match at the places of a selection
-abbrev IsMatch : State → Expressions → Bindings → Selection → Type 0
+abbrev IsMatch : events.State → Expressions → Bindings → Selection → Type 0
 IsMatch s ps e x = Matches s ps e x.0 x.1
 
-module _ (s : State) (ps : Expressions) (f : Bindings → List Selection)
+module _ (s : events.State) (ps : Expressions) (f : Bindings → List Selection)
     (h : (b : Bindings) → All (IsMatch s ps b) (f b))
     (span : Span) (a : Atom) (e : Bindings) where
   -- they match behind a place at which the first one matches
@@ -165,7 +165,7 @@ module _ (s : State) (ps : Expressions) (f : Bindings → List Selection)
   goal_match (Ok q) k = from_match q k 0 s (λ j. ap (slice_get s) (omega arith))
 
 -- they match at the places of each selection
-selections_match : (s : State) (ps : Expressions) (e : Bindings) → All (IsMatch s ps e) (selections s ps e)
+selections_match : (s : events.State) (ps : Expressions) (e : Bindings) → All (IsMatch s ps e) (selections s ps e)
 selections_match s NoExpression e = all_one (IsMatch s NoExpression e) ([], e) (NoAtom e)
 selections_match s (Also (Holds span a) ps) e =
     goal_match s ps (selections s ps) (selections_match s ps) span a e (fill_goal a e) refl
@@ -188,7 +188,7 @@ from_contains f q e b g x m c k (suc i) (h ∷ gs) l =
     (from_contains f q e b g x m c (suc k) i gs l))
 
 -- all places at which the atoms match are selected
-matches_contained : (s : State) (ps : Expressions) (e c : Bindings) (places : List ℕ) → Matches s ps e places c
+matches_contained : (s : events.State) (ps : Expressions) (e c : Bindings) (places : List ℕ) → Matches s ps e places c
     → Contains (selections s ps e) (places, c)
 matches_contained s ps e c places (NoAtom d) = contains_first ([], d) []
 matches_contained s ps e c places (AtPlace span a rest d b z q g i below k l m t) =
@@ -197,7 +197,7 @@ matches_contained s ps e c places (AtPlace span a rest d b z q g i below k l m t
     (from_contains (selections s rest) q e b g (below, c) m (matches_contained s rest b c below t) 0 i s l))
 
 -- the places at which the atoms match are those that are selected
-pub selections_are_matches : (s : State) (ps : Expressions) (e : Bindings) (places : List ℕ) (b : Bindings)
+pub selections_are_matches : (s : events.State) (ps : Expressions) (e : Bindings) (places : List ℕ) (b : Bindings)
     → Contains (selections s ps e) (places, b) ↔ Matches s ps e places b
 selections_are_matches s ps e places b = (
   λ c. All-contains (IsMatch s ps e) (selections s ps e) (places, b) (selections_match s ps e) c,
@@ -221,26 +221,26 @@ filled_name a e q k =
     goal_named a w.0 (ground_parts w.0.0 w.0.1) q w.2
 
 -- the events where an atom has matched, and none where it hasn't
-abbrev when_matched : (Bindings → List Event) → Option Bindings → List Event
+abbrev when_matched : (Bindings → List events.Event) → Option Bindings → List events.Event
 when_matched k None = []
 when_matched k (Some b) = k b
 
 -- the events in the place of an atom's satisfier are those where it has matched
-in_place_if : (k : Bindings → List Event) (o : Option Bindings)
-    → flat_map (in_place k) (sat_if o) ≡ when_matched k o
+in_place_if : (k : Bindings → List events.Event) (o : Option Bindings)
+    → flat_map (events.in_place k) (events.sat_if o) ≡ when_matched k o
 in_place_if k None = refl
 in_place_if k (Some b) = append-nil (k b)
 
 -- the satisfier of a selection
-abbrev pub sat_of : Selection → Event
-sat_of x = Sat x.1
+abbrev pub sat_of : Selection → events.Event
+sat_of x = events.Sat x.1
 
 -- a place before others changes no satisfier
 sat_of-with_place : (i : ℕ) (xs : List Selection) → map sat_of (map (with_place i) xs) ≡ map sat_of xs
 sat_of-with_place i [] = refl
 sat_of-with_place i (x ∷ xs) = ap (λ ys. sat_of x ∷ ys) (sat_of-with_place i xs)
 
-module _ (k : Bindings → List Event) (f : Bindings → List Selection)
+module _ (k : Bindings → List events.Event) (f : Bindings → List Selection)
     (h : (b : Bindings) → All IsSat (k b) → map sat_of (f b) ≡ k b) where
   -- the satisfiers behind a place are those of the atoms after it
   below_sats : (i : ℕ) (o : Option Bindings) → All IsSat (when_matched k o)
@@ -260,9 +260,9 @@ module _ (k : Bindings → List Event) (f : Bindings → List Selection)
       ∙ ap₂ (λ xs ys. xs ++ ys) (below_sats i (match_goal q g e) (all_left IsSat here later a))
       (from_sats q e (suc i) gs (all_right IsSat here later a))
 
-module _ (s : State) (below : Below) where
+module _ (s : events.State) (below : events.Below) where
   -- an axiom whose head has another name adds nothing
-  other_axiom : (q : Goal) (e : Bindings) (x : Axiom) → x.head.name ≢ q.name → axiom_events below x q e ≡ []
+  other_axiom : (q : Goal) (e : Bindings) (x : Axiom) → x.head.name ≢ q.name → events.axiom_events below x q e ≡ []
   other_axiom q e x h =
       let d : bytes_eq x.head.name q.name ≡ false =
       false_from_ne_true (bytes_eq x.head.name q.name)
@@ -270,28 +270,28 @@ module _ (s : State) (below : Below) where
       rw d refl
 
   -- where all heads have other names, a goal is gone on with at each place of the state that it matches
-  goal_gone_on : (axioms : List Axiom) (q : Goal) (e : Bindings) (k : Bindings → List Event)
+  goal_gone_on : (axioms : List Axiom) (q : Goal) (e : Bindings) (k : Bindings → List events.Event)
       → All (λ x. x.head.name ≢ q.name) axioms
-      → through (goal_events axioms below s q e) k
+      → events.through (events.goal_events axioms below s q e) k
       ≡ flat_map (λ g. when_matched k (match_goal q g e)) s
   goal_gone_on axioms q e k h =
-      ap (λ xs. flat_map (in_place k) (state_events s q e ++ xs))
-      (join_none (λ x. axiom_events below x q e) axioms
-      (All-weaker (λ x. x.head.name ≢ q.name) (λ x. axiom_events below x q e ≡ []) (other_axiom q e) axioms h))
-      ∙ ap (flat_map (in_place k)) (append-nil (state_events s q e))
-      ∙ join_join (λ g. sat_if (match_goal q g e)) (in_place k) s
-      ∙ join_same (λ g. flat_map (in_place k) (sat_if (match_goal q g e)))
+      ap (λ xs. flat_map (events.in_place k) (events.state_events s q e ++ xs))
+      (join_none (λ x. events.axiom_events below x q e) axioms
+      (All-weaker (λ x. x.head.name ≢ q.name) (λ x. events.axiom_events below x q e ≡ []) (other_axiom q e) axioms h))
+      ∙ ap (flat_map (events.in_place k)) (append-nil (events.state_events s q e))
+      ∙ join_join (λ g. events.sat_if (match_goal q g e)) (events.in_place k) s
+      ∙ join_same (λ g. flat_map (events.in_place k) (events.sat_if (match_goal q g e)))
       (λ g. when_matched k (match_goal q g e)) s
       (all_from _ (λ g. in_place_if k (match_goal q g e)) s)
 
   module _ (axioms : List Axiom) (a : Atom) (names : All (λ x. x.head.name ≢ a.name) axioms)
-      (k : Bindings → List Event) (f : Bindings → List Selection)
+      (k : Bindings → List events.Event) (f : Bindings → List Selection)
       (h : (b : Bindings) → All IsSat (k b) → map sat_of (f b) ≡ k b) where
     -- the satisfiers for a goal are those of its selections
     goal_sats : (e : Bindings) (r : Result Goal RunFault) → fill_goal a e ≡ r
-        → All IsSat (through (filled_events axioms below s r e) k)
-        → map sat_of (for_goal f s e r) ≡ through (filled_events axioms below s r e) k
-    goal_sats e (Err x) l t = absurd (All-head IsSat (Fault x) [] t)
+        → All IsSat (events.through (events.filled_events axioms below s r e) k)
+        → map sat_of (for_goal f s e r) ≡ events.through (events.filled_events axioms below s r e) k
+    goal_sats e (Err x) l t = absurd (All-head IsSat (events.Fault x) [] t)
     goal_sats e (Ok q) l t =
         let g = goal_gone_on axioms q e k
         (subst (λ n. All (λ x. x.head.name ≢ n) axioms) (sym (filled_name a e q l)) names) in
@@ -299,23 +299,24 @@ module _ (s : State) (below : Below) where
 
   -- the satisfiers of a conjunction are those of its selections, whatever is met one axiom level down
   selections_sats : (axioms : List Axiom) (ps : Expressions) (e : Bindings) → AreAtoms ps
-      → All (λ x. NamesNoneOf x ps) axioms → All IsSat (events_of_all (atom_events axioms below s) ps e)
-      → map sat_of (selections s ps e) ≡ events_of_all (atom_events axioms below s) ps e
-  unfolding events
+      → All (λ x. NamesNoneOf x ps) axioms → All IsSat (events.events_of_all (events.atom_events axioms below s) ps e)
+      → map sat_of (selections s ps e) ≡ events.events_of_all (events.atom_events axioms below s) ps e
+  unfolding events.events
   selections_sats axioms NoExpression e h n t = refl
   selections_sats axioms (Also (Holds span a) ps) e h n t =
       goal_sats axioms a (All-weaker (λ x. NamesNoneOf x (Also (Holds span a) ps)) (λ x. x.head.name ≢ a.name)
       (λ x m. m.0) axioms n)
-      (events_of_all (atom_events axioms below s) ps) (selections s ps)
+      (events.events_of_all (events.atom_events axioms below s) ps) (selections s ps)
       (λ b u. selections_sats axioms ps b h.1
       (All-weaker (λ x. NamesNoneOf x (Also (Holds span a) ps)) (λ x. NamesNoneOf x ps) (λ x m. m.1) axioms n) u)
       e (fill_goal a e) refl t
   selections_sats axioms (Also _ ps) e h n t = absurd h.0
 
 -- the satisfiers of a conjunction of atoms that no axiom concludes are those of its selections
-pub sats_of_selections : (axioms : List Axiom) (nest : ℕ) (s : State) (span : Span) (ps : Expressions) (e : Bindings)
-    → AreAtoms ps → All (λ x. NamesNoneOf x ps) axioms → All IsSat (sat axioms nest s (And span ps) e)
-    → map sat_of (selections s ps e) ≡ sat axioms nest s (And span ps) e
-unfolding sat events
+pub sats_of_selections : (axioms : List Axiom) (nest : ℕ) (s : events.State) (span : Span) (ps : Expressions)
+    (e : Bindings)
+    → AreAtoms ps → All (λ x. NamesNoneOf x ps) axioms → All IsSat (events.sat axioms nest s (And span ps) e)
+    → map sat_of (selections s ps e) ≡ events.sat axioms nest s (And span ps) e
+unfolding events.sat events.events
 sats_of_selections axioms zero s span ps e h n t = selections_sats s None axioms ps e h n t
-sats_of_selections axioms (suc m) s span ps e h n t = selections_sats s (Some (sat axioms m s)) axioms ps e h n t
+sats_of_selections axioms (suc m) s span ps e h n t = selections_sats s (Some (events.sat axioms m s)) axioms ps e h n t

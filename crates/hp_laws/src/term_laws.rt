@@ -2,7 +2,7 @@
 //!
 //! Each function does nothing, and its contract is the law.
 
-ghost use Rattle.std.specs.Prelude.{◌≡◌, ℕ, true, Some, Ok, Err};
+ghost use Rattle.std.specs.Prelude.{◌≡◌, true, Some, Ok, Err};
 ghost use Rattle.hp_syntax.specs.declared.fault.RunFault.{RunFault};
 ghost use Rattle.hp_syntax.specs.Goals.{Goal, fill_goal, ground_parts};
 ghost use Rattle.hp_syntax.specs.Events.{parts_bound, tail_is_bound};

@@ -10,7 +10,7 @@ use Rattle.std.proofs.lemmas.List.Elements.{All-append, All-drop, All-get_or, Al
 use Rattle.std.proofs.lemmas.List.Edits.{length-remove, remove-append_left}
 use Rattle.std.proofs.lemmas.Option.{get_or_from_slice_get, same_Some, slice_get-get_or, slice_get_within}
 use Rattle.hp_syntax.specs.Networks as plain
-use Rattle.hp_syntax.specs.Networks.{Network, Empty, Place, And, as_list, is_empty, normal, part_at, with_part, with_nth_part, finish, expand}
+use Rattle.hp_syntax.specs.Networks.{Network, Empty, Place, as_list, is_empty, normal, part_at, with_part, with_nth_part, finish, expand}
 use Rattle.hp_syntax.specs.Terms.{Term}
 use Rattle.hp_laws.proofs.NetworkLemmas.{IsInForm, AreInForm}
 use Rattle.hp_eval.specs.declared.tasks.TaskTree.{TaskTree}
@@ -23,7 +23,7 @@ use Rattle.hp_net.specs.FlatNetworks.{forest, listed, first_network, network_in,
 use Rattle.hp_net.specs.Pushed.{shown, kept, Adds}
 use Rattle.hp_net.proofs.FlatNetworkLemmas.{forest_in_form, taken_in_form, normal-with_part, with_part_below, normal_parts-without, removed_in_form, some_as_list, length-forest, full_behind}
 use Rattle.hp_net.proofs.PushedLemmas.{below_closed, below_removed, closed_behind, normal-listed}
-use Rattle.hp_net.proofs.EntryPathLemmas.{IsEntryPath, is_entry_path, behind_list-within, drop-from, entry_within, forest-replaced, full-replaced, length-put_at, part_of, part_of-entry_path, put, put_at, entry_path-below, entry_path-replaced, entry_path_from_place, entry_path_within, with_part-listed}
+use Rattle.hp_net.proofs.EntryPathLemmas as entry_path_lemmas
 
 -- ---- a task by itself, in no list
 
@@ -109,7 +109,7 @@ full-remove (Task cell immediate ∷ es) (suc i) k t h f =
 full-remove (Parts order n ∷ es) (suc i) k t h f =
     let p = behind_list_parts n (entry_path i es) k h in
     let e = ap length (forest-remove [] es i p.0 t p.3) in
-    let w = entry_path_within [] i es p.0 [] p.3 in
+    let w = entry_path_lemmas.entry_path_within [] i es p.0 [] p.3 in
     let l = length-remove (forest [] es) p.0 w in
     let m = p.1 in
     (f.0, omega arith, full-remove es i p.0 t p.3 f.2)
@@ -235,13 +235,13 @@ without_part-is es j i order n h =
 
 -- another network in the first one is the first one with it
 first-put : (p : Place) (x : Network) (ns : List Network) → 0 < length ns
-    → first_network (put 0 p x ns) ≡ with_part (first_network ns) p x
+    → first_network (entry_path_lemmas.put 0 p x ns) ≡ with_part (first_network ns) p x
 first-put p x [] l = absurd (omega arith)
 first-put p x (n ∷ ns) l = refl
 
 -- a part of the first network is one of the first of the networks
 first_part : (p : Place) (ns : List Network) → 0 < length ns
-    → part_of ns (Some (zero ∷ p)) ≡ part_at (first_network ns) p
+    → entry_path_lemmas.part_of ns (Some (zero ∷ p)) ≡ part_at (first_network ns) p
 unfolding part_at
 first_part p [] l = absurd (omega arith)
 first_part p (n ∷ ns) l = refl
@@ -256,16 +256,17 @@ pub part_at-place : (terms : List Term) (es : List Entry) (i : ℕ) (p : Place) 
     → part_at (network_in terms es) p ≡ Some (first_network (forest terms (drop i es)))
 unfolding network_in
 part_at-place terms es i p h =
-    sym (first_part p (forest terms es) (entry_path_within terms i es zero p h))
-    ∙ (ap (part_of (forest terms es)) (sym h) ∙ part_of-entry_path terms i es (entry_within i es (zero ∷ p) h))
+    sym (first_part p (forest terms es) (entry_path_lemmas.entry_path_within terms i es zero p h))
+    ∙ (ap (entry_path_lemmas.part_of (forest terms es)) (sym h) ∙ entry_path_lemmas.part_of-entry_path terms i es
+    (entry_path_lemmas.entry_within i es (zero ∷ p) h))
 
 -- at a task's place stands the task
 pub task_at-place : (terms : List Term) (es : List Entry) (i cell : ℕ) (immediate : Bool) (p : Place)
     → slice_get es i ≡ Some (Task cell immediate) → place_of es i ≡ Some p
     → part_at (network_in terms es) p ≡ Some (plain.Task (term_at terms cell) immediate)
 task_at-place terms es i cell immediate p is h =
-    part_at-place terms es i p (entry_path_from_place es i p h)
-    ∙ ap (λ xs. Some (first_network (forest terms xs))) (drop-from es i (Task cell immediate) is)
+    part_at-place terms es i p (entry_path_lemmas.entry_path_from_place es i p h)
+    ∙ ap (λ xs. Some (first_network (forest terms xs))) (entry_path_lemmas.drop-from es i (Task cell immediate) is)
 
 -- a task's cell is below what all cells are below
 pub cell_below : (k : ℕ) (es : List Entry) (i cell : ℕ) (immediate : Bool)
@@ -282,12 +283,12 @@ pub network-replaced : (terms : List Term) (es tail : List Entry) (i : ℕ) (p :
 unfolding network_in
 network-replaced terms es tail i p x h e =
     ap first_network
-    (forest-replaced terms i es tail x (entry_within i es (zero ∷ p) h) e
-    ∙ ap (λ s. put_at s x (forest terms es)) h)
-    ∙ first-put p x (forest terms es) (entry_path_within terms i es zero p h)
+    (entry_path_lemmas.forest-replaced terms i es tail x (entry_path_lemmas.entry_within i es (zero ∷ p) h) e
+    ∙ ap (λ s. entry_path_lemmas.put_at s x (forest terms es)) h)
+    ∙ first-put p x (forest terms es) (entry_path_lemmas.entry_path_within terms i es zero p h)
 
 -- a longer path without its last number is in the same network
-entry_path_parts : (s : Option (List ℕ)) (k : ℕ) (q : Place) → IsEntryPath s
+entry_path_parts : (s : Option (List ℕ)) (k : ℕ) (q : Place) → entry_path_lemmas.IsEntryPath s
     → Some (zero ∷ q) ≡ option_map (λ p. p ++ k ∷ []) s
     → (p : Place) × (s ≡ Some (zero ∷ p)) × (q ≡ p ++ k ∷ [])
 entry_path_parts None k q h e = absurd cc
@@ -324,7 +325,7 @@ module _ (es : List Entry) (task list : ℕ) (f : AreFull es) (t : HasTask es ta
 
   -- from the list on stand the list and those behind it
   from_list : drop list es ≡ Parts p.order p.parts ∷ others
-  from_list = drop-from es list (Parts p.order p.parts) p.is
+  from_list = entry_path_lemmas.drop-from es list (Parts p.order p.parts) p.is
 
   -- the task is one of the entries behind the list
   task_there : HasTask others number
@@ -353,24 +354,27 @@ module _ (es : List Entry) (task list : ℕ) (f : AreFull es) (t : HasTask es ta
   -- the remaining entries are full
   left_full : AreFull (take list es ++ tail)
   left_full =
-      full-replaced list es tail (list_without [] p.order p.parts others p.before) in_list (forest_there []) f
+      entry_path_lemmas.full-replaced list es tail (list_without [] p.order p.parts others p.before) in_list
+      (forest_there []) f
       (full-tail p.order p.parts others number p.before task_there p.there p.within full_there)
 
   -- the remaining entries are as many networks
   left_networks : length (forest [] (take list es ++ tail)) ≡ length (forest [] es)
   left_networks =
       ap length
-      (forest-replaced [] list es tail (list_without [] p.order p.parts others p.before) in_list (forest_there []))
-      ∙ length-put_at (entry_path list es) (list_without [] p.order p.parts others p.before) (forest [] es)
+      (entry_path_lemmas.forest-replaced [] list es tail (list_without [] p.order p.parts others p.before) in_list
+      (forest_there []))
+      ∙ entry_path_lemmas.length-put_at (entry_path list es) (list_without [] p.order p.parts others p.before)
+      (forest [] es)
 
   -- the task's path is below that of its list
   entry_path_there : entry_path task es ≡ option_map (λ q. q ++ p.before ∷ []) (entry_path list es)
   entry_path_there =
       ap (λ i. entry_path i es) (let e = place_is in let g : task ≡ list + suc number = omega arith in g)
-      ∙ entry_path-below list (suc number) es (p.before ∷ [])
+      ∙ entry_path_lemmas.entry_path-below list (suc number) es (p.before ∷ [])
       (ap (entry_path (suc number)) from_list
       ∙ (ap (option_map (behind_list p.parts)) p.there
-      ∙ ap Some (behind_list-within p.parts p.before [] p.within)))
+      ∙ ap Some (entry_path_lemmas.behind_list-within p.parts p.before [] p.within)))
 
   module _ (terms : List Term) where
     -- the parts of the list
@@ -391,7 +395,7 @@ module _ (es : List Entry) (task list : ℕ) (f : AreFull es) (t : HasTask es ta
     normal-list : normal (with_part (listed p.order (as_networks parts)) (p.before ∷ []) Empty)
         ≡ list_without terms p.order p.parts others p.before
     normal-list =
-        ap normal (with_part-listed p.order (as_networks parts) p.before [] Empty)
+        ap normal (entry_path_lemmas.with_part-listed p.order (as_networks parts) p.before [] Empty)
         ∙ (normal-listed p.order (with_nth_part (as_networks parts) p.before [] Empty)
         ∙ ap (as_list (listed p.order))
         (normal_parts-without parts p.before parts_form (let e = parts_many in let w = p.within in omega arith)))
@@ -411,8 +415,8 @@ module _ (es : List Entry) (task list : ℕ) (f : AreFull es) (t : HasTask es ta
         → network_in terms (take list es ++ tail) ≡ normal (with_part (network_in terms es) q Empty)
     left_network q h =
         let s =
-        entry_path_parts (entry_path list es) p.before q (is_entry_path list es)
-        (sym (entry_path_from_place es task q h) ∙ entry_path_there) in
+        entry_path_parts (entry_path list es) p.before q (entry_path_lemmas.is_entry_path list es)
+        (sym (entry_path_lemmas.entry_path_from_place es task q h) ∙ entry_path_there) in
         let net = network_in terms es in
         let m = listed p.order (as_networks parts) in
         let y = with_part m (p.before ∷ []) Empty in
@@ -422,7 +426,8 @@ module _ (es : List Entry) (task list : ℕ) (f : AreFull es) (t : HasTask es ta
         (forest_there terms)
         ∙ (ap (with_part net s.0) (sym normal-list)
         ∙ (sym
-        (normal-with_part net s.0 y (whole_in_form terms es f (entry_path_within terms list es zero s.0 s.1))
+        (normal-with_part net s.0 y (whole_in_form terms es f (entry_path_lemmas.entry_path_within terms list es zero
+        s.0 s.1))
         (ap is_empty normal-list ∙ list_stays))
         ∙ (ap normal (sym (with_part_below net s.0 (p.before ∷ []) m Empty there))
         ∙ ap (λ r. normal (with_part net r Empty)) (sym s.2))))
@@ -472,7 +477,7 @@ module _ (es new : List Entry) (focus : Option ℕ) (task : ℕ)
       → network_in terms new ≡ normal (with_part (network_in terms es) q Empty)
   unfolding network_in with_part normal
   alone_left terms q h a e =
-      let s = entry_path_from_place es task q h in
+      let s = entry_path_lemmas.entry_path_from_place es task q h in
       let b = a.1 in
       let r : q ≡ [] = cc in
       ap (network_in terms) e ∙ ap (λ p. normal (with_part (network_in terms es) p Empty)) (sym r)
@@ -528,7 +533,7 @@ module _ (es sub : List Entry) (focus : Option ℕ) (task : ℕ) (tree : TaskTre
 
   -- from the task on stand the task and those behind it
   from_task : drop task es ≡ Task t.0 t.1 ∷ drop (suc task) es
-  from_task = drop-from es task (Task t.0 t.1) t.2
+  from_task = entry_path_lemmas.drop-from es task (Task t.0 t.1) t.2
 
   -- the task is one of the entries
   within : task < length es
@@ -552,15 +557,17 @@ module _ (es sub : List Entry) (focus : Option ℕ) (task : ℕ) (tree : TaskTre
   same_entry_path : (tail : List Entry) (n : Network) (ns : List Network) → forest [] tail ≡ n ∷ ns
       → (0 < length tail) × (entry_path task (take task es ++ tail) ≡ entry_path task es)
   same_entry_path [] n ns h = absurd cc
-  same_entry_path (e ∷ tail) n ns h = (omega arith, entry_path-replaced task es e tail within)
+  same_entry_path (e ∷ tail) n ns h = (omega arith, entry_path_lemmas.entry_path-replaced task es e tail within)
 
   -- subtasks in place of a task are a flat network
   pub flat_network_expanded : IsFlatNetwork (record { entries = replaced task sub es; focus = Some task })
   flat_network_expanded = record {
-    full = full-replaced task es behind_it (subtasks []) within (forest_behind []) o.full full_behind_it;
+    full = entry_path_lemmas.full-replaced task es behind_it (subtasks []) within
+        (forest_behind []) o.full full_behind_it;
     one =
-        let e = ap length (forest-replaced [] task es behind_it (subtasks []) within (forest_behind [])) in
-        let c = length-put_at (entry_path task es) (subtasks []) (forest [] es) in
+        let e = ap length (entry_path_lemmas.forest-replaced [] task es behind_it (subtasks []) within
+        (forest_behind [])) in
+        let c = entry_path_lemmas.length-put_at (entry_path task es) (subtasks []) (forest [] es) in
         let l = o.one in
         omega arith;
     focus =
@@ -578,7 +585,7 @@ module _ (es sub : List Entry) (focus : Option ℕ) (task : ℕ) (tree : TaskTre
   unfolding expand place_of
   expand_expanded terms p h =
       ap₂ (λ n f. (n, f))
-      (network-replaced terms es behind_it task p (subtasks terms) (entry_path_from_place es task p h)
+      (network-replaced terms es behind_it task p (subtasks terms) (entry_path_lemmas.entry_path_from_place es task p h)
       (forest_behind terms))
       (ap (option_and_then below_root) (same_entry_path behind_it _ _ (forest_behind [])).1 ∙ h)
       ∙ ap

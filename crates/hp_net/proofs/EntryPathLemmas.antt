@@ -7,7 +7,7 @@ use Rattle.std.proofs.lemmas.Bool.Decides.{nat_tests}
 use Rattle.std.proofs.lemmas.List.{length-drop}
 use Rattle.std.proofs.lemmas.Option.{same_Some, slice_get_within}
 use Rattle.hp_syntax.specs.Networks as plain
-use Rattle.hp_syntax.specs.Networks.{Network, Networks, Place, NoNetwork, And, part_at, nth_part_at, with_part, with_nth_part}
+use Rattle.hp_syntax.specs.Networks.{Network, Networks, Place, And, part_at, nth_part_at, with_part, with_nth_part}
 use Rattle.hp_syntax.specs.Terms.{Term}
 use Rattle.hp_eval.specs.GoalViews.{term_at, as_networks}
 use Rattle.hp_net.specs.declared.entry.Order.{Order}

@@ -7,7 +7,7 @@ use Rattle.std.proofs.lemmas.Bool.Decides.{nat_tests}
 use Rattle.std.proofs.lemmas.List.{take_at, drop_at, set_at, append-nil}
 use Rattle.std.proofs.lemmas.List.Elements.{All-append, All-drop, All-set, All-take}
 use Rattle.hp_syntax.specs.Networks as plain
-use Rattle.hp_syntax.specs.Networks.{Network, Networks, Empty, Task, NoNetwork, And, normal, normal_parts, is_empty, unless_empty, as_list}
+use Rattle.hp_syntax.specs.Networks.{Network, Networks, Empty, Task, And, normal, normal_parts, is_empty, unless_empty, as_list}
 use Rattle.hp_syntax.specs.Terms.{Term}
 use Rattle.hp_eval.specs.declared.tasks.TaskTree.{TaskTree, out-TaskTree}
 use Rattle.hp_eval.specs.declared.tasks.TaskTree.TheFolds.{fold_out-TaskTree, map-TaskTree}

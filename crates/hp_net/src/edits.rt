@@ -1,5 +1,5 @@
 //! Changes of the entries of a network.
-ghost use Rattle.std.specs.Prelude.{◌≡◌, ◌+◌, ◌-◌, ◌<◌, ◌≤◌, ◌^◌, ◌++◌, Bool, cond, nat_lt, IfOk, OnOk, MatchOption, None, Some, length, slice_get, vec_len};
+ghost use Rattle.std.specs.Prelude.{◌≡◌, ◌+◌, ◌-◌, ◌<◌, ◌^◌, ◌++◌, Bool, cond, nat_lt, IfOk, OnOk, MatchOption, None, Some, length, slice_get, vec_len};
 ghost use Rattle.hp_net.specs.Edits.{HasTask, HasParts, IsPart, IsAlone, IsTakenOut, further_of, fewer_by, replaced};
 
 use crate::entry::Entry;

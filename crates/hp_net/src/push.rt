@@ -1,5 +1,5 @@
 //! The normal form of a tree of tasks, behind other entries.
-ghost use Rattle.std.specs.Prelude.{◌≡◌, ℕ, ◌<◌, cond, nat_lt, IfOk, OnOk, vec_len, length};
+ghost use Rattle.std.specs.Prelude.{◌≡◌, ℕ, ◌<◌, cond, nat_lt, IfOk, OnOk, vec_len};
 ghost use Rattle.std.specs.List.{All};
 ghost use Rattle.hp_eval.specs.GoalViews.{TreeBelow, TreesBelow};
 ghost use Rattle.hp_net.specs.FlatNetworks.{EntryBelow};

@@ -24,7 +24,6 @@ pub enum Step {
 pub trait Walk {
     ghost use Rattle.std.specs.Prelude.{◌≡◌, ◌≢◌, ◌<◌, ℕ, Bool, true, false, List, [], Option, None};
     ghost use Rattle.std.specs.Prelude.{OnOk, OnErr, IfOk, MatchOption, option_map, length};
-    ghost use Rattle.std.specs.List.{All};
     ghost use Rattle.hp_syntax.specs.Terms.{Term};
     ghost use Rattle.hp_world.specs.Stages.{AllBelow, StageBelow, terms_at, state_of, guards_of};
     ghost use Rattle.hp_net.specs.Standings.{Tree, Standing, HasCells, node_reached, next_below, next_of};

@@ -1,6 +1,6 @@
 //! The texts of endings.
 
-ghost use Rattle.std.specs.Prelude.{◌≡◌, ◌≤◌, ◌++◌, OnErr, codes, decimal};
+ghost use Rattle.std.specs.Prelude.{◌≤◌, ◌++◌, OnErr, codes, decimal};
 ghost use Rattle.hp_io.specs.Rules.{Rose};
 ghost use Rattle.hp_out.specs.Endings.{ending_of};
 ghost use Rattle.hp_out.specs.Pages.{desk, Puts};

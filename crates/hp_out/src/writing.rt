@@ -1,8 +1,8 @@
 //! Writing a text whole.
 
-ghost use Rattle.std.specs.Prelude.{◌≡◌, ◌≤◌, ◌<◌, ◌+◌, ◌^◌, ℕ, List, Option, Some, None, length, OnErr, ◌++◌, take, drop};
+ghost use Rattle.std.specs.Prelude.{◌≤◌, ◌<◌, ◌+◌, OnErr};
 ghost use Rattle.std.specs.List.{flat_map};
-ghost use Rattle.hp_io.specs.Rules.{Rose, Appended};
+ghost use Rattle.hp_io.specs.Rules.{Rose};
 ghost use Rattle.hp_out.specs.Writing.{Writes};
 
 use hp_io::{Failed, Sink};

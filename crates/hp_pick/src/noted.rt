@@ -1,5 +1,5 @@
 //! Notes on satisfiers while their whole list is heard.
-ghost use Rattle.std.specs.Prelude.{◌≡◌, ℕ, ◌<◌, ◌^◌, ◌∷◌, [], ◌++◌, false, true, List, IfOk, Ok, length};
+ghost use Rattle.std.specs.Prelude.{◌≡◌, ◌<◌, ◌^◌, [], false, true, List, IfOk, Ok, length};
 ghost use Rattle.std.specs.List.{All};
 ghost use Rattle.hp_syntax.specs.Views.{key_of};
 ghost use Rattle.hp_syntax.specs.Values.{bound};

@@ -69,7 +69,6 @@ impl<S> Sorted<S> {
 
 impl<B, S: Sats<B>> Sats<B> for Sorted<S> {
     ghost use Rattle.hp_syntax.specs.Views.{key_of};
-    ghost use Rattle.hp_eval.specs.Slotted.{bindings_of, undone};
     ghost use Rattle.hp_pick.specs.Heard.{rest_in_order, SuitsEither, FitsEither, kept_of, live_of, open_of};
     ghost use Rattle.hp_pick.specs.SortedLaws.{either_hold, either_same, either_extend};
 

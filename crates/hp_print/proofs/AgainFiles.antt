@@ -13,7 +13,7 @@ use Rattle.hp_syntax.specs.Written.{nowhere, word, group, worded, one, two}
 use Rattle.hp_syntax.specs.Unplaced as unplaced
 use Rattle.hp_print.proofs.CanSpell.{IsName, CanSpell, CanSpellAll}
 use Rattle.hp_print.proofs.WrittenWords.{domain_name, problem_name}
-use Rattle.hp_print.proofs.AgainSteps.{reads_true, reads_chain, Again, again_from, Still, still_pure, still_refusal, still_ended, still_next, After, after_chain, after_still, after_pure, after_refusal, after_so, after_choice, after_begun, after_names, after_each, after_left, value_after}
+use Rattle.hp_print.proofs.AgainSteps as again_steps
 use Rattle.hp_print.proofs.AgainTerms.{still_name, reads_name, still_list, again_atoms}
 use Rattle.hp_print.proofs.AgainForms.{again_tasks}
 use Rattle.hp_print.proofs.AgainRules.{still_rule}
@@ -30,81 +30,86 @@ problem_parts all p = Grow (word p.name) (Grow (word p.domain) (written.pairs al
 record ProblemAgain (read : Forest → Parse Problem) (H : Type 0) (names all : Names) (p : Problem)
     (end : Names) : Type 0 where
   own : p.vars ≡ end
-  again : Again read CanSpellAll unplaced.problem H names (problem_parts all p) p end
+  again : again_steps.Again read CanSpellAll unplaced.problem H names (problem_parts all p) p end
 
 -- the only node of a file is read again, and this holds of its value and the names at its end
 abbrev FileAgain : {A : Type 0} → What → (Node → Parse A) → (A → A) → Forest → Names → (A → Names → Type 0)
     → (A → Node) → A → Names → Type 0
 FileAgain what read u f names P w x end =
-    P x end × Again (file what read 0) CanSpellAll u (CanSpellAll f) names (one (w x)) x end
+    P x end × again_steps.Again (file what read 0) CanSpellAll u (CanSpellAll f) names (one (w x)) x end
 
 -- that no pair follows leaves the names
-still_no_more : {names : Names} (f : Forest) → Still names (λ x. Unit {0}) (no_more_pairs f)
-still_no_more Bare = still_pure tt
-still_no_more (Grow n f) = still_refusal _
+still_no_more : {names : Names} (f : Forest) → again_steps.Still names (λ x. Unit {0}) (no_more_pairs f)
+still_no_more Bare = again_steps.still_pure tt
+still_no_more (Grow n f) = again_steps.still_refusal _
 
 module _ {all : Names} where
   -- rules are read again from a list
   again_rules : {names : Names} (n : Node)
-      → After all names
-      (λ rs end. Again (each rule) CanSpellAll (map unplaced.rule) (CanSpell n) names (written.rules rs) rs end)
+      → again_steps.After all names
+      (λ rs end. again_steps.Again (each rule) CanSpellAll (map unplaced.rule) (CanSpell n) names
+      (written.rules rs) rs end)
       (list wants.Rules n >>= each rule)
   again_rules n =
-      after_still (still_list wants.Rules n) (λ f.
-      after_so
-      (after_each written.rule written.rules unplaced.rule rule refl (λ r rs. refl) f (λ names n.
-      after_left (still_rule n) (λ r h. record { reads = h.reads names; spells = h.spells })))
-      (λ rs end h c. again_from c h))
+      again_steps.after_still (still_list wants.Rules n) (λ f.
+      again_steps.after_so
+      (again_steps.after_each written.rule written.rules unplaced.rule rule refl (λ r rs. refl) f (λ names n.
+      again_steps.after_left (still_rule n) (λ r h. record { reads = h.reads names; spells = h.spells })))
+      (λ rs end h c. again_steps.again_from c h))
 
   -- a domain is read again
   again_domain_list : {names : Names} (s : Span) (rest : Forest)
-      → After all names
-      (λ d end. Again (domain_list nowhere) CanSpellAll unplaced.domain (CanSpellAll rest) names (domain_parts d) d end)
+      → again_steps.After all names
+      (λ d end. again_steps.Again (domain_list nowhere) CanSpellAll unplaced.domain (CanSpellAll rest) names
+      (domain_parts d) d end)
       (domain_list s rest)
   unfolding domain_list list
   again_domain_list s rest =
-      after_still (still_next wants.Name (closing s) rest) (λ x.
-      after_still (still_name x.0) (λ text.
-      after_still (still_next wants.Rules (closing s) x.1) (λ y.
-      after_chain (again_rules y.0) (λ rules end.
-      after_still (still_ended y.1) (λ z.
-      after_pure (λ u h y' text' x'. record {
-        reads = reads_chain _ (reads_name text'.0) (reads_chain _ h.reads refl);
+      again_steps.after_still (again_steps.still_next wants.Name (closing s) rest) (λ x.
+      again_steps.after_still (still_name x.0) (λ text.
+      again_steps.after_still (again_steps.still_next wants.Rules (closing s) x.1) (λ y.
+      again_steps.after_chain (again_rules y.0) (λ rules end.
+      again_steps.after_still (again_steps.still_ended y.1) (λ z.
+      again_steps.after_pure (λ u h y' text' x'. record {
+        reads = again_steps.reads_chain _ (reads_name text'.0) (again_steps.reads_chain _ h.reads refl);
         spells = λ c. (text'.1 (x' c).0, (h.spells (y' (x' c).1).0, tt));
       }))))))
 
   -- the pair of a problem is read again
   again_pair : {names : Names} (end : Span) (f : Forest)
-      → After all names
-      (λ p end. Again (pair nowhere) CanSpellAll unplaced.pair (CanSpellAll f) names (written.pair all p) p end)
+      → again_steps.After all names
+      (λ p end. again_steps.Again (pair nowhere) CanSpellAll unplaced.pair (CanSpellAll f) names
+      (written.pair all p) p end)
       (pair end f)
   unfolding pair atoms list
   again_pair end f =
-      after_still (still_next wants.Atoms end f) (λ x.
-      after_chain (again_atoms InProblem x.0) (λ state mid.
-      after_still (still_next wants.Tasks end x.1) (λ y.
-      after_chain (again_tasks InProblem y.0) (λ ts end.
-      after_still (still_no_more y.1) (λ z.
-      after_pure (λ u ts' y' state' x'. record {
-        reads = reads_chain _ state'.reads (reads_chain _ ts'.reads refl);
+      again_steps.after_still (again_steps.still_next wants.Atoms end f) (λ x.
+      again_steps.after_chain (again_atoms InProblem x.0) (λ state mid.
+      again_steps.after_still (again_steps.still_next wants.Tasks end x.1) (λ y.
+      again_steps.after_chain (again_tasks InProblem y.0) (λ ts end.
+      again_steps.after_still (still_no_more y.1) (λ z.
+      again_steps.after_pure (λ u ts' y' state' x'. record {
+        reads = again_steps.reads_chain _ state'.reads (again_steps.reads_chain _ ts'.reads refl);
         spells = λ c. (state'.spells (x' c).0, (ts'.spells (y' (x' c).1).0, tt));
       }))))))
 
   -- a problem is read again
   again_problem_list : {names : Names} (s : Span) (rest : Forest)
-      → After all names (ProblemAgain (problem_list nowhere) (CanSpellAll rest) names all) (problem_list s rest)
+      → again_steps.After all names (ProblemAgain (problem_list nowhere) (CanSpellAll rest) names all)
+      (problem_list s rest)
   unfolding problem_list
   again_problem_list s rest =
-      after_still (still_next wants.Name (closing s) rest) (λ x.
-      after_still (still_name x.0) (λ text.
-      after_still (still_next wants.Name (closing s) x.1) (λ y.
-      after_still (still_name y.0) (λ domain.
-      after_chain (again_pair (closing s) y.1) (λ only end.
-      after_names (λ h domain' y' text' x'. record {
+      again_steps.after_still (again_steps.still_next wants.Name (closing s) rest) (λ x.
+      again_steps.after_still (still_name x.0) (λ text.
+      again_steps.after_still (again_steps.still_next wants.Name (closing s) x.1) (λ y.
+      again_steps.after_still (still_name y.0) (λ domain.
+      again_steps.after_chain (again_pair (closing s) y.1) (λ only end.
+      again_steps.after_names (λ h domain' y' text' x'. record {
         own = refl;
         again = record {
           reads =
-              reads_chain _ (reads_name text'.0) (reads_chain _ (reads_name domain'.0) (reads_chain _ h.reads refl));
+              again_steps.reads_chain _ (reads_name text'.0) (again_steps.reads_chain _ (reads_name domain'.0)
+              (again_steps.reads_chain _ h.reads refl));
           spells = λ c.
               (text'.1 (x' c).0, (domain'.1 (y' (x' c).1).0, h.spells (y' (x' c).1).1));
         };
@@ -114,38 +119,41 @@ module _ {all : Names} where
   again_file_list : {A : Type 0} {u : A → A} {P : A → Names → Type 0} {names : Names} (what : What) (key : List ℕ)
       (parts : Span → Forest → Parse A) (g : A → Forest) (n : Node) (spelled : IsName key)
       → ((s : Span) (f : Forest)
-      → After all names (λ v end. P v end × Again (parts nowhere) CanSpellAll u (CanSpellAll f) names (g v) v end)
+      → again_steps.After all names (λ v end. P v end × again_steps.Again (parts nowhere) CanSpellAll u
+      (CanSpellAll f) names (g v) v end)
       (parts s f))
-      → After all names
-      (λ v end. P v end × Again (file_list what key parts) CanSpell u (CanSpell n) names (worded key (g v)) v end)
+      → again_steps.After all names
+      (λ v end. P v end × again_steps.Again (file_list what key parts) CanSpell u (CanSpell n) names
+      (worded key (g v)) v end)
       (file_list what key parts n)
   unfolding file_list
   again_file_list what key parts g n spelled h =
-      after_begun n _ (λ text rest c. after_choice (bytes_eq text key)
-      (λ e. after_so (h (span_of n) rest) (λ v end k. (
+      again_steps.after_begun n _ (λ text rest c. again_steps.after_choice (bytes_eq text key)
+      (λ e. again_steps.after_so (h (span_of n) rest) (λ v end k. (
         k.0,
         record {
-          reads = reads_true _ _ ((bytes_eq-Decides key key).1 refl) k.1.reads;
+          reads = again_steps.reads_true _ _ ((bytes_eq-Decides key key).1 refl) k.1.reads;
           spells = λ x. (spelled, k.1.spells (c x).1);
         },
       )))
-      (λ e. after_refusal _))
+      (λ e. again_steps.after_refusal _))
 
   -- a file is read again where its node is
   again_file : {A : Type 0} {u : A → A} {P : A → Names → Type 0} {names : Names} (what : What) (read : Node → Parse A)
       (w : A → Node) (len : ℕ) (f : Forest)
       → ((n : Node)
-      → After all names (λ v end. P v end × Again read CanSpell u (CanSpell n) names (w v) v end) (read n))
-      → After all names (FileAgain what read u f names P w) (file what read len f)
+      → again_steps.After all names (λ v end. P v end × again_steps.Again read CanSpell u (CanSpell n) names
+      (w v) v end) (read n))
+      → again_steps.After all names (FileAgain what read u f names P w) (file what read len f)
   unfolding file
   again_file what read w len f h =
-      after_still (still_next what (end_of_file len) f) (λ x.
-      after_chain (h x.0) (λ value end.
-      after_still (still_ended x.1) (λ y.
-      after_pure (λ u k c. (
+      again_steps.after_still (again_steps.still_next what (end_of_file len) f) (λ x.
+      again_steps.after_chain (h x.0) (λ value end.
+      again_steps.after_still (again_steps.still_ended x.1) (λ y.
+      again_steps.after_pure (λ u k c. (
         k.0,
         record {
-          reads = reads_chain _ k.1.reads refl;
+          reads = again_steps.reads_chain _ k.1.reads refl;
           spells = λ s. (k.1.spells (c s).0, tt);
         },
       )))))
@@ -167,29 +175,30 @@ written_problem all p = worded (codes "defproblem") (problem_parts all p)
 
 -- a file with a domain is read again
 again_domain_file : {all : Names} (len : ℕ) (f : Forest)
-    → After all [] (FileAgain wants.Domain domain_node unplaced.domain f [] (λ d end. Unit {0}) written_domain)
+    → again_steps.After all [] (FileAgain wants.Domain domain_node unplaced.domain f []
+    (λ d end. Unit {0}) written_domain)
     (file wants.Domain domain_node len f)
 again_domain_file len f =
     again_file wants.Domain domain_node written_domain len f
     (λ n. again_file_list wants.Domain (codes "defdomain") domain_list domain_parts n domain_name
-    (λ s f. after_so (again_domain_list s f) (λ d end h. (tt, h))))
+    (λ s f. again_steps.after_so (again_domain_list s f) (λ d end h. (tt, h))))
 
 -- a file with a problem is read again, by the names at its end
 again_problem_file : {all : Names} (len : ℕ) (f : Forest)
-    → After all []
+    → again_steps.After all []
     (FileAgain wants.Problem problem_node unplaced.problem f [] (λ p end. p.vars ≡ end) (written_problem all))
     (file wants.Problem problem_node len f)
 again_problem_file {all} len f =
     again_file wants.Problem problem_node (written_problem all) len f
     (λ n. again_file_list wants.Problem (codes "defproblem") problem_list (problem_parts all) n problem_name
-    (λ s f. after_so (again_problem_list s f) (λ p end h. (h.own, h.again))))
+    (λ s f. again_steps.after_so (again_problem_list s f) (λ p end h. (h.own, h.again))))
 
 -- a domain is read again, and can be spelled if its forest can
 domain_file : (len : ℕ) (f : Forest) (d : Domain) → domain_form len f ≡ Ok d
     → (domain_form 0 (one (written.domain d)) ≡ Ok (unplaced.domain d)) × (CanSpellAll f → CanSpell (written.domain d))
 unfolding written.domain
 domain_file len f d e =
-    let h = value_after _ d (λ all. again_domain_file len f) e in
+    let h = again_steps.value_after _ d (λ all. again_domain_file len f) e in
     (ap value_in h.1.1.reads, λ c. (h.1.1.spells c).0)
 
 -- the written domain of a forest is read as this domain again, up to spans
@@ -212,7 +221,7 @@ problem_file : (len : ℕ) (f : Forest) (p : Problem) → problem_form len f ≡
     → (problem_form 0 (one (written.problem p)) ≡ Ok (unplaced.problem p))
     × (CanSpellAll f → CanSpell (written.problem p))
 problem_file len f p e =
-    let h = value_after _ p (λ all. again_problem_file len f) e in
+    let h = again_steps.value_after _ p (λ all. again_problem_file len f) e in
     let own = own_names p h.0 h.1.0 in (
       subst (λ (n : Node). problem_form 0 (one n) ≡ Ok (unplaced.problem p)) own (ap value_in h.1.1.reads),
       λ c. subst CanSpell own (h.1.1.spells c).0,

@@ -3,7 +3,7 @@
 ghost use Rattle.std.specs.Prelude.{◌≡◌, ◌++◌, OnOk, codes};
 ghost use Rattle.hp_syntax.specs.Views.{pattern_of, patterns_of, atom_of, atoms_of};
 ghost use Rattle.hp_syntax.specs.Written as written;
-ghost use Rattle.hp_syntax.specs.Written.{name_of, node_text, rest_text, group};
+ghost use Rattle.hp_syntax.specs.Written.{node_text, rest_text, group};
 
 use crate::words::{push_all, push_begun, push_number, push_variable, variable_name};
 use hp_syntax::{AtomPat, Name, Pat, PatKind, Tail};

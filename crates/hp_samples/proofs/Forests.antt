@@ -3,7 +3,7 @@ use Rattle.std.proofs.Common.{ℕ, ℤ, pos, List, [], ◌∷◌, codes, refl}
 use Rattle.hp_syntax.specs.Text.{spelling_of}
 use Rattle.hp_syntax.specs.Forest.{Node, Word, Numeral, Group, Forest, Bare, Grow, IsForest}
 use Rattle.hp_syntax.proofs.Spelled.{tested}
-use Rattle.hp_samples.specs.Texts.{basic_domain, swap_problem, nothing_problem, focus_domain, any_order_problem, immediate_problem, order_domain, two_places_problem, order_kept_domain, guard_domain, guarded_problem, cancel_domain, cancelled_once_problem, cancelled_twice_problem, either_domain, weights_problem, sorted_domain, sorted_up_domain, first_domain, sorted_unbound_domain, sorted_names_domain, sorted_cut_domain, quotient_domain, named_cost_domain, x_problem, open_head_domain, big_domain, hidden_domain, endless_domain, not_endless_domain, cut_branch_domain, not_fault_domain, all_above_0_domain, all_above_1_domain, clear_domain, clear_problem, large_cost_domain, big_problem, each_domain, each_problem, travel_domain, trip_problem, twelve_domain, any_of_twelve_problem}
+use Rattle.hp_samples.specs.Texts as texts
 
 abbrev pub grown : List Node → Forest
 grown [] = Bare
@@ -38,9 +38,9 @@ basic_domain_forest =
     ∷ [])) ∷ [])) ∷ [])) ∷ [])
 
 -- the text spells this forest
-pub basic_domain_spelled : IsForest basic_domain basic_domain_forest
+pub basic_domain_spelled : IsForest texts.basic_domain basic_domain_forest
 unfolding spelling_of
-basic_domain_spelled = tested basic_domain basic_domain_forest refl
+basic_domain_spelled = tested texts.basic_domain basic_domain_forest refl
 
 abbrev pub swap_problem_forest : Forest
 swap_problem_forest =
@@ -50,9 +50,9 @@ swap_problem_forest =
     (codes "kiwi")) ∷ [])) ∷ [])) ∷ [])) ∷ [])
 
 -- the text spells this forest
-pub swap_problem_spelled : IsForest swap_problem swap_problem_forest
+pub swap_problem_spelled : IsForest texts.swap_problem swap_problem_forest
 unfolding spelling_of
-swap_problem_spelled = tested swap_problem swap_problem_forest refl
+swap_problem_spelled = tested texts.swap_problem swap_problem_forest refl
 
 abbrev pub nothing_problem_forest : Forest
 nothing_problem_forest =
@@ -60,9 +60,9 @@ nothing_problem_forest =
     "basic")) ∷ (list 20 22 ([])) ∷ (list 23 25 ([])) ∷ [])) ∷ [])
 
 -- the text spells this forest
-pub nothing_problem_spelled : IsForest nothing_problem nothing_problem_forest
+pub nothing_problem_spelled : IsForest texts.nothing_problem nothing_problem_forest
 unfolding spelling_of
-nothing_problem_spelled = tested nothing_problem nothing_problem_forest refl
+nothing_problem_spelled = tested texts.nothing_problem nothing_problem_forest refl
 
 abbrev pub focus_domain_forest : Forest
 focus_domain_forest =
@@ -78,9 +78,9 @@ focus_domain_forest =
     (list 138 144 ((list 139 143 ((word 140 142 (codes "!c")) ∷ [])) ∷ [])) ∷ [])) ∷ [])) ∷ [])) ∷ [])
 
 -- the text spells this forest
-pub focus_domain_spelled : IsForest focus_domain focus_domain_forest
+pub focus_domain_spelled : IsForest texts.focus_domain focus_domain_forest
 unfolding spelling_of
-focus_domain_spelled = tested focus_domain focus_domain_forest refl
+focus_domain_spelled = tested texts.focus_domain focus_domain_forest refl
 
 abbrev pub any_order_problem_forest : Forest
 any_order_problem_forest =
@@ -89,9 +89,9 @@ any_order_problem_forest =
     [])) ∷ (list 35 38 ((word 36 37 (codes "y")) ∷ [])) ∷ [])) ∷ [])) ∷ [])
 
 -- the text spells this forest
-pub any_order_problem_spelled : IsForest any_order_problem any_order_problem_forest
+pub any_order_problem_spelled : IsForest texts.any_order_problem any_order_problem_forest
 unfolding spelling_of
-any_order_problem_spelled = tested any_order_problem any_order_problem_forest refl
+any_order_problem_spelled = tested texts.any_order_problem any_order_problem_forest refl
 
 abbrev pub immediate_problem_forest : Forest
 immediate_problem_forest =
@@ -100,9 +100,9 @@ immediate_problem_forest =
     [])) ∷ (list 35 49 ((word 36 46 (codes ":immediate")) ∷ (word 47 48 (codes "y")) ∷ [])) ∷ [])) ∷ [])) ∷ [])
 
 -- the text spells this forest
-pub immediate_problem_spelled : IsForest immediate_problem immediate_problem_forest
+pub immediate_problem_spelled : IsForest texts.immediate_problem immediate_problem_forest
 unfolding spelling_of
-immediate_problem_spelled = tested immediate_problem immediate_problem_forest refl
+immediate_problem_spelled = tested texts.immediate_problem immediate_problem_forest refl
 
 abbrev pub order_domain_forest : Forest
 order_domain_forest =
@@ -117,9 +117,9 @@ order_domain_forest =
     (codes "!take")) ∷ (word 120 122 (codes "?y")) ∷ [])) ∷ [])) ∷ [])) ∷ [])) ∷ [])) ∷ [])
 
 -- the text spells this forest
-pub order_domain_spelled : IsForest order_domain order_domain_forest
+pub order_domain_spelled : IsForest texts.order_domain order_domain_forest
 unfolding spelling_of
-order_domain_spelled = tested order_domain order_domain_forest refl
+order_domain_spelled = tested texts.order_domain order_domain_forest refl
 
 abbrev pub two_places_problem_forest : Forest
 two_places_problem_forest =
@@ -129,9 +129,9 @@ two_places_problem_forest =
     "!mark")) ∷ [])) ∷ (list 41 45 ((word 42 44 (codes "go")) ∷ [])) ∷ [])) ∷ [])) ∷ [])
 
 -- the text spells this forest
-pub two_places_problem_spelled : IsForest two_places_problem two_places_problem_forest
+pub two_places_problem_spelled : IsForest texts.two_places_problem two_places_problem_forest
 unfolding spelling_of
-two_places_problem_spelled = tested two_places_problem two_places_problem_forest refl
+two_places_problem_spelled = tested texts.two_places_problem two_places_problem_forest refl
 
 abbrev pub order_kept_domain_forest : Forest
 order_kept_domain_forest =
@@ -145,9 +145,9 @@ order_kept_domain_forest =
     117 ((word 108 113 (codes "!take")) ∷ (word 114 116 (codes "?y")) ∷ [])) ∷ [])) ∷ [])) ∷ [])) ∷ [])) ∷ [])
 
 -- the text spells this forest
-pub order_kept_domain_spelled : IsForest order_kept_domain order_kept_domain_forest
+pub order_kept_domain_spelled : IsForest texts.order_kept_domain order_kept_domain_forest
 unfolding spelling_of
-order_kept_domain_spelled = tested order_kept_domain order_kept_domain_forest refl
+order_kept_domain_spelled = tested texts.order_kept_domain order_kept_domain_forest refl
 
 abbrev pub guard_domain_forest : Forest
 guard_domain_forest =
@@ -159,9 +159,9 @@ guard_domain_forest =
     "p")) ∷ [])) ∷ [])) ∷ (list 90 92 ([])) ∷ [])) ∷ [])) ∷ [])) ∷ [])
 
 -- the text spells this forest
-pub guard_domain_spelled : IsForest guard_domain guard_domain_forest
+pub guard_domain_spelled : IsForest texts.guard_domain guard_domain_forest
 unfolding spelling_of
-guard_domain_spelled = tested guard_domain guard_domain_forest refl
+guard_domain_spelled = tested texts.guard_domain guard_domain_forest refl
 
 abbrev pub guarded_problem_forest : Forest
 guarded_problem_forest =
@@ -171,9 +171,9 @@ guarded_problem_forest =
     "!kill")) ∷ [])) ∷ [])) ∷ [])) ∷ [])
 
 -- the text spells this forest
-pub guarded_problem_spelled : IsForest guarded_problem guarded_problem_forest
+pub guarded_problem_spelled : IsForest texts.guarded_problem guarded_problem_forest
 unfolding spelling_of
-guarded_problem_spelled = tested guarded_problem guarded_problem_forest refl
+guarded_problem_spelled = tested texts.guarded_problem guarded_problem_forest refl
 
 abbrev pub cancel_domain_forest : Forest
 cancel_domain_forest =
@@ -188,9 +188,9 @@ cancel_domain_forest =
     ([])) ∷ [])) ∷ [])) ∷ [])) ∷ [])
 
 -- the text spells this forest
-pub cancel_domain_spelled : IsForest cancel_domain cancel_domain_forest
+pub cancel_domain_spelled : IsForest texts.cancel_domain cancel_domain_forest
 unfolding spelling_of
-cancel_domain_spelled = tested cancel_domain cancel_domain_forest refl
+cancel_domain_spelled = tested texts.cancel_domain cancel_domain_forest refl
 
 abbrev pub cancelled_once_problem_forest : Forest
 cancelled_once_problem_forest =
@@ -200,9 +200,9 @@ cancelled_once_problem_forest =
     (codes "!free")) ∷ [])) ∷ (list 49 56 ((word 50 55 (codes "!kill")) ∷ [])) ∷ [])) ∷ [])) ∷ [])
 
 -- the text spells this forest
-pub cancelled_once_problem_spelled : IsForest cancelled_once_problem cancelled_once_problem_forest
+pub cancelled_once_problem_spelled : IsForest texts.cancelled_once_problem cancelled_once_problem_forest
 unfolding spelling_of
-cancelled_once_problem_spelled = tested cancelled_once_problem cancelled_once_problem_forest refl
+cancelled_once_problem_spelled = tested texts.cancelled_once_problem cancelled_once_problem_forest refl
 
 abbrev pub cancelled_twice_problem_forest : Forest
 cancelled_twice_problem_forest =
@@ -213,9 +213,9 @@ cancelled_twice_problem_forest =
     "!kill")) ∷ [])) ∷ [])) ∷ [])) ∷ [])
 
 -- the text spells this forest
-pub cancelled_twice_problem_spelled : IsForest cancelled_twice_problem cancelled_twice_problem_forest
+pub cancelled_twice_problem_spelled : IsForest texts.cancelled_twice_problem cancelled_twice_problem_forest
 unfolding spelling_of
-cancelled_twice_problem_spelled = tested cancelled_twice_problem cancelled_twice_problem_forest refl
+cancelled_twice_problem_spelled = tested texts.cancelled_twice_problem cancelled_twice_problem_forest refl
 
 abbrev pub either_domain_forest : Forest
 either_domain_forest =
@@ -229,9 +229,9 @@ either_domain_forest =
     ∷ [])) ∷ [])) ∷ [])
 
 -- the text spells this forest
-pub either_domain_spelled : IsForest either_domain either_domain_forest
+pub either_domain_spelled : IsForest texts.either_domain either_domain_forest
 unfolding spelling_of
-either_domain_spelled = tested either_domain either_domain_forest refl
+either_domain_spelled = tested texts.either_domain either_domain_forest refl
 
 abbrev pub weights_problem_forest : Forest
 weights_problem_forest =
@@ -242,9 +242,9 @@ weights_problem_forest =
     (list 42 47 ((list 43 46 ((word 44 45 (codes "m")) ∷ [])) ∷ [])) ∷ [])) ∷ [])
 
 -- the text spells this forest
-pub weights_problem_spelled : IsForest weights_problem weights_problem_forest
+pub weights_problem_spelled : IsForest texts.weights_problem weights_problem_forest
 unfolding spelling_of
-weights_problem_spelled = tested weights_problem weights_problem_forest refl
+weights_problem_spelled = tested texts.weights_problem weights_problem_forest refl
 
 abbrev pub sorted_domain_forest : Forest
 sorted_domain_forest =
@@ -257,9 +257,9 @@ sorted_domain_forest =
     87 90 (codes "!do")) ∷ (word 91 93 (codes "?x")) ∷ [])) ∷ [])) ∷ [])) ∷ [])) ∷ [])) ∷ [])
 
 -- the text spells this forest
-pub sorted_domain_spelled : IsForest sorted_domain sorted_domain_forest
+pub sorted_domain_spelled : IsForest texts.sorted_domain sorted_domain_forest
 unfolding spelling_of
-sorted_domain_spelled = tested sorted_domain sorted_domain_forest refl
+sorted_domain_spelled = tested texts.sorted_domain sorted_domain_forest refl
 
 abbrev pub sorted_up_domain_forest : Forest
 sorted_up_domain_forest =
@@ -272,9 +272,9 @@ sorted_up_domain_forest =
     87 90 (codes "!do")) ∷ (word 91 93 (codes "?x")) ∷ [])) ∷ [])) ∷ [])) ∷ [])) ∷ [])) ∷ [])
 
 -- the text spells this forest
-pub sorted_up_domain_spelled : IsForest sorted_up_domain sorted_up_domain_forest
+pub sorted_up_domain_spelled : IsForest texts.sorted_up_domain sorted_up_domain_forest
 unfolding spelling_of
-sorted_up_domain_spelled = tested sorted_up_domain sorted_up_domain_forest refl
+sorted_up_domain_spelled = tested texts.sorted_up_domain sorted_up_domain_forest refl
 
 abbrev pub first_domain_forest : Forest
 first_domain_forest =
@@ -287,9 +287,9 @@ first_domain_forest =
     ∷ [])) ∷ [])) ∷ [])) ∷ [])) ∷ [])
 
 -- the text spells this forest
-pub first_domain_spelled : IsForest first_domain first_domain_forest
+pub first_domain_spelled : IsForest texts.first_domain first_domain_forest
 unfolding spelling_of
-first_domain_spelled = tested first_domain first_domain_forest refl
+first_domain_spelled = tested texts.first_domain first_domain_forest refl
 
 abbrev pub sorted_unbound_domain_forest : Forest
 sorted_unbound_domain_forest =
@@ -302,9 +302,9 @@ sorted_unbound_domain_forest =
     (word 89 91 (codes "?x")) ∷ [])) ∷ [])) ∷ [])) ∷ [])) ∷ [])) ∷ [])
 
 -- the text spells this forest
-pub sorted_unbound_domain_spelled : IsForest sorted_unbound_domain sorted_unbound_domain_forest
+pub sorted_unbound_domain_spelled : IsForest texts.sorted_unbound_domain sorted_unbound_domain_forest
 unfolding spelling_of
-sorted_unbound_domain_spelled = tested sorted_unbound_domain sorted_unbound_domain_forest refl
+sorted_unbound_domain_spelled = tested texts.sorted_unbound_domain sorted_unbound_domain_forest refl
 
 abbrev pub sorted_names_domain_forest : Forest
 sorted_names_domain_forest =
@@ -317,9 +317,9 @@ sorted_names_domain_forest =
     (word 89 91 (codes "?x")) ∷ [])) ∷ [])) ∷ [])) ∷ [])) ∷ [])) ∷ [])
 
 -- the text spells this forest
-pub sorted_names_domain_spelled : IsForest sorted_names_domain sorted_names_domain_forest
+pub sorted_names_domain_spelled : IsForest texts.sorted_names_domain sorted_names_domain_forest
 unfolding spelling_of
-sorted_names_domain_spelled = tested sorted_names_domain sorted_names_domain_forest refl
+sorted_names_domain_spelled = tested texts.sorted_names_domain sorted_names_domain_forest refl
 
 abbrev pub sorted_cut_domain_forest : Forest
 sorted_cut_domain_forest =
@@ -336,9 +336,9 @@ sorted_cut_domain_forest =
     [])) ∷ [])
 
 -- the text spells this forest
-pub sorted_cut_domain_spelled : IsForest sorted_cut_domain sorted_cut_domain_forest
+pub sorted_cut_domain_spelled : IsForest texts.sorted_cut_domain sorted_cut_domain_forest
 unfolding spelling_of
-sorted_cut_domain_spelled = tested sorted_cut_domain sorted_cut_domain_forest refl
+sorted_cut_domain_spelled = tested texts.sorted_cut_domain sorted_cut_domain_forest refl
 
 abbrev pub quotient_domain_forest : Forest
 quotient_domain_forest =
@@ -353,9 +353,9 @@ quotient_domain_forest =
     115 ((word 108 111 (codes "!do")) ∷ (word 112 114 (codes "?x")) ∷ [])) ∷ [])) ∷ [])) ∷ [])) ∷ [])) ∷ [])
 
 -- the text spells this forest
-pub quotient_domain_spelled : IsForest quotient_domain quotient_domain_forest
+pub quotient_domain_spelled : IsForest texts.quotient_domain quotient_domain_forest
 unfolding spelling_of
-quotient_domain_spelled = tested quotient_domain quotient_domain_forest refl
+quotient_domain_spelled = tested texts.quotient_domain quotient_domain_forest refl
 
 abbrev pub named_cost_domain_forest : Forest
 named_cost_domain_forest =
@@ -365,9 +365,9 @@ named_cost_domain_forest =
     [])) ∷ [])
 
 -- the text spells this forest
-pub named_cost_domain_spelled : IsForest named_cost_domain named_cost_domain_forest
+pub named_cost_domain_spelled : IsForest texts.named_cost_domain named_cost_domain_forest
 unfolding spelling_of
-named_cost_domain_spelled = tested named_cost_domain named_cost_domain_forest refl
+named_cost_domain_spelled = tested texts.named_cost_domain named_cost_domain_forest refl
 
 abbrev pub x_problem_forest : Forest
 x_problem_forest =
@@ -376,9 +376,9 @@ x_problem_forest =
     [])) ∷ [])) ∷ [])
 
 -- the text spells this forest
-pub x_problem_spelled : IsForest x_problem x_problem_forest
+pub x_problem_spelled : IsForest texts.x_problem x_problem_forest
 unfolding spelling_of
-x_problem_spelled = tested x_problem x_problem_forest refl
+x_problem_spelled = tested texts.x_problem x_problem_forest refl
 
 abbrev pub open_head_domain_forest : Forest
 open_head_domain_forest =
@@ -393,9 +393,9 @@ open_head_domain_forest =
     "?u")) ∷ [])) ∷ [])) ∷ [])) ∷ [])) ∷ [])) ∷ [])
 
 -- the text spells this forest
-pub open_head_domain_spelled : IsForest open_head_domain open_head_domain_forest
+pub open_head_domain_spelled : IsForest texts.open_head_domain open_head_domain_forest
 unfolding spelling_of
-open_head_domain_spelled = tested open_head_domain open_head_domain_forest refl
+open_head_domain_spelled = tested texts.open_head_domain open_head_domain_forest refl
 
 abbrev pub big_domain_forest : Forest
 big_domain_forest =
@@ -413,9 +413,9 @@ big_domain_forest =
     (codes "!do")) ∷ (word 140 142 (codes "?x")) ∷ [])) ∷ [])) ∷ [])) ∷ [])) ∷ [])) ∷ [])
 
 -- the text spells this forest
-pub big_domain_spelled : IsForest big_domain big_domain_forest
+pub big_domain_spelled : IsForest texts.big_domain big_domain_forest
 unfolding spelling_of
-big_domain_spelled = tested big_domain big_domain_forest refl
+big_domain_spelled = tested texts.big_domain big_domain_forest refl
 
 abbrev pub hidden_domain_forest : Forest
 hidden_domain_forest =
@@ -432,9 +432,9 @@ hidden_domain_forest =
     (codes "?x")) ∷ [])) ∷ [])) ∷ [])) ∷ [])) ∷ [])) ∷ [])
 
 -- the text spells this forest
-pub hidden_domain_spelled : IsForest hidden_domain hidden_domain_forest
+pub hidden_domain_spelled : IsForest texts.hidden_domain hidden_domain_forest
 unfolding spelling_of
-hidden_domain_spelled = tested hidden_domain hidden_domain_forest refl
+hidden_domain_spelled = tested texts.hidden_domain hidden_domain_forest refl
 
 abbrev pub endless_domain_forest : Forest
 endless_domain_forest =
@@ -448,9 +448,9 @@ endless_domain_forest =
     (word 92 93 (codes "a")) ∷ [])) ∷ [])) ∷ [])) ∷ [])) ∷ [])) ∷ [])
 
 -- the text spells this forest
-pub endless_domain_spelled : IsForest endless_domain endless_domain_forest
+pub endless_domain_spelled : IsForest texts.endless_domain endless_domain_forest
 unfolding spelling_of
-endless_domain_spelled = tested endless_domain endless_domain_forest refl
+endless_domain_spelled = tested texts.endless_domain endless_domain_forest refl
 
 abbrev pub not_endless_domain_forest : Forest
 not_endless_domain_forest =
@@ -465,9 +465,9 @@ not_endless_domain_forest =
     [])) ∷ [])) ∷ [])
 
 -- the text spells this forest
-pub not_endless_domain_spelled : IsForest not_endless_domain not_endless_domain_forest
+pub not_endless_domain_spelled : IsForest texts.not_endless_domain not_endless_domain_forest
 unfolding spelling_of
-not_endless_domain_spelled = tested not_endless_domain not_endless_domain_forest refl
+not_endless_domain_spelled = tested texts.not_endless_domain not_endless_domain_forest refl
 
 abbrev pub cut_branch_domain_forest : Forest
 cut_branch_domain_forest =
@@ -482,9 +482,9 @@ cut_branch_domain_forest =
     (codes "!do")) ∷ (word 105 106 (codes "b")) ∷ [])) ∷ [])) ∷ [])) ∷ [])) ∷ [])) ∷ [])
 
 -- the text spells this forest
-pub cut_branch_domain_spelled : IsForest cut_branch_domain cut_branch_domain_forest
+pub cut_branch_domain_spelled : IsForest texts.cut_branch_domain cut_branch_domain_forest
 unfolding spelling_of
-cut_branch_domain_spelled = tested cut_branch_domain cut_branch_domain_forest refl
+cut_branch_domain_spelled = tested texts.cut_branch_domain cut_branch_domain_forest refl
 
 abbrev pub not_fault_domain_forest : Forest
 not_fault_domain_forest =
@@ -498,9 +498,9 @@ not_fault_domain_forest =
     (codes "!do")) ∷ (word 97 98 (codes "b")) ∷ [])) ∷ [])) ∷ [])) ∷ [])) ∷ [])) ∷ [])
 
 -- the text spells this forest
-pub not_fault_domain_spelled : IsForest not_fault_domain not_fault_domain_forest
+pub not_fault_domain_spelled : IsForest texts.not_fault_domain not_fault_domain_forest
 unfolding spelling_of
-not_fault_domain_spelled = tested not_fault_domain not_fault_domain_forest refl
+not_fault_domain_spelled = tested texts.not_fault_domain not_fault_domain_forest refl
 
 abbrev pub all_above_0_domain_forest : Forest
 all_above_0_domain_forest =
@@ -516,9 +516,9 @@ all_above_0_domain_forest =
     116 118 (codes "?x")) ∷ [])) ∷ [])) ∷ [])) ∷ [])) ∷ [])) ∷ [])
 
 -- the text spells this forest
-pub all_above_0_domain_spelled : IsForest all_above_0_domain all_above_0_domain_forest
+pub all_above_0_domain_spelled : IsForest texts.all_above_0_domain all_above_0_domain_forest
 unfolding spelling_of
-all_above_0_domain_spelled = tested all_above_0_domain all_above_0_domain_forest refl
+all_above_0_domain_spelled = tested texts.all_above_0_domain all_above_0_domain_forest refl
 
 abbrev pub all_above_1_domain_forest : Forest
 all_above_1_domain_forest =
@@ -534,9 +534,9 @@ all_above_1_domain_forest =
     116 118 (codes "?x")) ∷ [])) ∷ [])) ∷ [])) ∷ [])) ∷ [])) ∷ [])
 
 -- the text spells this forest
-pub all_above_1_domain_spelled : IsForest all_above_1_domain all_above_1_domain_forest
+pub all_above_1_domain_spelled : IsForest texts.all_above_1_domain all_above_1_domain_forest
 unfolding spelling_of
-all_above_1_domain_spelled = tested all_above_1_domain all_above_1_domain_forest refl
+all_above_1_domain_spelled = tested texts.all_above_1_domain all_above_1_domain_forest refl
 
 abbrev pub clear_domain_forest : Forest
 clear_domain_forest =
@@ -548,9 +548,9 @@ clear_domain_forest =
     ((list 73 79 ((word 74 78 (codes "done")) ∷ [])) ∷ [])) ∷ [])) ∷ [])) ∷ [])) ∷ [])
 
 -- the text spells this forest
-pub clear_domain_spelled : IsForest clear_domain clear_domain_forest
+pub clear_domain_spelled : IsForest texts.clear_domain clear_domain_forest
 unfolding spelling_of
-clear_domain_spelled = tested clear_domain clear_domain_forest refl
+clear_domain_spelled = tested texts.clear_domain clear_domain_forest refl
 
 abbrev pub clear_problem_forest : Forest
 clear_problem_forest =
@@ -561,9 +561,9 @@ clear_problem_forest =
     [])
 
 -- the text spells this forest
-pub clear_problem_spelled : IsForest clear_problem clear_problem_forest
+pub clear_problem_spelled : IsForest texts.clear_problem clear_problem_forest
 unfolding spelling_of
-clear_problem_spelled = tested clear_problem clear_problem_forest refl
+clear_problem_spelled = tested texts.clear_problem clear_problem_forest refl
 
 abbrev pub large_cost_domain_forest : Forest
 large_cost_domain_forest =
@@ -572,9 +572,9 @@ large_cost_domain_forest =
     (list 35 37 ([])) ∷ (list 38 40 ([])) ∷ (number 41 60 (pos 9223372036854775807)) ∷ [])) ∷ [])) ∷ [])) ∷ [])
 
 -- the text spells this forest
-pub large_cost_domain_spelled : IsForest large_cost_domain large_cost_domain_forest
+pub large_cost_domain_spelled : IsForest texts.large_cost_domain large_cost_domain_forest
 unfolding spelling_of
-large_cost_domain_spelled = tested large_cost_domain large_cost_domain_forest refl
+large_cost_domain_spelled = tested texts.large_cost_domain large_cost_domain_forest refl
 
 abbrev pub big_problem_forest : Forest
 big_problem_forest =
@@ -583,9 +583,9 @@ big_problem_forest =
     (codes "!big")) ∷ [])) ∷ [])) ∷ [])) ∷ [])
 
 -- the text spells this forest
-pub big_problem_spelled : IsForest big_problem big_problem_forest
+pub big_problem_spelled : IsForest texts.big_problem big_problem_forest
 unfolding spelling_of
-big_problem_spelled = tested big_problem big_problem_forest refl
+big_problem_spelled = tested texts.big_problem big_problem_forest refl
 
 abbrev pub each_domain_forest : Forest
 each_domain_forest =
@@ -600,9 +600,9 @@ each_domain_forest =
     ∷ [])) ∷ [])) ∷ [])) ∷ [])
 
 -- the text spells this forest
-pub each_domain_spelled : IsForest each_domain each_domain_forest
+pub each_domain_spelled : IsForest texts.each_domain each_domain_forest
 unfolding spelling_of
-each_domain_spelled = tested each_domain each_domain_forest refl
+each_domain_spelled = tested texts.each_domain each_domain_forest refl
 
 abbrev pub each_problem_forest : Forest
 each_problem_forest =
@@ -614,9 +614,9 @@ each_problem_forest =
     (codes "b")) ∷ [])) ∷ [])) ∷ [])) ∷ [])) ∷ [])
 
 -- the text spells this forest
-pub each_problem_spelled : IsForest each_problem each_problem_forest
+pub each_problem_spelled : IsForest texts.each_problem each_problem_forest
 unfolding spelling_of
-each_problem_spelled = tested each_problem each_problem_forest refl
+each_problem_spelled = tested texts.each_problem each_problem_forest refl
 
 abbrev pub travel_domain_forest : Forest
 travel_domain_forest =
@@ -667,9 +667,9 @@ travel_domain_forest =
     (word 737 742 (codes "?left")) ∷ [])) ∷ [])) ∷ [])) ∷ [])) ∷ [])) ∷ [])
 
 -- the text spells this forest
-pub travel_domain_spelled : IsForest travel_domain travel_domain_forest
+pub travel_domain_spelled : IsForest texts.travel_domain travel_domain_forest
 unfolding spelling_of
-travel_domain_spelled = tested travel_domain travel_domain_forest refl
+travel_domain_spelled = tested texts.travel_domain travel_domain_forest refl
 
 abbrev pub trip_problem_forest : Forest
 trip_problem_forest =
@@ -681,9 +681,9 @@ trip_problem_forest =
     (codes "park")) ∷ [])) ∷ [])) ∷ [])) ∷ [])
 
 -- the text spells this forest
-pub trip_problem_spelled : IsForest trip_problem trip_problem_forest
+pub trip_problem_spelled : IsForest texts.trip_problem trip_problem_forest
 unfolding spelling_of
-trip_problem_spelled = tested trip_problem trip_problem_forest refl
+trip_problem_spelled = tested texts.trip_problem trip_problem_forest refl
 
 abbrev pub twelve_domain_forest : Forest
 twelve_domain_forest =
@@ -710,9 +710,9 @@ twelve_domain_forest =
     ([])) ∷ (list 322 324 ([])) ∷ [])) ∷ [])) ∷ [])) ∷ [])
 
 -- the text spells this forest
-pub twelve_domain_spelled : IsForest twelve_domain twelve_domain_forest
+pub twelve_domain_spelled : IsForest texts.twelve_domain twelve_domain_forest
 unfolding spelling_of
-twelve_domain_spelled = tested twelve_domain twelve_domain_forest refl
+twelve_domain_spelled = tested texts.twelve_domain twelve_domain_forest refl
 
 abbrev pub any_of_twelve_problem_forest : Forest
 any_of_twelve_problem_forest =
@@ -726,6 +726,6 @@ any_of_twelve_problem_forest =
     [])) ∷ [])) ∷ [])) ∷ [])
 
 -- the text spells this forest
-pub any_of_twelve_problem_spelled : IsForest any_of_twelve_problem any_of_twelve_problem_forest
+pub any_of_twelve_problem_spelled : IsForest texts.any_of_twelve_problem any_of_twelve_problem_forest
 unfolding spelling_of
-any_of_twelve_problem_spelled = tested any_of_twelve_problem any_of_twelve_problem_forest refl
+any_of_twelve_problem_spelled = tested texts.any_of_twelve_problem any_of_twelve_problem_forest refl

@@ -4,11 +4,10 @@
 #![tactic(auto, unfolding(crate::proofs::Computed::the_language))]
 
 ghost use Rattle.std.specs.Prelude.{◌≡◌, pos, negsuc, [], ◌∷◌, Some, None, Ok, Err, codes};
-ghost use Rattle.hp_syntax.specs.declared.fault.FaultKind.TheVariants.{NotGround, NotNumber, Overflow, ZeroDivisor, NegativePower, NotList, TooDeep};
+ghost use Rattle.hp_syntax.specs.declared.fault.FaultKind.TheVariants.{NotGround, NotNumber, Overflow, ZeroDivisor, NegativePower, NotList};
 ghost use Rattle.hp_syntax.specs.Calls.{fault_at};
-ghost use Rattle.hp_syntax.specs.Goals.{Known, Free, Partly, NoFilling, Then, fill_goal, match_goal, start_goal};
+ghost use Rattle.hp_syntax.specs.Goals.{Known, Free, NoFilling, Then, fill_goal, start_goal};
 ghost use Rattle.hp_syntax.specs.Matching.{match_atom};
-ghost use Rattle.hp_syntax.specs.Syntax as syntax;
 ghost use Rattle.hp_syntax.specs.Values.{value, atom_value, unbound};
 ghost use Rattle.hp_samples.specs.Parts.{between, symbol, whole, listed, least, greatest, call_of, variable, word, atom, atom_with_tail, one_more, goal};
 

@@ -1,5 +1,5 @@
 -- Conclusions of an axiom on a goal.
-use Rattle.std.proofs.Common.{◌≡◌, ℕ, Bool, true, false, List, [], ◌∷◌, length, Ok, Err, sym, ◌∙◌, ap, ap₂}
+use Rattle.std.proofs.Common.{◌≡◌, Bool, true, false, List, [], ◌∷◌, length, Ok, Err, sym, ◌∙◌, ap, ap₂}
 use Rattle.hp_syntax.specs.Syntax.{Atom}
 use Rattle.hp_syntax.specs.Terms.{Term}
 use Rattle.hp_syntax.specs.Events.{Event, in_place, concluded}

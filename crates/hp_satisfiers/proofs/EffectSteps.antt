@@ -1,7 +1,7 @@
 -- Outcomes of effects, one after another.
 use Rattle.std.specs.Prelude.{Vec}
 use Rattle.std.specs.Global.{Global}
-use Rattle.std.proofs.Common.{◌≡◌, ℕ, ℤ, ◌+◌, ◌<◌, List, [], length, map, drop, get_or, Err, refl, sym, ◌∙◌, ap, ap₂, subst}
+use Rattle.std.proofs.Common.{◌≡◌, ℕ, ℤ, ◌+◌, ◌<◌, List, [], length, map, drop, get_or, Err, refl, sym, ◌∙◌, ap, ap₂}
 use Rattle.hp_syntax.specs.declared.pattern.AtomPat.{AtomPat}
 use Rattle.hp_syntax.specs.declared.expression.Expr.{Expr}
 use Rattle.hp_syntax.specs.declared.domain.Effect as public_effect

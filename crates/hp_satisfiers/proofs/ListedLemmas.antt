@@ -1,5 +1,5 @@
 -- Lists of satisfiers that are given one at a time.
-use Rattle.std.proofs.Common.{◌≡◌, ℕ, ◌≤◌, Option, None, List, length, sym, ◌∙◌, ap, subst, arith}
+use Rattle.std.proofs.Common.{◌≡◌, ℕ, Option, None, List, length, sym, ◌∙◌, ap, subst, arith}
 use Rattle.std.proofs.lemmas.List.{length-replicate}
 use Rattle.hp_eval.proofs.SlotLemmas.{binds_vars, undone_above}
 use Rattle.hp_eval.specs.Slotted.{Slotted, AreBelow, Binds, no_bindings, undone}

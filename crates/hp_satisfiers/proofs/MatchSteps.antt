@@ -11,11 +11,11 @@ use Rattle.hp_syntax.specs.Values.{Bindings}
 use Rattle.hp_syntax.specs.Goals.{Goal}
 use Rattle.hp_syntax.specs.Matching.{meet}
 use Rattle.hp_syntax.specs.Events as plain
-use Rattle.hp_syntax.specs.Events.{Event, Sat, Fault, sat_if, assigned, tested}
+use Rattle.hp_syntax.specs.Events.{Sat, sat_if, assigned, tested}
 use Rattle.hp_eval.specs.Growth.{Grows, Gives}
 use Rattle.hp_eval.specs.GoalViews.{term_at}
 use Rattle.hp_eval.specs.Attempts.{extended, Tries}
-use Rattle.hp_eval.specs.Slotted.{Slotted, AreBelow, Binds, Matched, named, bindings_of}
+use Rattle.hp_eval.specs.Slotted.{Slotted, AreBelow, Binds, named, bindings_of}
 use Rattle.hp_answers.specs.declared.answer.Answer.TheVariants as plain_found
 use Rattle.hp_answers.proofs.AnswerLemmas.{finds_none, finds_one, finds_same}
 use Rattle.hp_eval.proofs.CellViews.{at_named}

@@ -1,5 +1,5 @@
 -- Events in a scene stay where terms are added.
-use Rattle.std.proofs.Common.{◌≡◌, ℕ, Bool, true, List, length, Option, ◌∙◌, ap, ap₂, subst}
+use Rattle.std.proofs.Common.{◌≡◌, ℕ, Bool, true, List, length, Option, ◌∙◌, ap, ap₂}
 use Rattle.hp_syntax.specs.declared.expression.Expr.{Expr}
 use Rattle.hp_syntax.specs.Syntax.{Expression, Axiom}
 use Rattle.hp_syntax.specs.Terms.{Term}

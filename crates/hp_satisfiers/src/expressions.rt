@@ -1,5 +1,5 @@
 //! The satisfiers of expressions in a state, as lists by their definition, as far as they are heard.
-ghost use Rattle.std.specs.Prelude.{◌≡◌, ◌<◌, ◌≤◌, true, IfOk, Contains, length};
+ghost use Rattle.std.specs.Prelude.{◌<◌, true, IfOk, Contains, length};
 ghost use Rattle.hp_syntax.specs.Events as plain;
 ghost use Rattle.hp_syntax.specs.Events.{sat, axioms_of, events_of_all, events_of_any};
 ghost use Rattle.hp_syntax.specs.Views.{domain_of, atom_of, axiom_of, expression_of, expressions_of};

@@ -1,5 +1,5 @@
 //! Events without a recursion: of assignments, of calls, and of a goal by the atoms of a world.
-ghost use Rattle.std.specs.Prelude.{◌≡◌, ℕ, ◌<◌, ◌≤◌, Some, Ok, IfOk, OnOk, length};
+ghost use Rattle.std.specs.Prelude.{◌≡◌, ◌<◌, Some, Ok, IfOk, OnOk, length};
 ghost use Rattle.hp_syntax.specs.Events as plain;
 ghost use Rattle.hp_syntax.specs.Goals.{match_goal};
 ghost use Rattle.hp_syntax.specs.Matching.{meet};

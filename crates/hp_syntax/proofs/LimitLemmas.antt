@@ -6,27 +6,27 @@ use Rattle.hp_syntax.specs.declared.pattern.Span.{Span}
 use Rattle.hp_syntax.specs.declared.limits.TheConstants.{LARGEST_TEXT, LONGEST_TOKEN, DEEPEST_NESTING}
 use Rattle.hp_syntax.specs.Text.{Kind, Blank, Opening, Closing, NameByte, End, kind_at, IsToken, IsGap, Spelling, spelling_of}
 use Rattle.hp_syntax.specs.Refusal.{open_before, numeral_refusal, token_refusal, kind_refusal, is_name, refusal_at, IsClear}
-use Rattle.hp_syntax.specs.Forest.{Node, Word, Numeral, Group, Forest, Bare, Grow, span_of, IsSpelled, Spells, SpellsNode, IsForest, nesting, nesting_of_node, longest_token, longest_token_of_node}
+use Rattle.hp_syntax.specs.Forest as forest
 use Rattle.hp_syntax.proofs.TextLemmas.{kind_within, kind_at-end, token_start-run, open_in_list, level_over_gap, level_over_token, level_over_list, nothing_refused, refusal_at-within, refusal_at-end, clear_within}
 use Rattle.hp_syntax.proofs.RefusalLemmas.{clear_token_short}
 
 -- over what is spelled the brackets that are open stay
 mutual
-  level_over_node : (text : List ℕ) (n : Node) → SpellsNode text n
-      → open_before text (span_of n).to ≡ open_before text (span_of n).from
-  level_over_node text (Word s name) h = level_over_token text s.from s.to h.0.token
-  level_over_node text (Numeral s n) h = level_over_token text s.from s.to h.token
-  level_over_node text (Group s parts) h =
+  level_over_node : (text : List ℕ) (n : forest.Node) → forest.SpellsNode text n
+      → open_before text (forest.span_of n).to ≡ open_before text (forest.span_of n).from
+  level_over_node text (forest.Word s name) h = level_over_token text s.from s.to h.0.token
+  level_over_node text (forest.Numeral s n) h = level_over_token text s.from s.to h.token
+  level_over_node text (forest.Group s parts) h =
       let l = h.1 in
       ap (open_before text) (let e : s.to ≡ s.to - 1 + 1 = omega arith in e)
       ∙ level_over_list text s.from (s.to - 1) h.0 h.2 (level_over_forest text (s.from + 1) (s.to - 1) parts h.3)
 
-  level_over_forest : (text : List ℕ) (a e : ℕ) (f : Forest) → Spells text a e f
+  level_over_forest : (text : List ℕ) (a e : ℕ) (f : forest.Forest) → forest.Spells text a e f
       → open_before text e ≡ open_before text a
-  level_over_forest text a e Bare h = level_over_gap text a e h
-  level_over_forest text a e (Grow n f) h =
-      level_over_forest text (span_of n).to e f h.2
-      ∙ (level_over_node text n h.1 ∙ level_over_gap text a (span_of n).from h.0)
+  level_over_forest text a e forest.Bare h = level_over_gap text a e h
+  level_over_forest text a e (forest.Grow n f) h =
+      level_over_forest text (forest.span_of n).to e f h.2
+      ∙ (level_over_node text n h.1 ∙ level_over_gap text a (forest.span_of n).from h.0)
 
 -- nothing is refused from an offset up to another
 Passes : List ℕ → ℕ → ℕ → Type 0
@@ -64,7 +64,7 @@ module _ (text : List ℕ) (fits : length text ≤ LARGEST_TEXT) where
       last false e q = ap (λ j. numeral_refusal (spelling_of (slice_range text a j)) a) q ∙ h
 
   -- nothing is refused within a short token that spells a name or a number
-  token_passes : (s : Span) (x : Spelling) → IsSpelled text s x → s.to - s.from ≤ LONGEST_TOKEN
+  token_passes : (s : Span) (x : Spelling) → forest.IsSpelled text s x → s.to - s.from ≤ LONGEST_TOKEN
       → numeral_refusal x s.from ≡ None → Passes text s.from s.to
   unfolding Passes
   token_passes s x h l r = λ i u v.
@@ -96,32 +96,32 @@ module _ (text : List ℕ) (fits : length text ≤ LARGEST_TEXT) where
 
   -- nothing is refused of what is spelled within the limits
   mutual
-    node_passes : (n : Node) → SpellsNode text n → longest_token_of_node n ≤ LONGEST_TOKEN
-        → nesting_of_node n + length (open_before text (span_of n).from) ≤ DEEPEST_NESTING
-        → Passes text (span_of n).from (span_of n).to
-    node_passes (Word s name) h l d = token_passes s _ h.0 l refl
-    node_passes (Numeral s n) h l d = token_passes s _ h l refl
-    node_passes (Group s parts) h l d =
+    node_passes : (n : forest.Node) → forest.SpellsNode text n → forest.longest_token_of_node n ≤ LONGEST_TOKEN
+        → forest.nesting_of_node n + length (open_before text (forest.span_of n).from) ≤ DEEPEST_NESTING
+        → Passes text (forest.span_of n).from (forest.span_of n).to
+    node_passes (forest.Word s name) h l d = token_passes s _ h.0 l refl
+    node_passes (forest.Numeral s n) h l d = token_passes s _ h l refl
+    node_passes (forest.Group s parts) h l d =
         let m = h.1 in
         let o = ap length (open_in_list text s.from h.0) in
         subst (Passes text s.from) (let e : s.to - 1 + 1 ≡ s.to = omega arith in e)
         (list_passes s.from (s.to - 1) h.0 h.2 (omega arith) (level_over_forest text (s.from + 1) (s.to - 1) parts h.3)
         (forest_passes (s.from + 1) (s.to - 1) parts h.3 l (omega arith)))
 
-    forest_passes : (a e : ℕ) (f : Forest) → Spells text a e f → longest_token f ≤ LONGEST_TOKEN
-        → nesting f + length (open_before text a) ≤ DEEPEST_NESTING → Passes text a e
-    forest_passes a e Bare h l d = gap_passes a e h
-    forest_passes a e (Grow n f) h l d =
-        let p = ap length (level_over_gap text a (span_of n).from h.0) in
+    forest_passes : (a e : ℕ) (f : forest.Forest) → forest.Spells text a e f → forest.longest_token f ≤ LONGEST_TOKEN
+        → forest.nesting f + length (open_before text a) ≤ DEEPEST_NESTING → Passes text a e
+    forest_passes a e forest.Bare h l d = gap_passes a e h
+    forest_passes a e (forest.Grow n f) h l d =
+        let p = ap length (level_over_gap text a (forest.span_of n).from h.0) in
         let q = ap length (level_over_node text n h.1) in
         let x = node_passes n h.1 (omega arith) (omega arith) in
-        let y = forest_passes (span_of n).to e f h.2 (omega arith) (omega arith) in
-        passes_both text a (span_of n).from e (gap_passes a (span_of n).from h.0)
-        (passes_both text (span_of n).from (span_of n).to e x y)
+        let y = forest_passes (forest.span_of n).to e f h.2 (omega arith) (omega arith) in
+        passes_both text a (forest.span_of n).from e (gap_passes a (forest.span_of n).from h.0)
+        (passes_both text (forest.span_of n).from (forest.span_of n).to e x y)
 
   -- a forest that a text spells within the limits is its forest
-  pub limits_clear : (f : Forest) → Spells text 0 (length text) f → longest_token f ≤ LONGEST_TOKEN
-      → nesting f ≤ DEEPEST_NESTING → IsForest text f
+  pub limits_clear : (f : forest.Forest) → forest.Spells text 0 (length text) f → forest.longest_token f ≤ LONGEST_TOKEN
+      → forest.nesting f ≤ DEEPEST_NESTING → forest.IsForest text f
   unfolding Passes open_before
   limits_clear f h l d = record {
     spelled = h;
@@ -159,26 +159,28 @@ module _ (text : List ℕ) (clear : IsClear text (length text + 1)) where
 
   -- the forest of a clear text keeps the limits
   mutual
-    node_keeps : (n : Node) → SpellsNode text n → length (open_before text (span_of n).from) ≤ DEEPEST_NESTING
-        → (longest_token_of_node n ≤ LONGEST_TOKEN)
-        × (nesting_of_node n + length (open_before text (span_of n).from) ≤ DEEPEST_NESTING)
-    node_keeps (Word s name) h d = (token_keeps s h.0.token, omega arith)
-    node_keeps (Numeral s n) h d = (token_keeps s h.token, omega arith)
-    node_keeps (Group s parts) h d =
+    node_keeps : (n : forest.Node) → forest.SpellsNode text n → length
+        (open_before text (forest.span_of n).from) ≤ DEEPEST_NESTING
+        → (forest.longest_token_of_node n ≤ LONGEST_TOKEN)
+        × (forest.nesting_of_node n + length (open_before text (forest.span_of n).from) ≤ DEEPEST_NESTING)
+    node_keeps (forest.Word s name) h d = (token_keeps s h.0.token, omega arith)
+    node_keeps (forest.Numeral s n) h d = (token_keeps s h.token, omega arith)
+    node_keeps (forest.Group s parts) h d =
         let o = ap length (open_in_list text s.from h.0) in
         let l = bracket_keeps s.from h.0 in
         let r = forest_keeps (s.from + 1) (s.to - 1) parts h.3 (omega arith) in
         let m = r.1 in
         (r.0, omega arith)
 
-    forest_keeps : (a e : ℕ) (f : Forest) → Spells text a e f → length (open_before text a) ≤ DEEPEST_NESTING
-        → (longest_token f ≤ LONGEST_TOKEN) × (nesting f + length (open_before text a) ≤ DEEPEST_NESTING)
-    forest_keeps a e Bare h d = (omega arith, omega arith)
-    forest_keeps a e (Grow n f) h d =
-        let p = ap length (level_over_gap text a (span_of n).from h.0) in
+    forest_keeps : (a e : ℕ) (f : forest.Forest) → forest.Spells text a e f
+        → length (open_before text a) ≤ DEEPEST_NESTING
+        → (forest.longest_token f ≤ LONGEST_TOKEN) × (forest.nesting f + length (open_before text a) ≤ DEEPEST_NESTING)
+    forest_keeps a e forest.Bare h d = (omega arith, omega arith)
+    forest_keeps a e (forest.Grow n f) h d =
+        let p = ap length (level_over_gap text a (forest.span_of n).from h.0) in
         let q = ap length (level_over_node text n h.1) in
         let x = node_keeps n h.1 (omega arith) in
-        let y = forest_keeps (span_of n).to e f h.2 (omega arith) in
+        let y = forest_keeps (forest.span_of n).to e f h.2 (omega arith) in
         let x0 = x.0 in
         let x1 = x.1 in
         let y0 = y.0 in
@@ -186,8 +188,8 @@ module _ (text : List ℕ) (clear : IsClear text (length text + 1)) where
         (omega arith, omega arith)
 
 -- the forest of a text keeps the limits
-pub forest_keeps_limits : (text : List ℕ) (f : Forest) → IsForest text f
-    → (length text ≤ LARGEST_TEXT) × (longest_token f ≤ LONGEST_TOKEN) × (nesting f ≤ DEEPEST_NESTING)
+pub forest_keeps_limits : (text : List ℕ) (f : forest.Forest) → forest.IsForest text f
+    → (length text ≤ LARGEST_TEXT) × (forest.longest_token f ≤ LONGEST_TOKEN) × (forest.nesting f ≤ DEEPEST_NESTING)
 unfolding open_before
 forest_keeps_limits text f h =
     let k = forest_keeps text h.clear 0 (length text) f h.spelled (omega arith) in

@@ -2,7 +2,7 @@
 use Rattle.std.proofs.Common.{◌≡◌, ℕ, zero, suc, ◌+◌, ◌-◌, ◌<◌, ◌≤◌, false, List, [], ◌∷◌, length, Some, None, refl, sym, ◌∙◌, ap, arith, subst, ◌⊎◌, inl, inr, ⊎_elim}
 use Rattle.std.specs.Prelude.{slice_range}
 use Rattle.std.proofs.lemmas.Bool.{cases_eq}
-use Rattle.hp_syntax.specs.Text.{Kind, Blank, Opening, Closing, NameByte, Bad, End, kind_at, IsOutside, IsToken, IsGap, Spelling, AName, ANumber, NoNumber, OutOfRange, spelling_of}
+use Rattle.hp_syntax.specs.Text as texts
 use Rattle.hp_syntax.specs.Refusal.{Refusal, IsRefused, opened, open_before, numeral_refusal, IsClear}
 use Rattle.hp_syntax.specs.Forest.{Node, Word, Numeral, Group, Forest, Bare, Grow, span_of, Spells, SpellsNode, IsForest}
 use Rattle.hp_syntax.specs.Places.{Way, GoesOn, OverABlank, OverAToken, IntoAList, OutOfAList, ToTheEnd, ToARefusal, InAToken}
@@ -18,15 +18,15 @@ record SpelledFrom (text : List ℕ) (a : ℕ) : Type 0 where
   order : a ≤ end
   within : end ≤ length text
   spelled : Spells text a end forest
-  ends : begins_node (kind_at text end) ≡ Some false
+  ends : begins_node (texts.kind_at text end) ≡ Some false
   level : open_before text end ≡ open_before text a
 
 -- no bytes are a gap
-no_gap : (text : List ℕ) (a : ℕ) → IsGap text a a
+no_gap : (text : List ℕ) (a : ℕ) → texts.IsGap text a a
 no_gap text a = record { order = omega arith; blank = λ i l m. absurd (omega arith) }
 
 -- where a forest may end the text spells one without nodes
-spelled_bare : (text : List ℕ) (a : ℕ) → a ≤ length text → begins_node (kind_at text a) ≡ Some false
+spelled_bare : (text : List ℕ) (a : ℕ) → a ≤ length text → begins_node (texts.kind_at text a) ≡ Some false
     → SpelledFrom text a
 spelled_bare text a w e = record {
   end = a;
@@ -39,22 +39,25 @@ spelled_bare text a w e = record {
 }
 
 -- a blank before a gap makes it longer
-longer_gap : (text : List ℕ) (a b : ℕ) → kind_at text a ≡ Blank → IsGap text (a + 1) b → IsGap text a b
+longer_gap : (text : List ℕ) (a b : ℕ) → texts.kind_at text a ≡ texts.Blank → texts.IsGap text (a + 1) b
+    → texts.IsGap text a b
 longer_gap text a b k g =
     let o = g.order in
     record {
       order = omega arith;
-      blank = λ i l m. ⊎_elim (λ e. ap (kind_at text) (sym e) ∙ k) (λ n. g.blank i (omega arith) m) (cases_eq a i);
+      blank = λ i l m. ⊎_elim (λ e. ap (texts.kind_at text) (sym e) ∙ k) (λ n. g.blank i (omega arith) m)
+          (cases_eq a i);
     }
 
 -- a forest that is spelled behind a blank is spelled before it
-longer_spelled : (text : List ℕ) (a e : ℕ) (f : Forest) → kind_at text a ≡ Blank → Spells text (a + 1) e f
+longer_spelled : (text : List ℕ) (a e : ℕ) (f : Forest) → texts.kind_at text a ≡ texts.Blank → Spells text (a + 1) e f
     → Spells text a e f
 longer_spelled text a e Bare k h = longer_gap text a e k h
 longer_spelled text a e (Grow n f) k h = (longer_gap text a (span_of n).from k h.0, h.1, h.2)
 
 -- a forest is spelled from a blank if one is behind it
-spelled_blank : (text : List ℕ) (a : ℕ) → kind_at text a ≡ Blank → SpelledFrom text (a + 1) → SpelledFrom text a
+spelled_blank : (text : List ℕ) (a : ℕ) → texts.kind_at text a ≡ texts.Blank → SpelledFrom text (a + 1)
+    → SpelledFrom text a
 spelled_blank text a k r = record {
   end = r.end;
   forest = r.forest;
@@ -80,43 +83,45 @@ spelled_node text n h l o r = record {
 }
 
 -- a forest is spelled from a token that isn't refused if one is behind it
-spelled_token : (text : List ℕ) (a b : ℕ) → IsToken text a b → (x : Spelling) → spelling_of (slice_range text a b) ≡ x
+spelled_token : (text : List ℕ) (a b : ℕ) → texts.IsToken text a b → (x : texts.Spelling)
+    → texts.spelling_of (slice_range text a b) ≡ x
     → numeral_refusal x a ≡ None → SpelledFrom text b → SpelledFrom text a
-spelled_token text a b t AName e h r =
+spelled_token text a b t texts.AName e h r =
     spelled_node text (Word (record { from = a; to = b }) (slice_range text a b))
     (record { token = t; spells = e }, refl) t.some (level_over_token text a b t) r
-spelled_token text a b t (ANumber n) e h r =
+spelled_token text a b t (texts.ANumber n) e h r =
     spelled_node text (Numeral (record { from = a; to = b }) n)
     (record { token = t; spells = e }) t.some (level_over_token text a b t) r
-spelled_token text a b t NoNumber e h r = absurd cc
-spelled_token text a b t OutOfRange e h r = absurd cc
+spelled_token text a b t texts.NoNumber e h r = absurd cc
+spelled_token text a b t texts.OutOfRange e h r = absurd cc
 
 -- a forest is spelled from an opening bracket if one is in the list and one behind it
-spelled_list : (text : List ℕ) (a : ℕ) → kind_at text a ≡ Opening → (r : SpelledFrom text (a + 1))
-    → kind_at text r.end ≡ Closing → SpelledFrom text (r.end + 1) → SpelledFrom text a
+spelled_list : (text : List ℕ) (a : ℕ) → texts.kind_at text a ≡ texts.Opening → (r : SpelledFrom text (a + 1))
+    → texts.kind_at text r.end ≡ texts.Closing → SpelledFrom text (r.end + 1) → SpelledFrom text a
 spelled_list text a k r c s =
     let o = r.order in
     let e : r.end ≡ r.end + 1 - 1 = omega arith in
-    let z : kind_at text (r.end + 1 - 1) ≡ Closing = ap (kind_at text) (sym e) ∙ c in
+    let z : texts.kind_at text (r.end + 1 - 1) ≡ texts.Closing = ap (texts.kind_at text) (sym e) ∙ c in
     spelled_node text (Group (record { from = a; to = r.end + 1 }) r.forest)
     (k, omega arith, z, subst (λ i. Spells text (a + 1) i r.forest) e r.spelled)
     (omega arith) (level_over_list text a r.end k c r.level) s
 
 -- a forest ends before a closing bracket or with the text
-ends_before : (k : Kind) → begins_node k ≡ Some false → (k ≡ Closing) ⊎ (k ≡ End)
-ends_before Closing h = inl refl
-ends_before End h = inr refl
-ends_before NameByte h = absurd cc
-ends_before Opening h = absurd cc
-ends_before Blank h = absurd cc
-ends_before Bad h = absurd cc
+ends_before : (k : texts.Kind) → begins_node k ≡ Some false → (k ≡ texts.Closing) ⊎ (k ≡ texts.End)
+ends_before texts.Closing h = inl refl
+ends_before texts.End h = inr refl
+ends_before texts.NameByte h = absurd cc
+ends_before texts.Opening h = absurd cc
+ends_before texts.Blank h = absurd cc
+ends_before texts.Bad h = absurd cc
 
 module _ (text : List ℕ) (clear : IsClear text (length text + 1)) where
   -- a clear text does not end in a list
-  closes : (a : ℕ) → kind_at text a ≡ Opening → (r : SpelledFrom text (a + 1)) → kind_at text r.end ≡ Closing
-  closes a k r = ⊎_elim (λ c. c) (λ e. absurd (unclosed e)) (ends_before (kind_at text r.end) r.ends)
+  closes : (a : ℕ) → texts.kind_at text a ≡ texts.Opening → (r : SpelledFrom text (a + 1)) → texts.kind_at text r.end
+      ≡ texts.Closing
+  closes a k r = ⊎_elim (λ c. c) (λ e. absurd (unclosed e)) (ends_before (texts.kind_at text r.end) r.ends)
     where
-      unclosed : kind_at text r.end ≡ End → ⊥
+      unclosed : texts.kind_at text r.end ≡ texts.End → ⊥
       unclosed e =
           let l = r.within in
           let o : open_before text r.end ≡ a ∷ open_before text a = r.level ∙ open_in_list text a k in
@@ -124,8 +129,9 @@ module _ (text : List ℕ) (clear : IsClear text (length text + 1)) where
           cc
 
   -- a forest is spelled from an opening bracket if one is in the list and from each place behind it
-  read_list : (a : ℕ) → kind_at text a ≡ Opening → SpelledFrom text (a + 1)
-      → ((b : ℕ) → a < b → b ≤ length text → (kind_at text b ≡ NameByte → IsOutside text b) → SpelledFrom text b)
+  read_list : (a : ℕ) → texts.kind_at text a ≡ texts.Opening → SpelledFrom text (a + 1)
+      → ((b : ℕ) → a < b → b ≤ length text → (texts.kind_at text b ≡ texts.NameByte → texts.IsOutside text b)
+      → SpelledFrom text b)
       → SpelledFrom text a
   read_list a k r again =
       let c = closes a k r in
@@ -136,7 +142,8 @@ module _ (text : List ℕ) (clear : IsClear text (length text + 1)) where
 
   -- a forest is spelled from a place if one is from each place behind it
   read_on : (a : ℕ) (way : Way) → a ≤ length text → GoesOn text a way
-      → ((b : ℕ) → a < b → b ≤ length text → (kind_at text b ≡ NameByte → IsOutside text b) → SpelledFrom text b)
+      → ((b : ℕ) → a < b → b ≤ length text → (texts.kind_at text b ≡ texts.NameByte → texts.IsOutside text b)
+      → SpelledFrom text b)
       → SpelledFrom text a
   read_on a way w (OverABlank q k h) again =
       let l = kind_within text a (λ e. absurd cc) in
@@ -144,7 +151,7 @@ module _ (text : List ℕ) (clear : IsClear text (length text + 1)) where
   read_on a way w (OverAToken to q t c) again =
       let s : a < to = t.some in
       let l = kind_within text (to - 1) (λ e. let k = t.run (to - 1) (omega arith) (omega arith) in absurd cc) in
-      spelled_token text a to t (spelling_of (slice_range text a to)) refl (clear_token_spelling text a to t c)
+      spelled_token text a to t (texts.spelling_of (slice_range text a to)) refl (clear_token_spelling text a to t c)
       (again to s (omega arith) (λ n. absurd (t.ends n)))
   read_on a way w (IntoAList q k h) again =
       let l = kind_within text a (λ e. absurd cc) in
@@ -159,7 +166,8 @@ module _ (text : List ℕ) (clear : IsClear text (length text + 1)) where
       absurd cc
 
   -- from each place of a clear text a forest is spelled
-  read : (fuel a : ℕ) → length text < a + fuel → a ≤ length text → (kind_at text a ≡ NameByte → IsOutside text a)
+  read : (fuel a : ℕ) → length text < a + fuel → a ≤ length text
+      → (texts.kind_at text a ≡ texts.NameByte → texts.IsOutside text a)
       → SpelledFrom text a
   read zero a l w o = absurd (omega arith)
   read (suc d) a l w o =
@@ -167,11 +175,11 @@ module _ (text : List ℕ) (clear : IsClear text (length text + 1)) where
       read_on a g.0 w g.1 (λ b m x y. read d b (omega arith) x y)
 
   -- a forest that is spelled from the start ends with the text, since no bracket is open there
-  ends_with_text : (r : SpelledFrom text 0) → kind_at text r.end ≡ End
+  ends_with_text : (r : SpelledFrom text 0) → texts.kind_at text r.end ≡ texts.End
   unfolding open_before
-  ends_with_text r = ⊎_elim (λ c. absurd (extra c)) (λ e. e) (ends_before (kind_at text r.end) r.ends)
+  ends_with_text r = ⊎_elim (λ c. absurd (extra c)) (λ e. e) (ends_before (texts.kind_at text r.end) r.ends)
     where
-      extra : kind_at text r.end ≡ Closing → ⊥
+      extra : texts.kind_at text r.end ≡ texts.Closing → ⊥
       extra c =
           let l = r.within in
           let o : open_before text r.end ≡ [] = r.level in

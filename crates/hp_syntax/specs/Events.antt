@@ -3,7 +3,6 @@ use Rattle.std.specs.Prelude.{ℕ, zero, suc, Bool, true, false, ◌&&◌, cond,
 use Rattle.hp_syntax.specs.declared.pattern.Tail.{Tail}
 use Rattle.hp_syntax.specs.declared.fault.RunFault.{RunFault}
 use Rattle.hp_syntax.specs.declared.fault.FaultKind.TheVariants.{NotGround}
-use Rattle.hp_syntax.specs.Syntax.{Pattern, Patterns, Variable, Listing, Call, NoPattern, Before, Atom, Expression, Expressions, Holds, And, Or, Not, Forall, Assign, Test, NoExpression, Also, Clause, Axiom, Rule, Does, Refines, Concludes}
 use Rattle.hp_syntax.specs.Syntax as syntax
 use Rattle.hp_syntax.specs.Terms.{Term, Listed, NoTerm, More, Symbol, Number}
 use Rattle.hp_syntax.specs.Calls.{fault_at}
@@ -107,26 +106,26 @@ tested (Ok (Symbol name)) e = Sat e ∷ []
 tested (Ok (Number n)) e = Sat e ∷ []
 
 -- the variables that a `forall` lists change nothing
-module _ (atom_events : Atom → Bindings → List Event) where
+module _ (atom_events : syntax.Atom → Bindings → List Event) where
   unfoldable mutual
-    pub events : Expression → Bindings → List Event
-    events (Holds s a) e = atom_events a e
-    events (And s ps) e = events_of_all ps e
-    events (Or s ps) e = events_of_any ps e
-    events (Not s p) e = negated (finding (events p e)) e
-    events (Forall s vs y z) e =
+    pub events : syntax.Expression → Bindings → List Event
+    events (syntax.Holds s a) e = atom_events a e
+    events (syntax.And s ps) e = events_of_all ps e
+    events (syntax.Or s ps) e = events_of_any ps e
+    events (syntax.Not s p) e = negated (finding (events p e)) e
+    events (syntax.Forall s vs y z) e =
         negated (finding (through (events y e) (λ b. negated (finding (events z b)) b))) e
-    events (Assign s v p) e = assigned (value p e) v e
-    events (Test s p) e = tested (value p e) e
+    events (syntax.Assign s v p) e = assigned (value p e) v e
+    events (syntax.Test s p) e = tested (value p e) e
 
     -- the rest of a conjunction stands in the place of each Sat of its first part
-    pub events_of_all : Expressions → Bindings → List Event
-    events_of_all NoExpression e = Sat e ∷ []
-    events_of_all (Also p ps) e = through (events p e) (λ b. events_of_all ps b)
+    pub events_of_all : syntax.Expressions → Bindings → List Event
+    events_of_all syntax.NoExpression e = Sat e ∷ []
+    events_of_all (syntax.Also p ps) e = through (events p e) (λ b. events_of_all ps b)
 
-    pub events_of_any : Expressions → Bindings → List Event
-    events_of_any NoExpression e = []
-    events_of_any (Also p ps) e = events p e ++ events_of_any ps e
+    pub events_of_any : syntax.Expressions → Bindings → List Event
+    events_of_any syntax.NoExpression e = []
+    events_of_any (syntax.Also p ps) e = events p e ++ events_of_any ps e
 
 -- ---- atoms: by the state, and by axioms
 
@@ -147,16 +146,16 @@ tail_is_bound (Some t) b = is_bound b t.var
 
 -- each variable stands for a term
 unfoldable mutual
-  pub all_bound : Pattern → Bindings → Bool
-  all_bound (Variable s v) b = is_bound b v
+  pub all_bound : syntax.Pattern → Bindings → Bool
+  all_bound (syntax.Variable s v) b = is_bound b v
   all_bound (syntax.Symbol s name) b = true
   all_bound (syntax.Number s n) b = true
-  all_bound (Listing s ps tail) b = parts_bound ps b && tail_is_bound tail b
-  all_bound (Call s name args) b = parts_bound args b
+  all_bound (syntax.Listing s ps tail) b = parts_bound ps b && tail_is_bound tail b
+  all_bound (syntax.Call s name args) b = parts_bound args b
 
-  pub parts_bound : Patterns → Bindings → Bool
-  parts_bound NoPattern b = true
-  parts_bound (Before p ps) b = all_bound p b && parts_bound ps b
+  pub parts_bound : syntax.Patterns → Bindings → Bool
+  parts_bound syntax.NoPattern b = true
+  parts_bound (syntax.Before p ps) b = all_bound p b && parts_bound ps b
 
 -- the conclusion of an axiom, once its head is valued
 abbrev pub concluded_value : Result Term RunFault → Goal → Bindings → List Event
@@ -165,51 +164,51 @@ concluded_value (Ok t) q e = sat_if (match_goal q t e)
 
 -- an axiom's bindings conclude the value of its head, which the goal must match; a head with a variable that
 -- stands for nothing is a fault at the head, whatever else valuing it would meet
-abbrev pub concluded : Atom → Bindings → Goal → Bindings → List Event
+abbrev pub concluded : syntax.Atom → Bindings → Goal → Bindings → List Event
 concluded h b q e =
     cond (parts_bound h.args b && tail_is_bound h.tail b) (concluded_value (atom_value h b) q e)
     (Fault (fault_at NotGround h.span) ∷ [])
 
 -- the axioms of a domain, in order
-abbrev pub axiom_if : Rule → Option Axiom
-axiom_if (Concludes x) = Some x
-axiom_if (Does o) = None
-axiom_if (Refines m) = None
+abbrev pub axiom_if : syntax.Rule → Option syntax.Axiom
+axiom_if (syntax.Concludes x) = Some x
+axiom_if (syntax.Does o) = None
+axiom_if (syntax.Refines m) = None
 
-abbrev pub axioms_of : List Rule → List Axiom
+abbrev pub axioms_of : List syntax.Rule → List syntax.Axiom
 axioms_of rules = filter_map axiom_if rules
 
 -- the events of an expression one axiom level down, where a level is left
 abbrev pub Below : Type 0
-Below = Option (Expression → Bindings → List Event)
+Below = Option (syntax.Expression → Bindings → List Event)
 
 -- the first branch of an axiom that has any events one level down; where no level is left, a cut
-abbrev pub branch_events : Below → Axiom → Bindings → List Event
+abbrev pub branch_events : Below → syntax.Axiom → Bindings → List Event
 branch_events None x b = Cut ∷ []
 branch_events (Some below) x b = chosen_events (chosen (λ c. below c.body b) x.clauses)
 
 -- the conclusions of an axiom's branches, one for each Sat, where its head started
-abbrev pub started_events : Below → Axiom → Option Bindings → Goal → Bindings → List Event
+abbrev pub started_events : Below → syntax.Axiom → Option Bindings → Goal → Bindings → List Event
 started_events below x None q e = []
 started_events below x (Some b) q e = through (branch_events below x b) (λ d. concluded x.head d q e)
 
 -- a goal is satisfied by an axiom whose head starts from it
-abbrev pub axiom_events : Below → Axiom → Goal → Bindings → List Event
+abbrev pub axiom_events : Below → syntax.Axiom → Goal → Bindings → List Event
 axiom_events below x q e = started_events below x (start_goal x.head q (unbound (length x.vars))) q e
 
 -- a goal is satisfied by the state's atoms, and then by the axioms in the order of the domain
-abbrev pub goal_events : List Axiom → Below → State → Goal → Bindings → List Event
+abbrev pub goal_events : List syntax.Axiom → Below → State → Goal → Bindings → List Event
 goal_events axioms below s q e = state_events s q e ++ flat_map (λ x. axiom_events below x q e) axioms
 
 -- a fault of filling an atom is all there is
-abbrev pub filled_events : List Axiom → Below → State → Result Goal RunFault → Bindings → List Event
+abbrev pub filled_events : List syntax.Axiom → Below → State → Result Goal RunFault → Bindings → List Event
 filled_events axioms below s (Err f) e = Fault f ∷ []
 filled_events axioms below s (Ok q) e = goal_events axioms below s q e
 
-abbrev pub atom_events : List Axiom → Below → State → Atom → Bindings → List Event
+abbrev pub atom_events : List syntax.Axiom → Below → State → syntax.Atom → Bindings → List Event
 atom_events axioms below s a e = filled_events axioms below s (fill_goal a e) e
 
 -- the satisfiers of an expression in a state, with so many axiom levels left
-unfoldable pub sat : List Axiom → ℕ → State → Expression → Bindings → List Event
+unfoldable pub sat : List syntax.Axiom → ℕ → State → syntax.Expression → Bindings → List Event
 sat axioms zero s E e = events (atom_events axioms None s) E e
 sat axioms (suc n) s E e = events (atom_events axioms (Some (sat axioms n s)) s) E e

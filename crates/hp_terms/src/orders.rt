@@ -1,6 +1,6 @@
 //! Orders of sorting, by their names.
 
-ghost use Rattle.std.specs.Prelude.{◌≡◌, Ok};
+ghost use Rattle.std.specs.Prelude.{Ok};
 ghost use Rattle.hp_syntax.specs.Grammar as grammar;
 ghost use Rattle.hp_syntax.specs.Views.{order_of};
 ghost use Rattle.hp_terms.specs.FormReads.{Gives};

@@ -1,7 +1,7 @@
 //! Reading a whole text: first its refusal, and where it has none its nodes, by recursion over its
 //! lists.
 
-ghost use Rattle.std.specs.Prelude.{◌≡◌, ◌⊎◌, ◌+◌, ◌<◌, length, map, IfOk, IfErr};
+ghost use Rattle.std.specs.Prelude.{◌≡◌, ◌+◌, ◌<◌, length, map, IfOk, IfErr};
 ghost use Rattle.hp_syntax.specs.Forest.{IsForest};
 ghost use Rattle.hp_syntax.specs.Refusal.{Refusal, IsClear, IsRefused};
 ghost use Rattle.hp_syntax.specs.Text.{Opening, Closing, NameByte, IsOutside, kind_at};

@@ -25,10 +25,9 @@ use Rattle.hp_syntax.specs.TextForms.{Form, IsRead}
 use Rattle.hp_syntax.specs.Walk.{Visit}
 use Rattle.hp_top.specs.declared.loading.LoadError.{LoadError}
 use Rattle.hp_top.specs.declared.loading.LoadError.TheVariants as causes
-use Rattle.hp_top.specs.Command.{Command, Job, Planning, Checking, Showing, Summing, Request, OnFiles, Listing, accepts, make_command, named, file_named, on_files}
+use Rattle.hp_top.specs.Command.{Command, Job, Planning, Checking, Showing, Summing, Request, OnFiles, Listing, accepts, named, file_named, on_files}
 use Rattle.hp_top.specs.Making.{made_files, made_command}
 use Rattle.hp_top.specs.Outcome as outcome
-use Rattle.hp_top.specs.Outcome.{Files, Outcome, Comes, LoadsFile, LoadsFiles, LoadsDomain, answer_to, walk_of_pairs, job_answer, unless_faulty, first_fault, answer_of_read, answer_of_pair, listing_answer, IsUnreadable, Why, InText, InForm, refused_status, refusal_status, refusal_of, refusal_answer}
 use Rattle.hp_top.specs.Loading as loading
 use Rattle.hp_top.specs.Loading.{ToldFile, FolderRun, Holds, Reads, IsUnread, StopsAt, LoadsBoth, LoadsAlone}
 use Rattle.hp_top.specs.Run.{TellsFiles, IsOutcome, RefusesWords, IsStopped, IsReadLine, ReadFails, CouldWrite, OfOutcome, OfReading, WritesPrefix, WritesProperPrefix}
@@ -71,32 +70,33 @@ plan_answers : (k : ℕ) (states : Bool) (vs : List Visit) → IsAnswer (plan_re
 unfolding plan_report
 plan_answers k states vs = report_answers (plan_of states) k vs
 
-refused_answers : (which : Input) → IsAnswer (refused_status which)
+refused_answers : (which : Input) → IsAnswer (outcome.refused_status which)
 refused_answers inputs.Domain = tt
 refused_answers inputs.Problem = tt
 
-why_answers : (which : Input) (why : Why) → IsAnswer (refusal_status (refusal_of which why))
-why_answers which (InText r) = refused_answers which
-why_answers which (InForm (Expected what s)) = refused_answers which
-why_answers which (InForm (SeveralPairs s)) = tt
+why_answers : (which : Input) (why : outcome.Why) → IsAnswer (outcome.refusal_status (outcome.refusal_of which why))
+why_answers which (outcome.InText r) = refused_answers which
+why_answers which (outcome.InForm (Expected what s)) = refused_answers which
+why_answers which (outcome.InForm (SeveralPairs s)) = tt
 
-job_answers : (j : Job) (d : Domain) (p : Problem) → IsAnswer (job_answer j d p).1
-job_answers (Planning k n o) d p = plan_answers k o.states (walk_of_pairs d.rules o.levels p.pairs n)
+job_answers : (j : Job) (d : Domain) (p : Problem) → IsAnswer (outcome.job_answer j d p).1
+job_answers (Planning k n o) d p = plan_answers k o.states (outcome.walk_of_pairs d.rules o.levels p.pairs n)
 job_answers Checking d p = tt
 job_answers Showing d p = tt
-job_answers (Summing seed n) d p = report_answers line_of 1 (walk_of_pairs d.rules USUAL_LEVELS p.pairs MADE_DEPTH)
+job_answers (Summing seed n) d p = report_answers line_of 1 (outcome.walk_of_pairs d.rules USUAL_LEVELS p.pairs
+    MADE_DEPTH)
 
-checks_answer : (f : Option CheckFault) (a : Answer) → IsAnswer a.1 → IsAnswer (unless_faulty f a).1
+checks_answer : (f : Option CheckFault) (a : Answer) → IsAnswer a.1 → IsAnswer (outcome.unless_faulty f a).1
 checks_answer (Some f) a h = refused_answers (text_of f.in_problem)
 checks_answer None a h = h
 
-read_answers : (c : Command) (d : Domain) (p : Problem) → IsAnswer (answer_of_read c d p).1
-read_answers c d p = checks_answer (first_fault d p) (job_answer c.job d p) (job_answers c.job d p)
+read_answers : (c : Command) (d : Domain) (p : Problem) → IsAnswer (outcome.answer_of_read c d p).1
+read_answers c d p = checks_answer (outcome.first_fault d p) (outcome.job_answer c.job d p) (job_answers c.job d p)
 
-pair_answers : (c : Command) (x : Domain × Problem) → IsAnswer (answer_of_pair c x).1
+pair_answers : (c : Command) (x : Domain × Problem) → IsAnswer (outcome.answer_of_pair c x).1
 pair_answers c x = read_answers c x.0 x.1
 
-listing_answers : (d : Domain) → IsAnswer (listing_answer d).1
+listing_answers : (d : Domain) → IsAnswer (outcome.listing_answer d).1
 listing_answers d = checks_answer (first_of (domain_faults d)) (listing_text (compiled d.rules), status.Done) tt
 
 -- ---- what is loaded
@@ -129,7 +129,8 @@ module _ (folder : FolderRun) where
     ForMemory : loaded ≡ Err causes.NoMemory → Known names loaded
     ForReading : (which : Input) (name : List ℕ) → loaded ≡ Err (causes.Refused (refusals.Read which))
         → names which ≡ Some name → IsUnread which (folder.file name) folder.before folder.now → Known names loaded
-    ForText : (which : Input) (why : Why) → loaded ≡ Err (causes.Refused (refusal_of which why)) → Known names loaded
+    ForText : (which : Input) (why : outcome.Why) → loaded ≡ Err (causes.Refused (outcome.refusal_of which why))
+        → Known names loaded
     ForAnswer : (x : X) → loaded ≡ Ok x → Known names loaded
 
   -- a stop at a file that is named
@@ -143,16 +144,16 @@ module _ (folder : FolderRun) where
       ForText which why (i ∙ ap Err e)
 
   -- a cause is one that the files have: memory isn't wanting, and what is unread is missing
-  abbrev IsExact : Files → LoadError → Type 0
+  abbrev IsExact : outcome.Files → LoadError → Type 0
   IsExact files cause =
       (cause ≢ causes.NoMemory)
       × ((which : Input) (name : List ℕ) → cause ≡ causes.Refused (refusals.Read which)
       → IsUnread which (folder.file name) folder.before folder.now → files name ≡ None)
 
-  module _ (files : Files) (told : TellsFiles folder.file files) where
+  module _ (files : outcome.Files) (told : TellsFiles folder.file files) where
     -- the reading of a told file is the load of the file
     good_exact : {A : Type 0} (which : Input) (form : Form A) (name : List ℕ) (x : A) → Reads form (folder.file name) x
-        → LoadsFile which form (files name) (Ok x)
+        → outcome.LoadsFile which form (files name) (Ok x)
     good_exact which form name x h =
         let t = told_text (λ t. IsRead form t x) (folder.file name) (files name) (told name) h in
         outcome.LoadsFile.Good t.0 x t.1 t.2 refl
@@ -160,13 +161,13 @@ module _ (folder : FolderRun) where
     -- a stop at a told file refuses the file
     bad_exact : {A : Type 0} (which : Input) (form : Form A) (name : List ℕ) (cause : LoadError) → IsExact files cause
         → StopsAt which form cause (folder.file name) folder.before folder.now
-        → (r : Refusal) × LoadsFile which form (files name) (Err r) × (cause ≡ causes.Refused r)
+        → (r : Refusal) × outcome.LoadsFile which form (files name) (Err r) × (cause ≡ causes.Refused r)
     bad_exact which form name cause p (loading.StopsAt.WithoutMemory e) = absurd (p.0 e)
     bad_exact which form name cause p (loading.StopsAt.Unread e u) =
         (refusals.Read which, outcome.LoadsFile.Missing (p.1 which name e u) refl, e)
     bad_exact which form name cause p (loading.StopsAt.Unreadable why e h) =
-        let t = told_text (λ t. IsUnreadable form t why) (folder.file name) (files name) (told name) h in
-        (refusal_of which why, outcome.LoadsFile.Bad t.0 why t.1 t.2 refl, e)
+        let t = told_text (λ t. outcome.IsUnreadable form t why) (folder.file name) (files name) (told name) h in
+        (outcome.refusal_of which why, outcome.LoadsFile.Bad t.0 why t.1 t.2 refl, e)
 
 -- a refusal is a cause
 abbrev as_told : {X : Type 0} → Result X Refusal → Result X LoadError
@@ -175,17 +176,18 @@ as_told (Err r) = Err (causes.Refused r)
 
 -- a way to load files of a folder: the causes that stop it, and the same of told files
 record Loading {X : Type 0} (folder : FolderRun) (names : Input → Option (List ℕ))
-    (loads : Result X LoadError → Type 0) (from : Files → Result X Refusal → Type 0) (answer : X → Answer)
+    (loads : Result X LoadError → Type 0) (from : outcome.Files → Result X Refusal → Type 0) (answer : X → Answer)
     : Type 0 where
   known : (loaded : Result X LoadError) → loads loaded → Known folder names loaded
-  exact : (files : Files) → TellsFiles folder.file files → (loaded : Result X LoadError)
+  exact : (files : outcome.Files) → TellsFiles folder.file files → (loaded : Result X LoadError)
       → ((cause : LoadError) → loaded ≡ Err cause → IsExact folder files cause) → loads loaded
       → (x : Result X Refusal) × from files x × (loaded ≡ as_told x)
   answers : (x : X) → IsAnswer (answer x).1
 
 -- the files of a command
 command_loading : (folder : FolderRun) (c : Command)
-    → Loading folder (named c) (LoadsBoth folder c.domain c.problem) (λ files. LoadsFiles files c) (answer_of_pair c)
+    → Loading folder (named c) (LoadsBoth folder c.domain c.problem) (λ files. outcome.LoadsFiles files c)
+    (outcome.answer_of_pair c)
 command_loading folder c = record { known = known; exact = exact; answers = pair_answers c }
   where
     known : (loaded : Result (Domain × Problem) LoadError) → LoadsBoth folder c.domain c.problem loaded
@@ -196,10 +198,10 @@ command_loading folder c = record { known = known; exact = exact; answers = pair
         stop_known folder (named c) inputs.Problem problem_form c.problem e loaded refl k j
     known loaded (outcome.Then.Went d h (outcome.Then.Went p k j)) = ForAnswer (d, p) j
 
-    exact : (files : Files) → TellsFiles folder.file files → (loaded : Result (Domain × Problem) LoadError)
+    exact : (files : outcome.Files) → TellsFiles folder.file files → (loaded : Result (Domain × Problem) LoadError)
         → ((cause : LoadError) → loaded ≡ Err cause → IsExact folder files cause)
         → LoadsBoth folder c.domain c.problem loaded
-        → (x : Result (Domain × Problem) Refusal) × LoadsFiles files c x × (loaded ≡ as_told x)
+        → (x : Result (Domain × Problem) Refusal) × outcome.LoadsFiles files c x × (loaded ≡ as_told x)
     exact files told loaded p (outcome.Then.Stopped e h i) =
         let b = bad_exact folder files told inputs.Domain domain_form c.domain e (p e i) h in
         (Err b.0, outcome.Then.Stopped b.0 b.1 refl, i ∙ ap Err b.2)
@@ -219,8 +221,8 @@ command_loading folder c = record { known = known; exact = exact; answers = pair
 
 -- the file of a domain alone
 listing_loading : (folder : FolderRun) (name : List ℕ)
-    → Loading folder (file_named (Listing name)) (LoadsAlone folder name) (λ files. LoadsDomain files name)
-    listing_answer
+    → Loading folder (file_named (Listing name)) (LoadsAlone folder name) (λ files. outcome.LoadsDomain files name)
+    outcome.listing_answer
 listing_loading folder name = record { known = known; exact = exact; answers = listing_answers }
   where
     known : (loaded : Result Domain LoadError) → LoadsAlone folder name loaded
@@ -229,9 +231,9 @@ listing_loading folder name = record { known = known; exact = exact; answers = l
     known (Err cause) h =
         stop_known folder (file_named (Listing name)) inputs.Domain domain_form name cause (Err cause) refl h refl
 
-    exact : (files : Files) → TellsFiles folder.file files → (loaded : Result Domain LoadError)
+    exact : (files : outcome.Files) → TellsFiles folder.file files → (loaded : Result Domain LoadError)
         → ((cause : LoadError) → loaded ≡ Err cause → IsExact folder files cause) → LoadsAlone folder name loaded
-        → (x : Result Domain Refusal) × LoadsDomain files name x × (loaded ≡ as_told x)
+        → (x : Result Domain Refusal) × outcome.LoadsDomain files name x × (loaded ≡ as_told x)
     exact files told (Ok d) p h = (Ok d, good_exact folder files told inputs.Domain domain_form name d h, refl)
     exact files told (Err cause) p h =
         let b = bad_exact folder files told inputs.Domain domain_form name cause (p cause refl) h in
@@ -240,26 +242,34 @@ listing_loading folder name = record { known = known; exact = exact; answers = l
 module _ {X : Type 0} (answer : X → Answer) where
   -- the status of the answer to a load
   abbrev status_to : Result X LoadError → Status
-  status_to loaded = (answer_to load_answer answer loaded).1
+  status_to loaded = (outcome.answer_to load_answer answer loaded).1
 
-  same_answer : (x : Result X Refusal) → answer_to load_answer answer (as_told x) ≡ answer_to refusal_answer answer x
+  same_answer : (x : Result X Refusal) → outcome.answer_to load_answer answer (as_told x)
+      ≡ outcome.answer_to outcome.refusal_answer answer x
   same_answer (Ok x) = refl
   same_answer (Err r) = refl
 
 module _ {X : Type 0} (folder : FolderRun) (names : Input → Option (List ℕ)) (loads : Result X LoadError → Type 0)
-    (from : Files → Result X Refusal → Type 0) (answer : X → Answer) (load : Loading folder names loads from answer)
-    (files : Files) (told : TellsFiles folder.file files) where
+    (from : outcome.Files → Result X Refusal → Type 0) (answer : X → Answer)
+    (load : Loading folder names loads from answer)
+    (files : outcome.Files) (told : TellsFiles folder.file files) where
   -- the answer to told files is the answer to the files
   comes_exact : (loaded : Result X LoadError)
       → ((cause : LoadError) → loaded ≡ Err cause → IsExact folder files cause) → loads loaded
-      → Comes (from files) answer (answer_to load_answer answer loaded)
+      → outcome.Comes (from files) answer (outcome.answer_to load_answer answer loaded)
   comes_exact loaded p h =
       let x = load.exact files told loaded p h in
-      record { loaded = x.0; loads = x.1; comes = ap (answer_to load_answer answer) x.2 ∙ same_answer answer x.0 }
+      record {
+        loaded = x.0;
+        loads = x.1;
+        comes = ap (outcome.answer_to load_answer answer) x.2
+            ∙ same_answer answer x.0;
+      }
 
   -- unless memory is wanting or reading failed
   comes_well : (loaded : Result X LoadError) (s : Status) → s ≢ status.NoMemory → s ≡ status_to answer loaded
-      → ReadsWell s folder → loads loaded → Comes (from files) answer (answer_to load_answer answer loaded)
+      → ReadsWell s folder → loads loaded → outcome.Comes (from files) answer
+      (outcome.answer_to load_answer answer loaded)
   comes_well loaded s n x w =
       comes_exact loaded
       (λ cause i. (
@@ -279,11 +289,13 @@ told_whole a s r (telling.Unwritten e rose f) n w = absurd (w e)
 told_whole a s r (telling.Written e t) n w = (e, t)
 
 -- an outcome whose whole text was written is the outcome of the run
-made : (words : List (List ℕ)) (files : Files) (before : List ℕ) (a : Answer) (s : Status) (old new : Option (List ℕ))
-    → old ≡ Some before → (s ≡ a.1) × Wrote a.0 old new → Outcome words files a → IsOutcome words files s before new
+made : (words : List (List ℕ)) (files : outcome.Files) (before : List ℕ) (a : Answer) (s : Status)
+    (old new : Option (List ℕ))
+    → old ≡ Some before → (s ≡ a.1) × Wrote a.0 old new → outcome.Outcome words files a
+    → IsOutcome words files s before new
 made words files before a s old new o w x = record {
   text = a.0;
-  outcome = subst (λ s. Outcome words files (a.0, s)) (sym w.0) x;
+  outcome = subst (λ s. outcome.Outcome words files (a.0, s)) (sym w.0) x;
   written = subst (λ m. Wrote a.0 m new) o w.1;
 }
 
@@ -363,14 +375,15 @@ same_refusal : {A : Type 0} (loaded : Result A LoadError) (p q : Refusal) → lo
 same_refusal loaded p q e f = let x : Err (causes.Refused p) ≡ Err (causes.Refused q) = sym e ∙ f in cc
 
 -- a text that is refused is no unread file
-why_unread : (which w : Input) (why : Why) → refusal_of which why ≡ refusals.Read w → ⊥
-why_unread which w (InText r) e = cc
-why_unread which w (InForm (Expected what s)) e = cc
-why_unread which w (InForm (SeveralPairs s)) e = cc
+why_unread : (which w : Input) (why : outcome.Why) → outcome.refusal_of which why ≡ refusals.Read w → ⊥
+why_unread which w (outcome.InText r) e = cc
+why_unread which w (outcome.InForm (Expected what s)) e = cc
+why_unread which w (outcome.InForm (SeveralPairs s)) e = cc
 
 -- served requests
 module _ {X : Type 0} (folder : FolderRun) (names : Input → Option (List ℕ)) (loads : Result X LoadError → Type 0)
-    (from : Files → Result X Refusal → Type 0) (answer : X → Answer) (load : Loading folder names loads from answer)
+    (from : outcome.Files → Result X Refusal → Type 0) (answer : X → Answer)
+    (load : Loading folder names loads from answer)
     (s : Status) (r : SinkRun) where
   -- a load ends in no status but want of memory, a read fault and those of answers
   never : (loaded : Result X LoadError) (u : Status) → (status.NoMemory ≡ u → ⊥) → (status.ReadFault ≡ u → ⊥)
@@ -413,13 +426,13 @@ module _ {X : Type 0} (folder : FolderRun) (names : Input → Option (List ℕ))
     -- a load ends in a read fault only where an input is unread
     how_read : (loaded : Result X LoadError) → loads loaded → Known folder names loaded
         → status_to answer loaded ≡ status.ReadFault
-        → Wrote (answer_to load_answer answer loaded).0 r.before r.after → HasLine MayWrite
+        → Wrote (outcome.answer_to load_answer answer loaded).0 r.before r.after → HasLine MayWrite
     how_read loaded l (ForMemory e) i w =
         let x : status.NoMemory ≡ status.ReadFault = sym (ap (status_to answer) e) ∙ i in cc
     how_read loaded l (ForReading which name e n u) i w = record {
       line = refused_read which;
       may = unread which name n u (subst loads e l);
-      written = subst (λ x. Wrote (answer_to load_answer answer x).0 r.before r.after) e w;
+      written = subst (λ x. Wrote (outcome.answer_to load_answer answer x).0 r.before r.after) e w;
     }
     how_read loaded l (ForText which why e) i w =
         absurd (subst IsAnswer (sym (ap (status_to answer) e) ∙ i) (why_answers which why))
@@ -433,8 +446,8 @@ module _ {X : Type 0} (folder : FolderRun) (names : Input → Option (List ℕ))
         (λ m rose f. absurd (other s _ _ (λ x. cc) m u))
         (λ m w. how_read h.loaded h.loads (load.known h.loaded h.loads) (sym m ∙ u) w)
 
-    module _ (fs : Files) (told : TellsFiles folder.file fs)
-        (come : (a : Answer) → Comes (from fs) answer a → MayWrite a.0)
+    module _ (fs : outcome.Files) (told : TellsFiles folder.file fs)
+        (come : (a : Answer) → outcome.Comes (from fs) answer a → MayWrite a.0)
         (some : (text : List ℕ) × MayWrite text) where
       abbrev ServesShort : Type 0
       ServesShort = (text : List ℕ) × MayWrite text × IsShort text s r
@@ -442,28 +455,33 @@ module _ {X : Type 0} (folder : FolderRun) (names : Input → Option (List ℕ))
       -- an answer that the files come to is told up to a prefix
       answer_short : (loaded : Result X LoadError)
           → ((cause : LoadError) → loaded ≡ Err cause → IsExact folder fs cause) → loads loaded
-          → IsAnswer (status_to answer loaded) → Tells (answer_to load_answer answer loaded) s r → ServesShort
+          → IsAnswer (status_to answer loaded) → Tells (outcome.answer_to load_answer answer loaded) s r → ServesShort
       answer_short loaded p l i t =
-          let a = answer_to load_answer answer loaded in (
+          let a = outcome.answer_to load_answer answer loaded in (
             a.0,
             come a (comes_exact folder names loads from answer load fs told loaded p l),
             told_short a s r (λ e. subst IsAnswer e i) (λ e. subst IsAnswer e i) t,
           )
 
       how_short : (loaded : Result X LoadError) → loads loaded → Known folder names loaded
-          → Tells (answer_to load_answer answer loaded) s r → ServesShort
-      how_short loaded l (ForMemory e) t =
-          (some.0, some.1, nothing_short some.0 s r (subst (λ x. Tells (answer_to load_answer answer x) s r) e t))
+          → Tells (outcome.answer_to load_answer answer loaded) s r → ServesShort
+      how_short loaded l (ForMemory e) t = (
+        some.0,
+        some.1,
+        nothing_short some.0 s r (subst (λ x. Tells (outcome.answer_to load_answer answer x) s r) e
+            t),
+      )
       how_short loaded l (ForReading which name e n u) t = (
         refused_read which,
         unread which name n u (subst loads e l),
-        told_short _ s r (λ x. cc) (λ x. cc) (subst (λ x. Tells (answer_to load_answer answer x) s r) e t),
+        told_short _ s r (λ x. cc) (λ x. cc) (subst (λ x. Tells (outcome.answer_to load_answer answer x) s r) e t),
       )
       how_short loaded l (ForText which why e) t =
           answer_short loaded
           (λ cause i. (
             λ m.
-                let x : Err (causes.Refused (refusal_of which why)) ≡ Err causes.NoMemory = sym e ∙ (i ∙ ap Err m) in
+                let x : Err (causes.Refused (outcome.refusal_of which why)) ≡ Err causes.NoMemory =
+                sym e ∙ (i ∙ ap Err m) in
                 cc,
             λ w name m u. absurd (why_unread which w why (same_refusal loaded _ _ e (i ∙ ap Err m))),
           )) l (subst IsAnswer (sym (ap (status_to answer) e)) (why_answers which why)) t
@@ -480,19 +498,19 @@ module _ {X : Type 0} (folder : FolderRun) (names : Input → Option (List ℕ))
 -- the load of a problem that is made
 made_loading : (seed n : ℕ) → Loading (made_run seed n) (named (made_command seed n))
     (LoadsBoth (made_run seed n) (made_command seed n).domain (made_command seed n).problem)
-    (λ files. LoadsFiles files (made_command seed n)) (answer_of_pair (made_command seed n))
+    (λ files. outcome.LoadsFiles files (made_command seed n)) (outcome.answer_of_pair (made_command seed n))
 made_loading seed n = command_loading (made_run seed n) (made_command seed n)
 
-module _ (words : List (List ℕ)) (s : Status) (r : SinkRun) (files : Files) (written : List ℕ)
+module _ (words : List (List ℕ)) (s : Status) (r : SinkRun) (files : outcome.Files) (written : List ℕ)
     (o : r.before ≡ Some written) (memory : s ≢ status.NoMemory) (write : s ≢ status.WriteFault) where
   -- an answer served without want of memory and faults is an outcome, where it is one of the words
   serves_well : {X : Type 0} (folder : FolderRun) (names : Input → Option (List ℕ))
-      (loads : Result X LoadError → Type 0) (from : Files → Result X Refusal → Type 0) (answer : X → Answer)
-      → Loading folder names loads from answer → (fs : Files) → TellsFiles folder.file fs → ReadsWell s folder
-      → ((a : Answer) → Comes (from fs) answer a → Outcome words files a) → Serves loads answer s r
+      (loads : Result X LoadError → Type 0) (from : outcome.Files → Result X Refusal → Type 0) (answer : X → Answer)
+      → Loading folder names loads from answer → (fs : outcome.Files) → TellsFiles folder.file fs → ReadsWell s folder
+      → ((a : Answer) → outcome.Comes (from fs) answer a → outcome.Outcome words files a) → Serves loads answer s r
       → IsOutcome words files s written r.after
   serves_well folder names loads from answer load fs told k by h =
-      let a = answer_to load_answer answer h.loaded in
+      let a = outcome.answer_to load_answer answer h.loaded in
       let x = told_whole a s r h.tells memory write in
       made words files written a s r.before r.after o x
       (by a (comes_well folder names loads from answer load fs told h.loaded s memory x.0 k h.loads))
@@ -501,7 +519,7 @@ module _ (words : List (List ℕ)) (s : Status) (r : SinkRun) (files : Files) (w
   pub ends_well : (folder : FolderRun) → Ends words folder s r → TellsFiles folder.file files → ReadsWell s folder
       → IsOutcome words files s written r.after
   ends_well folder (serving.NoCommand e t) told k =
-      made words files written (refusal_answer refusals.Usage) s r.before r.after o
+      made words files written (outcome.refusal_answer refusals.Usage) s r.before r.after o
       (told_whole _ s r t memory write) (outcome.NoCommand e refl)
   ends_well folder (serving.ByCommand c e h) told k =
       serves_well folder _ _ _ _ (command_loading folder c) files told k (λ a x. outcome.ByCommand c e x) h
@@ -564,7 +582,8 @@ module _ (words : List (List ℕ)) (folder : FolderRun) (s : Status) (r : SinkRu
       (λ which name i q l. made_read which name seed n i q) h u in
       absurd x.may
 
-  module _ (files : Files) (told : TellsFiles folder.file files) (some : (a : Answer) × Outcome words files a) where
+  module _ (files : outcome.Files) (told : TellsFiles folder.file files)
+      (some : (a : Answer) × outcome.Outcome words files a) where
     abbrev MayWrite : List ℕ → Type 0
     MayWrite text = CouldWrite words files folder text
 
@@ -607,9 +626,9 @@ has_memory s (inr e) = λ m. other s _ _ (λ x. cc) e m
 
 -- words that are no command are told so, where memory isn't wanting
 pub refused_words : (s : Status) (r : SinkRun) → (s ≡ status.Usage) ⊎ (s ≡ status.WriteFault)
-    → Tells (refusal_answer refusals.Usage) s r → RefusesWords s r
+    → Tells (outcome.refusal_answer refusals.Usage) s r → RefusesWords s r
 refused_words s r n t =
-    told_status (refusal_answer refusals.Usage) s r (RefusesWords s r) t (λ m f. absurd (has_memory s n m))
+    told_status (outcome.refusal_answer refusals.Usage) s r (RefusesWords s r) t (λ m f. absurd (has_memory s n m))
     (λ m rose f. inr m) (λ m w. inl (m, w))
 
 -- the run of an input under the name that a command has for it is that under the name that the words have

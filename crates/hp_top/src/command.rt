@@ -1,6 +1,6 @@
 //! The top call.
 
-ghost use Rattle.std.specs.Prelude.{◌≡◌, ◌≢◌, ◌⊎◌, ◌≤◌, ◌<◌, ℕ, List, Some, None, map, string_bytes};
+ghost use Rattle.std.specs.Prelude.{◌≡◌, ◌≢◌, ◌≤◌, ◌<◌, ℕ, List, Some, None, map, string_bytes};
 ghost use Rattle.hp_io.specs.Rules.{Rose};
 ghost use Rattle.hp_io.specs.Inputs.{by_input};
 ghost use Rattle.hp_io.specs.declared.folder.Input.{Input};

@@ -1,6 +1,6 @@
 //! From two files to a domain and a problem.
 
-ghost use Rattle.std.specs.Prelude.{◌≡◌, ◌≢◌, ◌≤◌, ℕ, true, List, length, Some, None, Ok, Err, IfOk, IfErr, IsErrOf};
+ghost use Rattle.std.specs.Prelude.{◌≡◌, ◌≢◌, ◌≤◌, ℕ, List, length, Ok, Err, IfOk, IfErr, IsErrOf};
 ghost use Rattle.hp_io.specs.Inputs.{by_input};
 ghost use Rattle.hp_io.specs.declared.folder.Input.{Input};
 ghost use Rattle.hp_io.specs.declared.folder.Input.TheVariants as inputs;

@@ -1,7 +1,7 @@
-ghost use Rattle.std.specs.Prelude.{◌≡◌, ◌≢◌, ◌≤◌, ◌<◌, ◌+◌, ◌^◌, ℕ, true, List, Option, Some, None, length, IfOk, IfErr, IsErrOf, ◌++◌, take, drop, ◌⊎◌};
+ghost use Rattle.std.specs.Prelude.{◌≡◌, ◌≢◌, ◌≤◌, ◌<◌, ◌+◌, ℕ, true, List, length, IfOk, IsErrOf};
 ghost use Rattle.hp_io.specs.Rules.{Rose};
 ghost use Rattle.hp_io.specs.declared.folder.Input.{Input};
-ghost use Rattle.hp_top.specs.Reading.{ReadsTo, Left, TakesUpTo, Grows};
+ghost use Rattle.hp_top.specs.Reading.{ReadsTo, TakesUpTo, Grows};
 
 use hp_io::{BeginError, Failed, Folder, Input};
 use hp_syntax::limits::LARGEST_TEXT;

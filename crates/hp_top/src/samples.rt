@@ -1,6 +1,6 @@
 //! The outcome of the words and the files of the sample `basic`, by the definitions alone.
 
-ghost use Rattle.std.specs.Prelude.{◌≡◌, ◌++◌, [], ◌∷◌, Some, None, true, false, codes};
+ghost use Rattle.std.specs.Prelude.{◌≡◌, [], ◌∷◌, Some, None, true, false, codes};
 ghost use Rattle.hp_syntax.specs.Samples.{swap_text, empty_text};
 ghost use Rattle.hp_syntax.specs.declared.status.Status.TheVariants.{Done, CutShort};
 ghost use Rattle.hp_top.specs.Outcome.{Outcome};

@@ -1,7 +1,7 @@
 //! The words of a command.
 
 ghost use Rattle.std.specs.List.{list_all};
-ghost use Rattle.std.specs.Prelude.{true, false, nat_le, IfSome, ◌≡◌, ◌≢◌, ◌^◌, ◌<◌, ◌≤◌, None, Some, length, map, string_bytes, slice_get, unwrap_or, [], ◌∷◌, option_map};
+ghost use Rattle.std.specs.Prelude.{true, false, nat_le, IfSome, ◌≡◌, ◌≢◌, ◌^◌, ◌<◌, ◌≤◌, None, Some, length, map, string_bytes, unwrap_or, [], ◌∷◌, option_map};
 ghost use Rattle.hp_top.specs.Words.{IsPlanned, IsAsked, IsRequested, job_of, options_of, request_of};
 ghost use Rattle.hp_top.specs.Command.{accepts, only_if, planning, making, plan_options, job_by_word, asked_by_three, number_within, number_from, is_number};
 ghost use Rattle.hp_syntax.specs.Text.{is_digit};

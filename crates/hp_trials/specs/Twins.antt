@@ -2,7 +2,7 @@
 use Rattle.std.specs.Prelude.{ℕ, Bool, true, false, pos, List, [], ◌∷◌, codes, Option, Some, None}
 use Rattle.hp_syntax.specs.declared.pattern.Span.{Span}
 use Rattle.hp_syntax.specs.Syntax as syntax
-use Rattle.hp_syntax.specs.Syntax.{Expression, And, Or, NoExpression, Also, NoPattern, Plain, Operator, Rule, Does}
+use Rattle.hp_syntax.specs.Syntax.{Expression, And, Or, NoExpression, Also, NoPattern, Plain, Operator, Does}
 use Rattle.hp_syntax.specs.Terms.{Term, Symbol, Listed, NoTerm, More}
 use Rattle.hp_syntax.specs.Networks.{Empty, Task}
 use Rattle.hp_syntax.specs.Walk.{Node, Visit, Did, Plan, visit}

@@ -1,4 +1,4 @@
-use Rattle.std.proofs.Common.{◌+◌, length, map, drop, ap, ◌∙◌, subst, sym, ◌≤◌}
+use Rattle.std.proofs.Common.{◌+◌, length, map, drop, ap, ◌∙◌, subst, sym}
 use Rattle.hp_syntax.specs.Events.{state_events}
 use Rattle.hp_eval.specs.GoalViews.{goal_of}
 use Rattle.hp_eval.specs.Slotted.{named, bindings_of}

@@ -1,4 +1,4 @@
-use Rattle.std.proofs.Common.{◌≤◌, length, sym, ◌∙◌, ap, subst}
+use Rattle.std.proofs.Common.{length, sym, ◌∙◌, ap, subst}
 use Rattle.std.proofs.lemmas.Result.{IfOk-weaker}
 use Rattle.hp_syntax.specs.Preconditions.{heard, keyed, sorted_events}
 use Rattle.hp_syntax.specs.Views.{key_of}

@@ -1,4 +1,4 @@
-use Rattle.std.proofs.Common.{length, ◌≤◌, sym, subst, arith}
+use Rattle.std.proofs.Common.{length, sym, subst, arith}
 use Rattle.std.proofs.lemmas.Result.{IfOk-weaker}
 use Rattle.hp_syntax.specs.Preconditions.{heard}
 use Rattle.hp_eval.specs.Events.{left_after}

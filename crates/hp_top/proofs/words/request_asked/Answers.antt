@@ -12,5 +12,6 @@ pub returns-in-len3-clause-asks : goal.returns-in-len3-clause-asks
 returns-in-len3-clause-asks c =
     c.asked_by_three.ensures.spelled
     ∙ accepts_three c.args.words.now c.word-item-then-words-lt4.result c.first-item.result c.second-item.result _ _ _
-    c.in-len3.len_at_least c.in-len3.len_below c.word-item-then-words-lt4.is c.first-item.is c.second-item.is c.as_str-in-len3.ensures.value
+    c.in-len3.len_at_least c.in-len3.len_below c.word-item-then-words-lt4.is c.first-item.is c.second-item.is
+    c.as_str-in-len3.ensures.value
     c.as_str-in-len3-2.ensures.value c.as_str-in-len3-3.ensures.value

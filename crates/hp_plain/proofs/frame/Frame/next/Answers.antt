@@ -1,7 +1,7 @@
 use Rattle.std.proofs.Common.{length, sym, subst, Some}
 use Rattle.hp_plain.specs.Agendas.{rules_of}
 use Rattle.hp_plain.specs.Frames.{left_of, TakesSuccessor}
-use Rattle.hp_plain.proofs.FrameSteps.{takes_end, takes_child, takes_no_child}
+use Rattle.hp_plain.proofs.FrameSteps.{takes_end}
 use Rattle.hp_eval.proofs.GrowthLemmas.{grows_self}
 use Rattle.hp_plain.proofs.frame.Frame.next.Goals as goal
 
