@@ -504,7 +504,7 @@ module _ {all : Names} where
         (λ e. after_named setting s key rest (λ a. syntax.Task a false) (λ x end h. record {
           reads =
               again_steps.reads_false _ _ nil (again_steps.reads_false _ _ ordered
-              (again_steps.reads_false _ _ unordered (again_steps.reads_false _ _ grammar.immediate
+              (again_steps.reads_false _ _ unordered (again_steps.reads_false _ _ immediate
               (again_steps.reads_true _ _ e (again_steps.reads_chain _ (reads_named all setting s key x h) refl)))));
           spells = λ c. (c.0, h.spells c.1);
         }))
@@ -579,7 +579,7 @@ module _ {all : Names} where
       (λ forall. again_steps.after_choice (is_plain key)
       (λ e. after_named grammar.InRule s key rest syntax.Change (λ x end h. record {
         reads =
-            again_steps.reads_false _ _ grammar.protection (again_steps.reads_false _ _ forall
+            again_steps.reads_false _ _ protection (again_steps.reads_false _ _ forall
             (again_steps.reads_true _ _ e (again_steps.reads_chain _ (reads_named all grammar.InRule s key x h) refl)));
         spells = λ c. (c.0, h.spells c.1);
       }))
