@@ -3,14 +3,7 @@ use Rattle.std.proofs.Common.{◌≡◌, ℕ, zero, ◌+◌, ◌<◌, ◌≤◌,
 use Rattle.std.specs.Result.{OnOk}
 use Rattle.std.proofs.lemmas.List.{append_assoc, append-nil, drop_more, at_drop_all}
 use Rattle.hp_syntax.specs.declared.pattern.Span.{Span}
-use Rattle.hp_syntax.specs.declared.pattern.Pat.{Pat}
-use Rattle.hp_syntax.specs.declared.pattern.PatKind.{PatKind, out-PatKind}
-use Rattle.hp_syntax.specs.declared.pattern.PatKind.TheFolds.{fold-PatKind, fold_out-Pat, fold_out-PatKind, map-PatKind}
-use Rattle.hp_syntax.specs.declared.pattern.PatKind.TheOpen.{PatKind-F}
-use Rattle.hp_syntax.specs.declared.pattern.PatKind.TheOpen as pats
-use Rattle.hp_syntax.specs.Changes.{pattern_span}
-use Rattle.hp_syntax.specs.Syntax.{Effect, Pattern}
-use Rattle.hp_syntax.specs.Views.{pattern_kind, pattern_layer, pattern_of}
+use Rattle.hp_syntax.specs.Syntax.{Effect}
 use Rattle.hp_code.specs.declared.node.CodeNode.{CodeNode}
 use Rattle.hp_code.specs.Compiled.{only, Side, effect_tree, effect_trees}
 use Rattle.hp_code.specs.Laying.{Lays, Opens}
@@ -91,22 +84,3 @@ pub effects_before : (side : Side) (s : Span) (xs : List Effect) (ts : Trees) (a
 effects_before side s xs ts a b c h k =
     lays_both (effect_trees side s xs NoTree) ts a b c h k
     ∙ ap (laid_behind a) (effect_trees-followed side s xs ts)
-
--- ---- costs
-
--- a pattern of some kind has the span that it is made with
-kind_span : (k : PatKind-F (Span → Pattern) Pattern) (s : Span) → pattern_span (pattern_kind k s) ≡ s
-kind_span (pats.Var v) s = refl
-kind_span (pats.Sym name) s = refl
-kind_span (pats.Num n) s = refl
-kind_span (pats.List parts tail) s = refl
-kind_span (pats.Call name args) s = refl
-
--- a pattern has its span
-pub pattern_span-of : (p : Pat) → pattern_span (pattern_of p) ≡ p.span
-unfolding pattern_of
-pattern_span-of p =
-    ap pattern_span (fold_out-Pat (Span → Pattern) Pattern pattern_kind pattern_layer p
-    ∙ ap (λ k. k p.span) (fold_out-PatKind (Span → Pattern) Pattern pattern_kind pattern_layer p.kind))
-    ∙ kind_span (map-PatKind PatKind Pat (Span → Pattern) Pattern
-    (fold-PatKind (Span → Pattern) Pattern pattern_kind pattern_layer) pattern_of (out-PatKind p.kind)) p.span

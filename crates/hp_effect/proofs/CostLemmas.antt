@@ -3,38 +3,16 @@ use Rattle.std.specs.Prelude.{◌≡◌, ℕ, ℤ, List, Option, Some, None, Ok}
 use Rattle.std.proofs.Common.{refl, ap, sym, ◌∙◌}
 use Rattle.hp_syntax.specs.declared.pattern.Span.{Span}
 use Rattle.hp_syntax.specs.declared.pattern.Pat.{Pat}
-use Rattle.hp_syntax.specs.declared.pattern.PatKind.{PatKind}
-use Rattle.hp_syntax.specs.declared.pattern.PatKind.TheFolds.{fold-PatKind, fold_out-Pat, fold_out-PatKind, map-PatKind}
-use Rattle.hp_syntax.specs.declared.pattern.PatKind.TheOpen.{PatKind-F}
-use Rattle.hp_syntax.specs.declared.pattern.PatKind.TheOpen as pats
-use Rattle.hp_syntax.specs.declared.pattern.PatKind.{out-PatKind}
 use Rattle.hp_syntax.specs.declared.fault.FaultKind.TheVariants.{NotNumber}
-use Rattle.hp_syntax.specs.Syntax.{Pattern}
 use Rattle.hp_syntax.specs.Terms.{Term, Symbol, Number, Listed}
 use Rattle.hp_syntax.specs.Calls.{fault_at}
 use Rattle.hp_syntax.specs.Values as plain
 use Rattle.hp_syntax.specs.Values.{Bindings}
 use Rattle.hp_syntax.specs.Changes.{Going, Went, Failed, pattern_span, cost_of, cost_value, and_go, go_on}
-use Rattle.hp_syntax.specs.Views.{pattern_kind, pattern_layer, pattern_of}
+use Rattle.hp_syntax.specs.Views.{pattern_of}
+use Rattle.hp_syntax.specs.ViewLaws.{pattern_span-of}
 use Rattle.hp_cells.specs.Cells.{IsCons}
 use Rattle.hp_effect.specs.Costs.{number_in}
-
--- a pattern of some kind has the span that it was made with
-kind_span : (k : PatKind-F (Span → Pattern) Pattern) (s : Span) → pattern_span (pattern_kind k s) ≡ s
-kind_span (pats.Var v) s = refl
-kind_span (pats.Sym name) s = refl
-kind_span (pats.Num n) s = refl
-kind_span (pats.List parts tail) s = refl
-kind_span (pats.Call name args) s = refl
-
--- a pattern has its span
-pattern_span-of : (p : Pat) → pattern_span (pattern_of p) ≡ p.span
-unfolding pattern_of
-pattern_span-of p =
-    ap pattern_span (fold_out-Pat (Span → Pattern) Pattern pattern_kind pattern_layer p
-    ∙ ap (λ k. k p.span) (fold_out-PatKind (Span → Pattern) Pattern pattern_kind pattern_layer p.kind))
-    ∙ kind_span (map-PatKind PatKind Pat (Span → Pattern) Pattern
-    (fold-PatKind (Span → Pattern) Pattern pattern_kind pattern_layer) pattern_of (out-PatKind p.kind)) p.span
 
 -- a number costs that, and nothing else costs anything
 abbrev pub went_or : Span → Option ℤ → Going ℤ

@@ -1,7 +1,7 @@
 -- The views of patterns, expressions and task lists, variant by variant.
 use Rattle.std.specs.Prelude.{◌≡◌, ℕ, ℤ, Option, Vec, Box}
 use Rattle.std.specs.Global.{Global}
-use Rattle.std.proofs.Common.{ap, ◌∙◌}
+use Rattle.std.proofs.Common.{refl, ap, ◌∙◌}
 use Rattle.hp_syntax.specs.declared.name.Name.{Name}
 use Rattle.hp_syntax.specs.declared.pattern.Span.{Span}
 use Rattle.hp_syntax.specs.declared.pattern.Tail.{Tail}
@@ -12,6 +12,7 @@ use Rattle.hp_syntax.specs.declared.pattern.PatKind.TheVariants as pats
 use Rattle.hp_syntax.specs.declared.pattern.PatKind.TheVariants.{outs-Var, outs-Sym, outs-Num, outs-List, outs-Call}
 use Rattle.hp_syntax.specs.declared.pattern.PatKind.TheFolds.{fold-PatKind, fold_out-Pat, fold_out-PatKind, map-PatKind}
 use Rattle.hp_syntax.specs.declared.pattern.PatKind.TheOpen.{PatKind-F}
+use Rattle.hp_syntax.specs.declared.pattern.PatKind.TheOpen as layers
 use Rattle.hp_syntax.specs.declared.expression.Expr.{Expr}
 use Rattle.hp_syntax.specs.declared.expression.ExprKind.{ExprKind, out-ExprKind}
 use Rattle.hp_syntax.specs.declared.expression.ExprKind.TheVariants as exprs
@@ -24,6 +25,7 @@ use Rattle.hp_syntax.specs.declared.tasks.NetPat.TheVariants as nets
 use Rattle.hp_syntax.specs.declared.tasks.NetPat.TheVariants.{outs-Task, outs-Ordered, outs-Unordered}
 use Rattle.hp_syntax.specs.declared.tasks.NetPat.TheFolds.{fold_out-NetPat, map-NetPat}
 use Rattle.hp_syntax.specs.declared.tasks.NetPat.TheOpen.{NetPat-F}
+use Rattle.hp_syntax.specs.Changes.{pattern_span}
 use Rattle.hp_syntax.specs.Syntax as plain
 use Rattle.hp_syntax.specs.Syntax.{Pattern, Expression, Tasks}
 use Rattle.hp_syntax.specs.Views.{pattern_kind, pattern_layer, pattern_of, patterns_of, atom_of, expression_kind, expression_layer, expression_of, expressions_of, tasks_layer, tasks_of, task_list_of}
@@ -70,6 +72,21 @@ pub pattern_of-call : (p : Pat) (name : Name) (args : Vec Pat Global) → p.kind
     → pattern_of p ≡ plain.Call p.span name (patterns_of args.items)
 unfolding kind_stands
 pattern_of-call p name args h = by_kind p _ (ap out-PatKind h ∙ outs-Call name args)
+
+-- a pattern of any kind has the span that it is made with
+kind_span : (k : PatKind-F (Span → Pattern) Pattern) (s : Span) → pattern_span (pattern_kind k s) ≡ s
+kind_span (layers.Var v) s = refl
+kind_span (layers.Sym name) s = refl
+kind_span (layers.Num n) s = refl
+kind_span (layers.List parts tail) s = refl
+kind_span (layers.Call name args) s = refl
+
+-- what a pattern stands for has the span of the pattern
+pub pattern_span-of : (p : Pat) → pattern_span (pattern_of p) ≡ p.span
+unfolding kind_stands
+pattern_span-of p =
+    ap pattern_span (by_kind p (out-PatKind p.kind) refl)
+    ∙ kind_span (map-PatKind PatKind Pat (Span → Pattern) Pattern kind_of pattern_of (out-PatKind p.kind)) p.span
 
 -- ---- expressions
 

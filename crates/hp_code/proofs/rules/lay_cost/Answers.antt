@@ -1,6 +1,7 @@
 use Rattle.std.proofs.Common.{ap}
+use Rattle.hp_syntax.specs.ViewLaws.{pattern_span-of}
 use Rattle.hp_code.specs.Trees.{NoTree, CostOf}
-use Rattle.hp_code.proofs.LayingSteps.{node_of_equal, pattern_span-of}
+use Rattle.hp_code.proofs.LayingSteps.{node_of_equal}
 use Rattle.hp_code.proofs.rules.lay_cost.Goals as goal
 
 pub returns : goal.returns
