@@ -2,10 +2,11 @@
 use Rattle.std.proofs.Common.{◌≡◌, ℕ, zero, ◌+◌, ◌<◌, ◌≤◌, List, [], ◌∷◌, ◌++◌, map, length, get_or, drop, Result, refl, ap, sym, subst, ◌∙◌, arith}
 use Rattle.std.specs.Result.{OnOk}
 use Rattle.std.proofs.lemmas.List.{append_assoc, append-nil, drop_more, at_drop_all}
+use Rattle.hp_syntax.specs.declared.domain.Side.{Side}
 use Rattle.hp_syntax.specs.declared.pattern.Span.{Span}
 use Rattle.hp_syntax.specs.Syntax.{Effect}
 use Rattle.hp_code.specs.declared.node.CodeNode.{CodeNode}
-use Rattle.hp_code.specs.Compiled.{only, Side, effect_tree, effect_trees}
+use Rattle.hp_code.specs.Compiled.{only, effect_tree, effect_trees}
 use Rattle.hp_code.specs.Laying.{Lays, Opens}
 use Rattle.hp_code.specs.NodeViews.{laid_of}
 use Rattle.hp_code.specs.Trees.{Operation, Laid, Tree, Trees, Node, NoTree, More, size, sizes, roots}

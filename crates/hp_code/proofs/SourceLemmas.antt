@@ -2,6 +2,8 @@
 use Rattle.std.proofs.Common.{◌≡◌, ℕ, Bool, true, false, List, [], ◌∷◌, ◌++◌, map, Option, Some, refl, ap, ◌∙◌}
 use Rattle.std.specs.Prelude.{option_map}
 use Rattle.std.proofs.lemmas.List.{append-nil}
+use Rattle.hp_syntax.specs.declared.domain.Side.{Side}
+use Rattle.hp_syntax.specs.declared.domain.Side.TheVariants.{Deletes, Adds}
 use Rattle.hp_syntax.specs.declared.pattern.Span.{Span}
 use Rattle.hp_syntax.specs.Changes.{pattern_span}
 use Rattle.hp_syntax.specs.Syntax as syntax
@@ -50,47 +52,47 @@ precondition_back s (syntax.Sorted k e) = mapped (syntax.Sorted k) _ _ (expressi
 
 -- ---- effects
 
-abbrev is_adding : compiled.Side → Bool
-is_adding compiled.Deletes = false
-is_adding compiled.Adds = true
+abbrev is_adding : Side → Bool
+is_adding Deletes = false
+is_adding Adds = true
 
 -- an atom of a side
-abbrev sided : compiled.Side → syntax.Atom → sources.SidedAtom
+abbrev sided : Side → syntax.Atom → sources.SidedAtom
 sided side a = record { adds = is_adding side; atom = a }
 
 -- the trees of a side's atoms read back as these
-changes_back : (side : compiled.Side) (as' : List syntax.Atom) → sources.changes_read (compiled.change_trees side as')
+changes_back : (side : Side) (as' : List syntax.Atom) → sources.changes_read (compiled.change_trees side as')
     ≡ Some (map (sided side) as')
 changes_back side [] = refl
-changes_back compiled.Deletes (a ∷ as') =
-    made (λ b bs. b ∷ bs) (Some (sided compiled.Deletes a)) _ _ _ refl (changes_back compiled.Deletes as')
-changes_back compiled.Adds (a ∷ as') = made (λ b bs. b ∷ bs) (Some (sided compiled.Adds a)) _ _ _ refl
-    (changes_back compiled.Adds as')
+changes_back Deletes (a ∷ as') =
+    made (λ b bs. b ∷ bs) (Some (sided Deletes a)) _ _ _ refl (changes_back Deletes as')
+changes_back Adds (a ∷ as') = made (λ b bs. b ∷ bs) (Some (sided Adds a)) _ _ _ refl
+    (changes_back Adds as')
 
 -- atoms of a side, without the side
-atoms_sided : (side : compiled.Side) (as' : List syntax.Atom) → map (λ a. a.atom) (map (sided side) as') ≡ as'
+atoms_sided : (side : Side) (as' : List syntax.Atom) → map (λ a. a.atom) (map (sided side) as') ≡ as'
 atoms_sided side [] = refl
 atoms_sided side (a ∷ as') = ap (λ bs. a ∷ bs) (atoms_sided side as')
 
 -- what is deleted adds nothing
-deletes_add_nothing : (as' : List syntax.Atom) → sources.some_adds (map (sided compiled.Deletes) as') ≡ false
+deletes_add_nothing : (as' : List syntax.Atom) → sources.some_adds (map (sided Deletes) as') ≡ false
 deletes_add_nothing [] = refl
 deletes_add_nothing (a ∷ as') = deletes_add_nothing as'
 
 -- whether an effect of a side adds anything
-abbrev adds_by : compiled.Side → syntax.Effect → Bool
-adds_by compiled.Deletes x = false
-adds_by compiled.Adds (syntax.Change a) = true
-adds_by compiled.Adds (syntax.Protection a) = true
-adds_by compiled.Adds (syntax.Each vs e []) = false
-adds_by compiled.Adds (syntax.Each vs e (a ∷ as')) = true
+abbrev adds_by : Side → syntax.Effect → Bool
+adds_by Deletes x = false
+adds_by Adds (syntax.Change a) = true
+adds_by Adds (syntax.Protection a) = true
+adds_by Adds (syntax.Each vs e []) = false
+adds_by Adds (syntax.Each vs e (a ∷ as')) = true
 
 -- an effect of a side as it reads back
-abbrev sided_effect : compiled.Side → syntax.Effect → sources.Sided
+abbrev sided_effect : Side → syntax.Effect → sources.Sided
 sided_effect side x = record { adds = adds_by side x; effect = lowered_effect x }
 
 -- a `forall` of a side whose parts read back
-each_back : (side : compiled.Side) (vs : List ℕ) (e : syntax.Expression) (as' : List syntax.Atom)
+each_back : (side : Side) (vs : List ℕ) (e : syntax.Expression) (as' : List syntax.Atom)
     → sources.some_adds (map (sided side) as') ≡ adds_by side (syntax.Each vs e as')
     → sources.made_of sources.each_of (sources.expression_read (compiled.expression_tree e))
     (sources.changes_read (compiled.change_trees side as'))
@@ -106,32 +108,32 @@ each_back side vs e as' h =
     (atoms_sided side as')
 
 -- the tree of an effect reads back as the lowered effect
-effect_back : (side : compiled.Side) (s : Span) (x : syntax.Effect)
+effect_back : (side : Side) (s : Span) (x : syntax.Effect)
     → sources.effect_read (compiled.effect_tree side s x) ≡ Some (sided_effect side x)
-effect_back compiled.Deletes s (syntax.Change a) = refl
-effect_back compiled.Adds s (syntax.Change a) = refl
-effect_back compiled.Deletes s (syntax.Protection a) = refl
-effect_back compiled.Adds s (syntax.Protection a) = refl
-effect_back compiled.Deletes s (syntax.Each vs e as') = each_back compiled.Deletes vs e as' (deletes_add_nothing as')
-effect_back compiled.Adds s (syntax.Each vs e []) = each_back compiled.Adds vs e [] refl
-effect_back compiled.Adds s (syntax.Each vs e (a ∷ as')) = each_back compiled.Adds vs e (a ∷ as') refl
+effect_back Deletes s (syntax.Change a) = refl
+effect_back Adds s (syntax.Change a) = refl
+effect_back Deletes s (syntax.Protection a) = refl
+effect_back Adds s (syntax.Protection a) = refl
+effect_back Deletes s (syntax.Each vs e as') = each_back Deletes vs e as' (deletes_add_nothing as')
+effect_back Adds s (syntax.Each vs e []) = each_back Adds vs e [] refl
+effect_back Adds s (syntax.Each vs e (a ∷ as')) = each_back Adds vs e (a ∷ as') refl
 
 -- the tree of an effect before others reads back before them
-effect_before : (side : compiled.Side) (s : Span) (x : syntax.Effect) (ts : Trees)
+effect_before : (side : Side) (s : Span) (x : syntax.Effect) (ts : Trees)
     → sources.body_read (More (compiled.effect_tree side s x) ts)
     ≡ sources.made_of sources.with_effect (sources.effect_read (compiled.effect_tree side s x)) (sources.body_read ts)
 unfolding sources.body_read
-effect_before compiled.Deletes s (syntax.Change a) ts = refl
-effect_before compiled.Adds s (syntax.Change a) ts = refl
-effect_before compiled.Deletes s (syntax.Protection a) ts = refl
-effect_before compiled.Adds s (syntax.Protection a) ts = refl
+effect_before Deletes s (syntax.Change a) ts = refl
+effect_before Adds s (syntax.Change a) ts = refl
+effect_before Deletes s (syntax.Protection a) ts = refl
+effect_before Adds s (syntax.Protection a) ts = refl
 effect_before side s (syntax.Each vs e as') ts = refl
 
 abbrev behind_effects : List sources.Sided → sources.Body → sources.Body
 behind_effects xs b = record { effects = xs ++ b.effects; cost = b.cost }
 
 -- the trees of effects before a body read back before it
-effects_back : (side : compiled.Side) (s : Span) (xs : List syntax.Effect) (ts : Trees) (b : sources.Body)
+effects_back : (side : Side) (s : Span) (xs : List syntax.Effect) (ts : Trees) (b : sources.Body)
     → sources.body_read ts ≡ Some b
     → sources.body_read (compiled.effect_trees side s xs ts) ≡ Some (behind_effects (map (sided_effect side) xs) b)
 effects_back side s [] ts b h = h
@@ -143,18 +145,18 @@ effects_back side s (x ∷ xs) ts b h =
 
 -- effects that delete are none that adds
 not_adding_behind : (xs : List syntax.Effect) (ys : List sources.Sided)
-    → sources.not_adding (map (sided_effect compiled.Deletes) xs ++ ys) ≡ map lowered_effect xs ++ sources.not_adding ys
+    → sources.not_adding (map (sided_effect Deletes) xs ++ ys) ≡ map lowered_effect xs ++ sources.not_adding ys
 not_adding_behind [] ys = refl
 not_adding_behind (x ∷ xs) ys = ap (λ zs. lowered_effect x ∷ zs) (not_adding_behind xs ys)
 
 -- nor does one of them come from the first that adds on
 from_adding_behind : (xs : List syntax.Effect) (ys : List sources.Sided)
-    → sources.from_adding (map (sided_effect compiled.Deletes) xs ++ ys) ≡ sources.from_adding ys
+    → sources.from_adding (map (sided_effect Deletes) xs ++ ys) ≡ sources.from_adding ys
 from_adding_behind [] ys = refl
 from_adding_behind (x ∷ xs) ys = from_adding_behind xs ys
 
 -- of effects that are to add, the idle prefix adds nothing
-not_adding_idle : (xs : List syntax.Effect) → sources.not_adding (map (sided_effect compiled.Adds) xs)
+not_adding_idle : (xs : List syntax.Effect) → sources.not_adding (map (sided_effect Adds) xs)
     ≡ map lowered_effect (idle_prefix xs)
 not_adding_idle [] = refl
 not_adding_idle (syntax.Change a ∷ xs) = refl
@@ -163,20 +165,20 @@ not_adding_idle (syntax.Each vs e [] ∷ xs) = ap (λ zs. syntax.Each [] (lowere
 not_adding_idle (syntax.Each vs e (a ∷ as') ∷ xs) = refl
 
 -- effects of a side, without the side
-effects_sided : (side : compiled.Side) (xs : List syntax.Effect)
+effects_sided : (side : Side) (xs : List syntax.Effect)
     → map (λ y. y.effect) (map (sided_effect side) xs) ≡ map lowered_effect xs
 effects_sided side [] = refl
 effects_sided side (x ∷ xs) = ap (λ zs. lowered_effect x ∷ zs) (effects_sided side xs)
 
 -- and the others are from the first that adds anything on
-from_adding_idle : (xs : List syntax.Effect) → sources.from_adding (map (sided_effect compiled.Adds) xs)
+from_adding_idle : (xs : List syntax.Effect) → sources.from_adding (map (sided_effect Adds) xs)
     ≡ map lowered_effect (behind_idle xs)
 from_adding_idle [] = refl
-from_adding_idle (syntax.Change a ∷ xs) = ap (λ zs. syntax.Change a ∷ zs) (effects_sided compiled.Adds xs)
-from_adding_idle (syntax.Protection a ∷ xs) = ap (λ zs. syntax.Protection a ∷ zs) (effects_sided compiled.Adds xs)
+from_adding_idle (syntax.Change a ∷ xs) = ap (λ zs. syntax.Change a ∷ zs) (effects_sided Adds xs)
+from_adding_idle (syntax.Protection a ∷ xs) = ap (λ zs. syntax.Protection a ∷ zs) (effects_sided Adds xs)
 from_adding_idle (syntax.Each vs e [] ∷ xs) = from_adding_idle xs
 from_adding_idle (syntax.Each vs e (a ∷ as') ∷ xs) = ap (λ zs. syntax.Each [] (lowered e) (a ∷ as') ∷ zs)
-    (effects_sided compiled.Adds xs)
+    (effects_sided Adds xs)
 
 -- ---- rules
 
@@ -204,15 +206,15 @@ operator_back : (o : syntax.Operator) → sources.rule_read o.vars (compiled.rul
 unfolding sources.body_read
 operator_back o =
     let cost = compiled.only (compiled.leaf (CostOf o.cost) (pattern_span o.cost)) in
-    let adds = map (sided_effect compiled.Adds) o.adds in
+    let adds = map (sided_effect Adds) o.adds in
     made _ _ _ _ _ (precondition_back o.span o.pre)
-    (effects_back compiled.Deletes o.span o.dels (compiled.effect_trees compiled.Adds o.span o.adds cost) _
-    (effects_back compiled.Adds o.span o.adds cost (record { effects = []; cost = o.cost }) refl))
+    (effects_back Deletes o.span o.dels (compiled.effect_trees Adds o.span o.adds cost) _
+    (effects_back Adds o.span o.adds cost (record { effects = []; cost = o.cost }) refl))
     ∙ ap (λ xs. Some (does o (lowered_precondition o.pre) (sources.not_adding
-    (map (sided_effect compiled.Deletes) o.dels ++ xs))
-    (sources.from_adding (map (sided_effect compiled.Deletes) o.dels ++ xs)))) (append-nil adds)
+    (map (sided_effect Deletes) o.dels ++ xs))
+    (sources.from_adding (map (sided_effect Deletes) o.dels ++ xs)))) (append-nil adds)
     ∙ ap (λ xs. Some (does o (lowered_precondition o.pre) xs (sources.from_adding
-    (map (sided_effect compiled.Deletes) o.dels ++ adds))))
+    (map (sided_effect Deletes) o.dels ++ adds))))
     (not_adding_behind o.dels adds
     ∙ ap (λ ys. map lowered_effect o.dels ++ ys) (not_adding_idle o.adds)
     ∙ lowered_both o.dels (idle_prefix o.adds))

@@ -1,5 +1,7 @@
 -- What each rule is compiled to: its node, and below it those of its parts, from left to right.
 use Rattle.std.specs.Prelude.{ℕ, List, [], ◌∷◌}
+use Rattle.hp_syntax.specs.declared.domain.Side.{Side}
+use Rattle.hp_syntax.specs.declared.domain.Side.TheVariants.{Deletes, Adds}
 use Rattle.hp_syntax.specs.declared.pattern.Span.{Span}
 use Rattle.hp_syntax.specs.Changes.{pattern_span}
 use Rattle.hp_syntax.specs.Syntax as syntax
@@ -36,11 +38,6 @@ precondition_tree s (syntax.First e) = trees.Node trees.FirstOf s (only (express
 precondition_tree s (syntax.Sorted k e) = trees.Node (trees.SortedBy k) k.span (only (expression_tree e))
 
 -- ---- effects
-
--- the two lists of an operator
-pub data Side : Type 0 where
-  Deletes : Side
-  Adds : Side
 
 abbrev pub change_op : Side → syntax.Atom → trees.Operation
 change_op Deletes a = trees.Delete a

@@ -1,11 +1,8 @@
--- The plain value that each node, and each list of an operator, stands for.
+-- The plain value that each node stands for.
 use Rattle.hp_syntax.specs.Views.{atom_of, key_of, pattern_of, tasks_of}
-use Rattle.hp_code.specs.declared.effects.Side as public_side
-use Rattle.hp_code.specs.declared.effects.Side.TheVariants as sides
 use Rattle.hp_code.specs.declared.node.CodeNode.{CodeNode}
 use Rattle.hp_code.specs.declared.node.Op.{Op}
 use Rattle.hp_code.specs.declared.node.Op.TheVariants as ops
-use Rattle.hp_code.specs.Compiled.{Side, Deletes, Adds}
 use Rattle.hp_code.specs.Trees as plain
 use Rattle.hp_code.specs.Trees.{Operation, Laid}
 
@@ -34,7 +31,3 @@ operation_of (ops.Tasks tasks) = plain.TasksOf (tasks_of tasks)
 
 abbrev pub laid_of : CodeNode → Laid
 laid_of n = record { op = operation_of n.op; to = n.to; span = n.span }
-
-abbrev pub side_of : public_side.Side → Side
-side_of sides.Deletes = Deletes
-side_of sides.Adds = Adds

@@ -4,25 +4,18 @@ ghost use Rattle.hp_syntax.specs.Views.{atom_of, atoms_of, expression_of, effect
 ghost use Rattle.hp_code.specs.Compiled as compiled;
 ghost use Rattle.hp_code.specs.Compiled.{only, change_op, protection_op, change_trees, effect_tree, effect_trees, expression_tree};
 ghost use Rattle.hp_code.specs.Laying.{Lays};
-ghost use Rattle.hp_code.specs.NodeViews.{operation_of, side_of};
+ghost use Rattle.hp_code.specs.NodeViews.{operation_of};
 ghost use Rattle.hp_code.specs.Trees.{Node, NoTree, More, Each};
 
 use crate::expressions::lay_expression;
 use crate::laying::{close_node, leaf, open_node};
 use crate::node::{CodeNode, Op};
-use hp_syntax::{AtomPat, Effect, Expr, Span};
+use hp_syntax::{AtomPat, Effect, Expr, Side, Span};
 use std::alloc::{AllocError, Global};
-
-/// The list of an operator that deletes, or the one that adds.
-#[derive(Clone, Copy)]
-pub(crate) enum Side {
-    Deletes,
-    Adds,
-}
 
 /// What is done with an atom of a list.
 fn change(alloc: Global, side: Side, atom: &AtomPat) -> Result<Op, AllocError>
-    ensures { IfOk result (λ op. operation_of op ≡ change_op (side_of side) (atom_of atom.now)) }
+    ensures { IfOk result (λ op. operation_of op ≡ change_op side (atom_of atom.now)) }
 {
     let copy = atom.copy(alloc)?;
     Ok(match side {
@@ -33,7 +26,7 @@ fn change(alloc: Global, side: Side, atom: &AtomPat) -> Result<Op, AllocError>
 
 /// What is done with a protection of a list.
 fn protection(alloc: Global, side: Side, atom: &AtomPat) -> Result<Op, AllocError>
-    ensures { IfOk result (λ op. operation_of op ≡ protection_op (side_of side) (atom_of atom.now)) }
+    ensures { IfOk result (λ op. operation_of op ≡ protection_op side (atom_of atom.now)) }
 {
     let copy = atom.copy(alloc)?;
     Ok(match side {
@@ -49,7 +42,7 @@ fn lay_change(
     side: Side,
     atom: &AtomPat,
 ) -> Result<(), AllocError>
-    ensures { OnOk result (Lays (only (compiled.leaf (change_op (side_of side) (atom_of atom.now)) atom.now.span))
+    ensures { OnOk result (Lays (only (compiled.leaf (change_op side (atom_of atom.now)) atom.now.span))
         nodes.old.items nodes.new.items) }
 {
     let op = change(alloc, side, atom)?;
@@ -63,7 +56,7 @@ fn lay_changes(
     side: Side,
     atoms: &[AtomPat],
 ) -> Result<(), AllocError>
-    ensures { OnOk result (Lays (change_trees (side_of side) (atoms_of atoms.now)) nodes.old.items nodes.new.items) }
+    ensures { OnOk result (Lays (change_trees side (atoms_of atoms.now)) nodes.old.items nodes.new.items) }
 {
     for atom in atoms {
         lay_change(nodes, alloc, side, atom)?;
@@ -78,7 +71,7 @@ fn lay_protection(
     side: Side,
     atom: &AtomPat,
 ) -> Result<(), AllocError>
-    ensures { OnOk result (Lays (only (compiled.leaf (protection_op (side_of side) (atom_of atom.now)) atom.now.span))
+    ensures { OnOk result (Lays (only (compiled.leaf (protection_op side (atom_of atom.now)) atom.now.span))
         nodes.old.items nodes.new.items) }
 {
     let op = protection(alloc, side, atom)?;
@@ -95,7 +88,7 @@ fn lay_each(
     atoms: &[AtomPat],
 ) -> Result<(), AllocError>
     ensures { OnOk result (Lays (only (Node Each span (More (expression_tree (expression_of expr.now))
-        (change_trees (side_of side) (atoms_of atoms.now))))) nodes.old.items nodes.new.items) }
+        (change_trees side (atoms_of atoms.now))))) nodes.old.items nodes.new.items) }
 {
     let at = open_node(nodes, Op::Each, span)?;
     lay_expression(nodes, alloc, expr)?;
@@ -112,7 +105,7 @@ fn lay_effect(
     span: Span,
     effect: &Effect,
 ) -> Result<(), AllocError>
-    ensures { OnOk result (Lays (only (effect_tree (side_of side) span (effect_of effect.now)))
+    ensures { OnOk result (Lays (only (effect_tree side span (effect_of effect.now)))
         nodes.old.items nodes.new.items) }
 {
     match effect {
@@ -132,7 +125,7 @@ pub(crate) fn lay_effects(
     span: Span,
     effects: &[Effect],
 ) -> Result<(), AllocError>
-    ensures { OnOk result (Lays (effect_trees (side_of side) span (map effect_of effects.now) NoTree)
+    ensures { OnOk result (Lays (effect_trees side span (map effect_of effects.now) NoTree)
         nodes.old.items nodes.new.items) }
 {
     for effect in effects {

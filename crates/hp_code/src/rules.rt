@@ -4,16 +4,16 @@ ghost use Rattle.hp_syntax.specs.Changes.{pattern_span};
 ghost use Rattle.hp_syntax.specs.Views.{pattern_of, tasks_of, operator_of, branch_of, method_of, clause_of, axiom_of, rule_of};
 ghost use Rattle.hp_syntax.specs.Syntax as syntax;
 ghost use Rattle.hp_code.specs.Compiled as compiled;
-ghost use Rattle.hp_code.specs.Compiled.{Deletes, Adds, only, effect_trees, operator_tree, branch_tree, branch_trees, clause_tree, clause_trees, rule_tree, rule_trees};
+ghost use Rattle.hp_code.specs.Compiled.{only, effect_trees, operator_tree, branch_tree, branch_trees, clause_tree, clause_trees, rule_tree, rule_trees};
 ghost use Rattle.hp_code.specs.Laying.{Lays};
 ghost use Rattle.hp_code.specs.NodeViews.{laid_of, operation_of};
 ghost use Rattle.hp_code.specs.Trees.{BranchOf, CostOf, TasksOf, all_laid, roots};
 
-use crate::effects::{Side, lay_effects};
+use crate::effects::lay_effects;
 use crate::expressions::{lay_part, lay_precondition};
 use crate::laying::{close_node, leaf, open_node};
 use crate::node::{CodeNode, Op};
-use hp_syntax::{Axiom, Branch, Clause, Method, Name, NetPat, Operator, Pat, Rule, Span};
+use hp_syntax::{Axiom, Branch, Clause, Method, Name, NetPat, Operator, Pat, Rule, Side, Span};
 use std::alloc::{AllocError, Global};
 
 /// What an operator costs.
@@ -32,7 +32,7 @@ fn lay_effects_and_cost(
     operator: &Operator,
 ) -> Result<(), AllocError>
     ensures { OnOk result (let o = operator_of operator.now in
-        Lays (effect_trees Deletes o.span o.dels (effect_trees Adds o.span o.adds
+        Lays (effect_trees Side.Deletes o.span o.dels (effect_trees Side.Adds o.span o.adds
         (only (compiled.leaf (CostOf o.cost) (pattern_span o.cost))))) nodes.old.items nodes.new.items) }
 {
     let span = operator.span;

@@ -1,6 +1,8 @@
 -- The atoms that effects gather, one effect after another, and those of them that are put into changes.
 use Rattle.std.proofs.Common.{append_assoc, ◌≡◌, ℕ, ◌+◌, ◌<◌, List, [], ◌∷◌, ◌++◌, length, drop, get_or, slice_get, Some, Result, Ok, Err, refl, sym, ◌∙◌, ap, ap₂, subst, arith}
 use Rattle.std.proofs.lemmas.List.{map-append, append-nil}
+use Rattle.hp_syntax.specs.declared.domain.Side.{Side}
+use Rattle.hp_syntax.specs.declared.domain.Side.TheVariants.{Deletes, Adds}
 use Rattle.hp_syntax.specs.declared.fault.RunFault.{RunFault}
 use Rattle.hp_syntax.specs.declared.pattern.AtomPat.{AtomPat}
 use Rattle.hp_syntax.specs.Syntax.{Atom}
@@ -19,8 +21,6 @@ use Rattle.hp_eval.proofs.GrowthLemmas.{all_below, terms_stay}
 use Rattle.hp_eval.proofs.Loops.{left_more}
 use Rattle.hp_world.specs.Stages.{terms_at, changes_of, ChangesBelow}
 use Rattle.hp_effect.specs.declared.changes.Part.{Part}
-use Rattle.hp_effect.specs.declared.side.Side.{Side}
-use Rattle.hp_effect.specs.declared.side.Side.TheVariants.{Deletes, Adds}
 use Rattle.hp_effect.specs.declared.obstacle.Obstacle.{Obstacle}
 use Rattle.hp_effect.specs.declared.obstacle.Obstacle.TheVariants.{Cut, Fault, NoMemory}
 use Rattle.hp_effect.specs.Puts.{with_last, Puts}

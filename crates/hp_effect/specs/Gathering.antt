@@ -1,5 +1,7 @@
 -- The atoms that effects gather, and those of them that are put into changes.
 use Rattle.std.specs.Prelude.{◌≡◌, ℕ, Bool, true, false, List, [], ◌∷◌, ◌++◌, length, Result, Ok, Err}
+use Rattle.hp_syntax.specs.declared.domain.Side.{Side}
+use Rattle.hp_syntax.specs.declared.domain.Side.TheVariants.{Deletes, Adds}
 use Rattle.hp_syntax.specs.declared.fault.RunFault.{RunFault}
 use Rattle.hp_syntax.specs.Syntax.{Atom}
 use Rattle.hp_syntax.specs.Terms.{Term}
@@ -12,8 +14,6 @@ use Rattle.hp_eval.specs.Events.{PlainEvent}
 use Rattle.hp_world.specs.Stages.{changes_of, ChangesBelow}
 use Rattle.hp_effect.specs.declared.changes.Part.{Part}
 use Rattle.hp_effect.specs.declared.changes.Part.TheVariants.{Unguard, Delete, Add, Guard}
-use Rattle.hp_effect.specs.declared.side.Side.{Side}
-use Rattle.hp_effect.specs.declared.side.Side.TheVariants.{Deletes, Adds}
 use Rattle.hp_effect.specs.declared.obstacle.Obstacle.{Obstacle}
 use Rattle.hp_effect.specs.declared.obstacle.Obstacle.TheVariants.{Cut, Fault, NoMemory}
 

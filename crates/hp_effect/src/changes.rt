@@ -9,11 +9,12 @@ ghost use Rattle.hp_eval.specs.Growth.{Grows};
 ghost use Rattle.hp_eval.specs.Slotted.{AreBelow, bindings_of};
 ghost use Rattle.hp_world.specs.Answers.{Applies};
 ghost use Rattle.hp_world.specs.Stages.{PlacesKept, state_of, guards_of, changes_of, StageBelow, ChangesBelow};
+ghost use Rattle.hp_effect.specs.Gathering.{part_of_atoms, part_of_protections};
 ghost use Rattle.hp_effect.specs.Puts.{Puts, Pushes, list_of, IsApplied};
 
 use hp_cells::{Cell, Cells};
 use hp_eval::{EvalStop, Slots, atom_value};
-use hp_syntax::AtomPat;
+use hp_syntax::{AtomPat, Side};
 use hp_world::{Applied, World};
 use std::alloc::{AllocError, Global};
 use std::marker::Model;
@@ -25,6 +26,28 @@ pub enum Part {
     Delete,
     Add,
     Guard,
+}
+
+impl Part {
+    /// The list for the atoms of an operator's list.
+    pub fn of_atoms(side: Side) -> Part
+        ensures { result ≡ part_of_atoms side }
+    {
+        match side {
+            Side::Deletes => Part::Delete,
+            Side::Adds => Part::Add,
+        }
+    }
+
+    /// The list for the protections of an operator's list.
+    pub fn of_protections(side: Side) -> Part
+        ensures { result ≡ part_of_protections side }
+    {
+        match side {
+            Side::Deletes => Part::Unguard,
+            Side::Adds => Part::Guard,
+        }
+    }
 }
 
 /// Four lists of atoms, each in the order in which they were put there.

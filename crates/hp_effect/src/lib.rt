@@ -5,10 +5,9 @@ mod changes;
 mod costs;
 mod obstacle;
 mod putting;
-mod side;
 
 pub use changes::{Changes, Part};
 pub use costs::cost;
+pub use hp_syntax::Side;
 pub use obstacle::Obstacle;
 pub use putting::{put_atom, put_atoms, put_each, put_protection};
-pub use side::Side;

@@ -9,12 +9,11 @@ ghost use Rattle.hp_eval.specs.Slotted.{AreBelow, bindings_of, undone};
 ghost use Rattle.hp_world.specs.Stages.{ChangesBelow, changes_of};
 ghost use Rattle.hp_effect.specs.Gathering.{of_atom, of_guard, only_atoms, each_going, PutsAll, PutsNext};
 
-use crate::changes::Changes;
+use crate::changes::{Changes, Part};
 use crate::obstacle::Obstacle;
-use crate::side::Side;
 use hp_cells::Cells;
 use hp_eval::{Event, Sats, Slots};
-use hp_syntax::AtomPat;
+use hp_syntax::{AtomPat, Side};
 
 /// Puts the value of an atom into changes.
 pub fn put_atom(
@@ -30,7 +29,7 @@ pub fn put_atom(
         cells.new (changes_of cells.old changes.old) changes.new }
     ensures cells { Grows cells.old cells.new }
 {
-    changes.put(side.atoms(), atom, slots, cells)?;
+    changes.put(Part::of_atoms(side), atom, slots, cells)?;
     Ok(())
 }
 
@@ -48,7 +47,7 @@ pub fn put_protection(
         cells.new (changes_of cells.old changes.old) changes.new }
     ensures cells { Grows cells.old cells.new }
 {
-    changes.put(side.protections(), atom, slots, cells)?;
+    changes.put(Part::of_protections(side), atom, slots, cells)?;
     Ok(())
 }
 

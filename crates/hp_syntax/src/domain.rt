@@ -55,6 +55,13 @@ impl Drop for Effect {
     }
 }
 
+/// The list of an operator that deletes, or the one that adds.
+#[derive(Clone, Copy, Debug, PartialEq, Eq)]
+pub enum Side {
+    Deletes,
+    Adds,
+}
+
 /// A way to do a primitive task. `vars` has the names of its variables, by number.
 pub struct Operator {
     pub span: Span,

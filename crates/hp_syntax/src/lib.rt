@@ -22,7 +22,9 @@ mod tasks;
 mod text;
 
 pub use check::{CheckFault, CheckKind};
-pub use domain::{Axiom, Branch, Clause, Domain, Effect, Method, Operator, Pair, Problem, Rule};
+pub use domain::{
+    Axiom, Branch, Clause, Domain, Effect, Method, Operator, Pair, Problem, Rule, Side,
+};
 pub use expression::{Expr, ExprKind, Pre, SortKey, SortOrder};
 pub use fault::{FaultKind, RunFault};
 pub use form::What;

@@ -1,14 +1,13 @@
 use Rattle.std.proofs.Common.{map, refl}
 use Rattle.hp_syntax.specs.Views.{effect_of}
 use Rattle.hp_code.specs.Compiled.{effect_tree, effect_trees}
-use Rattle.hp_code.specs.NodeViews.{side_of}
 use Rattle.hp_code.specs.Trees.{NoTree}
 use Rattle.hp_code.proofs.LayingSteps.{laid_one_more, all_parts_laid}
 use Rattle.hp_code.proofs.effects.lay_effects.Goals as goal
 
 pub loop-effect-preserved : goal.loop-effect-preserved
 loop-effect-preserved c =
-    let side = side_of c.args.side in
+    let side = c.args.side in
     let span = c.args.span in
     laid_one_more (λ es. effect_trees side span (map effect_of es) NoTree) (λ e. effect_tree side span (effect_of e))
     c.args.effects.now c.loop-effect.effect-index c.effect-item.result c.loop-effect.nodes.items
@@ -17,5 +16,5 @@ loop-effect-preserved c =
 
 pub returns : goal.returns
 returns c =
-    all_parts_laid (λ es. effect_trees (side_of c.args.side) c.args.span (map effect_of es) NoTree) c.args.effects.now
+    all_parts_laid (λ es. effect_trees c.args.side c.args.span (map effect_of es) NoTree) c.args.effects.now
     c.loop-effect.effect-index c.loop-effect-test.false refl c.loop-effect.nodes.items _ c.loop-effect.invariant

@@ -1,7 +1,6 @@
 use Rattle.std.proofs.Common.{◌≡◌, drop, map}
 use Rattle.hp_syntax.specs.Views.{effect_of}
 use Rattle.hp_code.specs.Compiled.{effect_trees}
-use Rattle.hp_code.specs.NodeViews.{side_of}
 use Rattle.hp_code.specs.Trees.{NoTree}
 use Rattle.hp_code.proofs.LayingLemmas.{laid_behind}
 use Rattle.hp_code.proofs.effects.lay_effects.Given as goal
@@ -9,5 +8,5 @@ use Rattle.hp_code.proofs.effects.lay_effects.Given as goal
 abbrev pub invariant-loop-effect : goal.invariant-loop-effect
 invariant-loop-effect l =
     laid_behind l.nodes.items
-    (effect_trees (side_of l.side) l.span (map effect_of (drop l.effect-index l.effects)) NoTree)
-    ≡ laid_behind l.fn.nodes.items (effect_trees (side_of l.side) l.span (map effect_of l.effects) NoTree)
+    (effect_trees l.side l.span (map effect_of (drop l.effect-index l.effects)) NoTree)
+    ≡ laid_behind l.fn.nodes.items (effect_trees l.side l.span (map effect_of l.effects) NoTree)

@@ -1,7 +1,8 @@
 use Rattle.std.proofs.lemmas.Result.{on_ok_weaker}
+use Rattle.hp_syntax.specs.declared.domain.Side.TheVariants.{Deletes, Adds}
 use Rattle.hp_syntax.specs.Changes.{pattern_span}
 use Rattle.hp_syntax.specs.Views.{operator_of}
-use Rattle.hp_code.specs.Compiled.{Deletes, Adds, leaf, only, effect_trees}
+use Rattle.hp_code.specs.Compiled.{leaf, only, effect_trees}
 use Rattle.hp_code.specs.Trees.{CostOf}
 use Rattle.hp_code.proofs.LayingSteps.{effects_before}
 use Rattle.hp_code.proofs.rules.lay_effects_and_cost.Goals as goal

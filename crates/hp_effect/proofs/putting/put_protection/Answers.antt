@@ -8,5 +8,5 @@ pub returns-clause-puts : goal.returns-clause-puts
 returns-clause-puts c =
     let old = c.args.cells.now in
     guard_gathered old c.put.new.cells c.put.ensures.cells c.args.changes.now c.requires.below c.args.side
-    c.protections.result (atom_value (atom_of c.args.atom.now) (bindings_of old c.args.slots.now)) c.put.new.self
-    (c.put.ensures.below c.requires.below) c.protections.ensures c.in_ok-put.ensures.puts
+    c.of_protections.result (atom_value (atom_of c.args.atom.now) (bindings_of old c.args.slots.now)) c.put.new.self
+    (c.put.ensures.below c.requires.below) c.of_protections.ensures c.in_ok-put.ensures.puts
