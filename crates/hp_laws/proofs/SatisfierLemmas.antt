@@ -2,6 +2,7 @@
 use Rattle.std.proofs.Common.{◌≡◌, ◌≢◌, ℕ, zero, suc, ◌+◌, ◌≤◌, false, List, [], ◌∷◌, ◌++◌, map, Option, Some, None, Result, Ok, Err, refl, sym, ◌∙◌, ap, ap₂, subst, arith, inl, inr}
 use Rattle.std.specs.Prelude.{◌↔◌, flat_map, Contains, slice_get, bytes_eq}
 use Rattle.std.specs.List.{All, AllPairs}
+use Rattle.std.specs.Option.{option_map_or}
 use Rattle.std.proofs.lemmas.Bool.{false_from_ne_true}
 use Rattle.std.proofs.lemmas.List.{append-nil, map-append}
 use Rattle.std.proofs.lemmas.List.Elements.{All-nil, All-head, All-append, All-map, All-weaker, All-contains, Contains-append_left, Contains-append_right}
@@ -220,14 +221,9 @@ filled_name a e q k =
     let w = on_ok_ok (fill_parts a.args a.tail e) (λ f. goal_of a f (ground_parts f.0 f.1)) q k in
     goal_named a w.0 (ground_parts w.0.0 w.0.1) q w.2
 
--- the events where an atom has matched, and none where it hasn't
-abbrev when_matched : (Bindings → List events.Event) → Option Bindings → List events.Event
-when_matched k None = []
-when_matched k (Some b) = k b
-
--- the events in the place of an atom's satisfier are those where it has matched
+-- the events in the place of an atom's satisfier are those under the bindings by which it has matched, if it has
 in_place_if : (k : Bindings → List events.Event) (o : Option Bindings)
-    → flat_map (events.in_place k) (events.sat_if o) ≡ when_matched k o
+    → flat_map (events.in_place k) (events.sat_if o) ≡ option_map_or k o []
 in_place_if k None = refl
 in_place_if k (Some b) = append-nil (k b)
 
@@ -243,19 +239,19 @@ sat_of-with_place i (x ∷ xs) = ap (λ ys. sat_of x ∷ ys) (sat_of-with_place 
 module _ (k : Bindings → List events.Event) (f : Bindings → List Selection)
     (h : (b : Bindings) → All IsSat (k b) → map sat_of (f b) ≡ k b) where
   -- the satisfiers behind a place are those of the atoms after it
-  below_sats : (i : ℕ) (o : Option Bindings) → All IsSat (when_matched k o)
-      → map sat_of (then_below f i o) ≡ when_matched k o
+  below_sats : (i : ℕ) (o : Option Bindings) → All IsSat (option_map_or k o [])
+      → map sat_of (then_below f i o) ≡ option_map_or k o []
   below_sats i None a = refl
   below_sats i (Some b) a = sat_of-with_place i (f b) ∙ h b a
 
   -- the satisfiers from a place on are those of the atoms after each place that matches
   from_sats : (q : Goal) (e : Bindings) (i : ℕ) (gs : List Term)
-      → All IsSat (flat_map (λ g. when_matched k (match_goal q g e)) gs)
-      → map sat_of (from_place f q e i gs) ≡ flat_map (λ g. when_matched k (match_goal q g e)) gs
+      → All IsSat (flat_map (λ g. option_map_or k (match_goal q g e) []) gs)
+      → map sat_of (from_place f q e i gs) ≡ flat_map (λ g. option_map_or k (match_goal q g e) []) gs
   from_sats q e i [] a = refl
   from_sats q e i (g ∷ gs) a =
-      let here = when_matched k (match_goal q g e) in
-      let later = flat_map (λ g. when_matched k (match_goal q g e)) gs in
+      let here = option_map_or k (match_goal q g e) [] in
+      let later = flat_map (λ g. option_map_or k (match_goal q g e) []) gs in
       map-append sat_of (then_below f i (match_goal q g e)) (from_place f q e (suc i) gs)
       ∙ ap₂ (λ xs ys. xs ++ ys) (below_sats i (match_goal q g e) (all_left IsSat here later a))
       (from_sats q e (suc i) gs (all_right IsSat here later a))
@@ -273,7 +269,7 @@ module _ (s : events.State) (below : events.Below) where
   goal_gone_on : (axioms : List Axiom) (q : Goal) (e : Bindings) (k : Bindings → List events.Event)
       → All (λ x. x.head.name ≢ q.name) axioms
       → events.through (events.goal_events axioms below s q e) k
-      ≡ flat_map (λ g. when_matched k (match_goal q g e)) s
+      ≡ flat_map (λ g. option_map_or k (match_goal q g e) []) s
   goal_gone_on axioms q e k h =
       ap (λ xs. flat_map (events.in_place k) (events.state_events s q e ++ xs))
       (join_none (λ x. events.axiom_events below x q e) axioms
@@ -281,7 +277,7 @@ module _ (s : events.State) (below : events.Below) where
       ∙ ap (flat_map (events.in_place k)) (append-nil (events.state_events s q e))
       ∙ join_join (λ g. events.sat_if (match_goal q g e)) (events.in_place k) s
       ∙ join_same (λ g. flat_map (events.in_place k) (events.sat_if (match_goal q g e)))
-      (λ g. when_matched k (match_goal q g e)) s
+      (λ g. option_map_or k (match_goal q g e) []) s
       (all_from _ (λ g. in_place_if k (match_goal q g e)) s)
 
   module _ (axioms : List Axiom) (a : Atom) (names : All (λ x. x.head.name ≢ a.name) axioms)

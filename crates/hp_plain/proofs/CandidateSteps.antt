@@ -1,6 +1,7 @@
 -- The children of a node by a candidate, step by step.
 use Rattle.std.proofs.Common.{◌≡◌, ℕ, ◌<◌, ℤ, Vec, List, [], ◌∷◌, length, map, get_or, Bool, true, false, Option, option_map, Some, None, sym, ◌∙◌, ap, ap₂, subst}
 use Rattle.std.specs.List.{All}
+use Rattle.std.specs.Option.{option_map_or}
 use Rattle.std.specs.Prelude.{flat_map, slice_get}
 use Rattle.std.specs.Global.{Global}
 use Rattle.std.proofs.lemmas.List.Elements.{All-get_or, All-nil, All-same, All-weaker}
@@ -36,7 +37,7 @@ use Rattle.hp_eval.specs.GoalViews.{term_at}
 use Rattle.hp_net.specs.FlatNetworks.{FlatNetwork, focused, place_of, EntryBelow}
 use Rattle.hp_world.specs.Histories.{History}
 use Rattle.hp_world.specs.Stages.{Stage, state_of, guards_of, terms_at}
-use Rattle.hp_tree.specs.Children.{if_matched, children_by, done_by}
+use Rattle.hp_tree.specs.Children.{children_by, done_by}
 use Rattle.hp_tree.proofs.ChildLemmas.{operator_met}
 use Rattle.hp_tree.proofs.SearchNodeLemmas.{node_is, node_stays}
 use Rattle.hp_plain.specs.declared.candidate.Candidate.{Candidate}
@@ -222,8 +223,8 @@ module _ (old new : List Term) (g : Grows old new) (s : Candidate) (fits : Candi
   -- the events of an operator's precondition are its choice
   pub chooses_operator : (o : Operator) (c : Choice) → slice_get (rules_at s) rule ≡ Some (Does o)
       → FindsBelow new c.found.items
-      (if_matched (precondition_events (axioms_of (rules_at s)) (nest_at s) (own_node old s).state o.pre)
-      (match_atom o.head (own_task old s) (unbound (length o.vars))))
+      (option_map_or (precondition_events (axioms_of (rules_at s)) (nest_at s) (own_node old s).state o.pre)
+      (match_atom o.head (own_task old s) (unbound (length o.vars))) [])
       → Chooses new s rule c (children_at old s rule)
   chooses_operator o c e h = record {
     stand =

@@ -1,5 +1,6 @@
 //! The children of a node by one of the tasks that may be done next.
 ghost use Rattle.std.specs.Prelude.{◌≡◌, ◌<◌, ◌≤◌, [], map, Ok, IfOk, length, slice_get};
+ghost use Rattle.std.specs.Option.{option_map_or};
 ghost use Rattle.hp_syntax.specs.declared.limits.TheConstants.{MOST_VARIABLES};
 ghost use Rattle.hp_syntax.specs.Applying.{Now};
 ghost use Rattle.hp_syntax.specs.Changes as plain;
@@ -15,7 +16,7 @@ ghost use Rattle.hp_eval.specs.Growth.{Grows};
 ghost use Rattle.hp_eval.specs.Slotted.{AreBelow, bindings_of};
 ghost use Rattle.hp_world.specs.Stages.{ChangesBelow, StageBelow, changes_of, state_of, guards_of};
 ghost use Rattle.hp_answers.specs.AnswerViews.{answer_event, BindsBelow, MeetsHead};
-ghost use Rattle.hp_tree.specs.Children.{branch_done, if_matched};
+ghost use Rattle.hp_tree.specs.Children.{branch_done};
 ghost use Rattle.hp_plain.specs.Candidates.{rules_at, nest_at, own_node, place_at, own_task, done_at, children_at, CandidateFits};
 ghost use Rattle.hp_plain.specs.Children.{Makes, FindsBelow, ChoosesBranch, Chooses};
 
@@ -268,10 +269,10 @@ impl Candidate<'_> {
         requires candidate { CandidateFits (length cells.old) self.now }
         requires few { length operator.now.vars.items ≤ MOST_VARIABLES }
         ensures finds { IfOk result (λ v. FindsBelow cells.new v.items
-            (if_matched (precondition_events (axioms_of (rules_at self.now)) (nest_at self.now)
+            (option_map_or (precondition_events (axioms_of (rules_at self.now)) (nest_at self.now)
             (own_node cells.old self.now).state (precondition_of operator.now.pre))
             (match_atom (atom_of operator.now.head) (own_task cells.old self.now)
-            (unbound (length operator.now.vars.items))))) }
+            (unbound (length operator.now.vars.items))) [])) }
         ensures cells { Grows cells.old cells.new }
     {
         match self.matched(&operator.head, operator.vars.len(), cells)? {

@@ -1,6 +1,7 @@
 -- The children of a node by candidates, by rules and by events.
 use Rattle.std.proofs.Common.{◌≡◌, ℕ, ◌+◌, ◌<◌, ◌≤◌, ℤ, List, [], ◌∷◌, ◌++◌, length, map, drop, get_or, Option, Some, None, Result, Ok, refl, sym, ◌∙◌, ap, ap₂, append_assoc}
 use Rattle.std.specs.List.{All}
+use Rattle.std.specs.Option.{option_map_or}
 use Rattle.std.specs.Prelude.{flat_map, slice_get}
 use Rattle.std.proofs.lemmas.List.{drop_all}
 use Rattle.std.proofs.lemmas.List.Elements.{All-nil, All-cons, All-head, All-tail}
@@ -19,7 +20,7 @@ use Rattle.hp_net.specs.declared.entry.Entry.{Entry}
 use Rattle.hp_net.specs.FlatNetworks.{FlatNetwork, NamesTask, place_of}
 use Rattle.hp_laws.specs.RulesByName.{relevant_to}
 use Rattle.hp_laws.proofs.RuleNameLemmas.{relevant_give}
-use Rattle.hp_tree.specs.Children.{place_or_whole, place_in, IsCandidate, if_matched, branch_done, task_by, one_by, relevant_by, by_candidates}
+use Rattle.hp_tree.specs.Children.{place_or_whole, place_in, IsCandidate, branch_done, task_by, one_by, relevant_by, by_candidates}
 
 -- ---- candidates
 
@@ -134,7 +135,7 @@ module _ (rules : List Rule) (nest : ℕ) where
 -- the children by an operator are those that its precondition's events give
 pub operator_met : (rules : List Rule) (nest : ℕ) (n : Node) (p : Place) (t : Term) (o : Operator) (m : Option Bindings)
     → flat_map (child_of (λ b. after_effects n p t (changes.effects (axioms_of rules) nest n.state o b)))
-    (if_matched (precondition_events (axioms_of rules) nest n.state o.pre) m)
+    (option_map_or (precondition_events (axioms_of rules) nest n.state o.pre) m [])
     ≡ operator_children rules nest n p t o m
 operator_met rules nest n p t o None = refl
 operator_met rules nest n p t o (Some e) = refl

@@ -2,7 +2,7 @@
 -- rule's precondition.
 use Rattle.std.specs.Prelude.{◌≡◌, ℕ, List, [], ◌∷◌, ◌++◌, drop, Option, Some, None, flat_map, slice_get}
 use Rattle.hp_syntax.specs.Changes.{effects}
-use Rattle.hp_syntax.specs.Events.{Event, axioms_of}
+use Rattle.hp_syntax.specs.Events.{axioms_of}
 use Rattle.hp_syntax.specs.Networks.{Network, Empty, Task, Ordered, Unordered, Place, part_at, tasks_value}
 use Rattle.hp_syntax.specs.Syntax.{Rule, Does, Refines, Concludes, Branch}
 use Rattle.hp_syntax.specs.Terms.{Term}
@@ -29,11 +29,6 @@ pub record IsCandidate (o : FlatNetwork) (id : ℕ) : Type 0 where
   pub stands : place_of o.entries id ≡ Some (place_in o.entries id)
 
 -- ---- events
-
--- the events under bindings, if there are some
-abbrev pub if_matched : (Bindings → List Event) → Option Bindings → List Event
-if_matched f None = []
-if_matched f (Some e) = f e
 
 -- the children that a satisfier gives by a branch of a method, if there is one
 abbrev pub branch_done : Node → Place → Option Branch → Bindings → List Child

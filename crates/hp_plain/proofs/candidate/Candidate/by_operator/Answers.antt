@@ -1,4 +1,5 @@
-use Rattle.std.proofs.Common.{◌≡◌, ℕ, length, ◌∙◌, ap, sym, subst, arith}
+use Rattle.std.proofs.Common.{◌≡◌, ℕ, [], length, ◌∙◌, ap, sym, subst, arith}
+use Rattle.std.specs.Option.{option_map_or}
 use Rattle.std.proofs.lemmas.Result.{IfOk-weaker}
 use Rattle.hp_syntax.specs.Events.{axioms_of}
 use Rattle.hp_syntax.specs.Matching.{match_atom}
@@ -7,7 +8,6 @@ use Rattle.hp_syntax.specs.Values.{unbound}
 use Rattle.hp_syntax.specs.Views.{atom_of, precondition_of}
 use Rattle.hp_eval.proofs.GrowthLemmas.{grows_self}
 use Rattle.hp_world.specs.Stages.{StageBelow}
-use Rattle.hp_tree.specs.Children.{if_matched}
 use Rattle.hp_plain.specs.Candidates.{rules_at, nest_at, own_node, own_task}
 use Rattle.hp_answers.specs.AnswerViews.{MeetsHead}
 use Rattle.hp_plain.proofs.CandidateSteps.{precondition_stays, finds_below}
@@ -37,7 +37,7 @@ returns-in-Some-clause-finds c =
     precondition_events (axioms_of (rules_at s)) (nest_at s) (own_node old s).state (precondition_of o.pre) in
     let same =
     precondition_stays s old old (grows_self old) c.requires.candidate o.pre slots m.2
-    ∙ ap (if_matched events) (sym (ap found (sym long) ∙ m.0)) in
+    ∙ ap (λ b. option_map_or events b []) (sym (ap found (sym long) ∙ m.0)) in
     IfOk-weaker c.precondition.result _ _
     (λ v h. finds_below c.precondition.new.cells (length slots.values) v.items _ _ same h)
     c.precondition.ensures.finds
