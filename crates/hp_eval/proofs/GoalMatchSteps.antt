@@ -14,12 +14,12 @@ use Rattle.hp_syntax.specs.Goals.{match_free_tail, match_filled, match_fillings,
 use Rattle.hp_eval.specs.declared.goals.Filled.{Filled}
 use Rattle.hp_eval.specs.declared.goals.Filled.TheVariants as filled
 use Rattle.hp_eval.specs.GoalViews.{term_at, filled_of, fillings_of, is_below}
-use Rattle.hp_cells.specs.Compared.{is_symbol}
 use Rattle.hp_eval.specs.Attempts.{extended}
 use Rattle.hp_cells.specs.Keys.{parts_of}
 use Rattle.hp_eval.specs.FillSteps.{AreFilledBelow}
 use Rattle.hp_eval.specs.Steps.{is_list}
 use Rattle.hp_eval.proofs.GoalViewLemmas.{filled_of-known, filled_of-free, filled_of-list, is_below-list}
+use Rattle.hp_eval.proofs.MatchingSteps.{IsFoundBehind}
 
 -- ---- kinds of parts
 
@@ -98,14 +98,7 @@ fillings_end terms parts i tail ts e l =
 
 -- ---- goals
 
--- a goal matches a list that begins with its name where its parts match the others
-pub matches_goal : (q : plain.Goal) (first : Term) (others : Terms) (t : Term) (e : Bindings)
-    → t ≡ Listed (More first others)
-    → match_goal q t e ≡ cond (is_symbol q.name first) (match_fillings q.parts q.tail others e) None
-matches_goal q first others t e h = ap (λ u. match_goal q u e) h ∙ by first
-  where
-    by : (x : Term) → match_goal q (Listed (More x others)) e
-        ≡ cond (is_symbol q.name x) (match_fillings q.parts q.tail others e) None
-    by (Symbol b) = refl
-    by (Number m) = refl
-    by (Listed ts) = refl
+-- a goal is found behind its name
+pub goal_behind : (q : plain.Goal) (e : Bindings)
+    → IsFoundBehind q.name (λ t. match_goal q t e) (λ ts. match_fillings q.parts q.tail ts e)
+goal_behind q e = record { symbol = λ b ts. refl; number = λ n ts. refl; list = λ us ts. refl }

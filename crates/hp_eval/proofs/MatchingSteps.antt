@@ -1,6 +1,7 @@
 -- Matching a pattern by its kind, and the parts of a list one after the other.
-use Rattle.std.proofs.Common.{◌≡◌, ℕ, ◌+◌, ◌<◌, ◌≤◌, ℤ, cond, List, ◌∷◌, length, drop, get_or, Option, None, refl, sym, ◌∙◌, ap}
+use Rattle.std.proofs.Common.{◌≡◌, ℕ, ◌+◌, ◌<◌, ◌≤◌, ℤ, Bool, cond, List, ◌∷◌, length, drop, get_or, slice_get, Option, Some, None, refl, sym, ◌∙◌, ap}
 use Rattle.std.specs.Option.{option_and_then}
+use Rattle.std.specs.Prelude.{bytes_eq}
 use Rattle.std.proofs.lemmas.List.{drop_more, drop_all}
 use Rattle.hp_syntax.specs.declared.pattern.Span.{Span}
 use Rattle.hp_syntax.specs.declared.pattern.Tail.{Tail}
@@ -11,10 +12,14 @@ use Rattle.hp_syntax.specs.Terms.{Term, Terms, Symbol, Number, Listed, NoTerm, M
 use Rattle.hp_syntax.specs.Values.{Bindings}
 use Rattle.hp_syntax.specs.Views.{pattern_of, patterns_of}
 use Rattle.hp_syntax.specs.Matching.{meet, match_tail, match_pattern, match_parts, match_atom}
+use Rattle.hp_cells.specs.Cells.{IsCons}
 use Rattle.hp_cells.specs.Compared.{is_symbol, is_number}
-use Rattle.hp_eval.specs.Attempts.{extended}
 use Rattle.hp_cells.specs.Keys.{parts_of}
+use Rattle.hp_eval.specs.Attempts.{extended}
+use Rattle.hp_eval.specs.FillSteps.{parts_at}
+use Rattle.hp_eval.specs.GoalViews.{term_at}
 use Rattle.hp_eval.specs.Steps.{is_list}
+use Rattle.hp_eval.proofs.AttemptLemmas.{compared_at, whole_at}
 
 -- ---- kinds of patterns
 
@@ -96,16 +101,36 @@ pub parts_end : (parts : List Pat) (i : ℕ) (tail : Option Tail) (ts : Terms) (
 unfolding match_parts
 parts_end parts i tail ts e l = ap (λ ps. match_parts (patterns_of ps) tail ts e) (drop_all i parts l)
 
--- ---- atoms
+-- ---- lists that begin with a name
 
--- an atom matches a list that begins with its name where its arguments match the others
-pub matches_atom : (a : Atom) (first : Term) (others : Terms) (t : Term) (e : Bindings)
-    → t ≡ Listed (More first others)
-    → match_atom a t e ≡ cond (is_symbol a.name first) (match_parts a.args a.tail others e) None
-matches_atom a first others t e h = ap (λ u. match_atom a u e) h ∙ by first
-  where
-    by : (x : Term) → match_atom a (Listed (More x others)) e
-        ≡ cond (is_symbol a.name x) (match_parts a.args a.tail others e) None
-    by (Symbol b) = refl
-    by (Number m) = refl
-    by (Listed ts) = refl
+-- what is found in a list that begins with a name is found in the others, and behind another first term nothing is
+pub record IsFoundBehind (name : List ℕ) (found : Term → Option Bindings) (go_on : Terms → Option Bindings)
+    : Type 0 where
+  pub symbol : (b : List ℕ) (ts : Terms)
+      → found (Listed (More (Symbol b) ts)) ≡ cond (bytes_eq name b) (go_on ts) None
+  pub number : (n : ℤ) (ts : Terms) → found (Listed (More (Number n) ts)) ≡ None
+  pub list : (us ts : Terms) → found (Listed (More (Listed us) ts)) ≡ None
+
+-- an atom is found behind its name
+pub atom_behind : (a : Atom) (e : Bindings)
+    → IsFoundBehind a.name (λ t. match_atom a t e) (λ ts. match_parts a.args a.tail ts e)
+atom_behind a e = record { symbol = λ b ts. refl; number = λ n ts. refl; list = λ us ts. refl }
+
+module _ {name : List ℕ} {found : Term → Option Bindings} {go_on : Terms → Option Bindings}
+    (behind : IsFoundBehind name found go_on) where
+  -- whether the first term is the symbol of the name tells what is found
+  found_first : (first : Term) (others : Terms)
+      → found (Listed (More first others)) ≡ cond (is_symbol name first) (go_on others) None
+  found_first (Symbol b) others = behind.symbol b others
+  found_first (Number n) others = behind.number n others
+  found_first (Listed us) others = behind.list us others
+
+  -- so does a comparison of the term of the first cell
+  pub found_at : (terms : List Term) (list first others : ℕ) → IsCons terms first others (term_at terms list)
+      → (does : Bool) → ((u : Term) → slice_get terms first ≡ Some u → does ≡ is_symbol name u)
+      → found (term_at terms list) ≡ cond does (go_on (parts_at terms others)) None
+  found_at terms list first others is does test =
+      ap found (whole_at terms list first others is)
+      ∙ (found_first (term_at terms first) (parts_at terms others)
+      ∙ ap (λ b. cond b (go_on (parts_at terms others)) None)
+      (sym (compared_at terms first is.first does (is_symbol name) is.head_names test)))

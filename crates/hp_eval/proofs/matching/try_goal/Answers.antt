@@ -1,13 +1,13 @@
-use Rattle.std.proofs.Common.{◌≡◌, ap, sym, refl, ◌∙◌, false, Bool, cond, None}
+use Rattle.std.proofs.Common.{◌≡◌, ap, sym, refl, ◌∙◌, false, cond, None}
 use Rattle.hp_syntax.specs.Goals.{match_fillings, match_goal}
-use Rattle.hp_cells.specs.Compared.{is_symbol}
 use Rattle.hp_eval.specs.GoalViews.{term_at, goal_of}
 use Rattle.hp_eval.specs.Slotted.{bindings_of}
 use Rattle.hp_eval.specs.Attempts.{extended}
 use Rattle.hp_eval.specs.FillSteps.{parts_at}
 use Rattle.hp_eval.proofs.CellViews.{named_at}
-use Rattle.hp_eval.proofs.AttemptLemmas.{without_first, cons_at, compared_at, whole_at, tries_here, tries_as}
-use Rattle.hp_eval.proofs.GoalMatchSteps.{matches_goal}
+use Rattle.hp_eval.proofs.AttemptLemmas.{without_first, cons_at, tries_here, tries_as}
+use Rattle.hp_eval.proofs.GoalMatchSteps.{goal_behind}
+use Rattle.hp_eval.proofs.MatchingSteps.{found_at}
 use Rattle.hp_eval.proofs.matching.try_goal.Goals as goal
 
 pub match_fillings-requires-clause-list : goal.match_fillings-requires-clause-list
@@ -20,32 +20,24 @@ pub returns-then-is_symbol : goal.returns-then-is_symbol
 returns-then-is_symbol c =
     let terms = c.args.cells.now in
     let e = bindings_of terms c.args.slots.now in
-    let a = goal_of c.args.cells.now c.args.goal.now in
+    let a = goal_of terms c.args.goal.now in
     let is = cons_at terms c.args.atom c.get.result _ _ c.get.ensures.shows c.requires.atom c.in-Cons.is in
-    let named =
-    compared_at terms c.in-Cons.name is.first c.is_symbol.result (is_symbol c.args.goal.now.name) is.head_names
-    c.is_symbol.ensures in
-    let found = λ (does : Bool). cond does (match_fillings a.parts a.tail (parts_at terms c.in-Cons.args) e) None in
+    let others = match_fillings a.parts a.tail (parts_at terms c.in-Cons.args) e in
     tries_as _
-    (matches_goal a (term_at terms c.in-Cons.name) (parts_at terms c.in-Cons.args) _ e
-    (whole_at terms c.args.atom _ _ is)
-    ∙ ap found (sym named ∙ c.if-is_symbol.true))
+    (found_at (goal_behind a e) terms c.args.atom _ _ is c.is_symbol.result c.is_symbol.ensures
+    ∙ ap (λ does. cond does others None) c.if-is_symbol.true)
     (rw (← c.as_slice.ensures.value) c.match_fillings.ensures)
 
 pub returns-else-is_symbol : goal.returns-else-is_symbol
 returns-else-is_symbol c =
     let terms = c.args.cells.now in
     let e = bindings_of terms c.args.slots.now in
-    let a = goal_of c.args.cells.now c.args.goal.now in
+    let a = goal_of terms c.args.goal.now in
     let is = cons_at terms c.args.atom c.get.result _ _ c.get.ensures.shows c.requires.atom c.in-Cons.is in
-    let named =
-    compared_at terms c.in-Cons.name is.first c.is_symbol.result (is_symbol c.args.goal.now.name) is.head_names
-    c.is_symbol.ensures in
-    let found = λ (does : Bool). cond does (match_fillings a.parts a.tail (parts_at terms c.in-Cons.args) e) None in
+    let others = match_fillings a.parts a.tail (parts_at terms c.in-Cons.args) e in
     tries_here c.is_symbol.result _ terms c.args.slots.now c.requires.slots
-    (matches_goal a (term_at terms c.in-Cons.name) (parts_at terms c.in-Cons.args) _ e
-    (whole_at terms c.args.atom _ _ is)
-    ∙ (ap found (sym named ∙ c.if-is_symbol.false)
+    (found_at (goal_behind a e) terms c.args.atom _ _ is c.is_symbol.result c.is_symbol.ensures
+    ∙ (ap (λ does. cond does others None) c.if-is_symbol.false
     ∙ ap (λ does. extended does e) (sym c.if-is_symbol.false)))
 
 pub returns-in-Nil : goal.returns-in-Nil

@@ -1,14 +1,13 @@
-use Rattle.std.proofs.Common.{◌≡◌, ap, sym, refl, ◌∙◌, false, Bool, cond, None}
+use Rattle.std.proofs.Common.{◌≡◌, ap, sym, refl, ◌∙◌, false, cond, None}
 use Rattle.hp_syntax.specs.Views.{atom_of}
 use Rattle.hp_syntax.specs.Matching.{match_parts, match_atom}
-use Rattle.hp_cells.specs.Compared.{is_symbol}
 use Rattle.hp_eval.specs.GoalViews.{term_at}
 use Rattle.hp_eval.specs.Slotted.{bindings_of}
 use Rattle.hp_eval.specs.Attempts.{extended}
 use Rattle.hp_eval.specs.FillSteps.{parts_at}
 use Rattle.hp_eval.proofs.CellViews.{named_at}
-use Rattle.hp_eval.proofs.AttemptLemmas.{without_first, cons_at, compared_at, whole_at, tries_here, tries_as}
-use Rattle.hp_eval.proofs.MatchingSteps.{matches_atom}
+use Rattle.hp_eval.proofs.AttemptLemmas.{without_first, cons_at, tries_here, tries_as}
+use Rattle.hp_eval.proofs.MatchingSteps.{atom_behind, found_at}
 use Rattle.hp_eval.proofs.matching.try_head.Goals as goal
 
 pub match_parts-requires-clause-list : goal.match_parts-requires-clause-list
@@ -23,14 +22,10 @@ returns-then-is_symbol c =
     let e = bindings_of terms c.args.slots.now in
     let a = atom_of c.args.head.now in
     let is = cons_at terms c.args.atom c.get.result _ _ c.get.ensures.shows c.requires.atom c.in-Cons.is in
-    let named =
-    compared_at terms c.in-Cons.name is.first c.is_symbol.result (is_symbol c.args.head.now.name) is.head_names
-    c.is_symbol.ensures in
-    let found = λ (does : Bool). cond does (match_parts a.args a.tail (parts_at terms c.in-Cons.args) e) None in
+    let others = match_parts a.args a.tail (parts_at terms c.in-Cons.args) e in
     tries_as _
-    (matches_atom a (term_at terms c.in-Cons.name) (parts_at terms c.in-Cons.args) _ e
-    (whole_at terms c.args.atom _ _ is)
-    ∙ ap found (sym named ∙ c.if-is_symbol.true))
+    (found_at (atom_behind a e) terms c.args.atom _ _ is c.is_symbol.result c.is_symbol.ensures
+    ∙ ap (λ does. cond does others None) c.if-is_symbol.true)
     (rw (← c.as_slice.ensures.value) c.match_parts.ensures)
 
 pub returns-else-is_symbol : goal.returns-else-is_symbol
@@ -39,14 +34,10 @@ returns-else-is_symbol c =
     let e = bindings_of terms c.args.slots.now in
     let a = atom_of c.args.head.now in
     let is = cons_at terms c.args.atom c.get.result _ _ c.get.ensures.shows c.requires.atom c.in-Cons.is in
-    let named =
-    compared_at terms c.in-Cons.name is.first c.is_symbol.result (is_symbol c.args.head.now.name) is.head_names
-    c.is_symbol.ensures in
-    let found = λ (does : Bool). cond does (match_parts a.args a.tail (parts_at terms c.in-Cons.args) e) None in
+    let others = match_parts a.args a.tail (parts_at terms c.in-Cons.args) e in
     tries_here c.is_symbol.result _ terms c.args.slots.now c.requires.slots
-    (matches_atom a (term_at terms c.in-Cons.name) (parts_at terms c.in-Cons.args) _ e
-    (whole_at terms c.args.atom _ _ is)
-    ∙ (ap found (sym named ∙ c.if-is_symbol.false)
+    (found_at (atom_behind a e) terms c.args.atom _ _ is c.is_symbol.result c.is_symbol.ensures
+    ∙ (ap (λ does. cond does others None) c.if-is_symbol.false
     ∙ ap (λ does. extended does e) (sym c.if-is_symbol.false)))
 
 pub returns-in-Nil : goal.returns-in-Nil
