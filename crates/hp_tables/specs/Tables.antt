@@ -1,5 +1,5 @@
 -- Tables of rules by the names of their heads.
-use Rattle.std.specs.Prelude.{ℕ, Bool, true, false, cond, List, [], ◌∷◌, ◌++◌, Option, None, Some, bytes_eq, Vec}
+use Rattle.std.specs.Prelude.{◌≡◌, ℕ, Bool, true, false, cond, List, [], ◌∷◌, ◌++◌, Option, None, Some, Result, Ok, Err, bytes_eq, Vec}
 use Rattle.std.specs.Global.{Global}
 use Rattle.indexmap.specs.IndexMap.{get}
 use Rattle.hp_syntax.specs.Syntax.{Rule}
@@ -32,3 +32,8 @@ places_in table name = listed (get bytes_eq table.places name)
 abbrev pub with_place : Bool → ℕ → List ℕ → List ℕ
 with_place true i places = places ++ i ∷ []
 with_place false i places = places
+
+-- a place is put behind those of a name, if there is one; after want of memory each name has the places that it had
+abbrev pub Adds : {A E : Type 0} → Result A E → Option (List ℕ) → ℕ → Table → Table → Type 0
+Adds (Ok _) name i old new = (q : List ℕ) → places_in new q ≡ with_place (is_name q name) i (places_in old q)
+Adds (Err _) name i old new = (q : List ℕ) → places_in new q ≡ places_in old q

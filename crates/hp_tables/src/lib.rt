@@ -2,11 +2,10 @@
 //! What a place is, whoever fills a table says: a number among the rules, or the node that a rule is compiled to.
 #![tactic(auto)]
 
-ghost use Rattle.std.specs.Prelude.{◌≡◌, List, ℕ, [], OnOk};
+ghost use Rattle.std.specs.Prelude.{◌≡◌, List, ℕ, []};
 ghost use Rattle.std.specs.Option.{option_copied};
 ghost use Rattle.hp_syntax.specs.Views.{rule_of};
-ghost use Rattle.hp_laws.specs.RulesByName.{is_name};
-ghost use Rattle.hp_tables.specs.Tables.{name_as, places_in, with_place};
+ghost use Rattle.hp_tables.specs.Tables.{Adds, name_as, places_in};
 
 use hp_syntax::{Name, Rule};
 use indexmap::IndexMap;
@@ -54,10 +53,9 @@ impl Table {
         }
     }
 
-    // Adds a place behind those of a name.
+    // Adds a place behind those of a name. After want of memory each name has the places that it had.
     fn add(&mut self, alloc: Global, name: &Name, place: usize) -> Result<(), AllocError>
-        ensures { OnOk result ((q : List ℕ) → places_in self.new q
-            ≡ with_place (is_name q (Some name.now)) place (places_in self.old q)) }
+        ensures { Adds result (Some name.now) place self.old self.new }
     {
         match self.places.get_mut(name) {
             Some(places) => places.push(place)?,
@@ -69,7 +67,8 @@ impl Table {
         Ok(())
     }
 
-    /// Adds the place of a rule behind those of its name, where the rule is of a kind.
+    /// Adds the place of a rule behind those of its name, where the rule is of a kind. After want of memory each name
+    /// has the places that it had.
     pub fn add_rule(
         &mut self,
         alloc: Global,
@@ -77,8 +76,7 @@ impl Table {
         rule: &Rule,
         place: usize,
     ) -> Result<(), AllocError>
-        ensures { OnOk result ((q : List ℕ) → places_in self.new q
-            ≡ with_place (is_name q (name_as kind (rule_of rule.now))) place (places_in self.old q)) }
+        ensures { Adds result (name_as kind (rule_of rule.now)) place self.old self.new }
     {
         match name_as(kind, rule) {
             Some(name) => self.add(alloc, name, place),
