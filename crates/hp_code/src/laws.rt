@@ -7,13 +7,11 @@ ghost use Rattle.hp_syntax.specs.Syntax.{Axiom, Concludes, Expression, Operator,
 ghost use Rattle.hp_syntax.specs.Changes.{effects};
 ghost use Rattle.hp_syntax.specs.Checks.{first_of, rule_faults};
 ghost use Rattle.hp_syntax.specs.Events.{State, sat};
-ghost use Rattle.hp_syntax.specs.Networks.{Place};
 ghost use Rattle.hp_syntax.specs.Numbered.{IsNumberedRule};
 ghost use Rattle.hp_syntax.specs.Preconditions.{precondition_events};
-ghost use Rattle.hp_syntax.specs.Terms.{Term};
 ghost use Rattle.hp_syntax.specs.Values.{Bindings};
-ghost use Rattle.hp_syntax.specs.Walk.{Node, children, node_at, rule_children, visits, walk};
-ghost use Rattle.hp_laws.specs.RulesByName.{concluding, relevant, task_name};
+ghost use Rattle.hp_syntax.specs.Walk.{Node, children, node_at, visits, walk};
+ghost use Rattle.hp_laws.specs.RulesByName.{concluding, relevant};
 ghost use Rattle.hp_code.specs.CodeViews.{CodeView, IsCode, IsCodeOf, beside, compiled, rule_nodes, rules_in, rules_of, vars_at};
 ghost use Rattle.hp_code.specs.Compiled.{rule_trees, vars_of};
 ghost use Rattle.hp_code.specs.Listing.{listing_text};
@@ -85,8 +83,8 @@ pub fn nodes_read_back_over_those_below()
         → trees_between c.nodes i to ≡ trees.More t (trees_between c.nodes n.to to) }
 {}
 
-/// By the name of a task a code's table finds the rules that are relevant to it, which give a node all its children by
-/// the task, and by that of a goal the axioms that conclude it. A rule's node finds the names of its variables.
+/// By the name of a task a code's table finds the rules that are relevant to it, and by that of a goal the axioms that
+/// conclude it. A rule's node finds the names of its variables.
 pub fn codes_find_their_rules()
     ensures tasks { (c : CodeView) → IsCode c → (name : List ℕ)
         → map (λ i. beside i (rule_nodes c) (rules_in c)) (c.task_rules name)
@@ -94,9 +92,6 @@ pub fn codes_find_their_rules()
     ensures axioms { (c : CodeView) → IsCode c → (name : List ℕ)
         → map (λ i. beside i (rule_nodes c) (rules_in c)) (c.axiom_rules name)
         ≡ map Some (map Concludes (concluding name (rules_in c))) }
-    ensures children { (rules : List Rule) (nest : ℕ) (n : Node) (p : Place) (t : Term)
-        → flat_map (rule_children rules nest n p t) (relevant (task_name t) rules)
-        ≡ flat_map (rule_children rules nest n p t) rules }
     ensures vars { (c : CodeView) → IsCode c → (i : ℕ) (r : Rule)
         → beside i (rule_nodes c) (rules_in c) ≡ Some r → vars_at c i ≡ vars_of r }
 {}

@@ -2,13 +2,15 @@
 //!
 //! Each function does nothing, and its contract is the law.
 
-ghost use Rattle.std.specs.List.{All, AllPairs};
+ghost use Rattle.std.specs.List.{All, AllPairs, flat_map};
 ghost use Rattle.std.specs.Prelude.{◌≡◌, ◌≢◌, ◌≤◌, ◌+◌, ℕ, List, [], map, length, Some, None};
 ghost use Rattle.hp_syntax.specs.Networks.{Network, Empty, Place, normal, part_at};
 ghost use Rattle.hp_syntax.specs.Report.{nothing_seen, plan_texts, end_of, answer_at, report};
 ghost use Rattle.hp_syntax.specs.Syntax.{Rule, Pair};
+ghost use Rattle.hp_syntax.specs.Terms.{Term};
+ghost use Rattle.hp_laws.specs.RulesByName.{relevant, task_name};
 ghost use Rattle.hp_laws.specs.TreeLaws.{HasNext, IsNormal, IsFaultless, IsReached, ComesBefore, without_depth, IsPrefix, first_plans, numbered_texts};
-ghost use Rattle.hp_syntax.specs.Walk.{Node, Visit, Plan, root, visits, walk, node_at};
+ghost use Rattle.hp_syntax.specs.Walk.{Node, Visit, Plan, root, rule_children, visits, walk, node_at};
 
 /// What may be done next is always a task, and in a network that is normal and not empty there is one. The same
 /// holds below a focus on a part that isn't empty.
@@ -22,6 +24,14 @@ pub fn candidates_are_tasks()
 pub fn networks_stay_normal()
     ensures { (rules : List Rule) (nest : ℕ) (pair : Pair) (depth : ℕ)
         → All (λ v. IsNormal v.node.network v.node.focus) (walk rules nest pair depth) }
+{}
+
+/// The rules that are relevant to a task, operators and methods whose head has its name, give a node all its children
+/// by the task.
+pub fn relevant_rules_give_the_children()
+    ensures { (rules : List Rule) (nest : ℕ) (n : Node) (p : Place) (t : Term)
+        → flat_map (rule_children rules nest n p t) (relevant (task_name t) rules)
+        ≡ flat_map (rule_children rules nest n p t) rules }
 {}
 
 /// The path of each visit leads from the root to the visit's node.

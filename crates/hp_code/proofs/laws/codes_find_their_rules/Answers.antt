@@ -1,4 +1,3 @@
-use Rattle.hp_laws.proofs.RuleNameLemmas.{relevant_give}
 use Rattle.hp_code.proofs.CodeLemmas.{tasks_found, axioms_found, vars_found}
 use Rattle.hp_code.proofs.laws.codes_find_their_rules.Goals as goal
 
@@ -7,9 +6,6 @@ returns-clause-tasks c = tasks_found
 
 pub returns-clause-axioms : goal.returns-clause-axioms
 returns-clause-axioms c = axioms_found
-
-pub returns-clause-children : goal.returns-clause-children
-returns-clause-children c = λ rules nest n p t. relevant_give rules nest n p t rules
 
 pub returns-clause-vars : goal.returns-clause-vars
 returns-clause-vars c = vars_found
