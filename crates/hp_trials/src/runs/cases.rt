@@ -106,7 +106,7 @@ fn text_of<'a>(given: &'a [Given], name: &str) -> Option<&'a str> {
     found
 }
 
-/// A sink without room for the whole text has the front of it.
+/// A sink without room for the whole text has a prefix of it.
 fn try_full_sinks(rt: &(impl Files + AllocGlobal), out: &mut Vec<u8>) -> io::Result<()> {
     let line = "$ plan basic.domain swap.problem 5 10";
     for room in [0, 6] {

@@ -74,8 +74,8 @@ fn slow_sink(alloc: Global, room: usize) -> Result<MemSink, AllocError> {
     Ok(sink)
 }
 
-fn show_fronts_of_a_refusal(page: &mut Page, alloc: Global) -> Result<(), AllocError> {
-    page.title("A line that fails leaves its front");
+fn show_prefixes_of_a_refusal(page: &mut Page, alloc: Global) -> Result<(), AllocError> {
+    page.title("A line that fails leaves a prefix");
     for room in 0..37 {
         show_refusal(
             page,
@@ -115,8 +115,8 @@ fn show_endings(page: &mut Page, alloc: Global) -> Result<(), AllocError> {
     Ok(())
 }
 
-fn show_fronts_of_an_ending(page: &mut Page, alloc: Global) -> Result<(), AllocError> {
-    page.title("An ending that fails leaves its front");
+fn show_prefixes_of_an_ending(page: &mut Page, alloc: Global) -> Result<(), AllocError> {
+    page.title("An ending that fails leaves a prefix");
     for room in 0..67 {
         show_ending(
             page,
@@ -133,7 +133,7 @@ fn show_fronts_of_an_ending(page: &mut Page, alloc: Global) -> Result<(), AllocE
 pub fn show_lines(page: &mut Page, alloc: Global) -> Result<(), AllocError> {
     show_refusals(page, alloc)?;
     show_notes(page, alloc)?;
-    show_fronts_of_a_refusal(page, alloc)?;
+    show_prefixes_of_a_refusal(page, alloc)?;
     show_endings(page, alloc)?;
-    show_fronts_of_an_ending(page, alloc)
+    show_prefixes_of_an_ending(page, alloc)
 }

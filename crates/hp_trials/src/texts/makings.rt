@@ -7,12 +7,12 @@ use std::alloc::{AllocError, Global};
 fn show_made(page: &mut Page, made: &Made) {
     let (domain, problem) = (made.domain.as_slice(), made.problem.as_slice());
     page.line(
-        "the domain's front",
+        "the domain's prefix",
         &domain.starts_with(b"(defdomain transport (\n("),
     );
     page.line("the domain's end", &domain.ends_with(b" done () ())\n))\n"));
     page.line(
-        "the problem's front",
+        "the problem's prefix",
         &problem.starts_with(b"(defproblem made transport ("),
     );
     page.line(
