@@ -1,5 +1,5 @@
 -- The faults of expressions that stand far too deep don't depend on their level.
-use Rattle.std.proofs.Common.{◌≡◌, ℕ, ◌+◌, ◌-◌, ◌^◌, ◌<◌, min, Option, ◌++◌, ◌⊎◌, inl, inr, ap, ◌∙◌, refl, arith}
+use Rattle.std.proofs.Common.{◌≡◌, ℕ, ◌+◌, ◌-◌, ◌^◌, ◌<◌, min, List, Option, ◌++◌, ◌⊎◌, inl, inr, ap, ◌∙◌, refl, arith}
 use Rattle.std.proofs.lemmas.Bool.Decides.{nat_tests, leb_tells}
 use Rattle.hp_syntax.specs.declared.pattern.Span.{Span}
 use Rattle.hp_syntax.specs.declared.check.CheckFault.{CheckFault}
@@ -40,32 +40,31 @@ either : (level n : ℕ) → n ≡ min (level + 1) (2 ^ 64 - 1) → (n ≡ level
 either level n h =
     elim (leb_tells (level + 1) (2 ^ 64 - 1)) [ inl t ↦ inl (omega arith) | inr t ↦ inr (omega arith, omega arith) ]
 
-faults-next : (level n : ℕ) (e : Expression) → n ≡ min (level + 1) (2 ^ 64 - 1)
-    → expression_faults n e ≡ expression_faults (level + 1) e
-faults-next level n e h =
-    elim (either level n h) [
-      | inl k ↦ ap (λ m. expression_faults m e) k
-      | inr k ↦ below_levels n (level + 1) k.0 k.1 e
-    ]
+module _ {X : Type 0} (faults : ℕ → X → List CheckFault)
+    (below : (k m : ℕ) → 25 < k → 25 < m → (x : X) → faults k x ≡ faults m x) where
+  -- faults that are the same at each level below 25 are, at a level that is counted up to the end of its type, those at
+  -- the next level
+  faults-next : (level n : ℕ) (x : X) → n ≡ min (level + 1) (2 ^ 64 - 1) → faults n x ≡ faults (level + 1) x
+  faults-next level n x h =
+      elim (either level n h) [
+        | inl k ↦ ap (λ m. faults m x) k
+        | inr k ↦ below n (level + 1) k.0 k.1 x
+      ]
 
-all_faults-next : (level n : ℕ) (es : Expressions) → n ≡ min (level + 1) (2 ^ 64 - 1)
-    → expressions_faults n es ≡ expressions_faults (level + 1) es
-all_faults-next level n es h =
-    elim (either level n h) [
-      | inl k ↦ ap (λ m. expressions_faults m es) k
-      | inr k ↦ all_below_levels n (level + 1) k.0 k.1 es
-    ]
+  -- so the first of them that is seen is the same
+  first_seen : (a b : Option CheckFault) (level n : ℕ) (x y : X) → n ≡ min (level + 1) (2 ^ 64 - 1) → x ≡ y
+      → b ≡ earlier a (first_of (faults n x)) → b ≡ earlier a (first_of (faults (level + 1) y))
+  first_seen a b level n x y h k m =
+      m ∙ ap (λ fs. earlier a (first_of fs)) (ap (faults n) k ∙ faults-next level n y h)
 
 -- the fault of an expression at a level that is counted up to the end of its type is that at the next level
 pub seen_next : (a b : Option CheckFault) (level n : ℕ) (d e : Expression) → n ≡ min (level + 1) (2 ^ 64 - 1)
     → d ≡ e → b ≡ earlier a (first_of (expression_faults n d))
     → b ≡ earlier a (first_of (expression_faults (level + 1) e))
-seen_next a b level n d e h k m =
-    m ∙ ap (λ fs. earlier a (first_of fs)) (ap (expression_faults n) k ∙ faults-next level n e h)
+seen_next = first_seen expression_faults below_levels
 
 -- the fault of many expressions at a level counted up to the end of its type is that at the next level
 pub all_seen_next : (a b : Option CheckFault) (level n : ℕ) (ds es : Expressions) → n ≡ min (level + 1) (2 ^ 64 - 1)
     → ds ≡ es → b ≡ earlier a (first_of (expressions_faults n ds))
     → b ≡ earlier a (first_of (expressions_faults (level + 1) es))
-all_seen_next a b level n ds es h k m =
-    m ∙ ap (λ fs. earlier a (first_of fs)) (ap (expressions_faults n) k ∙ all_faults-next level n es h)
+all_seen_next = first_seen expressions_faults all_below_levels
