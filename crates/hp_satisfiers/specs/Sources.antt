@@ -1,4 +1,4 @@
--- Sources of events, which are gone through item by item.
+-- Sources: items whose events follow one another.
 use Rattle.std.specs.Prelude.{ℕ, List, map, length, flat_map}
 use Rattle.std.specs.List.{All}
 use Rattle.hp_syntax.specs.Terms.{Term}
@@ -21,8 +21,8 @@ item_count (Sats found part negate) = length found.now
 item_count (Axioms places goal) = length places.now
 item_count (Branches found head goal) = length found.now
 
--- the events of each item, where cells name these terms
 module _ (scene : Scene) (level : ℕ) (terms : List Term) (slots : Slotted) where
+  -- the events of each item
   abbrev pub pieces : Source → List (List Event)
   pieces (Parts parts) =
       map (λ p. sat (axioms_in scene) level (state_in terms scene) (expression_of p) (bindings_of terms slots)) parts.now

@@ -31,14 +31,16 @@ pub struct Scene<'a> {
     pub world: &'a World,
 }
 
-// What is gone through item by item, where the events of the items follow one another: parts of which one must hold;
-// events of which each Sat gives way to a part, or to its negation; places of axioms for a goal; and events of an
-// axiom's branches, of which each Sat gives way to a conclusion by the axiom's head.
+// Items whose events follow one another.
 #[derive(Clone, Copy)]
 enum Source<'a> {
+    // Parts of which one must hold.
     Parts(&'a [Expr]),
+    // Answers, where a part, or its negation, takes the place of each Sat.
     Sats(&'a [Answer], &'a Expr, bool),
+    // Places of axioms, for a goal.
     Axioms(&'a [usize], &'a Goal),
+    // Answers of an axiom's branches, where a conclusion by its head, for a goal, takes the place of each Sat.
     Branches(&'a [Answer], &'a AtomPat, &'a Goal),
 }
 
