@@ -45,13 +45,14 @@ impl Drop for Store {
 }
 
 impl Store {
-    ghost use Rattle.std.specs.Prelude.{◌≡◌, ◌+◌, ◌<◌, ◌≤◌, [], ◌∷◌, ◌++◌, Some, IfOk, OnOk, OnErr};
+    ghost use Rattle.std.specs.Prelude.{◌≡◌, ◌+◌, ◌<◌, ◌≤◌, [], ◌∷◌, ◌++◌, Some, MatchOption, IfOk, OnOk, OnErr};
     ghost use Rattle.std.specs.Prelude.{length, slice_get, vec_len, vec_capacity};
     ghost use Rattle.hp_syntax.specs.Applying as plain;
     ghost use Rattle.hp_syntax.specs.Applying.{is_among, without_first, cancelled, with_added};
     ghost use Rattle.hp_world.specs.Answers.{Applies};
     ghost use Rattle.hp_world.specs.Deleting.{without, deleted};
     ghost use Rattle.hp_world.specs.Histories.{mark_of, undone_to};
+    ghost use Rattle.hp_world.specs.Indexed.{IsAbsent, IsOnlyAt};
     ghost use Rattle.hp_world.specs.Named.{IsNextNamed};
     ghost use Rattle.hp_world.specs.Stages.{live_atoms, same_cell, AllBelow, PlacesKept};
     ghost use Rattle.hp_world.specs.Undoing.{IsSound, Moves, Undoes, HasRoom, history_of, stage_of};
@@ -94,6 +95,14 @@ impl Store {
         ensures { slice_get (stage_of self.now).places place ≡ Some result }
     {
         self.places.at(place)
+    }
+
+    /// The place of an atom, found without a scan.
+    pub fn place_of(&self, atom: Cell) -> Option<usize>
+        ensures { MatchOption result (IsAbsent atom (stage_of self.now).places)
+            (IsOnlyAt atom (stage_of self.now).places) }
+    {
+        self.places.place_of(atom)
     }
 
     /// The number of atoms.

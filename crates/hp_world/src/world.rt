@@ -1,7 +1,8 @@
 //! The world: the atoms that hold and the protections, and the pasts.
-ghost use Rattle.std.specs.Prelude.{◌≡◌, ℕ, ◌≤◌, ◌<◌, [], IfOk, OnErr, Some, length, slice_get};
+ghost use Rattle.std.specs.Prelude.{◌≡◌, ℕ, ◌≤◌, ◌<◌, [], MatchOption, IfOk, OnErr, Some, length, slice_get};
 ghost use Rattle.hp_world.specs.Answers.{Applies};
 ghost use Rattle.hp_world.specs.Histories.{mark_of, undone_to};
+ghost use Rattle.hp_world.specs.Indexed.{IsAbsent, IsOnlyAt};
 ghost use Rattle.hp_world.specs.Named.{IsNextNamed};
 ghost use Rattle.hp_world.specs.Stages.{live_atoms, PlacesKept, AllBelow, StageBelow, ChangesBelow};
 
@@ -90,6 +91,13 @@ impl World {
         ensures { slice_get self.now.now.places place ≡ Some result }
     {
         self.store.at(place)
+    }
+
+    /// The place of an atom, found without a scan.
+    pub fn place_of(&self, atom: Cell) -> Option<usize>
+        ensures { MatchOption result (IsAbsent atom self.now.now.places) (IsOnlyAt atom self.now.now.places) }
+    {
+        self.store.place_of(atom)
     }
 
     /// The number of atoms.
