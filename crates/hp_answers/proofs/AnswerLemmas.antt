@@ -4,7 +4,7 @@ use Rattle.std.specs.List.{All}
 use Rattle.std.proofs.lemmas.List.{map-append, append-nil, drop_all}
 use Rattle.hp_eval.proofs.Copies.{same_below}
 use Rattle.hp_eval.proofs.Loops.{left_more}
-use Rattle.std.proofs.lemmas.List.Elements.{All-get_or, All-nil, All-cons, All-append, All-head, All-tail, All-weaker, All-same}
+use Rattle.std.proofs.lemmas.List.Elements.{All-nil, All-cons, All-append, All-head, All-tail, All-weaker, All-same}
 use Rattle.hp_syntax.specs.Terms.{Term}
 use Rattle.hp_syntax.specs.Values.{Bindings}
 use Rattle.hp_syntax.specs.Events as plain
@@ -189,13 +189,6 @@ pub sat_fits : (vars n : ℕ) (x : Answer) (s : Slotted) → x ≡ Sat s → Fit
     → (length s.values ≡ vars) × AreBelow n s
 sat_fits vars n x s h f = subst (Fits vars n) h f
 
--- the events in the place of the first that is left come before those in the place of the others
-pub left_replaced : (terms : List Term) (f : Bindings → List Event) (found : List Answer) (i : ℕ) (x : Answer)
-    → i < length found → x ≡ get_or found i x
-    → plain.through (answer_events terms (drop i found)) f
-    ≡ plain.in_place f (answer_event terms x) ++ plain.through (answer_events terms (drop (i + 1) found)) f
-left_replaced terms f found i x l is = ap (λ xs. plain.through (answer_events terms xs) f) (left_more found i x l is)
-
 -- ---- terms that are added
 
 -- an answer that fits binds to cells below the count
@@ -266,10 +259,3 @@ module _ (old new : List Term) (g : Grows old new) where
   -- a stage below the number of terms stands for the same state
   pub state_stays : (s : Stage) → StageBelow (length old) s → state_of new s ≡ state_of old s
   state_stays s h = terms_stay old new g (live_atoms s.places) h.atoms
-
--- ---- one of a list
-
--- a fact of all is one of the element at a place
-pub item_holds : {X : Type 0} (P : X → Type 0) (xs : List X) (i : ℕ) (x : X) → i < length xs → x ≡ get_or xs i x
-    → All P xs → P x
-item_holds P xs i x l is h = subst P (sym is) (All-get_or P xs i x l h)

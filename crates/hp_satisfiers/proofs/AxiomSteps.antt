@@ -1,9 +1,8 @@
 -- The events of a goal by axioms.
-use Rattle.std.proofs.Common.{◌≡◌, ℕ, zero, suc, ◌+◌, ◌<◌, ◌≤◌, Bool, true, false, cond, List, [], ◌∷◌, ◌++◌, length, map, filter, drop, slice_get, Option, Some, None, option_map, Bor, refl, sym, ◌∙◌, ap, subst, arith}
+use Rattle.std.proofs.Common.{◌≡◌, ℕ, zero, suc, ◌<◌, ◌≤◌, Bool, true, false, cond, List, [], ◌∷◌, ◌++◌, length, filter, Option, Some, None, option_map, Bor, refl, sym, ◌∙◌, ap, subst, arith}
 use Rattle.std.specs.Prelude.{flat_map, Contains, bytes_eq}
-use Rattle.std.proofs.lemmas.List.{length-map, drop_all}
+use Rattle.std.proofs.lemmas.List.{length-map}
 use Rattle.std.proofs.lemmas.List.Elements.{All-contains}
-use Rattle.std.proofs.lemmas.Option.{slice_get-map}
 use Rattle.hp_syntax.specs.declared.limits.TheConstants.{MOST_VARIABLES}
 use Rattle.hp_syntax.specs.Syntax.{Rule, Axiom, Concludes, Does, Refines}
 use Rattle.hp_syntax.specs.Terms.{Term}
@@ -13,10 +12,8 @@ use Rattle.hp_syntax.specs.Events.{Event, State, Below, through, state_events, b
 use Rattle.hp_syntax.specs.Views.{axiom_of}
 use Rattle.hp_syntax.specs.declared.domain.Axiom as public_axiom
 use Rattle.hp_eval.specs.Slotted.{Slotted, no_bindings, bindings_of}
-use Rattle.hp_eval.proofs.Loops.{left_at}
 use Rattle.hp_laws.specs.RulesByName.{concluding}
 use Rattle.hp_answers.specs.RuleIndexes.{axiom_at, AreFew}
-use Rattle.hp_satisfiers.specs.Scenes.{placed_events}
 use Rattle.hp_laws.proofs.JoinLemmas.{contains_first, contains_later}
 use Rattle.hp_syntax.specs.Preconditions.{heard}
 use Rattle.hp_answers.specs.declared.answer.Answer.{Answer}
@@ -57,38 +54,6 @@ module _ (lower : Below) (q : Goal) (e : Bindings) where
   pub goal_begins : (s : State) (rules : List Rule)
       → goal_events (axioms_of rules) lower s q e ≡ state_events s q e ++ joined_events (concluding q.name rules)
   goal_begins s rules = ap (λ xs. state_events s q e ++ xs) (named_alone (axioms_of rules))
-
-  module _ (rules : List Rule) (places : List ℕ) (named : List Axiom)
-      (listed : map (axiom_at rules) places ≡ map Some named) (i : ℕ) where
-    -- at a place that is listed stands an axiom of the name
-    axiom_there : (place : ℕ) → slice_get places i ≡ Some place
-        → option_map Some (slice_get named i) ≡ Some (axiom_at rules place)
-    axiom_there place h =
-        sym (slice_get-map Some named i)
-        ∙ (ap (λ xs. slice_get xs i) (sym listed)
-        ∙ (slice_get-map (axiom_at rules) places i ∙ ap (option_map (axiom_at rules)) h))
-
-    -- the axiom at a place is met before the others that are left
-    pub axioms_left : (place : ℕ) → slice_get places i ≡ Some place
-        → joined_events (drop i named)
-        ≡ placed_events lower (axiom_at rules place) q e ++ joined_events (drop (i + 1) named)
-    axioms_left place h = by (slice_get named i) refl (axiom_there place h)
-      where
-        by : (o : Option Axiom) → slice_get named i ≡ o → option_map Some o ≡ Some (axiom_at rules place)
-            → joined_events (drop i named)
-            ≡ placed_events lower (axiom_at rules place) q e ++ joined_events (drop (i + 1) named)
-        by None k m = absurd cc
-        by (Some x) k m =
-            let at : Some x ≡ axiom_at rules place = cc in
-            ap joined_events (left_at named i x k)
-            ∙ ap (λ o. placed_events lower o q e ++ joined_events (drop (i + 1) named)) at
-
-    -- where no place is left, no axiom is
-    pub axioms_end : length places ≤ i → joined_events (drop i named) ≡ []
-    axioms_end l =
-        let same : length places ≡ length named =
-        sym (length-map places (axiom_at rules)) ∙ (ap length listed ∙ length-map named Some) in
-        ap joined_events (drop_all i named (omega (arith, same)))
 
 -- an axiom at a place is one of the axioms
 pub axiom_among : (rules : List Rule) (place : ℕ) (x : Axiom) → axiom_at rules place ≡ Some x

@@ -1,37 +1,16 @@
 -- Conclusions of an axiom on a goal.
-use Rattle.std.proofs.Common.{◌≡◌, Bool, true, false, List, [], ◌∷◌, length, Ok, Err, sym, ◌∙◌, ap, ap₂}
-use Rattle.hp_syntax.specs.Syntax.{Atom}
+use Rattle.std.proofs.Common.{◌≡◌, Bool, true, false, List, [], ◌∷◌, length, Ok, Err, sym}
 use Rattle.hp_syntax.specs.Terms.{Term}
-use Rattle.hp_syntax.specs.Events.{Event, in_place, concluded}
+use Rattle.hp_syntax.specs.Events.{Event}
 use Rattle.hp_eval.specs.declared.event.EvalStop.{EvalStop}
 use Rattle.hp_eval.specs.declared.event.EvalStop.TheVariants as stops
 use Rattle.hp_eval.specs.Concluding.{Concluded}
-use Rattle.hp_eval.specs.Growth.{Grows}
-use Rattle.hp_eval.specs.GoalViews.{goal_of, GoalBelow}
-use Rattle.hp_eval.specs.Slotted.{Slotted, AreBelow, bindings_of}
-use Rattle.hp_eval.specs.declared.goals.Goal as open_goal
-use Rattle.hp_eval.proofs.GoalViewLemmas.{goal_stays}
-use Rattle.hp_eval.proofs.GrowthLemmas.{bindings_stay}
+use Rattle.hp_eval.specs.Slotted.{Slotted, AreBelow}
 use Rattle.hp_answers.specs.declared.answer.Answer.{Answer}
 use Rattle.hp_answers.specs.declared.answer.Answer.TheVariants.{Sat, Fault}
-use Rattle.hp_answers.specs.AnswerViews.{answer_event, BindsBelow, Hears, Finds, FindsStop}
-use Rattle.hp_answers.proofs.AnswerLemmas.{finds_none, finds_one, finds_same, event_stays}
-use Rattle.hp_satisfiers.proofs.HeardLemmas.{hears_found}
+use Rattle.hp_answers.specs.AnswerViews.{Finds, FindsStop}
+use Rattle.hp_answers.proofs.AnswerLemmas.{finds_none, finds_one, finds_same}
 use Rattle.hp_satisfiers.proofs.MatchSteps.{bound_copy}
-
--- events in the place of an answer are the same over the terms before others were added
-pub conclusion_heard : (old mid new : List Term) (g : Grows old mid) (h : Atom) (q : open_goal.Goal) (s : Slotted)
-    (x : Answer) (found : List Answer) → GoalBelow (length old) q → AreBelow (length old) s → BindsBelow (length old) x
-    → Finds new (length s.values) found
-    (in_place (λ b. concluded h b (goal_of mid q) (bindings_of mid s)) (answer_event mid x))
-    → Hears new (length s.values) found
-    (in_place (λ b. concluded h b (goal_of old q) (bindings_of old s)) (answer_event old x))
-conclusion_heard old mid new g h q s x found there below binds f =
-    hears_found new (length s.values) found _
-    (finds_same new (length s.values) found _ _
-    (ap₂ (λ p e. in_place (λ b. concluded h b p e) (answer_event mid x)) (goal_stays old mid g q there)
-    (bindings_stay old mid g s below)
-    ∙ ap (in_place (λ b. concluded h b (goal_of old q) (bindings_of old s))) (event_stays old mid g x binds)) f)
 
 module _ (events : List Event) (terms : List Term) (s copy made : Slotted) (found : List Answer) where
   -- the conclusion in a copy of slots is an event

@@ -1,9 +1,8 @@
 -- Lists that are heard alike.
-use Rattle.std.proofs.Common.{append_assoc, ◌≡◌, ℕ, suc, ◌+◌, ◌-◌, ◌<◌, ◌≤◌, true, List, [], ◌∷◌, ◌++◌, length, drop, get_or, slice_get, refl, sym, ◌∙◌, ap, subst, arith}
-use Rattle.std.proofs.lemmas.List.{map-append, append-nil, drop_all}
+use Rattle.std.proofs.Common.{append_assoc, ◌≡◌, ℕ, suc, ◌+◌, ◌-◌, ◌<◌, true, List, [], ◌∷◌, ◌++◌, length, drop, get_or, slice_get, refl, sym, ◌∙◌, ap, subst, arith}
+use Rattle.std.proofs.lemmas.List.{map-append, append-nil, drop_more}
 use Rattle.std.proofs.lemmas.List.Elements.{All-nil, All-append, All-same}
 use Rattle.hp_syntax.specs.Terms.{Term}
-use Rattle.hp_syntax.specs.Values.{Bindings}
 use Rattle.hp_syntax.specs.Events as plain
 use Rattle.hp_syntax.specs.Events.{Event, through, in_place}
 use Rattle.hp_syntax.specs.Preconditions.{heard}
@@ -13,7 +12,8 @@ use Rattle.hp_eval.specs.Growth.{Grows}
 use Rattle.hp_answers.specs.declared.answer.Answer.{Answer}
 use Rattle.hp_answers.specs.declared.answer.Answer.TheVariants.{Sat, Cut, Fault}
 use Rattle.hp_answers.specs.AnswerViews.{answer_event, answer_events, Fits, Finds, Hears, HearsUpTo, is_found_fault, ends_in_fault}
-use Rattle.hp_answers.proofs.AnswerLemmas.{all_fit_grow, events_stay, left_replaced}
+use Rattle.hp_answers.proofs.AnswerLemmas.{all_fit_grow, events_stay}
+use Rattle.hp_satisfiers.specs.Sources.{joined}
 
 -- ---- lists that end in a fault
 
@@ -62,11 +62,6 @@ hears_begin terms vars found whole is = record {
 }
 
 module _ (terms : List Term) (vars : ℕ) (found : List Answer) (whole : List Event) where
-  -- the events that are left are as well told by equal ones
-  pub hears_left : (left others : List Event) → left ≡ others → HearsUpTo terms vars found whole left
-      → HearsUpTo terms vars found whole others
-  hears_left left others e h = subst (HearsUpTo terms vars found whole) e h
-
   -- the next answers go behind
   hears_more : (piece left : List Event) (more items : List Answer)
       → HearsUpTo terms vars found whole (piece ++ left) → Hears terms vars more piece → items ≡ found ++ more
@@ -109,32 +104,28 @@ hears_grow old new g vars found whole left h = record {
   fit = all_fit_grow old new g vars found h.fit;
 }
 
--- the next answers go behind, where terms were added while they were looked for
-pub hears_next : (old new : List Term) (g : Grows old new) (vars : ℕ) (found more items : List Answer)
-    (whole piece left : List Event) → HearsUpTo old vars found whole (piece ++ left) → Hears new vars more piece
-    → items ≡ found ++ more → HearsUpTo new vars items whole left
-hears_next old new g vars found more items whole piece left h m is =
+-- the answers to the next of some pieces go behind, where terms were added while they were looked for
+pub hears_piece : (old new : List Term) (g : Grows old new) (vars : ℕ) (found more items : List Answer)
+    (whole : List Event) (ps : List (List Event)) (i : ℕ) → i < length ps
+    → HearsUpTo old vars found whole (joined (drop i ps)) → Hears new vars more (get_or ps i [])
+    → items ≡ found ++ more → HearsUpTo new vars items whole (joined (drop (i + 1) ps))
+hears_piece old new g vars found more items whole ps i l h m is =
+    let piece = get_or ps i [] in
+    let left = joined (drop (i + 1) ps) in
     hears_more new vars found whole piece left more items
-    (hears_grow old new g vars found whole (piece ++ left) h) m is
+    (hears_grow old new g vars found whole (piece ++ left)
+    (subst (λ qs. HearsUpTo old vars found whole (joined qs)) (drop_more ps i [] l) h)) m is
 
--- the events in the place of the next go behind those in the place of the ones before
-pub hears_replaced : (old mid new : List Term) (g : Grows mid new) (vars : ℕ) (f : Bindings → List Event)
-    (before more items found : List Answer) (i : ℕ) (x : Answer) → i < length found → x ≡ get_or found i x
-    → HearsUpTo mid vars before (through (answer_events old found) f) (through (answer_events old (drop i found)) f)
-    → Hears new vars more (in_place f (answer_event old x)) → items ≡ before ++ more
-    → HearsUpTo new vars items (through (answer_events old found) f)
-    (through (answer_events old (drop (i + 1) found)) f)
-hears_replaced old mid new g vars f before more items found i x l is h m e =
-    let whole = through (answer_events old found) f in
-    let left = through (answer_events old (drop (i + 1) found)) f in
-    hears_next mid new g vars before more items whole (in_place f (answer_event old x)) left
-    (hears_left mid vars before whole _ _ (left_replaced old f found i x l is) h) m e
-
--- where nothing is left of a list, all is heard that takes the place of each Sat of it
-pub hears_replaced_all : (old new : List Term) (vars : ℕ) (f : Bindings → List Event) (items found : List Answer)
-    (i : ℕ) → length found ≤ i
-    → HearsUpTo new vars items (through (answer_events old found) f) (through (answer_events old (drop i found)) f)
-    → Hears new vars items (through (answer_events old found) f)
-hears_replaced_all old new vars f items found i l h =
-    hears_all new vars items (through (answer_events old found) f) _
-    (ap (λ xs. through (answer_events old xs) f) (drop_all i found l)) h
+-- answers behind others are heard as the events of both
+pub hears_both : (old new : List Term) (g : Grows old new) (vars : ℕ) (found more items : List Answer)
+    (xs ys : List Event) → Hears old vars found xs → Hears new vars more ys → items ≡ found ++ more
+    → Hears new vars items (xs ++ ys)
+hears_both old new g vars found more items xs ys h m is =
+    let left = joined (ys ∷ []) in
+    let begun : HearsUpTo old vars found (xs ++ ys) left = record {
+      so_far =
+          ap (λ zs. heard (xs ++ zs)) (sym (append-nil ys)) ∙ alike_before xs (answer_events old found) left (sym h.stand);
+      fit = h.fit;
+    } in
+    hears_all new vars items (xs ++ ys) [] refl
+    (hears_piece old new g vars found more items (xs ++ ys) (ys ∷ []) 0 (omega arith) begun m is)

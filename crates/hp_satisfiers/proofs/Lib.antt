@@ -6,7 +6,7 @@ pub mod SearchSteps
 pub mod ChosenBranches
 pub mod AxiomSteps
 pub mod SceneGrowth
-pub mod HeardSteps
+pub mod SourceSteps
 pub mod EffectSteps
 pub mod ListedLemmas
 pub mod PreconditionSteps

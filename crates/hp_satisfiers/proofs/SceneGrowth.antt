@@ -1,5 +1,5 @@
 -- Events in a scene stay where terms are added.
-use Rattle.std.proofs.Common.{◌≡◌, ℕ, Bool, true, List, length, Option, ◌∙◌, ap, ap₂}
+use Rattle.std.proofs.Common.{◌≡◌, ℕ, Bool, true, List, length, ap, ap₂}
 use Rattle.hp_syntax.specs.declared.expression.Expr.{Expr}
 use Rattle.hp_syntax.specs.Syntax.{Expression, Axiom}
 use Rattle.hp_syntax.specs.Terms.{Term}
@@ -7,19 +7,15 @@ use Rattle.hp_syntax.specs.Values.{Bindings}
 use Rattle.hp_syntax.specs.Events.{Event, State, events, negated, sat}
 use Rattle.hp_syntax.specs.Views.{expression_of}
 use Rattle.hp_eval.specs.Growth.{Grows}
-use Rattle.hp_eval.specs.GoalViews.{goal_of, GoalBelow}
-use Rattle.hp_eval.specs.declared.goals.Goal as open_goal
 use Rattle.hp_eval.specs.Slotted.{Slotted, AreBelow, bindings_of}
 use Rattle.hp_eval.proofs.GrowthLemmas.{bindings_stay}
 use Rattle.hp_world.specs.Stages.{Stage, StageBelow, state_of}
 use Rattle.hp_answers.specs.declared.answer.Answer.{Answer}
-use Rattle.hp_eval.proofs.GoalViewLemmas.{goal_stays}
 use Rattle.hp_answers.proofs.AnswerLemmas.{finds_same, state_stays}
 use Rattle.hp_laws.proofs.HeardAlikeLemmas.{alike_turned, alike_decide}
 use Rattle.hp_satisfiers.proofs.HeardLemmas.{hears_found, hears_same}
 use Rattle.hp_answers.specs.AnswerViews.{answer_events, Finds, Hears}
 use Rattle.hp_laws.specs.HeardAlike.{AreHeardAlike, turned}
-use Rattle.hp_satisfiers.specs.Scenes.{below_at, placed_events}
 
 -- ---- terms that are added
 
@@ -41,17 +37,6 @@ module _ (old new : List Term) (g : Grows old new) (stage : Stage) (there : Stag
         ≡ sat axioms n (state_of old stage) part (bindings_of old s)
     sat_stays axioms n part =
         ap₂ (λ st e. sat axioms n st part e) (state_stays old new g stage there) (bindings_stay old new g s below)
-
-    -- axioms meet the same for a goal
-    pub placed_stays : (axioms : List Axiom) (n : ℕ) (q : open_goal.Goal) → GoalBelow (length old) q
-        → (o : Option Axiom)
-        → placed_events (below_at axioms n (state_of new stage)) o (goal_of new q) (bindings_of new s)
-        ≡ placed_events (below_at axioms n (state_of old stage)) o (goal_of old q) (bindings_of old s)
-    placed_stays axioms n q h o =
-        ap (λ st. placed_events (below_at axioms n st) o (goal_of new q) (bindings_of new s))
-        (state_stays old new g stage there)
-        ∙ ap₂ (placed_events (below_at axioms n (state_of old stage)) o) (goal_stays old new g q h)
-        (bindings_stay old new g s below)
 
 -- the events of an expression under slots, or of its negation
 pub turn_gives : (terms : List Term) (vars : ℕ) (found items : List Answer) (negate : Bool) (b e : Bindings)

@@ -152,22 +152,12 @@ module _ (axioms : List Axiom) (n : ℕ) (s : State) where
   any_of parts b = events_of_any (atoms_at axioms n s) (expressions_of parts) b
 
   -- any of some parts is the first or one of the others
-  any_step : (p : Expr) (ps : List Expr) (e : Bindings)
+  pub any_step : (p : Expr) (ps : List Expr) (e : Bindings)
       → any_of (p ∷ ps) e ≡ sat axioms n s (expression_of p) e ++ any_of ps e
   unfolding events
   any_step p ps e = ap (λ f. f (expression_of p) e ++ any_of ps e) (sym (sat_is axioms n s))
 
   -- of no part none holds
-  any_none : (e : Bindings) → any_of [] e ≡ []
+  pub any_none : (e : Bindings) → any_of [] e ≡ []
   unfolding events
   any_none e = refl
-
-  -- the events that are left are those of the next part and of the others
-  pub any_left : (parts : List Expr) (i : ℕ) (p : Expr) (e : Bindings) → i < length parts → p ≡ get_or parts i p
-      → any_of (drop i parts) e ≡ sat axioms n s (expression_of p) e ++ any_of (drop (i + 1) parts) e
-  any_left parts i p e l is =
-      ap (λ ps. any_of ps e) (left_more parts i p l is) ∙ any_step p (drop (i + 1) parts) e
-
-  -- where no part is left, nothing is
-  pub any_end : (parts : List Expr) (i : ℕ) (e : Bindings) → length parts ≤ i → any_of (drop i parts) e ≡ []
-  any_end parts i e l = ap (λ ps. any_of ps e) (drop_all i parts l) ∙ any_none e

@@ -8,6 +8,8 @@ use Rattle.hp_syntax.specs.declared.expression.ExprKind.TheVariants as exprs
 use Rattle.hp_syntax.specs.Syntax.{Expression, Expressions, Holds, And, Or, Not, Forall, Assign, Test, NoExpression, Also, Clause, Axiom}
 use Rattle.hp_syntax.specs.Views.{expression_of, expressions_of}
 use Rattle.hp_syntax.specs.ViewLaws.{expression_of-atom, expression_of-and, expression_of-or, expression_of-not, expression_of-forall}
+use Rattle.hp_satisfiers.specs.declared.expressions.Source.{Source}
+use Rattle.hp_satisfiers.specs.declared.expressions.Source.TheVariants.{Parts, Sats, Axioms, Branches}
 use Rattle.std.proofs.lemmas.List.Sums.{get_or-le-sum_by}
 
 -- the number of expressions in an expression, itself among them
@@ -31,6 +33,13 @@ branch_sizes cs = sum_by (λ c. size c.body) cs
 
 abbrev pub axiom_sizes : List Axiom → ℕ
 axiom_sizes axioms = sum_by (λ x. branch_sizes x.clauses) axioms
+
+-- what an item of a source is less than, beside the levels that are left
+abbrev pub item_work : Source → ℕ
+item_work (Parts parts) = 8 * sizes (expressions_of parts.now) + 1
+item_work (Sats found part negate) = 8 * size (expression_of part.now) + 2
+item_work (Axioms places goal) = 3
+item_work (Branches found head goal) = 0
 
 -- the measure for so many levels that are left, and a rest that is less than a level
 abbrev pub left_to_do : List Axiom → ℕ → ℕ → ℕ

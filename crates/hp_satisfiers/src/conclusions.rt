@@ -1,6 +1,5 @@
 //! Conclusions of an axiom on a goal, by the events of its branches.
 ghost use Rattle.std.specs.Prelude.{◌≤◌, IfOk, length};
-ghost use Rattle.std.specs.List.{All};
 ghost use Rattle.hp_syntax.specs.declared.limits.TheConstants.{MOST_VARIABLES};
 ghost use Rattle.hp_syntax.specs.Events as plain;
 ghost use Rattle.hp_syntax.specs.Goals.{start_goal};
@@ -9,9 +8,9 @@ ghost use Rattle.hp_syntax.specs.Views.{atom_of, axiom_of};
 ghost use Rattle.hp_eval.specs.GoalViews.{goal_of, GoalBelow};
 ghost use Rattle.hp_eval.specs.Growth.{Grows};
 ghost use Rattle.hp_eval.specs.Slotted.{AreBelow, bindings_of};
-ghost use Rattle.hp_answers.specs.AnswerViews.{Finds, Hears, answer_event, answer_events, BindsBelow, MeetsHead};
+ghost use Rattle.hp_answers.specs.AnswerViews.{Finds, answer_event, BindsBelow, MeetsHead};
 
-use hp_answers::answer::{Answer, add, only, stopped};
+use hp_answers::answer::{Answer, only, stopped};
 use hp_cells::Cells;
 use hp_eval::{Goal, Slots, conclude, start_goal};
 use hp_syntax::{AtomPat, Axiom};
@@ -65,8 +64,8 @@ fn concluded(
     }
 }
 
-// The events of a goal in the place of an event of an axiom's branches.
-fn conclusion(
+/// The events of a goal in the place of an event of an axiom's branches.
+pub fn conclusion(
     alloc: Global,
     head: &AtomPat,
     goal: &Goal,
@@ -87,32 +86,4 @@ fn conclusion(
         Answer::Cut => only(alloc, Answer::Cut),
         Answer::Fault(fault) => only(alloc, Answer::Fault(*fault)),
     }
-}
-
-/// The events of a goal by an axiom whose branches have these events, in the axiom's own slots.
-pub fn conclusions(
-    alloc: Global,
-    head: &AtomPat,
-    goal: &Goal,
-    slots: &Slots,
-    found: &[Answer],
-    cells: &mut Cells,
-) -> Result<Vec<Answer>, AllocError>
-    requires slots { AreBelow (length cells.old) slots.now }
-    requires goal { GoalBelow (length cells.old) goal.now }
-    requires found { All (BindsBelow (length cells.old)) found.now }
-    ensures found { IfOk result (λ v. Hears cells.new (length slots.now.values) v.items
-        (plain.through (answer_events cells.old found.now) (λ b. plain.concluded (atom_of head.now) b
-        (goal_of cells.old goal.now) (bindings_of cells.old slots.now)))) }
-    ensures cells { Grows cells.old cells.new }
-{
-    let mut all = Vec::new(alloc);
-    for x in found {
-        let more = conclusion(alloc, head, goal, slots, x, cells)?;
-        let over = add(&mut all, more)?;
-        if over {
-            return Ok(all);
-        }
-    }
-    Ok(all)
 }

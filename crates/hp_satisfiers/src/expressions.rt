@@ -1,7 +1,7 @@
 //! The satisfiers of expressions in a state, as lists by their definition, as far as they are heard.
-ghost use Rattle.std.specs.Prelude.{◌<◌, true, IfOk, Contains, length};
+ghost use Rattle.std.specs.Prelude.{◌≡◌, ◌<◌, true, [], IfOk, Contains, length, slice_index_or};
 ghost use Rattle.hp_syntax.specs.Events as plain;
-ghost use Rattle.hp_syntax.specs.Events.{sat, axioms_of, events_of_all, events_of_any};
+ghost use Rattle.hp_syntax.specs.Events.{sat, axioms_of, events_of_all};
 ghost use Rattle.hp_syntax.specs.Views.{domain_of, atom_of, axiom_of, expression_of, expressions_of};
 ghost use Rattle.hp_eval.specs.GoalViews.{goal_of, GoalBelow};
 ghost use Rattle.hp_eval.specs.Growth.{Grows};
@@ -11,8 +11,9 @@ ghost use Rattle.hp_answers.specs.AnswerViews.{answer_event, answer_events, Fits
 ghost use Rattle.hp_laws.specs.HeardAlike.{AreHeardAlike, turned};
 ghost use Rattle.hp_answers.specs.RuleIndexes.{axiom_at};
 ghost use Rattle.hp_satisfiers.specs.Scenes.{rules_in, axioms_in, stage_in, state_in, atoms_at, below_at, placed_events};
+ghost use Rattle.hp_satisfiers.specs.Sources.{item_count, pieces, joined, SourceBelow};
 
-use crate::conclusions::{conclusions, own_slots};
+use crate::conclusions::{conclusion, own_slots};
 use crate::matches::{assigned, state_events, tested};
 use hp_answers::answer::{Answer, add, only, satisfied, stopped, turn};
 use hp_answers::rule_index::RuleIndex;
@@ -28,6 +29,41 @@ pub struct Scene<'a> {
     pub alloc: Global,
     pub book: &'a RuleIndex<'a>,
     pub world: &'a World,
+}
+
+// Items whose events follow one another.
+#[derive(Clone, Copy)]
+enum Source<'a> {
+    // Parts of which one must hold.
+    Parts(&'a [Expr]),
+    // Answers, where a part, or its negation, takes the place of each Sat.
+    Sats(&'a [Answer], &'a Expr, bool),
+    // Places of axioms, for a goal.
+    Axioms(&'a [usize], &'a Goal),
+    // Answers of an axiom's branches, where a conclusion by its head, for a goal, takes the place of each Sat.
+    Branches(&'a [Answer], &'a AtomPat, &'a Goal),
+}
+
+impl Source<'_> {
+    // The number of the items.
+    fn count(self) -> usize
+        ensures { result ≡ item_count self.entry }
+    {
+        match self {
+            Source::Parts(parts) => parts.len(),
+            Source::Sats(found, _, _) => found.len(),
+            Source::Axioms(places, _) => places.len(),
+            Source::Branches(found, _, _) => found.len(),
+        }
+    }
+}
+
+// The item of a number.
+fn at<T>(items: &[T], number: usize) -> &T
+    requires { number < length items.now }
+    ensures { result.now ≡ slice_index_or items.now number result.now }
+{
+    &items[number]
 }
 
 impl Scene<'_> {
@@ -53,7 +89,10 @@ impl Scene<'_> {
         match &expr.kind {
             ExprKind::Atom(atom) => self.atom_events(atom, slots, level, cells),
             ExprKind::And(parts) => self.all_events(parts.as_slice(), slots, level, cells),
-            ExprKind::Or(parts) => self.any_events(parts.as_slice(), slots, level, cells),
+            ExprKind::Or(parts) => {
+                let source = Source::Parts(parts.as_slice());
+                self.joined_events(source, slots, level, cells)
+            }
             ExprKind::Not(part) => {
                 let found = self.events(part, slots, level, cells)?;
                 turn(self.alloc, true, found, slots)
@@ -88,7 +127,8 @@ impl Scene<'_> {
         ensures cells { Grows cells.old cells.new }
     {
         let found = self.events(range, slots, level, cells)?;
-        let refuted = self.each_events(found.as_slice(), body, true, slots.vars(), level, cells)?;
+        let source = Source::Sats(found.as_slice(), body, true);
+        let refuted = self.joined_events(source, slots, level, cells)?;
         turn(self.alloc, true, refuted, slots)
     }
 
@@ -108,33 +148,33 @@ impl Scene<'_> {
             (expressions_of parts.now) (bindings_of cells.old slots.now))) }
         ensures cells { Grows cells.old cells.new }
     {
-        let vars = slots.vars();
         let mut found = satisfied(self.alloc, slots)?;
         for part in parts {
-            found = self.each_events(found.as_slice(), part, false, vars, level, cells)?;
+            let source = Source::Sats(found.as_slice(), part, false);
+            found = self.joined_events(source, slots, level, cells)?;
         }
         Ok(found)
     }
 
-    // The events of parts of which one must hold, part after part.
+    // The events of all items, item after item. The first fault ends them.
     #[cycle(events)]
-    fn any_events(
+    fn joined_events(
         &self,
-        parts: &[Expr],
+        source: Source<'_>,
         slots: &Slots,
         level: u32,
         cells: &mut Cells,
     ) -> Result<Vec<Answer>, AllocError>
         requires slots { AreBelow (length cells.old) slots.now }
+        requires source { SourceBelow (length slots.now.values) (length cells.old) source }
         requires world { StageBelow (length cells.old) (stage_in self.now) }
         ensures finds { IfOk result (λ v. Hears cells.new (length slots.now.values) v.items
-            (events_of_any (atoms_at (axioms_in self.now) level (state_in cells.old self.now))
-            (expressions_of parts.now) (bindings_of cells.old slots.now))) }
+            (joined (pieces self.now level cells.old slots.now source.entry))) }
         ensures cells { Grows cells.old cells.new }
     {
         let mut found = Vec::new(self.alloc);
-        for part in parts {
-            let more = self.events(part, slots, level, cells)?;
+        for number in 0..source.count() {
+            let more = self.item_events(source, number, slots, level, cells)?;
             let over = add(&mut found, more)?;
             if over {
                 return Ok(found);
@@ -143,34 +183,36 @@ impl Scene<'_> {
         Ok(found)
     }
 
-    // The events where a part, or its negation, takes the place of each Sat.
+    // The events of the item of a number.
     #[cycle(events)]
-    fn each_events(
+    fn item_events(
         &self,
-        found: &[Answer],
-        part: &Expr,
-        negate: bool,
-        vars: usize,
+        source: Source<'_>,
+        number: usize,
+        slots: &Slots,
         level: u32,
         cells: &mut Cells,
     ) -> Result<Vec<Answer>, AllocError>
-        requires found { AllFit vars (length cells.old) found.now }
+        requires number { number < item_count source }
+        requires slots { AreBelow (length cells.old) slots.now }
+        requires source { SourceBelow (length slots.now.values) (length cells.old) source }
         requires world { StageBelow (length cells.old) (stage_in self.now) }
-        ensures finds { IfOk result (λ v.
-            let part_events = sat (axioms_in self.now) level (state_in cells.old self.now) (expression_of part.now) in
-            Hears cells.new vars v.items
-            (plain.through (answer_events cells.old found.now) (λ b. turned negate (part_events b) b))) }
+        ensures finds { IfOk result (λ v. Hears cells.new (length slots.now.values) v.items
+            (slice_index_or (pieces self.now level cells.old slots.now source.entry) number [])) }
         ensures cells { Grows cells.old cells.new }
     {
-        let mut all = Vec::new(self.alloc);
-        for x in found {
-            let more = self.one_events(x, part, negate, vars, level, cells)?;
-            let over = add(&mut all, more)?;
-            if over {
-                return Ok(all);
+        match source {
+            Source::Parts(parts) => self.events(at(parts, number), slots, level, cells),
+            Source::Sats(found, part, negate) => {
+                self.one_events(at(found, number), part, negate, slots, level, cells)
+            }
+            Source::Axioms(places, goal) => {
+                self.axiom_events(*at(places, number), goal, slots, level, cells)
+            }
+            Source::Branches(found, head, goal) => {
+                conclusion(self.alloc, head, goal, slots, at(found, number), cells)
             }
         }
-        Ok(all)
     }
 
     // The events where a part, or its negation, takes the place of a Sat.
@@ -180,22 +222,22 @@ impl Scene<'_> {
         found: &Answer,
         part: &Expr,
         negate: bool,
-        vars: usize,
+        slots: &Slots,
         level: u32,
         cells: &mut Cells,
     ) -> Result<Vec<Answer>, AllocError>
-        requires found { Fits vars (length cells.old) found.now }
+        requires found { Fits (length slots.now.values) (length cells.old) found.now }
         requires world { StageBelow (length cells.old) (stage_in self.now) }
         ensures finds { IfOk result (λ v.
             let part_events = sat (axioms_in self.now) level (state_in cells.old self.now) (expression_of part.now) in
-            Hears cells.new vars v.items
+            Hears cells.new (length slots.now.values) v.items
             (plain.in_place (λ b. turned negate (part_events b) b) (answer_event cells.old found.now))) }
         ensures cells { Grows cells.old cells.new }
     {
         match found {
-            Answer::Sat(slots) => {
-                let more = self.events(part, slots, level, cells)?;
-                turn(self.alloc, negate, more, slots)
+            Answer::Sat(own) => {
+                let more = self.events(part, own, level, cells)?;
+                turn(self.alloc, negate, more, own)
             }
             Answer::Cut => only(self.alloc, Answer::Cut),
             Answer::Fault(fault) => only(self.alloc, Answer::Fault(*fault)),
@@ -245,13 +287,9 @@ impl Scene<'_> {
         ensures cells { Grows cells.old cells.new }
     {
         let mut found = state_events(self.alloc, self.world, goal, slots, cells)?;
-        for place in self.book.axioms(&goal.name) {
-            let more = self.axiom_events(*place, goal, slots, level, cells)?;
-            let over = add(&mut found, more)?;
-            if over {
-                return Ok(found);
-            }
-        }
+        let source = Source::Axioms(self.book.axioms(&goal.name), goal);
+        let more = self.joined_events(source, slots, level, cells)?;
+        add(&mut found, more)?;
         Ok(found)
     }
 
@@ -281,14 +319,8 @@ impl Scene<'_> {
         match started {
             Some(own) => {
                 let found = self.branch_events(axiom, &own, level, cells)?;
-                conclusions(
-                    self.alloc,
-                    &axiom.head,
-                    goal,
-                    slots,
-                    found.as_slice(),
-                    cells,
-                )
+                let source = Source::Branches(found.as_slice(), &axiom.head, goal);
+                self.joined_events(source, slots, level, cells)
             }
             None => Ok(Vec::new(self.alloc)),
         }

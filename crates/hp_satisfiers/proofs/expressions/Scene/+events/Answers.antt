@@ -1,15 +1,13 @@
 use Rattle.std.proofs.Common.{◌≡◌, ◌+◌, ◌-◌, ◌*◌, ◌<◌, true, false, List, map, vec_len, ◌++◌, length, drop, get_or, Result, Ok, ap, ap₂, sym, ◌∙◌, subst, arith}
-use Rattle.std.specs.Prelude.{flat_map}
-use Rattle.std.proofs.lemmas.List.{nil_from_length}
+use Rattle.std.proofs.lemmas.List.{nil_from_length, drop_all}
 use Rattle.hp_laws.proofs.Listings.{map_has}
 use Rattle.hp_syntax.specs.Syntax.{Clause}
-use Rattle.std.proofs.lemmas.Option.{slice_get-get_or}
 use Rattle.std.proofs.lemmas.Result.{IfOk-weaker}
 use Rattle.hp_syntax.specs.declared.fault.RunFault.{RunFault}
 use Rattle.hp_syntax.specs.Values.{Bindings, unbound}
 use Rattle.hp_syntax.specs.Goals.{Goal, start_goal}
-use Rattle.hp_syntax.specs.Events.{Event, State, through, sat, axiom_events, branch_events, filled_events, concluded, chosen, chosen_events}
-use Rattle.hp_syntax.specs.Views.{axiom_of, clause_of, expression_of, expressions_of}
+use Rattle.hp_syntax.specs.Events.{Event, State, state_events, through, sat, branch_events, filled_events, concluded, chosen, chosen_events}
+use Rattle.hp_syntax.specs.Views.{atom_of, axiom_of, clause_of, expression_of, expressions_of}
 use Rattle.hp_eval.specs.GoalViews.{goal_of}
 use Rattle.hp_eval.specs.Slotted.{bindings_of}
 use Rattle.hp_eval.proofs.GrowthLemmas.{grows_self, grows_on, bindings_stay, below_grows}
@@ -22,15 +20,16 @@ use Rattle.hp_laws.specs.RulesByName.{concluding}
 use Rattle.hp_answers.specs.RuleIndexes.{axiom_at}
 use Rattle.hp_satisfiers.specs.Scenes.{rules_in, axioms_in, stage_in, state_in, below_at, placed_events}
 use Rattle.hp_eval.proofs.GoalViewLemmas.{goal_below_grows, goal_stays}
-use Rattle.hp_answers.proofs.AnswerLemmas.{finds_none, finds_vars, sat_replaced, cut_replaced, fault_replaced, fits_below, fits_grow, stage_below_grows, state_stays, item_holds, sat_fits}
-use Rattle.hp_satisfiers.proofs.Sizes.{size, sizes, left_to_do, less_to_do_below, branch_size, size_of-atom, size_of-and, size_of-or, size_of-not, size_of-forall, part_size}
-use Rattle.hp_satisfiers.proofs.SearchSteps.{sat_of-atom, sat_of-and, sat_of-or, sat_of-not, sat_of-forall, sat_of-assign, sat_of-call, forall_sat, all_of, all_begin, all_go_on, all_end, any_of, any_end}
-use Rattle.hp_satisfiers.proofs.AxiomSteps.{goal_begins, axioms_end, placed_axiom, few_at, axiom_among, axiom_unstarted, axiom_started, some_met, none_met}
+use Rattle.hp_answers.proofs.AnswerLemmas.{finds_none, sat_replaced, cut_replaced, fault_replaced, fits_below, stage_below_grows, state_stays, sat_fits}
+use Rattle.hp_satisfiers.proofs.Sizes.{size, sizes, item_work, left_to_do, less_to_do_below, branch_size, size_of-atom, size_of-and, size_of-or, size_of-not, size_of-forall, part_size}
+use Rattle.hp_satisfiers.proofs.SearchSteps.{sat_of-atom, sat_of-and, sat_of-or, sat_of-not, sat_of-forall, sat_of-assign, sat_of-call, forall_sat, all_of, all_begin, all_go_on, all_end, any_of}
+use Rattle.hp_satisfiers.proofs.AxiomSteps.{goal_begins, placed_axiom, few_at, axiom_among, axiom_unstarted, axiom_started, some_met, none_met}
 use Rattle.hp_satisfiers.proofs.ChosenBranches.{chosen_left, chosen_here, chosen_passes}
 use Rattle.hp_satisfiers.proofs.SceneGrowth.{turned_sat, turned_stays, sat_stays, turn_gives, negation_gives}
 use Rattle.hp_laws.proofs.HeardAlikeLemmas.{alike_through}
-use Rattle.hp_satisfiers.proofs.HeardLemmas.{hears_found, hears_begin, hears_same, hears_vars, hears_all, hears_over, hears_replaced_all}
-use Rattle.hp_satisfiers.proofs.HeardSteps.{any_next, each_next, goal_next}
+use Rattle.hp_satisfiers.proofs.HeardLemmas.{hears_found, hears_same, hears_vars, hears_begin, hears_all, hears_over, hears_both}
+use Rattle.hp_satisfiers.specs.Sources.{item_count, pieces, joined}
+use Rattle.hp_satisfiers.proofs.SourceSteps.{pieces_count, replaced_piece, source_grows, source_next, sats_joined, parts_joined, axioms_joined}
 use Rattle.std.proofs.lemmas.Bool.{eqb-true, eqb-false}
 use Rattle.hp_satisfiers.proofs.expressions.Scene.+events.Goals as goal
 
@@ -47,11 +46,11 @@ events-all_events-requires t c =
     let same = ap (λ ps. sizes (expressions_of ps)) c.as_slice.ensures.value in
     (omega (arith, c.decreases, one, same), (c.requires.slots, c.requires.world))
 
-pub events-any_events-requires : goal.events-any_events-requires
-events-any_events-requires t c =
+pub events-joined_events-requires : goal.events-joined_events-requires
+events-joined_events-requires t c =
     let one = size_of-or c.args.expr.now c.in-Or.parts c.in-Or.is in
     let same = ap (λ ps. sizes (expressions_of ps)) c.as_slice-in-Or.ensures.value in
-    (omega (arith, c.decreases, one, same), (c.requires.slots, c.requires.world))
+    (omega (arith, c.decreases, one, same), (c.requires.slots, (tt, c.requires.world)))
 
 pub events-events-requires : goal.events-events-requires
 events-events-requires t c =
@@ -89,15 +88,17 @@ events-returns-in-And-clause-found t c =
 
 pub events-returns-in-Or-clause-found : goal.events-returns-in-Or-clause-found
 events-returns-in-Or-clause-found t c =
-    let scene = c.args.self.now in
+    let axioms = axioms_in c.args.self.now in
+    let level = c.args.level in
     let old = c.args.cells.now in
+    let state = state_in old c.args.self.now in
     let e = bindings_of old c.args.slots.now in
-    IfOk-weaker c.any_events.result _ _
+    IfOk-weaker c.joined_events.result _ _
     (λ v h. h.stand
-    ∙ ap heard (ap (λ ps. any_of (axioms_in scene) c.args.level (state_in old scene) ps e)
-    c.as_slice-in-Or.ensures.value
-    ∙ sat_of-or (axioms_in scene) c.args.level (state_in old scene) c.args.expr.now e c.in-Or.parts c.in-Or.is))
-    c.any_events.ensures.finds
+    ∙ ap heard (parts_joined axioms level state e c.as_slice-in-Or.result.now
+    ∙ (ap (λ ps. any_of axioms level state ps e) c.as_slice-in-Or.ensures.value
+    ∙ sat_of-or axioms level state c.args.expr.now e c.in-Or.parts c.in-Or.is)))
+    c.joined_events.ensures.finds
 
 pub events-returns-in-Forall-clause-found : goal.events-returns-in-Forall-clause-found
 events-returns-in-Forall-clause-found t c =
@@ -164,30 +165,30 @@ pub forall_events-returns-clause-finds : goal.forall_events-returns-clause-finds
 forall_events-returns-clause-finds t c =
     let scene = c.args.self.now in
     let axioms = axioms_in scene in
-    let stage = stage_in scene in
     let level = c.args.level in
     let old = c.args.cells.now in
     let mid = c.events.new.cells in
-    let new = c.each_events.new.cells in
+    let new = c.joined_events.new.cells in
     let s = c.args.slots.now in
     let e = bindings_of old s in
     let met = c.in_ok-found.ensures in
     let got = c.in_ok-refuted.ensures in
     let grown = grows_on old mid new met.cells got.cells in
     let refuted = c.in_ok-refuted.refuted.items in
-    let each = hears_vars new c.vars.result (length s.values) refuted _ c.vars.ensures.vars got.finds in
+    let body = c.args.body.now in
     let ranged = answer_events mid c.as_slice.result.now in
     let range = sat axioms level (state_in old scene) (expression_of c.args.range.now) e in
     let events =
-    each.stand
-    ∙ (ap (λ f. heard (through ranged f))
-    (turned_stays old mid met.cells stage c.requires.world axioms level c.args.body.now true)
-    ∙ alike_through ranged range (turned_sat axioms level (state_in old scene) c.args.body.now true)
+    got.finds.stand
+    ∙ (ap heard (sats_joined ranged
+    (turned_sat axioms level (state_in mid scene) body true)
+    ∙ ap (through ranged) (turned_stays old mid met.cells (stage_in scene) c.requires.world axioms level body true))
+    ∙ alike_through ranged range (turned_sat axioms level (state_in old scene) body true)
     (ap (λ xs. heard (answer_events mid xs)) c.as_slice.ensures.value ∙ met.found)) in
     IfOk-weaker c.turn.result _ _
     (λ v h. negation_gives new (length s.values) refuted v.items (bindings_of new s) e _ events
     (bindings_stay old new grown s c.requires.slots)
-    (h new (below_grows old new grown s c.requires.slots) each.fit))
+    (h new (below_grows old new grown s c.requires.slots) got.finds.fit))
     c.turn.ensures
 
 -- ---- all of some parts
@@ -196,28 +197,31 @@ pub all_events-loop-part-init : goal.all_events-loop-part-init
 all_events-loop-part-init t c =
     let scene = c.args.self.now in
     let old = c.args.cells.now in
-    let s = c.args.slots.now in
     let found = c.in_ok-found.found.items in
     let one = c.in_ok-found.ensures old c.requires.slots in
     record {
       grows = grows_self old;
-      fit = (finds_vars old (length s.values) c.vars-vars.result found _ (sym c.vars-vars.ensures.vars) one).fit;
+      fit = one.fit;
       so_far =
-          ap heard (all_begin (axioms_in scene) c.args.level (state_in old scene) c.args.parts.now (bindings_of old s)
-          (answer_events old found) one.stand);
+          ap heard (all_begin (axioms_in scene) c.args.level (state_in old scene) c.args.parts.now
+          (bindings_of old c.args.slots.now) (answer_events old found) one.stand);
     }
 
-pub all_events-each_events-requires : goal.all_events-each_events-requires
-all_events-each_events-requires t c =
+pub all_events-joined_events-requires : goal.all_events-joined_events-requires
+all_events-joined_events-requires t c =
     let old = c.args.cells.now in
     let mid = c.loop-part.cells in
     let held = c.loop-part.invariant in
+    let s = c.args.slots.now in
     let part =
     part_size c.args.parts.now c.loop-part.part-index c.part-item.result c.loop-part-test.true c.part-item.is in (
       omega (arith, c.decreases, part),
       (
-        subst (AllFit c.vars-vars.result (length mid)) (sym c.as_slice.ensures.value) held.fit,
-        stage_below_grows old mid held.grows (stage_in c.args.self.now) c.requires.world,
+        below_grows old mid held.grows s c.requires.slots,
+        (
+          subst (AllFit (length s.values) (length mid)) (sym c.as_slice.ensures.value) held.fit,
+          stage_below_grows old mid held.grows (stage_in c.args.self.now) c.requires.world,
+        ),
       ),
     )
 
@@ -228,7 +232,7 @@ all_events-loop-part-preserved t c =
     let level = c.args.level in
     let old = c.args.cells.now in
     let mid = c.loop-part.cells in
-    let new = c.each_events.new.cells in
+    let new = c.joined_events.new.cells in
     let held = c.loop-part.invariant in
     let got = c.in_ok-found-2.ensures in
     let part = c.part-item.result in
@@ -241,8 +245,10 @@ all_events-loop-part-preserved t c =
           (answer_events mid before) (answer_events new c.in_ok-found-2.found.items) _ c.loop-part-test.true
           c.part-item.is
           (got.finds.stand
-          ∙ ap₂ (λ xs f. heard (through (answer_events mid xs) f)) c.as_slice.ensures.value
-          (turned_stays old mid held.grows (stage_in scene) c.requires.world axioms level part false))
+          ∙ ap heard (sats_joined (answer_events mid c.as_slice.result.now)
+          (turned_sat axioms level (state_in mid scene) part false)
+          ∙ ap₂ (λ xs f. through (answer_events mid xs) f) c.as_slice.ensures.value
+          (turned_stays old mid held.grows (stage_in scene) c.requires.world axioms level part false)))
           held.so_far;
     }
 
@@ -250,162 +256,142 @@ pub all_events-returns-clause-finds : goal.all_events-returns-clause-finds
 all_events-returns-clause-finds t c =
     let scene = c.args.self.now in
     let old = c.args.cells.now in
-    let new = c.loop-part.cells in
     let held = c.loop-part.invariant in
-    let found = c.loop-part.found.items in
     record {
       stand =
           all_end (axioms_in scene) c.args.level (state_in old scene) c.args.parts.now c.loop-part.part-index
-          (answer_events new found) _ c.loop-part-test.false held.so_far;
-      fit = subst (λ n. AllFit n (length new) found) c.vars-vars.ensures.vars held.fit;
+          (answer_events c.loop-part.cells c.loop-part.found.items) _ c.loop-part-test.false held.so_far;
+      fit = held.fit;
     }
 
--- ---- any of some parts
+-- ---- all items of a source
 
-pub any_events-events-requires : goal.any_events-events-requires
-any_events-events-requires t c =
+pub joined_events-loop-number-init : goal.joined_events-loop-number-init
+joined_events-loop-number-init t c =
     let old = c.args.cells.now in
-    let mid = c.loop-part.cells in
-    let grown = c.loop-part.invariant.grows in
-    let part =
-    part_size c.args.parts.now c.loop-part.part-index c.part-item.result c.loop-part-test.true c.part-item.is in (
-      omega (arith, c.decreases, part),
-      (
-        below_grows old mid grown c.args.slots.now c.requires.slots,
-        stage_below_grows old mid grown (stage_in c.args.self.now) c.requires.world,
-      ),
-    )
+    let vars = length c.args.slots.now.values in
+    record {
+      grows = grows_self old;
+      found = hears_begin old vars c.new-found.result.items _ c.new-found.ensures.items;
+    }
 
-pub any_events-loop-part-preserved : goal.any_events-loop-part-preserved
-any_events-loop-part-preserved t c =
-    let scene = c.args.self.now in
-    let axioms = axioms_in scene in
-    let level = c.args.level in
+pub joined_events-item_events-requires : goal.joined_events-item_events-requires
+joined_events-item_events-requires t c =
     let old = c.args.cells.now in
-    let mid = c.loop-part.cells in
-    let new = c.events.new.cells in
-    let held = c.loop-part.invariant in
-    let got = c.in_ok-more.ensures in
-    let s = c.args.slots.now in
-    let items = c.add.new.found.items in
-    let found =
-    any_next old mid new held.grows got.cells (stage_in scene) c.requires.world axioms level c.loop-part.found.items
-    c.in_ok-more.more.items items c.in_ok-over.ensures.added s c.requires.slots c.args.parts.now
-    c.loop-part.part-index c.part-item.result c.loop-part-test.true c.part-item.is held.found got.found got.fit in
-    record { grows = grows_on old mid new held.grows got.cells; found = found }
-
-pub any_events-returns-then-over-clause-finds : goal.any_events-returns-then-over-clause-finds
-any_events-returns-then-over-clause-finds t c =
-    let scene = c.args.self.now in
-    let axioms = axioms_in scene in
-    let level = c.args.level in
-    let old = c.args.cells.now in
-    let mid = c.loop-part.cells in
-    let new = c.events.new.cells in
-    let held = c.loop-part.invariant in
-    let got = c.in_ok-more.ensures in
-    let s = c.args.slots.now in
-    let items = c.add.new.found.items in
-    let found =
-    any_next old mid new held.grows got.cells (stage_in scene) c.requires.world axioms level c.loop-part.found.items
-    c.in_ok-more.more.items items c.in_ok-over.ensures.added s c.requires.slots c.args.parts.now
-    c.loop-part.part-index c.part-item.result c.loop-part-test.true c.part-item.is held.found got.found got.fit in
-    hears_over new (length s.values) items _ _
-    (sym c.in_ok-over.ensures.over ∙ c.if-over.true) found
-
-pub any_events-returns-clause-finds : goal.any_events-returns-clause-finds
-any_events-returns-clause-finds t c =
-    let scene = c.args.self.now in
-    let old = c.args.cells.now in
-    let s = c.args.slots.now in
-    hears_all c.loop-part.cells (length s.values) c.loop-part.found.items _ _
-    (any_end (axioms_in scene) c.args.level (state_in old scene) c.args.parts.now c.loop-part.part-index
-    (bindings_of old s) c.loop-part-test.false)
-    c.loop-part.invariant.found
-
--- ---- in the place of each Sat
-
-pub each_events-one_events-requires : goal.each_events-one_events-requires
-each_events-one_events-requires t c =
-    let old = c.args.cells.now in
-    let mid = c.loop-x.cells in
-    let grown = c.loop-x.invariant.grows in
-    let x = c.x-item.result in (
+    let mid = c.loop-number.cells in
+    let grown = c.loop-number.invariant.grows in
+    let s = c.args.slots.now in (
       omega (arith, c.decreases),
       (
-        fits_grow old mid grown c.args.vars x
-            (item_holds (Fits c.args.vars (length old)) c.args.found.now c.loop-x.x-index x c.loop-x-test.true
-            c.x-item.is c.requires.found),
-        stage_below_grows old mid grown (stage_in c.args.self.now) c.requires.world,
+        omega (arith, c.count-number-end.ensures, c.loop-number-test.true),
+        (
+          below_grows old mid grown s c.requires.slots,
+          (
+            source_grows old mid grown (length s.values) c.args.source c.requires.source,
+            stage_below_grows old mid grown (stage_in c.args.self.now) c.requires.world,
+          ),
+        ),
       ),
     )
 
-pub each_events-loop-x-preserved : goal.each_events-loop-x-preserved
-each_events-loop-x-preserved t c =
+pub joined_events-loop-number-preserved : goal.joined_events-loop-number-preserved
+joined_events-loop-number-preserved t c =
+    let old = c.args.cells.now in
+    let mid = c.loop-number.cells in
+    let new = c.item_events.new.cells in
+    let held = c.loop-number.invariant in
+    let got = c.in_ok-more.ensures in
+    record {
+      grows = grows_on old mid new held.grows got.cells;
+      found =
+          source_next old mid held.grows c.args.self.now c.args.level c.requires.world c.args.slots.now
+          c.requires.slots c.args.source c.requires.source new got.cells c.loop-number.found.items
+          c.in_ok-more.more.items c.add.new.found.items _ c.loop-number.number
+          (omega (arith, c.count-number-end.ensures, c.loop-number-test.true)) held.found got.finds c.in_ok-over.ensures.added;
+    }
+
+pub joined_events-returns-then-over-clause-finds : goal.joined_events-returns-then-over-clause-finds
+joined_events-returns-then-over-clause-finds t c =
+    let old = c.args.cells.now in
+    let mid = c.loop-number.cells in
+    let new = c.item_events.new.cells in
+    let held = c.loop-number.invariant in
+    let got = c.in_ok-more.ensures in
+    let s = c.args.slots.now in
+    let items = c.add.new.found.items in
+    hears_over new (length s.values) items _ _
+    (sym c.in_ok-over.ensures.over ∙ c.if-over.true)
+    (source_next old mid held.grows c.args.self.now c.args.level c.requires.world s c.requires.slots
+    c.args.source c.requires.source new got.cells c.loop-number.found.items c.in_ok-more.more.items items _
+    c.loop-number.number (omega (arith, c.count-number-end.ensures, c.loop-number-test.true)) held.found got.finds
+    c.in_ok-over.ensures.added)
+
+pub joined_events-returns-clause-finds : goal.joined_events-returns-clause-finds
+joined_events-returns-clause-finds t c =
+    let old = c.args.cells.now in
+    let s = c.args.slots.now in
+    let ps = pieces c.args.self.now c.args.level old s c.args.source in
+    let count = pieces_count c.args.self.now c.args.level old s c.args.source in
+    hears_all c.loop-number.cells (length s.values) c.loop-number.found.items _ _
+    (ap joined (drop_all c.loop-number.number ps (omega (arith, count, c.count-number-end.ensures, c.loop-number-test.false))))
+    c.loop-number.invariant.found
+
+-- ---- an item
+
+pub item_events-events-requires : goal.item_events-events-requires
+item_events-events-requires t c =
+    let number = c.args.number in
+    let within = subst (λ source. number < item_count source) c.in-Parts.is c.requires.number in
+    let part = part_size c.in-Parts.parts.now number c.at.result.now within c.at.ensures in
+    (omega (arith, c.decreases, part, ap item_work c.in-Parts.is), (c.requires.slots, c.requires.world))
+
+pub item_events-returns-in-Sats-clause-finds : goal.item_events-returns-in-Sats-clause-finds
+item_events-returns-in-Sats-clause-finds t c =
     let scene = c.args.self.now in
-    let axioms = axioms_in scene in
     let level = c.args.level in
     let old = c.args.cells.now in
-    let mid = c.loop-x.cells in
-    let new = c.one_events.new.cells in
-    let held = c.loop-x.invariant in
-    let got = c.in_ok-more.ensures in
-    let x = c.x-item.result in
-    let found = c.args.found.now in
-    let i = c.loop-x.x-index in
-    let vars = c.args.vars in
-    let items = c.add.new.found.items in
-    let fits = item_holds (Fits vars (length old)) found i x c.loop-x-test.true c.x-item.is c.requires.found in
-    let next =
-    each_next old mid new held.grows got.cells (stage_in scene) c.requires.world axioms level c.loop-x.all.items
-    c.in_ok-more.more.items items c.in_ok-over.ensures.added vars c.args.part.now c.args.negate found i x
-    c.loop-x-test.true c.x-item.is fits held.found got.finds in
-    record { grows = grows_on old mid new held.grows got.cells; found = next }
+    let s = c.args.slots.now in
+    let number = c.args.number in
+    let within = subst (λ source. number < item_count source) c.in-Sats.is c.requires.number in
+    let f = turned_sat (axioms_in scene) level (state_in old scene) c.in-Sats.part.now c.in-Sats.negate in
+    IfOk-weaker c.one_events.result _ _
+    (λ v h. hears_same c.one_events.new.cells (length s.values) v.items _ _
+    (ap heard (replaced_piece old f c.in-Sats.found.now number c.at-in-Sats.result.now _
+    (ap (pieces scene level old s) c.in-Sats.is) within c.at-in-Sats.ensures)) h)
+    c.one_events.ensures.finds
 
-pub each_events-returns-then-over-clause-finds : goal.each_events-returns-then-over-clause-finds
-each_events-returns-then-over-clause-finds t c =
-    let scene = c.args.self.now in
-    let axioms = axioms_in scene in
-    let level = c.args.level in
-    let old = c.args.cells.now in
-    let mid = c.loop-x.cells in
-    let new = c.one_events.new.cells in
-    let held = c.loop-x.invariant in
-    let got = c.in_ok-more.ensures in
-    let x = c.x-item.result in
-    let found = c.args.found.now in
-    let i = c.loop-x.x-index in
-    let vars = c.args.vars in
-    let items = c.add.new.found.items in
-    let fits = item_holds (Fits vars (length old)) found i x c.loop-x-test.true c.x-item.is c.requires.found in
-    let next =
-    each_next old mid new held.grows got.cells (stage_in scene) c.requires.world axioms level c.loop-x.all.items
-    c.in_ok-more.more.items items c.in_ok-over.ensures.added vars c.args.part.now c.args.negate found i x
-    c.loop-x-test.true c.x-item.is fits held.found got.finds in
-    hears_over new vars items _ _
-    (sym c.in_ok-over.ensures.over ∙ c.if-over.true) next
-
-pub each_events-returns-clause-finds : goal.each_events-returns-clause-finds
-each_events-returns-clause-finds t c =
+pub item_events-returns-in-Branches-clause-finds : goal.item_events-returns-in-Branches-clause-finds
+item_events-returns-in-Branches-clause-finds t c =
     let scene = c.args.self.now in
     let old = c.args.cells.now in
-    let f = turned_sat (axioms_in scene) c.args.level (state_in old scene) c.args.part.now c.args.negate in
-    hears_replaced_all old c.loop-x.cells c.args.vars f c.loop-x.all.items c.args.found.now c.loop-x.x-index
-    c.loop-x-test.false c.loop-x.invariant.found
+    let s = c.args.slots.now in
+    let number = c.args.number in
+    let within = subst (λ source. number < item_count source) c.in-Branches.is c.requires.number in
+    let f : Bindings → List Event
+    = λ b. concluded (atom_of c.in-Branches.head.now) b (goal_of old c.in-Branches.goal.now) (bindings_of old s) in
+    IfOk-weaker c.conclusion.result _ _
+    (λ v h. hears_same c.conclusion.new.cells (length s.values) v.items _ _
+    (ap heard (replaced_piece old f c.in-Branches.found.now number c.at-in-Branches.result.now _
+    (ap (pieces scene c.args.level old s) c.in-Branches.is) within c.at-in-Branches.ensures))
+    (hears_found c.conclusion.new.cells (length s.values) v.items _ h))
+    c.conclusion.ensures.found
+
+-- ---- in the place of each Sat
 
 pub one_events-returns-in_ok-more-in-Sat-clause-finds : goal.one_events-returns-in_ok-more-in-Sat-clause-finds
 one_events-returns-in_ok-more-in-Sat-clause-finds t c =
     let scene = c.args.self.now in
     let old = c.args.cells.now in
     let new = c.events.new.cells in
-    let s = c.in-Sat.slots in
+    let s = c.in-Sat.own in
+    let vars = length c.args.slots.now.values in
     let x = c.args.found.now in
     let got = c.in_ok-more-in-Sat.ensures in
-    let fits = sat_fits c.args.vars (length old) x s c.in-Sat.is c.requires.found in
+    let fits = sat_fits vars (length old) x s c.in-Sat.is c.requires.found in
     let more = c.in_ok-more-in-Sat.more.items in
     let f = turned_sat (axioms_in scene) c.args.level (state_in old scene) c.args.part.now c.args.negate in
     IfOk-weaker c.turn.result _ _
-    (λ v h. hears_vars new (length s.values) c.args.vars v.items _ fits.0
+    (λ v h. hears_vars new (length s.values) vars v.items _ fits.0
     (hears_same new (length s.values) v.items _ _ (ap heard (sat_replaced old f x s c.in-Sat.is))
     (turn_gives new (length s.values) more v.items c.args.negate (bindings_of new s) (bindings_of old s) _ got.found
     (bindings_stay old new got.cells s fits.1)
@@ -434,95 +420,30 @@ atom_events-returns-in-Ok-clause-finds t c =
     ∙ ap (events (state_in old scene) e) (sym filled.gives))) h)
     c.goal_events.ensures.finds
 
-pub goal_events-loop-place-init : goal.goal_events-loop-place-init
-goal_events-loop-place-init t c =
-    let scene = c.args.self.now in
-    let axioms = axioms_in scene in
-    let old = c.args.cells.now in
-    let state = state_in old scene in
-    let lower = below_at axioms c.args.level state in
-    let q = goal_of old c.args.goal.now in
-    let e = bindings_of old c.args.slots.now in
-    let got = c.in_ok-found.ensures in
-    let left = flat_map (λ x. axiom_events lower x q e) (concluding q.name (rules_in scene)) in
-    record {
-      grows = grows_self old;
-      found = record {
-        so_far =
-            ap heard (goal_begins lower q e state (rules_in scene) ∙ ap (λ xs. xs ++ left) (sym got.stand));
-        fit = got.fit;
-      };
-    }
-
-pub goal_events-axiom_events-requires : goal.goal_events-axiom_events-requires
-goal_events-axiom_events-requires t c =
-    let old = c.args.cells.now in
-    let mid = c.loop-place.cells in
-    let grown = c.loop-place.invariant.grows in (
-      omega (arith, c.decreases),
-      (
-        below_grows old mid grown c.args.slots.now c.requires.slots,
-        (
-          goal_below_grows old mid grown c.args.goal.now c.requires.goal,
-          stage_below_grows old mid grown (stage_in c.args.self.now) c.requires.world,
-        ),
-      ),
-    )
-
-pub goal_events-loop-place-preserved : goal.goal_events-loop-place-preserved
-goal_events-loop-place-preserved t c =
-    let scene = c.args.self.now in
-    let axioms = axioms_in scene in
-    let level = c.args.level in
-    let old = c.args.cells.now in
-    let mid = c.loop-place.cells in
-    let new = c.axiom_events.new.cells in
-    let held = c.loop-place.invariant in
-    let got = c.in_ok-more.ensures in
-    let s = c.args.slots.now in
-    let places = c.axioms-place-items.result.now in
-    let i = c.loop-place.place-index in
-    let items = c.add.new.found.items in
-    let found =
-    goal_next old mid new held.grows got.cells (stage_in scene) c.requires.world axioms level c.loop-place.found.items
-    c.in_ok-more.more.items items c.in_ok-over.ensures.added s c.requires.slots (rules_in scene) c.args.goal.now
-    c.requires.goal places c.axioms-place-items.ensures i (get_or places i 0)
-    (slice_get-get_or places i 0 c.loop-place-test.true) held.found got.finds in
-    record { grows = grows_on old mid new held.grows got.cells; found = found }
-
-pub goal_events-returns-then-over-clause-finds : goal.goal_events-returns-then-over-clause-finds
-goal_events-returns-then-over-clause-finds t c =
-    let scene = c.args.self.now in
-    let axioms = axioms_in scene in
-    let level = c.args.level in
-    let old = c.args.cells.now in
-    let mid = c.loop-place.cells in
-    let new = c.axiom_events.new.cells in
-    let held = c.loop-place.invariant in
-    let got = c.in_ok-more.ensures in
-    let s = c.args.slots.now in
-    let places = c.axioms-place-items.result.now in
-    let i = c.loop-place.place-index in
-    let items = c.add.new.found.items in
-    let found =
-    goal_next old mid new held.grows got.cells (stage_in scene) c.requires.world axioms level c.loop-place.found.items
-    c.in_ok-more.more.items items c.in_ok-over.ensures.added s c.requires.slots (rules_in scene) c.args.goal.now
-    c.requires.goal places c.axioms-place-items.ensures i (get_or places i 0)
-    (slice_get-get_or places i 0 c.loop-place-test.true) held.found got.finds in
-    hears_over new (length s.values) items _ _
-    (sym c.in_ok-over.ensures.over ∙ c.if-over.true) found
+pub goal_events-joined_events-requires : goal.goal_events-joined_events-requires
+goal_events-joined_events-requires t c =
+    (omega (arith, c.decreases), (c.requires.slots, (c.requires.goal, c.requires.world)))
 
 pub goal_events-returns-clause-finds : goal.goal_events-returns-clause-finds
 goal_events-returns-clause-finds t c =
     let scene = c.args.self.now in
+    let rules = rules_in scene in
     let old = c.args.cells.now in
+    let new = c.joined_events.new.cells in
+    let state = state_in old scene in
+    let lower = below_at (axioms_in scene) c.args.level state in
     let q = goal_of old c.args.goal.now in
     let s = c.args.slots.now in
-    hears_all c.loop-place.cells (length s.values) c.loop-place.found.items _ _
-    (axioms_end (below_at (axioms_in scene) c.args.level (state_in old scene)) q (bindings_of old s) (rules_in scene)
-    c.axioms-place-items.result.now (concluding q.name (rules_in scene)) c.axioms-place-items.ensures
-    c.loop-place.place-index c.loop-place-test.false)
-    c.loop-place.invariant.found
+    let e = bindings_of old s in
+    let got = c.in_ok-more.ensures in
+    let items = c.add.new.found.items in
+    hears_same new (length s.values) items _ _
+    (ap heard (ap (λ xs. state_events state q e ++ xs)
+    (axioms_joined lower q e rules c.axioms.result.now (concluding q.name rules) c.axioms.ensures)
+    ∙ sym (goal_begins lower q e state rules)))
+    (hears_both old new got.cells (length s.values) c.in_ok-found.found.items c.in_ok-more.more.items items _ _
+    (hears_found old (length s.values) c.in_ok-found.found.items _ c.in_ok-found.ensures) got.finds
+    c.in_ok-add.ensures.added)
 
 -- ---- an axiom
 
@@ -578,21 +499,29 @@ axiom_events-branch_events-requires t c =
       ),
     )
 
-pub axiom_events-conclusions-requires-clause-slots : goal.axiom_events-conclusions-requires-clause-slots
-axiom_events-conclusions-requires-clause-slots t c =
+pub axiom_events-joined_events-requires : goal.axiom_events-joined_events-requires
+axiom_events-joined_events-requires t c =
     let old = c.args.cells.now in
     let mid = c.own_slots.new.cells in
     let new = c.branch_events.new.cells in
-    below_grows old new (grows_on old mid new c.in_ok-started.ensures.cells c.branch_events.ensures.cells)
-    c.args.slots.now c.requires.slots
-
-pub axiom_events-conclusions-requires-clause-goal : goal.axiom_events-conclusions-requires-clause-goal
-axiom_events-conclusions-requires-clause-goal t c =
-    let old = c.args.cells.now in
-    let mid = c.own_slots.new.cells in
-    let new = c.branch_events.new.cells in
-    goal_below_grows old new (grows_on old mid new c.in_ok-started.ensures.cells c.branch_events.ensures.cells)
-    c.args.goal.now c.requires.goal
+    let grown = grows_on old mid new c.in_ok-started.ensures.cells c.branch_events.ensures.cells in
+    let n = length new in
+    let vars = length c.in-Some-started.own.values in
+    let fits = c.in_ok-found-in-Some-started.ensures.finds.fit in (
+      omega (arith, c.decreases),
+      (
+        below_grows old new grown c.args.slots.now c.requires.slots,
+        (
+          (
+            goal_below_grows old new grown c.args.goal.now c.requires.goal,
+            subst (All (BindsBelow n)) (sym c.as_slice.ensures.value)
+                (All-weaker (Fits vars n) (BindsBelow n) (fits_below vars n)
+                c.in_ok-found-in-Some-started.found.items fits),
+          ),
+          stage_below_grows old new grown (stage_in c.args.self.now) c.requires.world,
+        ),
+      ),
+    )
 
 pub axiom_events-returns-in_ok-found-in-Some-started-clause-finds :
     goal.axiom_events-returns-in_ok-found-in-Some-started-clause-finds
@@ -625,15 +554,18 @@ axiom_events-returns-in_ok-found-in-Some-started-clause-finds t c =
     let same =
     ap₂ {C = Bindings → List Event} (λ p b d. concluded x.head d p b) (goal_stays old new grown goal' c.requires.goal)
     (bindings_stay old new grown s c.requires.slots) in
-    IfOk-weaker c.conclusions.result _ _
-    (λ v h. hears_same c.conclusions.new.cells (length s.values) v.items _ _
-    (alike_through (answer_events new c.as_slice.result.now) (branch_events lower x (bindings_of mid own))
-    (λ d. concluded x.head d (goal_of new goal') (bindings_of new s)) met
+    let found = answer_events new c.as_slice.result.now in
+    let conclude : Bindings → List Event
+    = λ d. concluded x.head d (goal_of new goal') (bindings_of new s) in
+    IfOk-weaker c.joined_events.result _ _
+    (λ v h. hears_same c.joined_events.new.cells (length s.values) v.items _ _
+    (ap heard (sats_joined found conclude)
+    ∙ (alike_through found (branch_events lower x (bindings_of mid own)) conclude met
     ∙ ap heard (ap (through (branch_events lower x (bindings_of mid own))) same
     ∙ (axiom_started lower q e x (bindings_of mid own) m.0
-    ∙ sym (ap (λ o. placed_events lower o q e) there))))
+    ∙ sym (ap (λ o. placed_events lower o q e) there)))))
     h)
-    c.conclusions.ensures.found
+    c.joined_events.ensures.finds
 
 -- ---- the branches of an axiom
 
@@ -659,7 +591,7 @@ branch_events-events-requires t c =
     ) in (
       subst
           (λ m. left_to_do axioms (level - 1) (8 * size (expression_of clause.body)) < m) c.decreases
-          (less_to_do_below axioms level (size (expression_of clause.body)) 4 some
+          (less_to_do_below axioms level (size (expression_of clause.body)) 1 some
           (branch_size axioms x (clause_of clause) c.requires.known among)),
       (
         below_grows old mid grown c.args.slots.now c.requires.slots,
@@ -744,47 +676,23 @@ branch_events-loop-clause-preserved t c =
 
 pub all_events-returns-in_err-found-2-clause-cells : goal.all_events-returns-in_err-found-2-clause-cells
 all_events-returns-in_err-found-2-clause-cells t c =
-    grows_on c.args.cells.now c.loop-part.cells c.each_events.new.cells c.loop-part.invariant.grows
-    c.each_events.ensures.cells
+    grows_on c.args.cells.now c.loop-part.cells c.joined_events.new.cells c.loop-part.invariant.grows
+    c.joined_events.ensures.cells
 
-pub any_events-returns-in_err-more-clause-cells : goal.any_events-returns-in_err-more-clause-cells
-any_events-returns-in_err-more-clause-cells t c =
-    grows_on c.args.cells.now c.loop-part.cells c.events.new.cells c.loop-part.invariant.grows c.events.ensures.cells
+pub joined_events-returns-in_err-more-clause-cells : goal.joined_events-returns-in_err-more-clause-cells
+joined_events-returns-in_err-more-clause-cells t c =
+    grows_on c.args.cells.now c.loop-number.cells c.item_events.new.cells c.loop-number.invariant.grows
+    c.item_events.ensures.cells
 
-pub any_events-returns-in_err-over-clause-cells : goal.any_events-returns-in_err-over-clause-cells
-any_events-returns-in_err-over-clause-cells t c =
-    grows_on c.args.cells.now c.loop-part.cells c.events.new.cells c.loop-part.invariant.grows c.events.ensures.cells
+pub joined_events-returns-in_err-over-clause-cells : goal.joined_events-returns-in_err-over-clause-cells
+joined_events-returns-in_err-over-clause-cells t c =
+    grows_on c.args.cells.now c.loop-number.cells c.item_events.new.cells c.loop-number.invariant.grows
+    c.item_events.ensures.cells
 
-pub any_events-returns-then-over-clause-cells : goal.any_events-returns-then-over-clause-cells
-any_events-returns-then-over-clause-cells t c =
-    grows_on c.args.cells.now c.loop-part.cells c.events.new.cells c.loop-part.invariant.grows c.events.ensures.cells
-
-pub each_events-returns-in_err-more-clause-cells : goal.each_events-returns-in_err-more-clause-cells
-each_events-returns-in_err-more-clause-cells t c =
-    grows_on c.args.cells.now c.loop-x.cells c.one_events.new.cells c.loop-x.invariant.grows c.one_events.ensures.cells
-
-pub each_events-returns-in_err-over-clause-cells : goal.each_events-returns-in_err-over-clause-cells
-each_events-returns-in_err-over-clause-cells t c =
-    grows_on c.args.cells.now c.loop-x.cells c.one_events.new.cells c.loop-x.invariant.grows c.one_events.ensures.cells
-
-pub each_events-returns-then-over-clause-cells : goal.each_events-returns-then-over-clause-cells
-each_events-returns-then-over-clause-cells t c =
-    grows_on c.args.cells.now c.loop-x.cells c.one_events.new.cells c.loop-x.invariant.grows c.one_events.ensures.cells
-
-pub goal_events-returns-in_err-more-clause-cells : goal.goal_events-returns-in_err-more-clause-cells
-goal_events-returns-in_err-more-clause-cells t c =
-    grows_on c.args.cells.now c.loop-place.cells c.axiom_events.new.cells c.loop-place.invariant.grows
-    c.axiom_events.ensures.cells
-
-pub goal_events-returns-in_err-over-clause-cells : goal.goal_events-returns-in_err-over-clause-cells
-goal_events-returns-in_err-over-clause-cells t c =
-    grows_on c.args.cells.now c.loop-place.cells c.axiom_events.new.cells c.loop-place.invariant.grows
-    c.axiom_events.ensures.cells
-
-pub goal_events-returns-then-over-clause-cells : goal.goal_events-returns-then-over-clause-cells
-goal_events-returns-then-over-clause-cells t c =
-    grows_on c.args.cells.now c.loop-place.cells c.axiom_events.new.cells c.loop-place.invariant.grows
-    c.axiom_events.ensures.cells
+pub joined_events-returns-then-over-clause-cells : goal.joined_events-returns-then-over-clause-cells
+joined_events-returns-then-over-clause-cells t c =
+    grows_on c.args.cells.now c.loop-number.cells c.item_events.new.cells c.loop-number.invariant.grows
+    c.item_events.ensures.cells
 
 pub branch_events-returns-in_err-found-clause-cells : goal.branch_events-returns-in_err-found-clause-cells
 branch_events-returns-in_err-found-clause-cells t c =
@@ -798,13 +706,13 @@ branch_events-returns-then-not-is_empty-clause-cells t c =
 
 pub forall_events-returns-in_err-refuted-clause-cells : goal.forall_events-returns-in_err-refuted-clause-cells
 forall_events-returns-in_err-refuted-clause-cells t c =
-    grows_on c.args.cells.now c.events.new.cells c.each_events.new.cells c.events.ensures.cells
-    c.each_events.ensures.cells
+    grows_on c.args.cells.now c.events.new.cells c.joined_events.new.cells c.events.ensures.cells
+    c.joined_events.ensures.cells
 
 pub forall_events-returns-clause-cells : goal.forall_events-returns-clause-cells
 forall_events-returns-clause-cells t c =
-    grows_on c.args.cells.now c.events.new.cells c.each_events.new.cells c.events.ensures.cells
-    c.each_events.ensures.cells
+    grows_on c.args.cells.now c.events.new.cells c.joined_events.new.cells c.events.ensures.cells
+    c.joined_events.ensures.cells
 
 pub atom_events-returns-in-Ok-clause-cells : goal.atom_events-returns-in-Ok-clause-cells
 atom_events-returns-in-Ok-clause-cells t c =
@@ -823,8 +731,8 @@ axiom_events-returns-in_ok-found-in-Some-started-clause-cells t c =
     let old = c.args.cells.now in
     let mid = c.own_slots.new.cells in
     let new = c.branch_events.new.cells in
-    grows_on old new c.conclusions.new.cells
-    (grows_on old mid new c.own_slots.ensures.cells c.branch_events.ensures.cells) c.conclusions.ensures.cells
+    grows_on old new c.joined_events.new.cells
+    (grows_on old mid new c.own_slots.ensures.cells c.branch_events.ensures.cells) c.joined_events.ensures.cells
 
 -- ---- answers fit, and cells are only added
 
@@ -844,10 +752,10 @@ events-returns-in-And-clause-cells t c = c.all_events.ensures.cells
 
 pub events-returns-in-Or-clause-fit : goal.events-returns-in-Or-clause-fit
 events-returns-in-Or-clause-fit t c =
-    IfOk-weaker c.any_events.result _ _ (λ v h. h.fit) c.any_events.ensures.finds
+    IfOk-weaker c.joined_events.result _ _ (λ v h. h.fit) c.joined_events.ensures.finds
 
 pub events-returns-in-Or-clause-cells : goal.events-returns-in-Or-clause-cells
-events-returns-in-Or-clause-cells t c = c.any_events.ensures.cells
+events-returns-in-Or-clause-cells t c = c.joined_events.ensures.cells
 
 pub events-returns-in-Forall-clause-fit : goal.events-returns-in-Forall-clause-fit
 events-returns-in-Forall-clause-fit t c =
@@ -878,65 +786,48 @@ events-returns-in_ok-found-in-Not-clause-cells t c = c.events.ensures.cells
 
 -- ---- before the first
 
-pub any_events-loop-part-init : goal.any_events-loop-part-init
-any_events-loop-part-init t c =
-    let old = c.args.cells.now in
-    let vars = length c.args.slots.now.values in
-    record { grows = grows_self old; found = hears_begin old vars c.new-found.result.items _ c.new-found.ensures.items }
-
-pub each_events-loop-x-init : goal.each_events-loop-x-init
-each_events-loop-x-init t c =
-    let old = c.args.cells.now in
-    record {
-      grows = grows_self old;
-      found = hears_begin old c.args.vars c.new-all.result.items _ c.new-all.ensures.items;
-    }
-
 pub forall_events-events-requires : goal.forall_events-events-requires
 forall_events-events-requires t c =
     (omega (arith, c.decreases), (c.requires.slots, c.requires.world))
 
-pub forall_events-each_events-requires : goal.forall_events-each_events-requires
-forall_events-each_events-requires t c =
+pub forall_events-joined_events-requires : goal.forall_events-joined_events-requires
+forall_events-joined_events-requires t c =
     let old = c.args.cells.now in
     let mid = c.events.new.cells in
     let met = c.in_ok-found.ensures in
-    let found = c.in_ok-found.found.items in (
+    let s = c.args.slots.now in (
       omega (arith, c.decreases),
       (
-        subst (AllFit c.vars.result (length mid)) (sym c.as_slice.ensures.value)
-            (subst (λ n. AllFit n (length mid) found) (sym c.vars.ensures.vars) met.fit),
-        stage_below_grows old mid met.cells (stage_in c.args.self.now) c.requires.world,
+        below_grows old mid met.cells s c.requires.slots,
+        (
+          subst (AllFit (length s.values) (length mid)) (sym c.as_slice.ensures.value) met.fit,
+          stage_below_grows old mid met.cells (stage_in c.args.self.now) c.requires.world,
+        ),
       ),
     )
-
-pub axiom_events-conclusions-requires-clause-found : goal.axiom_events-conclusions-requires-clause-found
-axiom_events-conclusions-requires-clause-found t c =
-    let n = length c.branch_events.new.cells in
-    let vars = length c.in-Some-started.own.values in
-    subst (All (BindsBelow n)) (sym c.as_slice.ensures.value)
-    (All-weaker (Fits vars n) (BindsBelow n) (fits_below vars n) c.in_ok-found-in-Some-started.found.items
-    c.in_ok-found-in-Some-started.ensures.finds.fit)
 
 -- ---- behind the last
 
 pub all_events-returns-clause-cells : goal.all_events-returns-clause-cells
 all_events-returns-clause-cells t c = c.loop-part.invariant.grows
 
-pub any_events-returns-clause-cells : goal.any_events-returns-clause-cells
-any_events-returns-clause-cells t c = c.loop-part.invariant.grows
-
-pub each_events-returns-clause-cells : goal.each_events-returns-clause-cells
-each_events-returns-clause-cells t c = c.loop-x.invariant.grows
-
-pub goal_events-returns-clause-cells : goal.goal_events-returns-clause-cells
-goal_events-returns-clause-cells t c = c.loop-place.invariant.grows
+pub joined_events-returns-clause-cells : goal.joined_events-returns-clause-cells
+joined_events-returns-clause-cells t c = c.loop-number.invariant.grows
 
 pub branch_events-returns-clause-cells : goal.branch_events-returns-clause-cells
 branch_events-returns-clause-cells t c = c.loop-clause.invariant.grows
 
 pub all_events-returns-in_err-found-clause-cells : goal.all_events-returns-in_err-found-clause-cells
 all_events-returns-in_err-found-clause-cells t c = grows_self c.args.cells.now
+
+pub goal_events-returns-in_err-more-clause-cells : goal.goal_events-returns-in_err-more-clause-cells
+goal_events-returns-in_err-more-clause-cells t c = c.joined_events.ensures.cells
+
+pub goal_events-returns-in_err-add-clause-cells : goal.goal_events-returns-in_err-add-clause-cells
+goal_events-returns-in_err-add-clause-cells t c = c.joined_events.ensures.cells
+
+pub goal_events-returns-clause-cells : goal.goal_events-returns-clause-cells
+goal_events-returns-clause-cells t c = c.joined_events.ensures.cells
 
 pub goal_events-returns-in_err-found-clause-cells : goal.goal_events-returns-in_err-found-clause-cells
 goal_events-returns-in_err-found-clause-cells t c = grows_self c.args.cells.now
@@ -976,13 +867,13 @@ one_events-returns-in_ok-more-in-Sat-clause-cells t c = c.events.ensures.cells
 pub one_events-events-requires : goal.one_events-events-requires
 one_events-events-requires t c =
     let fits =
-    sat_fits c.args.vars (length c.args.cells.now) c.args.found.now c.in-Sat.slots c.in-Sat.is c.requires.found in
+    sat_fits (length c.args.slots.now.values) (length c.args.cells.now) c.args.found.now c.in-Sat.own c.in-Sat.is c.requires.found in
     (omega (arith, c.decreases), (fits.1, c.requires.world))
 
 pub one_events-returns-in-Cut-clause-finds : goal.one_events-returns-in-Cut-clause-finds
 one_events-returns-in-Cut-clause-finds t c =
     let old = c.args.cells.now in
-    let vars = c.args.vars in
+    let vars = length c.args.slots.now.values in
     let x = c.args.found.now in
     let f =
     turned_sat (axioms_in c.args.self.now) c.args.level (state_in old c.args.self.now) c.args.part.now c.args.negate in
@@ -992,7 +883,7 @@ one_events-returns-in-Cut-clause-finds t c =
 pub one_events-returns-in-Fault-clause-finds : goal.one_events-returns-in-Fault-clause-finds
 one_events-returns-in-Fault-clause-finds t c =
     let old = c.args.cells.now in
-    let vars = c.args.vars in
+    let vars = length c.args.slots.now.values in
     let x = c.args.found.now in
     let f =
     turned_sat (axioms_in c.args.self.now) c.args.level (state_in old c.args.self.now) c.args.part.now c.args.negate in
