@@ -11,7 +11,7 @@ use Rattle.hp_laws.proofs.HeardAlikeLemmas.{alike_behind, alike_before}
 use Rattle.hp_eval.specs.Growth.{Grows}
 use Rattle.hp_answers.specs.declared.answer.Answer.{Answer}
 use Rattle.hp_answers.specs.declared.answer.Answer.TheVariants.{Sat, Cut, Fault}
-use Rattle.hp_answers.specs.AnswerViews.{answer_event, answer_events, Fits, AllFit, Finds, Hears, HearsUpTo, is_found_fault, ends_in_fault}
+use Rattle.hp_answers.specs.AnswerViews.{answer_event, answer_events, Fits, Finds, Hears, HearsUpTo, is_found_fault, ends_in_fault}
 use Rattle.hp_answers.proofs.AnswerLemmas.{all_fit_grow, events_stay}
 use Rattle.hp_satisfiers.specs.Sources.{joined}
 
@@ -48,14 +48,18 @@ pub hears_same : (terms : List Term) (vars : ℕ) (found : List Answer) (events 
     → AreHeardAlike events others → Hears terms vars found events → Hears terms vars found others
 hears_same terms vars found events others e h = record { stand = h.stand ∙ e; fit = h.fit }
 
--- no answer fits
-pub none_fit : (vars n : ℕ) (found : List Answer) → found ≡ [] → AllFit vars n found
-none_fit vars n found is = All-same (Fits vars n) found [] is (All-nil (Fits vars n))
-
 -- answers that fit slots of so many variables fit as many
 pub hears_vars : (terms : List Term) (m n : ℕ) (found : List Answer) (events : List Event) → m ≡ n
     → Hears terms m found events → Hears terms n found events
 hears_vars terms m n found events e h = subst (λ k. Hears terms k found events) e h
+
+-- before the first answer all events are left
+pub hears_begin : (terms : List Term) (vars : ℕ) (found : List Answer) (whole : List Event) → found ≡ []
+    → HearsUpTo terms vars found whole whole
+hears_begin terms vars found whole is = record {
+  so_far = ap (λ xs. heard (answer_events terms xs ++ whole)) (sym is);
+  fit = All-same (Fits vars (length terms)) found [] is (All-nil (Fits vars (length terms)));
+}
 
 module _ (terms : List Term) (vars : ℕ) (found : List Answer) (whole : List Event) where
   -- the next answers go behind
@@ -111,3 +115,17 @@ hears_piece old new g vars found more items whole ps i l h m is =
     hears_more new vars found whole piece left more items
     (hears_grow old new g vars found whole (piece ++ left)
     (subst (λ qs. HearsUpTo old vars found whole (joined qs)) (drop_more ps i [] l) h)) m is
+
+-- answers behind others are heard as the events of both
+pub hears_both : (old new : List Term) (g : Grows old new) (vars : ℕ) (found more items : List Answer)
+    (xs ys : List Event) → Hears old vars found xs → Hears new vars more ys → items ≡ found ++ more
+    → Hears new vars items (xs ++ ys)
+hears_both old new g vars found more items xs ys h m is =
+    let left = joined (ys ∷ []) in
+    let begun : HearsUpTo old vars found (xs ++ ys) left = record {
+      so_far =
+          ap (λ zs. heard (xs ++ zs)) (sym (append-nil ys)) ∙ alike_before xs (answer_events old found) left (sym h.stand);
+      fit = h.fit;
+    } in
+    hears_all new vars items (xs ++ ys) [] refl
+    (hears_piece old new g vars found more items (xs ++ ys) (ys ∷ []) 0 (omega arith) begun m is)

@@ -43,7 +43,7 @@ pieces_count scene level terms s (Branches found head goal) =
     length-map (answer_events terms found.now) _ ∙ length-map found.now (answer_event terms)
 
 -- the piece of an item has its events
-pub piece_is : {X : Type 0} (f : X → List Event) (xs : List X) (i : ℕ) (x : X) (ps : List (List Event)) → ps ≡ map f xs
+piece_is : {X : Type 0} (f : X → List Event) (xs : List X) (i : ℕ) (x : X) (ps : List (List Event)) → ps ≡ map f xs
     → i < length xs → x ≡ get_or xs i x → f x ≡ get_or ps i []
 piece_is f xs i x ps whole l is = ap f is ∙ (sym (get_or-map f xs i x [] l) ∙ ap (λ qs. get_or qs i []) (sym whole))
 
@@ -102,32 +102,21 @@ module _ (old new : List Term) (g : Grows old new) where
         (omega (arith, l, pieces_count scene level old s source)) so_far
         (subst (λ ps. Hears last (length s.values) more (get_or ps i [])) (pieces_stay source h) next) is
 
--- ---- what the pieces come to, behind nothing
+-- ---- what the pieces come to
 
-module _ (terms : List Term) (start : List Answer) (none : start ≡ []) where
-  -- behind no answer events stand alone
-  alone : (xs ys : List Event) → xs ≡ ys → answer_events terms start ++ xs ≡ ys
-  alone xs ys e = ap (λ found. answer_events terms found ++ xs) none ∙ e
+-- the pieces of answers come to what takes the place of each Sat
+pub sats_joined : (xs : List Event) (f : Bindings → List Event) → joined (map (in_place f) xs) ≡ through xs f
+sats_joined xs f = flat_map-map (λ ys. ys) (in_place f) xs
 
-  -- what takes the place of each Sat
-  pub sats_joined : (xs : List Event) (f : Bindings → List Event)
-      → answer_events terms start ++ joined (map (in_place f) xs) ≡ through xs f
-  sats_joined xs f = alone _ (through xs f) (flat_map-map (λ ys. ys) (in_place f) xs)
+-- the pieces of parts come to the events of any of them
+pub parts_joined : (axioms : List Axiom) (n : ℕ) (st : State) (e : Bindings) (parts : List Expr)
+    → joined (map (λ p. sat axioms n st (expression_of p) e) parts) ≡ any_of axioms n st parts e
+parts_joined axioms n st e [] = sym (any_none axioms n st e)
+parts_joined axioms n st e (p ∷ ps) =
+    ap (λ xs. sat axioms n st (expression_of p) e ++ xs) (parts_joined axioms n st e ps)
+    ∙ sym (any_step axioms n st p ps e)
 
-  module _ (axioms : List Axiom) (n : ℕ) (st : State) (e : Bindings) where
-    -- any of some parts
-    any_joined : (parts : List Expr)
-        → joined (map (λ p. sat axioms n st (expression_of p) e) parts) ≡ any_of axioms n st parts e
-    any_joined [] = sym (any_none axioms n st e)
-    any_joined (p ∷ ps) =
-        ap (λ xs. sat axioms n st (expression_of p) e ++ xs) (any_joined ps) ∙ sym (any_step axioms n st p ps e)
-
-    pub parts_joined : (parts : List Expr)
-        → answer_events terms start ++ joined (map (λ p. sat axioms n st (expression_of p) e) parts)
-        ≡ any_of axioms n st parts e
-    parts_joined parts = alone _ (any_of axioms n st parts e) (any_joined parts)
-
--- the axioms at places
+-- the pieces of places come to the events of the axioms that stand there
 pub axioms_joined : (lower : Below) (q : Goal) (e : Bindings) (rules : List Rule) (places : List ℕ)
     (named : List Axiom) → map (axiom_at rules) places ≡ map Some named
     → joined (map (λ place. placed_events lower (axiom_at rules place) q e) places)

@@ -1,5 +1,5 @@
 //! The satisfiers of expressions in a state, as lists by their definition, as far as they are heard.
-ghost use Rattle.std.specs.Prelude.{◌≡◌, ◌<◌, ◌++◌, true, [], IfOk, Contains, length, slice_index_or};
+ghost use Rattle.std.specs.Prelude.{◌≡◌, ◌<◌, true, [], IfOk, Contains, length, slice_index_or};
 ghost use Rattle.hp_syntax.specs.Events as plain;
 ghost use Rattle.hp_syntax.specs.Events.{sat, axioms_of, events_of_all};
 ghost use Rattle.hp_syntax.specs.Views.{domain_of, atom_of, axiom_of, expression_of, expressions_of};
@@ -44,26 +44,26 @@ enum Source<'a> {
     Branches(&'a [Answer], &'a AtomPat, &'a Goal),
 }
 
-// The item of a number.
-fn at<T>(items: &[T], number: usize) -> &T
-    requires { number < length items.now }
-    ensures { result.now ≡ slice_index_or items.now number result.now }
-{
-    &items[number]
-}
-
 impl Source<'_> {
     // The number of the items.
-    fn count(&self) -> usize
-        ensures { result ≡ item_count self.now }
+    fn count(self) -> usize
+        ensures { result ≡ item_count self.entry }
     {
-        match *self {
+        match self {
             Source::Parts(parts) => parts.len(),
             Source::Sats(found, _, _) => found.len(),
             Source::Axioms(places, _) => places.len(),
             Source::Branches(found, _, _) => found.len(),
         }
     }
+}
+
+// The item of a number.
+fn at<T>(items: &[T], number: usize) -> &T
+    requires { number < length items.now }
+    ensures { result.now ≡ slice_index_or items.now number result.now }
+{
+    &items[number]
 }
 
 impl Scene<'_> {
@@ -91,7 +91,7 @@ impl Scene<'_> {
             ExprKind::And(parts) => self.all_events(parts.as_slice(), slots, level, cells),
             ExprKind::Or(parts) => {
                 let source = Source::Parts(parts.as_slice());
-                self.joined_events(Vec::new(self.alloc), &source, slots, level, cells)
+                self.joined_events(source, slots, level, cells)
             }
             ExprKind::Not(part) => {
                 let found = self.events(part, slots, level, cells)?;
@@ -128,7 +128,7 @@ impl Scene<'_> {
     {
         let found = self.events(range, slots, level, cells)?;
         let source = Source::Sats(found.as_slice(), body, true);
-        let refuted = self.joined_events(Vec::new(self.alloc), &source, slots, level, cells)?;
+        let refuted = self.joined_events(source, slots, level, cells)?;
         turn(self.alloc, true, refuted, slots)
     }
 
@@ -151,30 +151,28 @@ impl Scene<'_> {
         let mut found = satisfied(self.alloc, slots)?;
         for part in parts {
             let source = Source::Sats(found.as_slice(), part, false);
-            found = self.joined_events(Vec::new(self.alloc), &source, slots, level, cells)?;
+            found = self.joined_events(source, slots, level, cells)?;
         }
         Ok(found)
     }
 
-    // The events of all items, behind those that are found. The first fault ends them.
+    // The events of all items, item after item. The first fault ends them.
     #[cycle(events)]
     fn joined_events(
         &self,
-        mut found: Vec<Answer>,
-        source: &Source<'_>,
+        source: Source<'_>,
         slots: &Slots,
         level: u32,
         cells: &mut Cells,
     ) -> Result<Vec<Answer>, AllocError>
-        requires found { AllFit (length slots.now.values) (length cells.old) found.items }
         requires slots { AreBelow (length cells.old) slots.now }
-        requires source { SourceBelow (length slots.now.values) (length cells.old) source.now }
+        requires source { SourceBelow (length slots.now.values) (length cells.old) source }
         requires world { StageBelow (length cells.old) (stage_in self.now) }
         ensures finds { IfOk result (λ v. Hears cells.new (length slots.now.values) v.items
-            (answer_events cells.old found.items
-            ++ joined (pieces self.now level cells.old slots.now source.now))) }
+            (joined (pieces self.now level cells.old slots.now source.entry))) }
         ensures cells { Grows cells.old cells.new }
     {
+        let mut found = Vec::new(self.alloc);
         for number in 0..source.count() {
             let more = self.item_events(source, number, slots, level, cells)?;
             let over = add(&mut found, more)?;
@@ -189,21 +187,21 @@ impl Scene<'_> {
     #[cycle(events)]
     fn item_events(
         &self,
-        source: &Source<'_>,
+        source: Source<'_>,
         number: usize,
         slots: &Slots,
         level: u32,
         cells: &mut Cells,
     ) -> Result<Vec<Answer>, AllocError>
-        requires number { number < item_count source.now }
+        requires number { number < item_count source }
         requires slots { AreBelow (length cells.old) slots.now }
-        requires source { SourceBelow (length slots.now.values) (length cells.old) source.now }
+        requires source { SourceBelow (length slots.now.values) (length cells.old) source }
         requires world { StageBelow (length cells.old) (stage_in self.now) }
         ensures finds { IfOk result (λ v. Hears cells.new (length slots.now.values) v.items
-            (slice_index_or (pieces self.now level cells.old slots.now source.now) number [])) }
+            (slice_index_or (pieces self.now level cells.old slots.now source.entry) number [])) }
         ensures cells { Grows cells.old cells.new }
     {
-        match *source {
+        match source {
             Source::Parts(parts) => self.events(at(parts, number), slots, level, cells),
             Source::Sats(found, part, negate) => {
                 self.one_events(at(found, number), part, negate, slots, level, cells)
@@ -288,9 +286,11 @@ impl Scene<'_> {
             (bindings_of cells.old slots.now))) }
         ensures cells { Grows cells.old cells.new }
     {
-        let found = state_events(self.alloc, self.world, goal, slots, cells)?;
+        let mut found = state_events(self.alloc, self.world, goal, slots, cells)?;
         let source = Source::Axioms(self.book.axioms(&goal.name), goal);
-        self.joined_events(found, &source, slots, level, cells)
+        let more = self.joined_events(source, slots, level, cells)?;
+        add(&mut found, more)?;
+        Ok(found)
     }
 
     // The events of a goal by the axiom of a place.
@@ -320,7 +320,7 @@ impl Scene<'_> {
             Some(own) => {
                 let found = self.branch_events(axiom, &own, level, cells)?;
                 let source = Source::Branches(found.as_slice(), &axiom.head, goal);
-                self.joined_events(Vec::new(self.alloc), &source, slots, level, cells)
+                self.joined_events(source, slots, level, cells)
             }
             None => Ok(Vec::new(self.alloc)),
         }

@@ -1,4 +1,4 @@
-use Rattle.std.proofs.Common.{◌≡◌, ◌+◌, ◌-◌, ◌*◌, ◌<◌, true, false, List, map, vec_len, ◌++◌, length, drop, get_or, Result, Ok, refl, ap, ap₂, sym, ◌∙◌, subst, arith}
+use Rattle.std.proofs.Common.{◌≡◌, ◌+◌, ◌-◌, ◌*◌, ◌<◌, true, false, List, map, vec_len, ◌++◌, length, drop, get_or, Result, Ok, ap, ap₂, sym, ◌∙◌, subst, arith}
 use Rattle.std.proofs.lemmas.List.{nil_from_length, drop_all}
 use Rattle.hp_laws.proofs.Listings.{map_has}
 use Rattle.hp_syntax.specs.Syntax.{Clause}
@@ -6,7 +6,7 @@ use Rattle.std.proofs.lemmas.Result.{IfOk-weaker}
 use Rattle.hp_syntax.specs.declared.fault.RunFault.{RunFault}
 use Rattle.hp_syntax.specs.Values.{Bindings, unbound}
 use Rattle.hp_syntax.specs.Goals.{Goal, start_goal}
-use Rattle.hp_syntax.specs.Events.{Event, State, through, sat, branch_events, filled_events, concluded, chosen, chosen_events}
+use Rattle.hp_syntax.specs.Events.{Event, State, state_events, through, sat, branch_events, filled_events, concluded, chosen, chosen_events}
 use Rattle.hp_syntax.specs.Views.{atom_of, axiom_of, clause_of, expression_of, expressions_of}
 use Rattle.hp_eval.specs.GoalViews.{goal_of}
 use Rattle.hp_eval.specs.Slotted.{bindings_of}
@@ -27,7 +27,7 @@ use Rattle.hp_satisfiers.proofs.AxiomSteps.{goal_begins, placed_axiom, few_at, a
 use Rattle.hp_satisfiers.proofs.ChosenBranches.{chosen_left, chosen_here, chosen_passes}
 use Rattle.hp_satisfiers.proofs.SceneGrowth.{turned_sat, turned_stays, sat_stays, turn_gives, negation_gives}
 use Rattle.hp_laws.proofs.HeardAlikeLemmas.{alike_through}
-use Rattle.hp_satisfiers.proofs.HeardLemmas.{none_fit, hears_found, hears_same, hears_vars, hears_all, hears_over}
+use Rattle.hp_satisfiers.proofs.HeardLemmas.{hears_found, hears_same, hears_vars, hears_begin, hears_all, hears_over, hears_both}
 use Rattle.hp_satisfiers.specs.Sources.{item_count, pieces, joined}
 use Rattle.hp_satisfiers.proofs.SourceSteps.{pieces_count, replaced_piece, source_grows, source_next, sats_joined, parts_joined, axioms_joined}
 use Rattle.std.proofs.lemmas.Bool.{eqb-true, eqb-false}
@@ -49,13 +49,8 @@ events-all_events-requires t c =
 pub events-joined_events-requires : goal.events-joined_events-requires
 events-joined_events-requires t c =
     let one = size_of-or c.args.expr.now c.in-Or.parts c.in-Or.is in
-    let same = ap (λ ps. sizes (expressions_of ps)) c.as_slice-in-Or.ensures.value in (
-      omega (arith, c.decreases, one, same),
-      (
-        none_fit (length c.args.slots.now.values) (length c.args.cells.now) c.new.result.items c.new.ensures.items,
-        (c.requires.slots, (tt, c.requires.world)),
-      ),
-    )
+    let same = ap (λ ps. sizes (expressions_of ps)) c.as_slice-in-Or.ensures.value in
+    (omega (arith, c.decreases, one, same), (c.requires.slots, (tt, c.requires.world)))
 
 pub events-events-requires : goal.events-events-requires
 events-events-requires t c =
@@ -100,7 +95,7 @@ events-returns-in-Or-clause-found t c =
     let e = bindings_of old c.args.slots.now in
     IfOk-weaker c.joined_events.result _ _
     (λ v h. h.stand
-    ∙ ap heard (parts_joined old c.new.result.items c.new.ensures.items axioms level state e c.as_slice-in-Or.result.now
+    ∙ ap heard (parts_joined axioms level state e c.as_slice-in-Or.result.now
     ∙ (ap (λ ps. any_of axioms level state ps e) c.as_slice-in-Or.ensures.value
     ∙ sat_of-or axioms level state c.args.expr.now e c.in-Or.parts c.in-Or.is)))
     c.joined_events.ensures.finds
@@ -185,7 +180,7 @@ forall_events-returns-clause-finds t c =
     let range = sat axioms level (state_in old scene) (expression_of c.args.range.now) e in
     let events =
     got.finds.stand
-    ∙ (ap heard (sats_joined mid c.new.result.items c.new.ensures.items ranged
+    ∙ (ap heard (sats_joined ranged
     (turned_sat axioms level (state_in mid scene) body true)
     ∙ ap (through ranged) (turned_stays old mid met.cells (stage_in scene) c.requires.world axioms level body true))
     ∙ alike_through ranged range (turned_sat axioms level (state_in old scene) body true)
@@ -218,18 +213,14 @@ all_events-joined_events-requires t c =
     let mid = c.loop-part.cells in
     let held = c.loop-part.invariant in
     let s = c.args.slots.now in
-    let vars = length s.values in
     let part =
     part_size c.args.parts.now c.loop-part.part-index c.part-item.result c.loop-part-test.true c.part-item.is in (
       omega (arith, c.decreases, part),
       (
-        none_fit vars (length mid) c.new.result.items c.new.ensures.items,
+        below_grows old mid held.grows s c.requires.slots,
         (
-          below_grows old mid held.grows s c.requires.slots,
-          (
-            subst (AllFit vars (length mid)) (sym c.as_slice.ensures.value) held.fit,
-            stage_below_grows old mid held.grows (stage_in c.args.self.now) c.requires.world,
-          ),
+          subst (AllFit (length s.values) (length mid)) (sym c.as_slice.ensures.value) held.fit,
+          stage_below_grows old mid held.grows (stage_in c.args.self.now) c.requires.world,
         ),
       ),
     )
@@ -254,7 +245,7 @@ all_events-loop-part-preserved t c =
           (answer_events mid before) (answer_events new c.in_ok-found-2.found.items) _ c.loop-part-test.true
           c.part-item.is
           (got.finds.stand
-          ∙ ap heard (sats_joined mid c.new.result.items c.new.ensures.items (answer_events mid c.as_slice.result.now)
+          ∙ ap heard (sats_joined (answer_events mid c.as_slice.result.now)
           (turned_sat axioms level (state_in mid scene) part false)
           ∙ ap₂ (λ xs f. through (answer_events mid xs) f) c.as_slice.ensures.value
           (turned_stays old mid held.grows (stage_in scene) c.requires.world axioms level part false)))
@@ -277,7 +268,12 @@ all_events-returns-clause-finds t c =
 
 pub joined_events-loop-number-init : goal.joined_events-loop-number-init
 joined_events-loop-number-init t c =
-    record { grows = grows_self c.args.cells.now; found = record { so_far = refl; fit = c.requires.found } }
+    let old = c.args.cells.now in
+    let vars = length c.args.slots.now.values in
+    record {
+      grows = grows_self old;
+      found = hears_begin old vars c.new-found.result.items _ c.new-found.ensures.items;
+    }
 
 pub joined_events-item_events-requires : goal.joined_events-item_events-requires
 joined_events-item_events-requires t c =
@@ -291,7 +287,7 @@ joined_events-item_events-requires t c =
         (
           below_grows old mid grown s c.requires.slots,
           (
-            source_grows old mid grown (length s.values) c.args.source.now c.requires.source,
+            source_grows old mid grown (length s.values) c.args.source c.requires.source,
             stage_below_grows old mid grown (stage_in c.args.self.now) c.requires.world,
           ),
         ),
@@ -309,7 +305,7 @@ joined_events-loop-number-preserved t c =
       grows = grows_on old mid new held.grows got.cells;
       found =
           source_next old mid held.grows c.args.self.now c.args.level c.requires.world c.args.slots.now
-          c.requires.slots c.args.source.now c.requires.source new got.cells c.loop-number.found.items
+          c.requires.slots c.args.source c.requires.source new got.cells c.loop-number.found.items
           c.in_ok-more.more.items c.add.new.found.items _ c.loop-number.number
           (omega (arith, c.count-number-end.ensures, c.loop-number-test.true)) held.found got.finds c.in_ok-over.ensures.added;
     }
@@ -326,7 +322,7 @@ joined_events-returns-then-over-clause-finds t c =
     hears_over new (length s.values) items _ _
     (sym c.in_ok-over.ensures.over ∙ c.if-over.true)
     (source_next old mid held.grows c.args.self.now c.args.level c.requires.world s c.requires.slots
-    c.args.source.now c.requires.source new got.cells c.loop-number.found.items c.in_ok-more.more.items items _
+    c.args.source c.requires.source new got.cells c.loop-number.found.items c.in_ok-more.more.items items _
     c.loop-number.number (omega (arith, c.count-number-end.ensures, c.loop-number-test.true)) held.found got.finds
     c.in_ok-over.ensures.added)
 
@@ -334,8 +330,8 @@ pub joined_events-returns-clause-finds : goal.joined_events-returns-clause-finds
 joined_events-returns-clause-finds t c =
     let old = c.args.cells.now in
     let s = c.args.slots.now in
-    let ps = pieces c.args.self.now c.args.level old s c.args.source.now in
-    let count = pieces_count c.args.self.now c.args.level old s c.args.source.now in
+    let ps = pieces c.args.self.now c.args.level old s c.args.source in
+    let count = pieces_count c.args.self.now c.args.level old s c.args.source in
     hears_all c.loop-number.cells (length s.values) c.loop-number.found.items _ _
     (ap joined (drop_all c.loop-number.number ps (omega (arith, count, c.count-number-end.ensures, c.loop-number-test.false))))
     c.loop-number.invariant.found
@@ -345,26 +341,23 @@ joined_events-returns-clause-finds t c =
 pub item_events-events-requires : goal.item_events-events-requires
 item_events-events-requires t c =
     let number = c.args.number in
-    let parts = c.in-Parts.parts.now in
     let within = subst (λ source. number < item_count source) c.in-Parts.is c.requires.number in
-    let part = part_size parts number c.at.result.now within c.at.ensures in
-    let work = ap item_work c.in-Parts.is in
-    (omega (arith, c.decreases, part, work), (c.requires.slots, c.requires.world))
+    let part = part_size c.in-Parts.parts.now number c.at.result.now within c.at.ensures in
+    (omega (arith, c.decreases, part, ap item_work c.in-Parts.is), (c.requires.slots, c.requires.world))
 
 pub item_events-returns-in-Sats-clause-finds : goal.item_events-returns-in-Sats-clause-finds
 item_events-returns-in-Sats-clause-finds t c =
     let scene = c.args.self.now in
+    let level = c.args.level in
     let old = c.args.cells.now in
     let s = c.args.slots.now in
     let number = c.args.number in
-    let found = c.in-Sats.found.now in
-    let f =
-    turned_sat (axioms_in scene) c.args.level (state_in old scene) c.in-Sats.part.now c.in-Sats.negate in
+    let within = subst (λ source. number < item_count source) c.in-Sats.is c.requires.number in
+    let f = turned_sat (axioms_in scene) level (state_in old scene) c.in-Sats.part.now c.in-Sats.negate in
     IfOk-weaker c.one_events.result _ _
     (λ v h. hears_same c.one_events.new.cells (length s.values) v.items _ _
-    (ap heard (replaced_piece old f found number c.at-in-Sats.result.now
-    (pieces scene c.args.level old s c.args.source.now) (ap (pieces scene c.args.level old s) c.in-Sats.is)
-    (subst (λ source. number < item_count source) c.in-Sats.is c.requires.number) c.at-in-Sats.ensures)) h)
+    (ap heard (replaced_piece old f c.in-Sats.found.now number c.at-in-Sats.result.now _
+    (ap (pieces scene level old s) c.in-Sats.is) within c.at-in-Sats.ensures)) h)
     c.one_events.ensures.finds
 
 pub item_events-returns-in-Branches-clause-finds : goal.item_events-returns-in-Branches-clause-finds
@@ -373,15 +366,13 @@ item_events-returns-in-Branches-clause-finds t c =
     let old = c.args.cells.now in
     let s = c.args.slots.now in
     let number = c.args.number in
-    let found = c.in-Branches.found.now in
+    let within = subst (λ source. number < item_count source) c.in-Branches.is c.requires.number in
     let f : Bindings → List Event
     = λ b. concluded (atom_of c.in-Branches.head.now) b (goal_of old c.in-Branches.goal.now) (bindings_of old s) in
     IfOk-weaker c.conclusion.result _ _
     (λ v h. hears_same c.conclusion.new.cells (length s.values) v.items _ _
-    (ap heard (replaced_piece old f found number c.at-in-Branches.result.now
-    (pieces scene c.args.level old s c.args.source.now) (ap (pieces scene c.args.level old s) c.in-Branches.is)
-    (subst (λ source. number < item_count source) c.in-Branches.is c.requires.number)
-    c.at-in-Branches.ensures))
+    (ap heard (replaced_piece old f c.in-Branches.found.now number c.at-in-Branches.result.now _
+    (ap (pieces scene c.args.level old s) c.in-Branches.is) within c.at-in-Branches.ensures))
     (hears_found c.conclusion.new.cells (length s.values) v.items _ h))
     c.conclusion.ensures.found
 
@@ -430,27 +421,29 @@ atom_events-returns-in-Ok-clause-finds t c =
     c.goal_events.ensures.finds
 
 pub goal_events-joined_events-requires : goal.goal_events-joined_events-requires
-goal_events-joined_events-requires t c = (
-  omega (arith, c.decreases),
-  (c.in_ok-found.ensures.fit, (c.requires.slots, (c.requires.goal, c.requires.world))),
-)
+goal_events-joined_events-requires t c =
+    (omega (arith, c.decreases), (c.requires.slots, (c.requires.goal, c.requires.world)))
 
 pub goal_events-returns-clause-finds : goal.goal_events-returns-clause-finds
 goal_events-returns-clause-finds t c =
     let scene = c.args.self.now in
     let rules = rules_in scene in
     let old = c.args.cells.now in
+    let new = c.joined_events.new.cells in
     let state = state_in old scene in
     let lower = below_at (axioms_in scene) c.args.level state in
     let q = goal_of old c.args.goal.now in
     let s = c.args.slots.now in
     let e = bindings_of old s in
-    IfOk-weaker c.joined_events.result _ _
-    (λ v h. hears_same c.joined_events.new.cells (length s.values) v.items _ _
-    (ap heard (ap₂ ◌++◌ c.in_ok-found.ensures.stand
+    let got = c.in_ok-more.ensures in
+    let items = c.add.new.found.items in
+    hears_same new (length s.values) items _ _
+    (ap heard (ap (λ xs. state_events state q e ++ xs)
     (axioms_joined lower q e rules c.axioms.result.now (concluding q.name rules) c.axioms.ensures)
-    ∙ sym (goal_begins lower q e state rules))) h)
-    c.joined_events.ensures.finds
+    ∙ sym (goal_begins lower q e state rules)))
+    (hears_both old new got.cells (length s.values) c.in_ok-found.found.items c.in_ok-more.more.items items _ _
+    (hears_found old (length s.values) c.in_ok-found.found.items _ c.in_ok-found.ensures) got.finds
+    c.in_ok-add.ensures.added)
 
 -- ---- an axiom
 
@@ -517,18 +510,15 @@ axiom_events-joined_events-requires t c =
     let fits = c.in_ok-found-in-Some-started.ensures.finds.fit in (
       omega (arith, c.decreases),
       (
-        none_fit (length c.args.slots.now.values) n c.new-in-Some-started.result.items c.new-in-Some-started.ensures.items,
+        below_grows old new grown c.args.slots.now c.requires.slots,
         (
-          below_grows old new grown c.args.slots.now c.requires.slots,
           (
-            (
-              goal_below_grows old new grown c.args.goal.now c.requires.goal,
-              subst (All (BindsBelow n)) (sym c.as_slice.ensures.value)
-                  (All-weaker (Fits vars n) (BindsBelow n) (fits_below vars n)
-                  c.in_ok-found-in-Some-started.found.items fits),
-            ),
-            stage_below_grows old new grown (stage_in c.args.self.now) c.requires.world,
+            goal_below_grows old new grown c.args.goal.now c.requires.goal,
+            subst (All (BindsBelow n)) (sym c.as_slice.ensures.value)
+                (All-weaker (Fits vars n) (BindsBelow n) (fits_below vars n)
+                c.in_ok-found-in-Some-started.found.items fits),
           ),
+          stage_below_grows old new grown (stage_in c.args.self.now) c.requires.world,
         ),
       ),
     )
@@ -569,7 +559,7 @@ axiom_events-returns-in_ok-found-in-Some-started-clause-finds t c =
     = λ d. concluded x.head d (goal_of new goal') (bindings_of new s) in
     IfOk-weaker c.joined_events.result _ _
     (λ v h. hears_same c.joined_events.new.cells (length s.values) v.items _ _
-    (ap heard (sats_joined new c.new-in-Some-started.result.items c.new-in-Some-started.ensures.items found conclude)
+    (ap heard (sats_joined found conclude)
     ∙ (alike_through found (branch_events lower x (bindings_of mid own)) conclude met
     ∙ ap heard (ap (through (branch_events lower x (bindings_of mid own))) same
     ∙ (axiom_started lower q e x (bindings_of mid own) m.0
@@ -805,17 +795,13 @@ forall_events-joined_events-requires t c =
     let old = c.args.cells.now in
     let mid = c.events.new.cells in
     let met = c.in_ok-found.ensures in
-    let s = c.args.slots.now in
-    let vars = length s.values in (
+    let s = c.args.slots.now in (
       omega (arith, c.decreases),
       (
-        none_fit vars (length mid) c.new.result.items c.new.ensures.items,
+        below_grows old mid met.cells s c.requires.slots,
         (
-          below_grows old mid met.cells s c.requires.slots,
-          (
-            subst (AllFit vars (length mid)) (sym c.as_slice.ensures.value) met.fit,
-            stage_below_grows old mid met.cells (stage_in c.args.self.now) c.requires.world,
-          ),
+          subst (AllFit (length s.values) (length mid)) (sym c.as_slice.ensures.value) met.fit,
+          stage_below_grows old mid met.cells (stage_in c.args.self.now) c.requires.world,
         ),
       ),
     )
@@ -833,6 +819,12 @@ branch_events-returns-clause-cells t c = c.loop-clause.invariant.grows
 
 pub all_events-returns-in_err-found-clause-cells : goal.all_events-returns-in_err-found-clause-cells
 all_events-returns-in_err-found-clause-cells t c = grows_self c.args.cells.now
+
+pub goal_events-returns-in_err-more-clause-cells : goal.goal_events-returns-in_err-more-clause-cells
+goal_events-returns-in_err-more-clause-cells t c = c.joined_events.ensures.cells
+
+pub goal_events-returns-in_err-add-clause-cells : goal.goal_events-returns-in_err-add-clause-cells
+goal_events-returns-in_err-add-clause-cells t c = c.joined_events.ensures.cells
 
 pub goal_events-returns-clause-cells : goal.goal_events-returns-clause-cells
 goal_events-returns-clause-cells t c = c.joined_events.ensures.cells

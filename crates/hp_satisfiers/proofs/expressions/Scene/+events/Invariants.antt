@@ -1,4 +1,4 @@
-use Rattle.std.proofs.Common.{◌≡◌, ◌+◌, ◌++◌, ◌*◌, ◌-◌, length, drop, map}
+use Rattle.std.proofs.Common.{◌≡◌, ◌+◌, ◌*◌, ◌-◌, length, drop, map}
 use Rattle.hp_syntax.specs.Events.{sat, events_of_all, branch_events, chosen, chosen_events, through}
 use Rattle.hp_syntax.specs.Views.{axiom_of, clause_of, expression_of, expressions_of}
 use Rattle.hp_eval.specs.Growth.{Grows}
@@ -24,10 +24,10 @@ abbrev pub decreases-all_events : goal.decreases-all_events
 decreases-all_events l = left_to_do (axioms_in l.self.now) l.level (8 * sizes (expressions_of l.parts.now) + 4)
 
 abbrev pub decreases-joined_events : goal.decreases-joined_events
-decreases-joined_events l = left_to_do (axioms_in l.self.now) l.level (item_work l.source.now + 1)
+decreases-joined_events l = left_to_do (axioms_in l.self.now) l.level (item_work l.source + 1)
 
 abbrev pub decreases-item_events : goal.decreases-item_events
-decreases-item_events l = left_to_do (axioms_in l.self.now) l.level (item_work l.source.now)
+decreases-item_events l = left_to_do (axioms_in l.self.now) l.level (item_work l.source)
 
 abbrev pub decreases-one_events : goal.decreases-one_events
 decreases-one_events l = left_to_do (axioms_in l.self.now) l.level (8 * size (expression_of l.part.now) + 1)
@@ -64,7 +64,7 @@ invariant-joined_events-loop-number l =
     record {
       grows : Grows l.fn.cells l.cells;
       found : HearsUpTo l.cells (length l.slots.values) l.found.items
-          (answer_events l.fn.cells l.fn.found.items ++ joined ps) (joined (drop l.number ps));
+          (joined ps) (joined (drop l.number ps));
     }
 
 abbrev pub invariant-branch_events-loop-clause : goal.invariant-branch_events-loop-clause
