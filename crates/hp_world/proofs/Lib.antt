@@ -7,3 +7,4 @@ pub mod UndoingLemmas
 pub mod ApplyingLemmas
 pub mod AnswerLemmas
 pub mod NamedLemmas
+pub mod FollowingLemmas
