@@ -2,13 +2,9 @@
 use Rattle.std.proofs.Common.{◌≡◌, ◌↔◌, ℕ, zero, suc, ◌+◌, ◌<◌, ◌≤◌, Bool, true, false, cond, List, [], ◌∷◌, ◌++◌, Some, ◌⊎◌, inl, inr, length, take, slice_get, refl, sym, ap, subst, ◌∙◌, arith}
 use Rattle.std.proofs.lemmas.Option.{same_Some}
 use Rattle.hp_syntax.specs.Terms.{Term, Terms, Symbol, Number, Listed, NoTerm, More, same_term, term_nesting, member}
-use Rattle.hp_cells.specs.Cells.{AreDistinct, AreCells, StandsBefore, interned}
-use Rattle.hp_cells.proofs.PlaceLemmas.{same_in_longer, kept, before_or_last, stays, stood, some_passes, passes_at}
+use Rattle.hp_cells.specs.Cells.{IsAbsent, AreCells, StandsBefore, interned}
+use Rattle.hp_cells.proofs.PlaceLemmas.{same_in_longer, kept, before_or_last, stays, stood, some_passes, distinct_push, inserted_behind}
 use Rattle.hp_syntax.proofs.TermEquality.{same_sound, same_self}
-
--- the term stands nowhere
-abbrev pub IsAbsent : List Term → Term → Type 0
-IsAbsent terms t = (i : ℕ) → slice_get terms i ≡ Some t → ⊥
 
 -- two terms stand before a place
 abbrev pub StandBefore : List Term → ℕ → Term → Term → Type 0
@@ -23,17 +19,6 @@ before_among_more : (terms more : List Term) (i : ℕ) (x y : Term) → StandBef
     → StandBefore (terms ++ more) i x y
 before_among_more terms more i x y s =
     ((s.0.0, s.0.1, kept terms more s.0.0 x s.0.2), (s.1.0, s.1.1, kept terms more s.1.0 y s.1.2))
-
--- an absent term behind the others keeps all distinct
-distinct_push : (terms : List Term) (t : Term) → AreDistinct terms → IsAbsent terms t → AreDistinct (terms ++ t ∷ [])
-distinct_push terms t distinct absent i j u h k = by (before_or_last terms t i u h) (before_or_last terms t j u k)
-  where
-    by : (slice_get terms i ≡ Some u) ⊎ ((i ≡ length terms) × (t ≡ u))
-        → (slice_get terms j ≡ Some u) ⊎ ((j ≡ length terms) × (t ≡ u)) → i ≡ j
-    by (inl p) (inl q) = distinct i j u p q
-    by (inl p) (inr q) = absurd (absent i (p ∙ ap Some (sym q.1)))
-    by (inr p) (inl q) = absurd (absent j (q ∙ ap Some (sym p.1)))
-    by (inr p) (inr q) = p.0 ∙ sym q.0
 
 -- an absent term whose parts stand before may come behind the terms of cells
 pub cells_push : (terms : List Term) (t : Term) → AreCells terms → IsAbsent terms t
@@ -86,13 +71,7 @@ interned_present t terms i h =
 
 -- interning an absent term puts it behind the others
 pub interned_absent : (t : Term) (terms : List Term) → IsAbsent terms t → interned t terms ≡ terms ++ t ∷ []
-interned_absent t terms absent = by (member t terms) refl
-  where
-    by : (b : Bool) → member t terms ≡ b → cond b terms (terms ++ t ∷ []) ≡ terms ++ t ∷ []
-    by false e = refl
-    by true e =
-        let p = passes_at (same_term t) terms e in
-        absurd (absent p.0 (p.2 ∙ ap Some (sym (same_sound t p.1 p.3))))
+interned_absent t terms absent = inserted_behind same_term same_sound terms t absent
 
 -- a cell keeps its term while others are interned
 pub earlier_stay : (t : Term) (old : List Term) (i : ℕ) → i < length old

@@ -3,3 +3,4 @@ pub mod CellLemmas
 pub mod KeyLemmas
 pub mod InternSteps
 pub mod ViewLemmas
+pub mod NameLemmas

@@ -1,8 +1,10 @@
 -- Places of a list that grows at its end or is cut.
-use Rattle.std.proofs.Common.{◌≡◌, ℕ, zero, suc, ◌<◌, Bool, true, List, [], ◌∷◌, ◌++◌, Some, ◌⊎◌, inl, inr, length, take, slice_get, refl, ap, ◌∙◌, arith}
+use Rattle.std.proofs.Common.{◌≡◌, ℕ, zero, suc, ◌<◌, Bool, true, false, cond, List, [], ◌∷◌, ◌++◌, Option, Some, None, ◌⊎◌, inl, inr, length, take, position, slice_get, is_some, refl, sym, ap, ◌∙◌, true≢false, arith}
 use Rattle.std.specs.List.{list_any}
 use Rattle.std.proofs.lemmas.List.Folds.{list_any_at, Any-from_list_any}
+use Rattle.std.proofs.lemmas.List.Quantifiers.{position-Some}
 use Rattle.std.proofs.lemmas.Option.{none-some, same_Some, slice_get_within, slice_get-get_or, get_or_from_slice_get}
+use Rattle.hp_cells.specs.Cells.{AreDistinct, IsAbsent, LooksUp}
 
 module _ {X : Type 0} where
   -- a longer list has at the places of a list what stands there
@@ -60,3 +62,36 @@ module _ {X : Type 0} where
   passes_at p xs h =
       let a = Any-from_list_any p xs h in
       (a.0, a.1, slice_get-get_or xs a.0 a.1 a.2 ∙ ap Some a.3, a.4)
+
+  -- an absent item behind the others keeps all distinct
+  pub distinct_push : (xs : List X) (y : X) → AreDistinct xs → IsAbsent xs y → AreDistinct (xs ++ y ∷ [])
+  distinct_push xs y distinct absent i j x h k = by (before_or_last xs y i x h) (before_or_last xs y j x k)
+    where
+      by : (slice_get xs i ≡ Some x) ⊎ ((i ≡ length xs) × (y ≡ x))
+          → (slice_get xs j ≡ Some x) ⊎ ((j ≡ length xs) × (y ≡ x)) → i ≡ j
+      by (inl p) (inl q) = distinct i j x p q
+      by (inl p) (inr q) = absurd (absent i (p ∙ ap Some (sym q.1)))
+      by (inr p) (inl q) = absurd (absent j (q ∙ ap Some (sym p.1)))
+      by (inr p) (inr q) = p.0 ∙ sym q.0
+
+  module _ (eq : X → X → Bool) where
+    module _ (same : (x y : X) → eq x y ≡ true → x ≡ y) where
+      -- where those alone that are one compare equal, inserting an absent item puts it behind the others
+      pub inserted_behind : (xs : List X) (x : X) → IsAbsent xs x
+          → cond (list_any (eq x) xs) xs (xs ++ x ∷ []) ≡ xs ++ x ∷ []
+      inserted_behind xs x absent = by (list_any (eq x) xs) refl
+        where
+          by : (b : Bool) → list_any (eq x) xs ≡ b → cond b xs (xs ++ x ∷ []) ≡ xs ++ x ∷ []
+          by false e = refl
+          by true e =
+              let p = passes_at (eq x) xs e in
+              absurd (absent p.0 (p.2 ∙ ap Some (sym (same x p.1 p.3))))
+
+    module _ (same : (x y : X) → eq x y ≡ true → x ≡ y) (itself : (x : X) → eq x x ≡ true) where
+      -- where those alone that are one compare equal, the first place of an equal item is that of the item
+      pub looked_up : (x : X) (xs : List X) (r : Option ℕ) → r ≡ position (eq x) xs
+          → is_some r ≡ list_any (eq x) xs → LooksUp x xs r
+      looked_up x xs None at found = λ i h. true≢false (sym (some_passes (eq x) xs i x h (itself x)) ∙ sym found)
+      looked_up x xs (Some i) at found =
+          let p = position-Some (eq x) xs i x (sym at) in
+          slice_get-get_or xs i x p.0 ∙ ap Some (sym (same x _ p.1))

@@ -1,10 +1,19 @@
 -- The terms that cells name.
-use Rattle.std.specs.Prelude.{◌≡◌, ℕ, ◌<◌, cond, List, [], ◌∷◌, ◌++◌, slice_get, Some}
+use Rattle.std.specs.Prelude.{◌≡◌, ℕ, ◌<◌, cond, List, [], ◌∷◌, ◌++◌, slice_get, Option, Some, None}
 use Rattle.hp_syntax.specs.Terms.{Term, Terms, Listed, NoTerm, More, member}
 
--- no term stands twice
-abbrev pub AreDistinct : List Term → Type 0
-AreDistinct terms = (i j : ℕ) (t : Term) → slice_get terms i ≡ Some t → slice_get terms j ≡ Some t → i ≡ j
+-- nothing stands twice in a list
+abbrev pub AreDistinct : {X : Type 0} → List X → Type 0
+AreDistinct {X} xs = (i j : ℕ) (x : X) → slice_get xs i ≡ Some x → slice_get xs j ≡ Some x → i ≡ j
+
+-- it stands nowhere in a list
+abbrev pub IsAbsent : {X : Type 0} → List X → X → Type 0
+IsAbsent xs x = (i : ℕ) → slice_get xs i ≡ Some x → ⊥
+
+-- the answer is a place in a list at which it stands, or that it stands nowhere
+abbrev pub LooksUp : {X : Type 0} → X → List X → Option ℕ → Type 0
+LooksUp x xs None = IsAbsent xs x
+LooksUp x xs (Some place) = slice_get xs place ≡ Some x
 
 -- a term stands before a place
 abbrev pub StandsBefore : List Term → ℕ → Term → Type 0

@@ -3,3 +3,4 @@ pub mod Compared
 pub mod Keys
 pub mod Shows
 pub mod TermCode
+pub mod Tables

@@ -1,38 +1,26 @@
 //! The terms that cells name.
-ghost use Rattle.std.specs.Prelude.{◌≡◌, ◌+◌, ◌<◌, ◌≤◌, ◌^◌, [], ◌∷◌, ◌++◌, Some, IfOk, OnErr, length, take, slice_get, vec_len, vec_capacity, if◌then◌else◌};
+ghost use Rattle.std.specs.Prelude.{◌≡◌, ◌<◌, ◌≤◌, ◌^◌, [], ◌∷◌, Some, IfOk, OnErr, length, take, slice_get};
 ghost use Rattle.hp_syntax.specs.Terms.{Term, Terms, Symbol, Number, Listed, NoTerm, More, term_nesting};
-ghost use Rattle.hp_cells.specs.Cells.{AreCells, NamesList, Interns};
+ghost use Rattle.hp_cells.specs.Cells.{AreCells, NamesList, LooksUp, Interns};
 ghost use Rattle.hp_cells.specs.Compared.{is_symbol, is_number};
-ghost use Rattle.hp_cells.specs.Keys.{term_of, Stands};
 ghost use Rattle.hp_cells.specs.Shows.{Shows, LooksBack};
 
 use crate::keys::{Cell, Key, View};
+use crate::table::Table;
 use hp_syntax::Name;
-use indexmap::IndexSet;
 use std::alloc::{AllocError, Global};
 use std::marker::Model;
 
-// Where there are so many terms, no place is left for one more.
-const MOST_TERMS: usize = u32::MAX as usize;
-
-/// The terms that cells name. Each ground term stands once, behind its parts, and the first is the empty list.
-/// Contracts see the list of the terms.
+/// The terms that cells name. Each ground term stands once, behind its parts, and the first is the empty list. A name of
+/// a symbol is copied once, and stays when terms are given back. Contracts see the list of the terms.
 pub struct Cells {
-    keys: IndexSet<Key>,
-    // The depth of each term.
-    depths: Vec<u32>,
-    alloc: Global,
+    table: Table,
 }
 
 impl Drop for Cells {
     fn drop(self) {
-        let Cells {
-            keys,
-            depths,
-            alloc: _,
-        } = self;
-        drop(keys);
-        drop(depths);
+        let Cells { table } = self;
+        drop(table);
     }
 }
 
@@ -45,11 +33,11 @@ impl Model for Cells {
 
     ghost coded = { terms_code };
 
-    ghost use Rattle.hp_cells.specs.Keys.{terms_of, AreInterned};
+    ghost use Rattle.hp_cells.specs.Tables.{terms_in, IsSound};
 
-    ghost view = { λ a. terms_of a.keys.keys };
+    ghost view = { λ a. terms_in a.table };
 
-    ghost invariant = { λ a. AreInterned a.keys.keys a.depths.items };
+    ghost invariant = { λ a. IsSound a.table };
 }
 
 impl Cells {
@@ -57,14 +45,8 @@ impl Cells {
     pub fn new(alloc: Global) -> Result<Cells, AllocError>
         ensures { IfOk result (λ c. c ≡ Listed NoTerm ∷ []) }
     {
-        let mut keys = IndexSet::new(alloc);
-        keys.insert(Key::Nil)?;
-        let depths = vec![in alloc; 1]?;
-        Ok(Cells {
-            keys,
-            depths,
-            alloc,
-        })
+        let table = Table::new(alloc)?;
+        Ok(Cells { table })
     }
 
     /// The number of terms.
@@ -72,7 +54,7 @@ impl Cells {
         ensures count { result ≡ length self.now }
         ensures cells { AreCells self.now }
     {
-        self.keys.len()
+        self.table.keys.len()
     }
 
     /// The cell of the empty list.
@@ -80,18 +62,18 @@ impl Cells {
         ensures first { result ≡ 0 }
         ensures names { slice_get self.now result ≡ Some (Listed NoTerm) }
     {
-        let _ = &self.keys;
+        let _ = &self.table;
         Cell { place: 0 }
     }
 
-    /// The cell of the symbol of this name. An error leaves the terms as they are: there is no memory for one more,
-    /// or there are 2^32 - 1 of them.
+    /// The cell of the symbol of this name, which is copied where it is new. An error leaves the terms as they are: there
+    /// is no memory for one more, or there are 2^32 - 1 of them, or of names.
     pub fn sym(&mut self, name: &Name) -> Result<Cell, AllocError>
         ensures ok { IfOk result (λ cell. Interns (Symbol name.now) cell self.old self.new) }
         ensures err { OnErr result (self.new ≡ self.old) }
     {
-        let copy = name.copy(self.alloc)?;
-        self.intern(Key::Sym(copy), 0)
+        let number = self.table.number_of(name)?;
+        self.table.intern(Key::Sym(number), 0)
     }
 
     /// The cell of a number. An error leaves the terms as they are: there is no memory for one more, or there are
@@ -100,7 +82,7 @@ impl Cells {
         ensures ok { IfOk result (λ cell. Interns (Number n) cell self.old self.new) }
         ensures err { OnErr result (self.new ≡ self.old) }
     {
-        self.intern(Key::Num(n), 0)
+        self.table.intern(Key::Num(n), 0)
     }
 
     /// The cell of a list, by its first part and the list of the others. An error leaves the terms as they are: there
@@ -113,7 +95,33 @@ impl Cells {
         ensures err { OnErr result (self.new ≡ self.old) }
     {
         let depth = usize::max(self.depth(head) + 1, self.depth(tail));
-        self.intern(Key::Cons(head, tail), depth)
+        self.table.intern(Key::Cons(head, tail), depth)
+    }
+
+    /// The cell of the symbol of this name, if the symbol stands. No cell is made, and no memory is taken.
+    pub fn find_sym(&self, name: &Name) -> Option<Cell>
+        ensures { LooksUp (Symbol name.now) self.now result }
+    {
+        let number = self.table.find_name(name)?;
+        self.table.find(Key::Sym(number))
+    }
+
+    /// The cell of a number, if the number stands. No cell is made, and no memory is taken.
+    pub fn find_num(&self, n: i64) -> Option<Cell>
+        ensures { LooksUp (Number n) self.now result }
+    {
+        self.table.find(Key::Num(n))
+    }
+
+    /// The cell of a list, by its first part and the list of the others, if the list stands. No cell is made, and no
+    /// memory is taken.
+    pub fn find_cons(&self, head: Cell, tail: Cell) -> Option<Cell>
+        requires head { head < length self.now }
+        requires tail { NamesList self.now tail }
+        ensures { (x : Term) (xs : Terms) → slice_get self.now head ≡ Some x
+            → slice_get self.now tail ≡ Some (Listed xs) → LooksUp (Listed (More x xs)) self.now result }
+    {
+        self.table.find(Key::Cons(head, tail))
     }
 
     /// The view of a cell's term.
@@ -123,7 +131,8 @@ impl Cells {
         ensures earlier { LooksBack cell result }
         ensures cells { AreCells self.now }
     {
-        self.keys.as_slice()[cell.place as usize].view()
+        let key = self.table.keys.as_slice()[cell.place as usize];
+        key.view(self.table.names.as_slice())
     }
 
     /// Whether the term of a cell is the symbol of this name. No cell is made for the name.
@@ -155,7 +164,7 @@ impl Cells {
         ensures depth { (t : Term) → slice_get self.now cell ≡ Some t → result ≡ term_nesting t }
         ensures fits { result < 2 ^ 32 }
     {
-        self.depths[cell.place as usize] as usize
+        self.table.depths[cell.place as usize] as usize
     }
 
     /// Takes back all terms but so many of the first, of which the empty list is one; the cells of the others then name
@@ -165,36 +174,6 @@ impl Cells {
         requires within { mark ≤ length self.old }
         ensures { self.new ≡ take mark self.old }
     {
-        self.keys.truncate(mark);
-        self.depths.truncate(mark);
-    }
-
-    // The cell of the term that a key stands for and that nests so deep.
-    fn intern(&mut self, key: Key, depth: usize) -> Result<Cell, AllocError>
-        requires stands { Stands self.old key (term_of self.old key) }
-        requires depth { depth ≡ term_nesting (term_of self.old key) }
-        ensures ok { IfOk result (λ cell. Interns (term_of self.old key) cell self.old self.new) }
-        ensures err { OnErr result (self.new ≡ self.old) }
-    {
-        if self.keys.len() >= MOST_TERMS {
-            return Err(AllocError);
-        }
-        self.depths.reserve(1)?;
-        let (place, added) = self.keys.insert_full(key)?;
-        note_depth(&mut self.depths, depth as u32, added);
-        Ok(Cell {
-            place: place as u32,
-        })
-    }
-}
-
-// Notes the depth of a term that was added, in room that was made before.
-fn note_depth(depths: &mut Vec<u32>, depth: u32, added: bool)
-    requires { vec_len depths.old < vec_capacity depths.old }
-    ensures { depths.new.items ≡ (if added then depths.old.items ++ depth ∷ [] else depths.old.items) }
-{
-    if added {
-        let pushed = depths.push(depth).is_ok();
-        prove!(pushed);
+        self.table.truncate(mark);
     }
 }

@@ -1,7 +1,7 @@
 //! Cells, which name terms, and the keys at their places.
-ghost use Rattle.std.specs.Prelude.{ℕ, List};
+ghost use Rattle.std.specs.Prelude.{ℕ, List, length};
 ghost use Rattle.hp_syntax.specs.Terms.{Term};
-ghost use Rattle.hp_cells.specs.Keys.{Stands, KeepsBack};
+ghost use Rattle.hp_cells.specs.Keys.{Stands, KeepsBack, IsNumbered};
 ghost use Rattle.hp_cells.specs.Shows.{Shows, LooksBack};
 
 use hp_syntax::Name;
@@ -48,35 +48,27 @@ pub enum View<'a> {
     Cons(Cell, Cell),
 }
 
-// The key of a term, whose parts have earlier places.
-#[derive(PartialEq, Eq, Hash)]
+// The key of a term, whose parts have earlier places. A symbol is told by the number of its name.
+#[derive(Clone, Copy, PartialEq, Eq, Hash)]
 pub(crate) enum Key {
     Nil,
-    Sym(Name),
+    Sym(u32),
     Num(i64),
     Cons(Cell, Cell),
 }
 
-impl Drop for Key {
-    fn drop(self) {
-        match self {
-            Key::Sym(name) => drop(name),
-            Key::Nil | Key::Num(_) | Key::Cons(_, _) => {}
-        }
-    }
-}
-
 impl Key {
-    // The view of the term that the key stands for.
-    pub(crate) fn view(&self) -> View<'_>
-        ensures shows { (terms : List Term) (t : Term) → Stands terms self.now t → Shows terms result t }
-        ensures earlier { (cell : ℕ) → KeepsBack cell self.now → LooksBack cell result }
+    // The view of the term that the key stands for, among these names.
+    pub(crate) fn view(self, names: &[Name]) -> View<'_>
+        requires { IsNumbered (length names.now) self }
+        ensures shows { (terms : List Term) (t : Term) → Stands names.now terms self t → Shows terms result t }
+        ensures earlier { (cell : ℕ) → KeepsBack cell self → LooksBack cell result }
     {
         match self {
             Key::Nil => View::Nil,
-            Key::Sym(name) => View::Sym(name),
-            Key::Num(n) => View::Num(*n),
-            Key::Cons(head, tail) => View::Cons(*head, *tail),
+            Key::Sym(number) => View::Sym(&names[number as usize]),
+            Key::Num(n) => View::Num(n),
+            Key::Cons(head, tail) => View::Cons(head, tail),
         }
     }
 }

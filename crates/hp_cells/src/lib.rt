@@ -4,6 +4,7 @@
 mod cells;
 mod keys;
 pub mod laws;
+mod table;
 
 pub use cells::Cells;
 pub use keys::{Cell, View};
