@@ -1,5 +1,5 @@
 -- Interned keys, as one is added and as they are cut.
-use Rattle.std.proofs.Common.{◌≡◌, ℕ, zero, suc, ◌+◌, ◌<◌, ◌≤◌, ◌^◌, Bool, true, false, not, if◌then◌else◌, List, [], ◌∷◌, ◌++◌, Option, Some, None, ◌⊎◌, inl, inr, max, length, map, take, get_or, slice_get, refl, sym, ap, ap₂, subst, ◌∙◌, true≢false, arith}
+use Rattle.std.proofs.Common.{◌≡◌, ℕ, zero, suc, ◌+◌, ◌<◌, ◌≤◌, ◌^◌, Bool, true, false, not, if◌then◌else◌, List, [], ◌∷◌, ◌++◌, Option, Some, None, ◌⊎◌, inl, inr, max, length, map, take, get_or, slice_get, refl, sym, ap, ap₂, subst, ◌∙◌, arith}
 use Rattle.std.specs.List.{list_any}
 use Rattle.std.proofs.lemmas.List.{map_push, take-map, length_push, length-take-le}
 use Rattle.std.proofs.lemmas.Option.{none-some, same_Some, slice_get_within, slice_get-get_or, slice_get_read}
@@ -10,7 +10,7 @@ use Rattle.hp_cells.specs.Keys.{Stands, IsNumbered, KeepsBack, terms_of, IsKeyAt
 use Rattle.hp_cells.specs.declared.keys.Key.{Key}
 use Rattle.hp_cells.specs.declared.keys.Key.TheVariants.{Nil, Sym, Num, Cons}
 use Rattle.hp_cells.specs.contracts.keys.KeyPartialEq.TheImpl as the_impl
-use Rattle.hp_cells.proofs.PlaceLemmas.{kept, stands_last, before_or_last, stays, stood, some_passes}
+use Rattle.hp_cells.proofs.PlaceLemmas.{kept, stands_last, before_or_last, stays, stood, none_equal}
 use Rattle.hp_cells.proofs.CellLemmas.{HasPartsBefore, nesting_bounded, cells_push, cells_take, interned_present, interned_absent}
 use Rattle.hp_cells.proofs.KeyLemmas.{same_key, key_self, term_found, one_term, one_key, stands_longer, stands_taken, stands_back, stands_numbered, stands_named, terms_of_push, length_terms_of, terms_of_take, terms_of_named}
 
@@ -198,9 +198,8 @@ module _ {names : List (List ℕ)} {keys : List Key} {depths : List ℕ} (all : 
           (all, record { names = at; only = sym (interned_present t (terms_of names keys) place at) })
       by false e there =
           let terms = terms_of names keys in
-          let absent : IsAbsent keys key = λ i h.
-          true≢false (sym (some_passes (the_impl.ghosts.eq key) keys i key h (key_self key)) ∙ e) in
-          let none = term_looked_up all key t stands None absent in
+          let none =
+          term_looked_up all key t stands None (none_equal the_impl.ghosts.eq key_self key keys e) in
           let more = interned_push none few in
           let stays = subst (λ ts. Stands names ts key t) (sym terms_more)
           (stands_longer names terms (t ∷ []) key t stands) in

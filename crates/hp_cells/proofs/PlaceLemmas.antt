@@ -87,11 +87,16 @@ module _ {X : Type 0} where
               let p = passes_at (eq x) xs e in
               absurd (absent p.0 (p.2 ∙ ap Some (sym (same x p.1 p.3))))
 
+    module _ (itself : (x : X) → eq x x ≡ true) where
+      -- where each item compares equal to itself, one to which none compares equal is absent
+      pub none_equal : (x : X) (xs : List X) → list_any (eq x) xs ≡ false → IsAbsent xs x
+      none_equal x xs none i h = true≢false (sym (some_passes (eq x) xs i x h (itself x)) ∙ none)
+
     module _ (same : (x y : X) → eq x y ≡ true → x ≡ y) (itself : (x : X) → eq x x ≡ true) where
       -- where those alone that are one compare equal, the first place of an equal item is that of the item
       pub looked_up : (x : X) (xs : List X) (r : Option ℕ) → r ≡ position (eq x) xs
           → is_some r ≡ list_any (eq x) xs → LooksUp x xs r
-      looked_up x xs None at found = λ i h. true≢false (sym (some_passes (eq x) xs i x h (itself x)) ∙ sym found)
+      looked_up x xs None at found = none_equal itself x xs (sym found)
       looked_up x xs (Some i) at found =
           let p = position-Some (eq x) xs i x (sym at) in
           slice_get-get_or xs i x p.0 ∙ ap Some (sym (same x _ p.1))

@@ -2,15 +2,15 @@
 use Rattle.std.specs.Prelude.{◌≡◌, ℕ, ◌<◌, cond, List, [], ◌∷◌, ◌++◌, slice_get, Option, Some, None}
 use Rattle.hp_syntax.specs.Terms.{Term, Terms, Listed, NoTerm, More, member}
 
--- nothing stands twice in a list
+-- no item stands at two places
 abbrev pub AreDistinct : {X : Type 0} → List X → Type 0
 AreDistinct {X} xs = (i j : ℕ) (x : X) → slice_get xs i ≡ Some x → slice_get xs j ≡ Some x → i ≡ j
 
--- it stands nowhere in a list
+-- the item stands nowhere
 abbrev pub IsAbsent : {X : Type 0} → List X → X → Type 0
 IsAbsent xs x = (i : ℕ) → slice_get xs i ≡ Some x → ⊥
 
--- the answer is a place in a list at which it stands, or that it stands nowhere
+-- the answer is a place at which the item stands, and none where it stands nowhere
 abbrev pub LooksUp : {X : Type 0} → X → List X → Option ℕ → Type 0
 LooksUp x xs None = IsAbsent xs x
 LooksUp x xs (Some place) = slice_get xs place ≡ Some x

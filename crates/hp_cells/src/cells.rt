@@ -11,8 +11,8 @@ use hp_syntax::Name;
 use std::alloc::{AllocError, Global};
 use std::marker::Model;
 
-/// The terms that cells name. Each ground term stands once, behind its parts, and the first is the empty list. A name of
-/// a symbol is copied once, and stays when terms are given back. Contracts see the list of the terms.
+/// The terms that cells name. Each ground term stands once, behind its parts, and the first is the empty list. The name
+/// of a symbol is copied once, and stays when terms are given back. Contracts see the list of the terms.
 pub struct Cells {
     table: Table,
 }
@@ -66,8 +66,8 @@ impl Cells {
         Cell { place: 0 }
     }
 
-    /// The cell of the symbol of this name, which is copied where it is new. An error leaves the terms as they are: there
-    /// is no memory for one more, or there are 2^32 - 1 of them, or of names.
+    /// The cell of the symbol of this name, which is copied where it is new. An error leaves the terms as they are:
+    /// there is no memory for one more, or there are 2^32 - 1 of them, or of names.
     pub fn sym(&mut self, name: &Name) -> Result<Cell, AllocError>
         ensures ok { IfOk result (λ cell. Interns (Symbol name.now) cell self.old self.new) }
         ensures err { OnErr result (self.new ≡ self.old) }

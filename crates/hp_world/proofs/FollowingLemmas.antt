@@ -1,17 +1,17 @@
 -- Indexes that follow places through changes, and back.
 use Rattle.std.proofs.Common.{◌≡◌, ◌≢◌, ℕ, zero, suc, ◌+◌, ◌-◌, ◌<◌, ◌≤◌, ◌⊎◌, List, [], ◌∷◌, ◌++◌, Option, Some, None, length, get_or, set, take, slice_get, refl, sym, ap, ◌∙◌, subst, inl, inr, arith}
-use Rattle.std.proofs.lemmas.List.{get_or-set_same, get_or-set_other, length-set, length_push, get_or_past, get_or-take, length-take-le}
+use Rattle.std.proofs.lemmas.List.{get_or-set_same, get_or-set_other, length-set, length_push, get_or-take, length-take-le, set-set, set-get_or}
 use Rattle.std.proofs.lemmas.Bool.{cases_eq}
 use Rattle.std.proofs.lemmas.Option.{none-some}
 use Rattle.hp_cells.proofs.PlaceLemmas.{kept, stands_last, stays}
-use Rattle.hp_chains.specs.Entries.{Entry, Bare, Standing, Loose, StandsAt, Reversed, IsNearest, IsTakenOut, AreNeighbours, FitsBack, entry_at, standing_again, new_entry}
+use Rattle.hp_chains.specs.Entries.{Entry, Bare, Standing, Loose, StandsAt, Reversed, IsNearest, IsTakenOut, AreNeighbours, FitsBack, MayReturn, entry_at, standing_again, new_entry}
 use Rattle.hp_world.specs.declared.store.Change.{Change}
 use Rattle.hp_world.specs.declared.store.Change.TheVariants.{Deleted, Added, Cancelled, Protected}
 use Rattle.hp_world.specs.Following.{HasKey, Follows, AreAround, KeepsNeighbours, Rejoins}
 use Rattle.hp_world.specs.Keyed.{Keyed}
 use Rattle.hp_world.specs.Stages.{Stage}
 use Rattle.hp_world.specs.Trails.{unwound, IsUndoable}
-use Rattle.hp_world.specs.Undoing.{all_but_last, undone, Fits, IsVacant, IsAny}
+use Rattle.hp_world.specs.Undoing.{undone, Fits, IsAny}
 
 -- ---- neighbours
 
@@ -72,14 +72,14 @@ entry_pushed (e ∷ es) x zero = inl refl
 entry_pushed (e ∷ es) x (suc j) = elim (entry_pushed es x j) [ inl h ↦ inl h | inr h ↦ inr (ap suc h.0, h.1) ]
 
 -- a new entry comes behind the others
-last_entry : (es : List Entry) (x : Entry) (j : ℕ) → j ≡ length es → entry_at (es ++ x ∷ []) j ≡ x
+pub last_entry : (es : List Entry) (x : Entry) (j : ℕ) → j ≡ length es → entry_at (es ++ x ∷ []) j ≡ x
 last_entry [] x zero e = refl
 last_entry [] x (suc j) e = absurd (omega arith)
 last_entry (y ∷ es) x zero e = absurd (omega arith)
 last_entry (y ∷ es) x (suc j) e = last_entry es x j (omega arith)
 
 -- entries before the end stay where one more is put behind them
-entry_stays : (es : List Entry) (x : Entry) (j : ℕ) → j < length es → entry_at (es ++ x ∷ []) j ≡ entry_at es j
+pub entry_stays : (es : List Entry) (x : Entry) (j : ℕ) → j < length es → entry_at (es ++ x ∷ []) j ≡ entry_at es j
 entry_stays es x j l = elim (entry_pushed es x j) [ inl h ↦ h | inr h ↦ absurd (omega arith) ]
 
 -- with one more behind them, places are as they were, and then comes the new one
@@ -116,12 +116,12 @@ has_stands p ps key i h has = sym (h.here i has.atom has.here).1 ∙ has.key_is
 -- ---- a place is taken out
 
 -- a place was taken out from among entries
-record Taken (i : ℕ) (es fs : List Entry) : Type 0 where
-  count : length fs ≡ length es
-  others : (j : ℕ) → j ≢ i → entry_at fs j ≡ entry_at es j
-  key : standing_again (entry_at fs i) ≡ standing_again (entry_at es i)
-  gone : (key : ℕ) → StandsAt key fs i → ⊥
-  near : (key : ℕ) (p n : Option ℕ) → entry_at fs i ≡ Loose key p n
+pub record Taken (i : ℕ) (es fs : List Entry) : Type 0 where
+  pub count : length fs ≡ length es
+  pub others : (j : ℕ) → j ≢ i → entry_at fs j ≡ entry_at es j
+  pub key : standing_again (entry_at fs i) ≡ standing_again (entry_at es i)
+  pub gone : (key : ℕ) → StandsAt key fs i → ⊥
+  pub near : (key : ℕ) (p n : Option ℕ) → entry_at fs i ≡ Loose key p n
       → (entry_at es i ≡ Loose key p n) ⊎ AreNeighbours key es i p n
 
 -- where no entry stands nothing is taken out
@@ -161,11 +161,11 @@ taken_by i es fs (Standing key) is h =
           (subst (λ (x : Option ℕ). AreNeighbours key es i out.0 x) behind_is out.2)));
     }
 
-taken : (i : ℕ) (es fs : List Entry) → IsTakenOut i es fs → Taken i es fs
+pub taken : (i : ℕ) (es fs : List Entry) → IsTakenOut i es fs → Taken i es fs
 taken i es fs h = taken_by i es fs (entry_at es i) refl h
 
 -- what an index keeps where a place is taken out
-abbrev Rest : Keyed → List Entry → Keyed
+abbrev pub Rest : Keyed → List Entry → Keyed
 Rest p es = record p { entries = es }
 
 -- an index follows places where one is cleared and taken out
@@ -209,23 +209,23 @@ kept_by p ps i a fs (Loose key pr nx) h live t is =
           around_alike (StandsAt key p.entries) (HasKey key (set ps i None) fs) i pr nx to back
           (record { before = near.before; behind = near.behind })
     ]
-    where
-      to : (j : ℕ) → j ≢ i → StandsAt key p.entries j → HasKey key (set ps i None) fs j
-      to j n s =
-          let has = stands_has p ps key j h s in record {
-            atom = has.atom;
-            here = get_or-set_other ps i j None None n ∙ has.here;
-            key_is = ap standing_again (t.others j n) ∙ has.key_is;
-          }
+  where
+    to : (j : ℕ) → j ≢ i → StandsAt key p.entries j → HasKey key (set ps i None) fs j
+    to j n s =
+        let has = stands_has p ps key j h s in record {
+          atom = has.atom;
+          here = get_or-set_other ps i j None None n ∙ has.here;
+          key_is = ap standing_again (t.others j n) ∙ has.key_is;
+        }
 
-      back : (j : ℕ) → j ≢ i → HasKey key (set ps i None) fs j → StandsAt key p.entries j
-      back j n has =
-          has_stands p ps key j h
-          (record {
-            atom = has.atom;
-            here = sym (get_or-set_other ps i j None None n) ∙ has.here;
-            key_is = ap standing_again (sym (t.others j n)) ∙ has.key_is;
-          })
+    back : (j : ℕ) → j ≢ i → HasKey key (set ps i None) fs j → StandsAt key p.entries j
+    back j n has =
+        has_stands p ps key j h
+        (record {
+          atom = has.atom;
+          here = sym (get_or-set_other ps i j None None n) ∙ has.here;
+          key_is = ap standing_again (sym (t.others j n)) ∙ has.key_is;
+        })
 
 -- a place that is taken out keeps what putting it back takes
 pub rejoins_out : (p : Keyed) (ps : List (Option ℕ)) (gs : List ℕ) (i a : ℕ) (fs : List Entry) → Follows p ps
@@ -260,34 +260,34 @@ followed_pushed p ps a key h below = record {
     | inr e ↦ below k (new_key key k (sym (ap standing_again e.1) ∙ g))
   ];
 }
-    where
-      last_place : (ps : List (Option ℕ)) (x : Option ℕ) (j : ℕ) → j ≡ length ps
-          → get_or (ps ++ x ∷ []) j None ≡ x
-      last_place ps x j e = elim (place_pushed ps x j) [
-        | inl y ↦ absurd (omega (arith, y.0, e))
-        | inr y ↦ elim y [ inl z ↦ z.1 | inr z ↦ absurd (omega (arith, z.0, e)) ]
-      ]
+  where
+    last_place : (ps : List (Option ℕ)) (x : Option ℕ) (j : ℕ) → j ≡ length ps
+        → get_or (ps ++ x ∷ []) j None ≡ x
+    last_place ps x j e = elim (place_pushed ps x j) [
+      | inl y ↦ absurd (omega (arith, y.0, e))
+      | inr y ↦ elim y [ inl z ↦ z.1 | inr z ↦ absurd (omega (arith, z.0, e)) ]
+    ]
 
-      new_key : (key : Option ℕ) (k : ℕ) → standing_again (new_entry key) ≡ Standing k → key ≡ Some k
-      new_key None k e = absurd (cc)
-      new_key (Some x) k e = cc
+    new_key : (key : Option ℕ) (k : ℕ) → standing_again (new_entry key) ≡ Standing k → key ≡ Some k
+    new_key None k e = absurd (cc)
+    new_key (Some x) k e = cc
 
-      here : (j b : ℕ) → get_or (ps ++ Some a ∷ []) j None ≡ Some b
-          → ((j < length ps) × (get_or (ps ++ Some a ∷ []) j None ≡ get_or ps j None))
-          ⊎ (((j ≡ length ps) × (get_or (ps ++ Some a ∷ []) j None ≡ Some a))
-          ⊎ ((length ps < j) × (get_or (ps ++ Some a ∷ []) j None ≡ None)))
-          → (slice_get (p.atoms ++ a ∷ []) j ≡ Some b)
-          × (standing_again (entry_at (p.entries ++ new_entry key ∷ []) j) ≡ entry_at (p.entries ++ new_entry key ∷ []) j)
-      here j b g (inl x) =
-          let was = h.here j b (sym x.1 ∙ g) in
-          let same = entry_stays p.entries (new_entry key) j (omega (arith, x.0, h.count)) in
-          (kept p.atoms (a ∷ []) j b was.0, ap standing_again same ∙ was.1 ∙ sym same)
-      here j b g (inr (inl x)) =
-          let atom : slice_get (p.atoms ++ a ∷ []) j ≡ Some a =
-          ap (λ n. slice_get (p.atoms ++ a ∷ []) n) (x.0 ∙ sym h.aligned) ∙ stands_last p.atoms a in
-          let same = last_entry p.entries (new_entry key) j (x.0 ∙ sym h.count) in
-          (atom ∙ sym x.1 ∙ g, ap standing_again same ∙ standing_new key ∙ sym same)
-      here j b g (inr (inr x)) = absurd (none-some b (sym x.1 ∙ g))
+    here : (j b : ℕ) → get_or (ps ++ Some a ∷ []) j None ≡ Some b
+        → ((j < length ps) × (get_or (ps ++ Some a ∷ []) j None ≡ get_or ps j None))
+        ⊎ (((j ≡ length ps) × (get_or (ps ++ Some a ∷ []) j None ≡ Some a))
+        ⊎ ((length ps < j) × (get_or (ps ++ Some a ∷ []) j None ≡ None)))
+        → (slice_get (p.atoms ++ a ∷ []) j ≡ Some b)
+        × (standing_again (entry_at (p.entries ++ new_entry key ∷ []) j) ≡ entry_at (p.entries ++ new_entry key ∷ []) j)
+    here j b g (inl x) =
+        let was = h.here j b (sym x.1 ∙ g) in
+        let same = entry_stays p.entries (new_entry key) j (omega (arith, x.0, h.count)) in
+        (kept p.atoms (a ∷ []) j b was.0, ap standing_again same ∙ was.1 ∙ sym same)
+    here j b g (inr (inl x)) =
+        let atom : slice_get (p.atoms ++ a ∷ []) j ≡ Some a =
+        ap (λ n. slice_get (p.atoms ++ a ∷ []) n) (x.0 ∙ sym h.aligned) ∙ stands_last p.atoms a in
+        let same = last_entry p.entries (new_entry key) j (x.0 ∙ sym h.count) in
+        (atom ∙ sym x.1 ∙ g, ap standing_again same ∙ standing_new key ∙ sym same)
+    here j b g (inr (inr x)) = absurd (none-some b (sym x.1 ∙ g))
 
 -- all but the last are read as all are, and there is none in the last's place
 fewer_places : {A : Type 0} (d : A) (n : ℕ) (xs : List A) (j : ℕ)
@@ -327,7 +327,7 @@ followed_fewer p ps n l h = record {
 
 -- what follows places fits back at an empty place that keeps its neighbours
 fits_by : (p : Keyed) (ps : List (Option ℕ)) (i : ℕ) (e : Entry) → Follows p ps → entry_at p.entries i ≡ e
-    → KeepsNeighbours ps p.entries i e → FitsBack p.keys p.entries i e
+    → KeepsNeighbours ps p.entries i e → MayReturn p.keys p.entries i e
 fits_by p ps i Bare h is keeps = tt
 fits_by p ps i (Standing key) h is keeps = tt
 fits_by p ps i (Loose key pr nx) h is keeps =
@@ -337,7 +337,7 @@ fits_by p ps i (Loose key pr nx) h is keeps =
 
 -- a place whose atom was deleted fits back where the deletion is undone
 pub fits_back : (p : Keyed) (s : Stage) (i a : ℕ) → Follows p s.places → Rejoins p (Deleted i a) s
-    → FitsBack p.keys p.entries i (entry_at p.entries i)
+    → FitsBack p.keys p.entries i
 fits_back p s i a h r = fits_by p s.places i (entry_at p.entries i) h refl r.1
 
 -- an index follows places where an atom is put back
@@ -361,8 +361,7 @@ followed_back p ps i a h l is =
         | inl same ↦
             let at_i : get_or (set ps i (Some a)) i None ≡ Some b =
             ap (λ k. get_or (set ps i (Some a)) k None) (sym same) ∙ g in
-            let again : entry_at es j ≡ e = ap (λ k. entry_at es k) same ∙ here_is in
-            (
+            let again : entry_at es j ≡ e = ap (λ k. entry_at es k) same ∙ here_is in (
               ap (λ k. slice_get p.atoms k) same ∙ is ∙ sym back ∙ at_i,
               ap standing_again again ∙ standing_twice (entry_at p.entries i) ∙ sym again,
             )
@@ -455,7 +454,7 @@ rejoins_once p q s u width room (Deleted i a) alike l empty f r =
     let there = empty i f.place f.empty in (
       alike.atoms i a there.0 r.0,
       subst (λ e. KeepsNeighbours u.places q.entries i e) (sym (alike.empty i there.0 there.1))
-      (keeps_alike p q s.places u.places i (entry_at p.entries i) alike l r.1),
+          (keeps_alike p q s.places u.places i (entry_at p.entries i) alike l r.1),
     )
 rejoins_once p q s u width room Added alike l empty f r = tt
 rejoins_once p q s u width room (Cancelled i a) alike l empty f r = tt
@@ -471,3 +470,14 @@ rejoins_alike p q s width room (t ∷ ts) alike f h = (
   h.1,
   rejoins_alike p q s width room ts alike f.2 h.2,
 )
+
+-- an atom that is put on its cleared place makes what was
+pub restored : (s : Stage) (i a : ℕ) → get_or s.places i None ≡ Some a
+    → undone (Deleted i a) (record { places = set s.places i None; guards = s.guards }) ≡ s
+restored s i a live =
+    let places : set (set s.places i None) i (Some a) ≡ s.places =
+    set-set s.places i None (Some a) ∙ ap (λ (x : Option ℕ). set s.places i x) (sym live) ∙ set-get_or s.places i None
+    in ap (λ (ps : List (Option ℕ)). with_places ps s.guards) places
+  where
+    with_places : List (Option ℕ) → List ℕ → Stage
+    with_places ps gs = record { places = ps; guards = gs }

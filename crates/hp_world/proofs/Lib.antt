@@ -8,3 +8,9 @@ pub mod ApplyingLemmas
 pub mod AnswerLemmas
 pub mod NamedLemmas
 pub mod FollowingLemmas
+pub mod FollowedLemmas
+pub mod PartLemmas
+pub mod ZipLemmas
+pub mod SoundLemmas
+pub mod LearningLemmas
+pub mod PartAtLemmas

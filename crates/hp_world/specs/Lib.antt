@@ -9,3 +9,4 @@ pub mod Undoing
 pub mod Parts
 pub mod Keyed
 pub mod Following
+pub mod Recorded

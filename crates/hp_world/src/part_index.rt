@@ -1,5 +1,7 @@
 //! The places of atoms by one of their parts.
-ghost use Rattle.std.specs.Prelude.{◌≡◌, ℕ, ◌+◌, ◌<◌, ◌≤◌, [], Option, Some, None, IfOk, IfSome, OnOk, length, take, slice_get};
+ghost use Rattle.std.specs.Prelude.{◌≡◌, ◌<◌, [], ◌∷◌, ◌++◌, IfSome, OnOk, length};
+ghost use Rattle.std.specs.List.{All, AllZip};
+ghost use Rattle.hp_cells.specs.Cells.{AreCells};
 ghost use Rattle.hp_chains.specs.Entries.{IsNext};
 ghost use Rattle.hp_world.specs.Keyed.{Allows, Steps, IsAsRoomy, Awaits};
 ghost use Rattle.hp_world.specs.Parts.{IsKeyOf};
@@ -11,7 +13,7 @@ use std::alloc::{AllocError, Global};
 use std::marker::Model;
 
 /// What becomes of places.
-#[derive(Clone, Copy)]
+#[derive(Drop)]
 pub enum Step {
     /// The atom of a place goes.
     Out(usize),
@@ -110,11 +112,11 @@ impl PartIndex {
     }
 
     /// Follows what becomes of places.
-    pub fn follow(&mut self, step: Step)
-        requires { Allows step self.old }
-        ensures { Steps step self.old self.new }
+    pub fn follow(&mut self, step: &Step)
+        requires { Allows step.now self.old }
+        ensures { Steps step.now self.old self.new }
     {
-        match step {
+        match *step {
             Step::Out(place) => self.chains.unlink(place),
             Step::Back(place) => self.chains.relink(place),
             Step::More(atom, number) => {
@@ -139,10 +141,11 @@ impl PartIndex {
 /// The cell of an atom's part, if it has one.
 pub fn key_of(cells: &Cells, atom: Cell, part: usize) -> Option<u32>
     requires { atom < length cells.now }
-    ensures { IsKeyOf cells.now part atom result }
+    ensures key { IsKeyOf cells.now part atom result }
+    ensures cells { AreCells cells.now }
 {
     let mut rest = atom;
-    for _ in 0..part {
+    for number in 0..part {
         match cells.get(rest) {
             View::Cons(_, tail) => rest = tail,
             View::Nil | View::Sym(_) | View::Num(_) => return None,
@@ -152,4 +155,45 @@ pub fn key_of(cells: &Cells, atom: Cell, part: usize) -> Option<u32>
         View::Cons(head, _) => Some(head.index() as u32),
         View::Nil | View::Sym(_) | View::Num(_) => None,
     }
+}
+
+/// Has all indexes follow what becomes of places.
+pub fn follow_all(indexes: &mut Vec<PartIndex>, step: &Step)
+    requires { All (Allows step.now) indexes.old.items }
+    ensures { AllZip (Steps step.now) indexes.old.items indexes.new.items }
+{
+    follow_each(indexes, step);
+}
+
+fn follow_each(indexes: &mut [PartIndex], step: &Step)
+    requires { All (Allows step.now) indexes.old }
+    ensures { AllZip (Steps step.now) indexes.old indexes.new }
+{
+    for number in 0..indexes.len() {
+        indexes[number].follow(step);
+    }
+}
+
+/// Makes room in all indexes for so many more atoms, and has their keys wait.
+pub fn prepare_all(
+    indexes: &mut Vec<PartIndex>,
+    cells: &Cells,
+    atoms: &[Cell],
+) -> Result<(), AllocError>
+    requires { AllBelow (length cells.now) atoms.now }
+    ensures same { AllZip IsAsRoomy indexes.old.items indexes.new.items }
+    ensures awaits { OnOk result (All (Awaits cells.now atoms.now) indexes.new.items) }
+{
+    prepare_each(indexes, cells, atoms)
+}
+
+fn prepare_each(indexes: &mut [PartIndex], cells: &Cells, atoms: &[Cell]) -> Result<(), AllocError>
+    requires { AllBelow (length cells.now) atoms.now }
+    ensures same { AllZip IsAsRoomy indexes.old indexes.new }
+    ensures awaits { OnOk result (All (Awaits cells.now atoms.now) indexes.new) }
+{
+    for number in 0..indexes.len() {
+        indexes[number].prepare(cells, atoms)?;
+    }
+    Ok(())
 }
