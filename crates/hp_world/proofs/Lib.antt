@@ -7,3 +7,10 @@ pub mod UndoingLemmas
 pub mod ApplyingLemmas
 pub mod AnswerLemmas
 pub mod NamedLemmas
+pub mod FollowingLemmas
+pub mod FollowedLemmas
+pub mod PartLemmas
+pub mod ZipLemmas
+pub mod SoundLemmas
+pub mod LearningLemmas
+pub mod PartAtLemmas

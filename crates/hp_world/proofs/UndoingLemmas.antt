@@ -3,6 +3,7 @@ use Rattle.std.proofs.Common.{◌≡◌, ℕ, ◌+◌, ◌<◌, ◌≤◌, List,
 use Rattle.std.proofs.lemmas.List.{take_at, length_push, length-set, get_or-set_same, get_or-set_other}
 use Rattle.std.proofs.lemmas.Bool.{cases_eq}
 use Rattle.std.proofs.lemmas.Option.{none-some}
+use Rattle.std.specs.List.{All}
 use Rattle.hp_world.specs.declared.store.Change.{Change}
 use Rattle.hp_world.specs.declared.store.Change.TheVariants.{Deleted, Added, Cancelled, Protected}
 use Rattle.hp_world.specs.declared.store.Store.{Store}
@@ -10,7 +11,7 @@ use Rattle.hp_world.specs.Histories.{history, undone_to, KeepsPasts}
 use Rattle.hp_world.specs.Indexed.{IsOnlyAt}
 use Rattle.hp_world.specs.Stages.{Stage, PlacesKept}
 use Rattle.hp_world.specs.Trails.{IsUndoable}
-use Rattle.hp_world.specs.Undoing.{all_but_last, undone, Fits, IsVacant, IsAny, stage_of, history_of, IsSound, Moves, Undoes}
+use Rattle.hp_world.specs.Undoing.{all_but_last, undone, Fits, IsVacant, IsAny, IsFollowed, stage_of, history_of, IsSound, Moves, Undoes}
 use Rattle.hp_world.proofs.StageLemmas.{kept_more}
 use Rattle.hp_world.proofs.HistoryLemmas.{undone_pushed}
 use Rattle.hp_world.proofs.TrailLemmas.{keeps_pushed, undoable_pushed, undoable_popped, undoable_weaker}
@@ -61,11 +62,12 @@ pub moved : (old new : Store) (t : Change) → IsSound old → new.trail.items �
     → Fits new.places.width (vec_capacity new.guards) t (stage_of new)
     → vec_len new.trail ≡ vec_len old.trail + 1 → vec_capacity new.trail ≡ vec_capacity old.trail
     → vec_capacity new.guards ≡ vec_capacity old.guards → new.places.room ≡ old.places.room
-    → new.places.width ≡ old.places.width → Moves 1 old new
-moved old new t sound trail back kept fits count trail_room guards_room places_room width =
+    → new.places.width ≡ old.places.width → All (IsFollowed (stage_of new) new.trail.items) new.parts.items
+    → Moves 1 old new
+moved old new t sound trail back kept fits count trail_room guards_room places_room width followed =
     let fit = Fits new.places.width (vec_capacity new.guards) in
     let before : IsUndoable undone fit IsAny old.trail.items (undone t (stage_of new)) =
-    rw (back, guards_room, width) sound in
+    rw (back, guards_room, width) sound.undoable in
     let keeps : KeepsPasts (history undone old.trail.items (undone t (stage_of new)))
     (history undone (old.trail.items ++ t ∷ []) (stage_of new)) = keeps_pushed undone old.trail.items t
     (stage_of new) in
@@ -77,9 +79,12 @@ moved old new t sound trail back kept fits count trail_room guards_room places_r
           (stage_of new)))
           back keeps);
       kept = kept;
-      sound =
-          subst (λ (ts : List Change). IsUndoable undone fit IsAny ts (stage_of new)) (sym trail)
-          (undoable_pushed undone fit IsAny old.trail.items t (stage_of new) tt fits before);
+      sound = record {
+        undoable =
+            subst (λ (ts : List Change). IsUndoable undone fit IsAny ts (stage_of new)) (sym trail)
+            (undoable_pushed undone fit IsAny old.trail.items t (stage_of new) tt fits before);
+        followed = followed;
+      };
       count = omega arith;
       trail_room = trail_room;
       guards_room = guards_room;
@@ -98,17 +103,21 @@ last_fits width room ts rest t s h trail =
 -- where the last change was taken back, the others can be undone, and earlier times are the same
 pub taken_back : (old new : Store) (t : Change) → IsSound old → old.trail.items ≡ new.trail.items ++ t ∷ []
     → vec_len new.trail + 1 ≡ vec_len old.trail → stage_of new ≡ undone t (stage_of old)
-    → old.places.width ≤ new.places.width → vec_capacity old.guards ≤ vec_capacity new.guards → Undoes old new
-taken_back old new t sound trail fewer back width room =
+    → old.places.width ≤ new.places.width → vec_capacity old.guards ≤ vec_capacity new.guards
+    → All (IsFollowed (stage_of new) new.trail.items) new.parts.items → Undoes old new
+taken_back old new t sound trail fewer back width room followed =
     let fit = Fits old.places.width (vec_capacity old.guards) in
     let rest = new.trail.items in
     let popped =
     undoable_popped undone fit IsAny rest t (stage_of old)
-    (subst (λ (us : List Change). IsUndoable undone fit IsAny us (stage_of old)) trail sound) in
+    (subst (λ (us : List Change). IsUndoable undone fit IsAny us (stage_of old)) trail sound.undoable) in
     record {
-      sound =
-          undoable_more old.places.width new.places.width (vec_capacity old.guards) (vec_capacity new.guards) width room
-          rest (stage_of new) (subst (λ (q : Stage). IsUndoable undone fit IsAny rest q) (sym back) popped.1);
+      sound = record {
+        undoable =
+            undoable_more old.places.width new.places.width (vec_capacity old.guards) (vec_capacity new.guards) width
+            room rest (stage_of new) (subst (λ (q : Stage). IsUndoable undone fit IsAny rest q) (sym back) popped.1);
+        followed = followed;
+      };
       fewer = fewer;
       back = λ m l.
           let n : m ≤ length rest = omega (arith, l, ap length trail, length_push rest t, old.trail.ok.0) in

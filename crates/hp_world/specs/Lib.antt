@@ -6,3 +6,7 @@ pub mod Named
 pub mod Indexed
 pub mod Deleting
 pub mod Undoing
+pub mod Parts
+pub mod Keyed
+pub mod Following
+pub mod Recorded

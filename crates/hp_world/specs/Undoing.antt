@@ -1,11 +1,13 @@
 -- The histories of stores, and trails that can be undone.
 use Rattle.std.specs.Prelude.{◌≡◌, ℕ, ◌+◌, ◌-◌, ◌<◌, ◌≤◌, List, length, take, Option, Some, None, slice_index_or, slice_set, vec_len, vec_capacity}
-use Rattle.std.specs.List.{insert}
+use Rattle.std.specs.List.{insert, All}
 use Rattle.hp_world.specs.declared.store.Change.{Change}
 use Rattle.hp_world.specs.declared.store.Change.TheVariants.{Deleted, Added, Cancelled, Protected}
 use Rattle.hp_world.specs.declared.store.Store.{Store}
 use Rattle.hp_world.specs.Histories.{History, history, KeepsPasts, undone_to}
+use Rattle.hp_world.specs.Following.{Follows, Rejoins}
 use Rattle.hp_world.specs.Indexed.{IsAbsent}
+use Rattle.hp_world.specs.Keyed.{Keyed}
 use Rattle.hp_world.specs.Stages.{Stage, AllBelow, PlacesKept}
 use Rattle.hp_world.specs.Trails.{IsUndoable}
 
@@ -38,6 +40,11 @@ Fits width room Protected s = Unit {0}
 abbrev pub IsAny : Stage → Type 0
 IsAny s = Unit {0}
 
+-- an index follows places, also where changes are undone
+pub record IsFollowed (s : Stage) (trail : List Change) (p : Keyed) : Type 0 where
+  pub now : Follows p s.places
+  pub back : IsUndoable undone (Rejoins p) IsAny trail s
+
 -- the stage of a store
 abbrev pub stage_of : Store → Stage
 stage_of s = record { places = s.places.places; guards = s.guards.items }
@@ -46,9 +53,10 @@ stage_of s = record { places = s.places.places; guards = s.guards.items }
 abbrev pub history_of : Store → History Stage
 history_of s = history undone s.trail.items (stage_of s)
 
--- each change on the trail can be undone where it is, in the table and the room that there are
-abbrev pub IsSound : Store → Type 0
-IsSound s = IsUndoable undone (Fits s.places.width (vec_capacity s.guards)) IsAny s.trail.items (stage_of s)
+-- each change on the trail can be undone where it is, in the table and the room that there are, and the indexes follow
+pub record IsSound (s : Store) : Type 0 where
+  pub undoable : IsUndoable undone (Fits s.places.width (vec_capacity s.guards)) IsAny s.trail.items (stage_of s)
+  pub followed : All (IsFollowed (stage_of s) s.trail.items) s.parts.items
 
 -- at most n changes were made, each on the trail, in the table and the room that there were; places were only emptied
 -- or put behind the others

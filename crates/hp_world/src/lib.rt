@@ -5,6 +5,7 @@
 #![tactic(auto)]
 
 pub mod laws;
+mod part_index;
 mod places;
 mod store;
 mod world;

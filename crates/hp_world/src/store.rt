@@ -1,8 +1,9 @@
 //! Places, protections and the trail of their changes.
-ghost use Rattle.std.specs.Prelude.{◌≡◌, ◌≢◌, ℕ, ◌↔◌, ◌+◌, ◌<◌, List, Option, Some, MatchOption, IfOk, IsTrue, length, slice_get, slice_index};
+ghost use Rattle.std.specs.Prelude.{◌≡◌, ◌≢◌, ℕ, ◌↔◌, ◌+◌, ◌<◌, List, Option, Some, MatchOption, IfOk, IfSome, Contains, IsTrue, length, slice_get, slice_index};
 ghost use Rattle.hp_world.specs.Deleting.{IsFirstAt};
 ghost use Rattle.hp_world.specs.Named.{IsNamedAt};
 
+use crate::part_index::{PartIndex, Step, follow_all, prepare_all};
 use crate::places::Places;
 use hp_cells::{Cell, Cells, View};
 use std::alloc::{AllocError, Global};
@@ -24,11 +25,12 @@ pub enum Applied {
     Guarded(Cell),
 }
 
-/// Places, protections and the trail of their changes.
+/// Places, protections and the trail of their changes, and indexes of the places by parts of their atoms.
 pub struct Store {
     places: Places,
     guards: Vec<Cell>,
     trail: Vec<Change>,
+    parts: Vec<PartIndex>,
 }
 
 impl Drop for Store {
@@ -37,10 +39,12 @@ impl Drop for Store {
             places,
             guards,
             trail,
+            parts,
         } = self;
         drop(places);
         drop(guards);
         drop(trail);
+        drop(parts);
     }
 }
 
@@ -53,6 +57,11 @@ impl Store {
     ghost use Rattle.hp_world.specs.Deleting.{without, deleted};
     ghost use Rattle.hp_world.specs.Histories.{mark_of, undone_to};
     ghost use Rattle.hp_world.specs.Indexed.{IsAbsent, IsOnlyAt};
+    ghost use Rattle.hp_world.specs.Keyed.{Allows, Awaits, HasWaiting, IsAsRoomy, KnowsParts};
+    ghost use Rattle.hp_world.specs.Keyed.{Learns, Nothing, RightAt, RightFor};
+    ghost use Rattle.hp_world.specs.declared.part_index.Step.TheVariants.{More};
+    ghost use Rattle.hp_syntax.specs.Terms.{Term};
+    ghost use Rattle.std.specs.List.{All, AllZip};
     ghost use Rattle.hp_world.specs.Named.{IsNextNamed};
     ghost use Rattle.hp_world.specs.Stages.{live_atoms, same_cell, AllBelow, PlacesKept};
     ghost use Rattle.hp_world.specs.Undoing.{IsSound, Moves, Undoes, HasRoom, history_of, stage_of};
@@ -60,18 +69,21 @@ impl Store {
     /// No places and no protections.
     pub fn new(alloc: Global) -> Store
         ensures sound { IsSound result }
+        ensures parts { result.parts.items ≡ [] }
         ensures empty { history_of result ≡ record { past = []; now = record { places = []; guards = [] } } }
     {
         Store {
             places: Places::new(alloc),
             guards: Vec::new(alloc),
             trail: Vec::new(alloc),
+            parts: Vec::new(alloc),
         }
     }
 
-    /// The same places and protections, with an empty trail.
+    /// The same places and protections, with an empty trail and no indexes.
     pub fn copy(&self) -> Result<Store, AllocError>
         ensures sound { IfOk result (λ s. IsSound s) }
+        ensures parts { IfOk result (λ s. s.parts.items ≡ []) }
         ensures same { IfOk result (λ s. history_of s ≡ record { past = []; now = stage_of self.now }) }
     {
         let alloc = *self.guards.allocator();
@@ -79,6 +91,7 @@ impl Store {
             places: self.places.copy()?,
             guards: Vec::from_slice(alloc, &self.guards)?,
             trail: Vec::new(alloc),
+            parts: Vec::new(alloc),
         })
     }
 
@@ -140,8 +153,52 @@ impl Store {
         self.trail.len()
     }
 
+    /// Makes room in the indexes for atoms to add, whose keys wait then.
+    pub fn prepare(&mut self, cells: &Cells, atoms: &[Cell]) -> Result<(), AllocError>
+        requires sound { IsSound self.old }
+        requires atoms { AllBelow (length cells.now) atoms.now }
+        ensures sound { IsSound self.new }
+        ensures same { history_of self.new ≡ history_of self.old }
+        ensures roomier { AllZip IsAsRoomy self.old.parts.items self.new.parts.items }
+        ensures awaits { OnOk result (All (Awaits cells.now atoms.now) self.new.parts.items) }
+    {
+        prepare_all(&mut self.parts, cells, atoms)
+    }
+
+    /// Lets the indexes go.
+    pub fn forget_parts(&mut self)
+        requires sound { IsSound self.old }
+        ensures sound { IsSound self.new }
+        ensures same { history_of self.new ≡ history_of self.old }
+        ensures parts { self.new.parts.items ≡ [] }
+    {
+        self.parts.clear();
+    }
+
+    /// Adds an index of the places by a part, where there are no places yet and nothing can be undone.
+    pub fn add_part(&mut self, part: usize) -> Result<(), AllocError>
+        requires sound { IsSound self.old }
+        requires empty { history_of self.old ≡ record { past = []; now = record { places = []; guards = [] } } }
+        ensures sound { IsSound self.new }
+        ensures same { history_of self.new ≡ history_of self.old }
+        ensures knows { (terms : List Term) → All (KnowsParts terms) self.old.parts.items
+            → All (KnowsParts terms) self.new.parts.items }
+    {
+        let alloc = *self.guards.allocator();
+        self.parts.push(PartIndex::new(alloc, part))?;
+        Ok(())
+    }
+
+    /// The index by a part, if there is one.
+    pub fn index(&self, part: usize) -> Option<&PartIndex>
+        requires sound { IsSound self.now }
+        ensures { IfSome result (λ p. (p.now.part ≡ part) × Contains self.now.parts.items p.now) }
+    {
+        self.parts.iter().find(|index| index.part() == part)
+    }
+
     /// Applies changes, unless an atom to delete is still protected after the cancelling. All memory is taken first, so
-    /// that nothing fails once something is changed.
+    /// that nothing fails once something is changed; that of the indexes was taken before.
     pub fn apply(
         &mut self,
         unguard: &[Cell],
@@ -150,7 +207,9 @@ impl Store {
         guard: &[Cell],
     ) -> Result<Applied, AllocError>
         requires sound { IsSound self.old }
+        requires waits { All (HasWaiting (length add.now) (length add.now)) self.old.parts.items }
         ensures sound { IsSound self.new }
+        ensures parts { AllZip (Learns (RightFor add.now) (length add.now)) self.old.parts.items self.new.parts.items }
         ensures ok { IfOk result (λ a. Applies a
             (record { unguard = unguard.now; delete = del.now; add = add.now; guard = guard.now })
             (history_of self.old) (history_of self.new)) }
@@ -176,6 +235,7 @@ impl Store {
         requires sound { IsSound self.old }
         ensures sound { IsSound self.new }
         ensures same { history_of self.new ≡ history_of self.old }
+        ensures parts { self.new.parts ≡ self.old.parts }
         ensures room { OnOk result (HasRoom changes atoms.now guards self.new) }
     {
         self.trail.reserve(changes)?;
@@ -188,6 +248,7 @@ impl Store {
         requires room { vec_len self.old.trail < vec_capacity self.old.trail }
         ensures guards { self.new.guards.items ≡ without_first same_cell atom self.old.guards.items }
         ensures places { self.new.places ≡ self.old.places }
+        ensures parts { self.new.parts ≡ self.old.parts }
         ensures fewer { vec_len self.new.guards ≤ vec_len self.old.guards }
         ensures moves { Moves 1 self.old self.new }
     {
@@ -203,16 +264,20 @@ impl Store {
         ensures atoms { live_atoms self.new.places.places ≡ without atom (live_atoms self.old.places.places) }
         ensures guards { self.new.guards ≡ self.old.guards }
         ensures places { length self.new.places.places ≡ length self.old.places.places }
+        ensures parts { AllZip (Learns Nothing 0) self.old.parts.items self.new.parts.items }
         ensures moves { Moves 1 self.old self.new }
     {
         if let Some(place) = self.places.place_of(atom) {
             self.places.clear(place, atom);
+            follow_all(&mut self.parts, &Step::Out(place));
             self.trail.push_reserved(Change::Deleted(place, atom));
         }
     }
 
-    fn add(&mut self, atom: Cell)
+    // The key of the atom waits at the number.
+    fn add(&mut self, atom: Cell, number: usize)
         requires sound { IsSound self.old }
+        requires allowed { All (Allows (More atom number)) self.old.parts.items }
         requires room { vec_len self.old.trail < vec_capacity self.old.trail }
         requires place { length self.old.places.places < self.old.places.room }
         requires within { atom < self.old.places.width }
@@ -220,10 +285,12 @@ impl Store {
             ≡ with_added same_cell (live_atoms self.old.places.places) (atom ∷ []) }
         ensures guards { self.new.guards ≡ self.old.guards }
         ensures places { length self.new.places.places ≤ length self.old.places.places + 1 }
+        ensures parts { AllZip (Learns (RightAt atom number) 1) self.old.parts.items self.new.parts.items }
         ensures moves { Moves 1 self.old self.new }
     {
         if self.places.place_of(atom).is_none() {
             self.places.push(atom);
+            follow_all(&mut self.parts, &Step::More(atom, number));
             self.trail.push_reserved(Change::Added);
         }
     }
@@ -235,6 +302,7 @@ impl Store {
         ensures guards { self.new.guards.items ≡ self.old.guards.items ++ atom ∷ [] }
         ensures more { vec_len self.new.guards ≡ vec_len self.old.guards + 1 }
         ensures places { self.new.places ≡ self.old.places }
+        ensures parts { self.new.parts ≡ self.old.parts }
         ensures moves { Moves 1 self.old self.new }
     {
         self.guards.push_reserved(atom);
@@ -246,6 +314,7 @@ impl Store {
         requires room { vec_len self.old.trail + length atoms.now ≤ vec_capacity self.old.trail }
         ensures guards { self.new.guards.items ≡ cancelled same_cell self.old.guards.items atoms.now }
         ensures places { self.new.places ≡ self.old.places }
+        ensures parts { self.new.parts ≡ self.old.parts }
         ensures fewer { vec_len self.new.guards ≤ vec_len self.old.guards }
         ensures moves { Moves (length atoms.now) self.old self.new }
     {
@@ -261,6 +330,7 @@ impl Store {
             ≡ deleted (live_atoms self.old.places.places) atoms.now }
         ensures guards { self.new.guards ≡ self.old.guards }
         ensures places { length self.new.places.places ≡ length self.old.places.places }
+        ensures parts { AllZip (Learns Nothing 0) self.old.parts.items self.new.parts.items }
         ensures moves { Moves (length atoms.now) self.old self.new }
     {
         for atom in atoms {
@@ -273,13 +343,16 @@ impl Store {
         requires room { vec_len self.old.trail + length atoms.now ≤ vec_capacity self.old.trail }
         requires places { length self.old.places.places + length atoms.now ≤ self.old.places.room }
         requires table { AllBelow self.old.places.width atoms.now }
+        requires waits { All (HasWaiting (length atoms.now) (length atoms.now)) self.old.parts.items }
         ensures atoms { live_atoms self.new.places.places
             ≡ with_added same_cell (live_atoms self.old.places.places) atoms.now }
         ensures guards { self.new.guards ≡ self.old.guards }
+        ensures parts { AllZip (Learns (RightFor atoms.now) (length atoms.now)) self.old.parts.items
+            self.new.parts.items }
         ensures moves { Moves (length atoms.now) self.old self.new }
     {
-        for atom in atoms {
-            self.add(*atom);
+        for (number, atom) in atoms.iter().enumerate() {
+            self.add(*atom, number);
         }
     }
 
@@ -289,6 +362,7 @@ impl Store {
         requires guards { vec_len self.old.guards + length atoms.now ≤ vec_capacity self.old.guards }
         ensures guards { self.new.guards.items ≡ self.old.guards.items ++ atoms.now }
         ensures places { self.new.places ≡ self.old.places }
+        ensures parts { self.new.parts ≡ self.old.parts }
         ensures moves { Moves (length atoms.now) self.old self.new }
     {
         for atom in atoms {
@@ -319,6 +393,7 @@ impl Store {
         requires mark { mark ≤ mark_of (history_of self.old) }
         ensures sound { IsSound self.new }
         ensures back { history_of self.new ≡ undone_to mark (history_of self.old) }
+        ensures parts { AllZip (Learns Nothing 0) self.old.parts.items self.new.parts.items }
     {
         while self.trail.len() > mark {
             self.undo_last();
@@ -328,11 +403,18 @@ impl Store {
     fn undo_last(&mut self)
         requires sound { IsSound self.old }
         requires some { 0 < vec_len self.old.trail }
-        ensures { Undoes self.old self.new }
+        ensures undoes { Undoes self.old self.new }
+        ensures parts { AllZip (Learns Nothing 0) self.old.parts.items self.new.parts.items }
     {
         match self.trail.take_last() {
-            Change::Deleted(place, atom) => self.places.put_back(place, atom),
-            Change::Added => self.places.pop(),
+            Change::Deleted(place, atom) => {
+                self.places.put_back(place, atom);
+                follow_all(&mut self.parts, &Step::Back(place));
+            }
+            Change::Added => {
+                self.places.pop();
+                follow_all(&mut self.parts, &Step::Fewer);
+            }
             Change::Cancelled(index, atom) => self.guards.insert(index, atom).unwrap(),
             Change::Protected => {
                 let _ = self.guards.pop();

@@ -1,17 +1,22 @@
 //! The world: the atoms that hold and the protections, and the pasts.
-ghost use Rattle.std.specs.Prelude.{◌≡◌, ℕ, ◌≤◌, ◌<◌, [], MatchOption, IfOk, OnErr, Some, length, slice_get};
+ghost use Rattle.std.specs.Prelude.{◌≡◌, ◌↔◌, ◌≤◌, ◌<◌, ℕ, List, Option, [], Some, MatchOption, IfOk, IsTrue, OnErr};
+ghost use Rattle.std.specs.Prelude.{length, slice_get};
+ghost use Rattle.hp_syntax.specs.Terms.{Term};
 ghost use Rattle.hp_world.specs.Answers.{Applies};
 ghost use Rattle.hp_world.specs.Histories.{mark_of, undone_to};
 ghost use Rattle.hp_world.specs.Indexed.{IsAbsent, IsOnlyAt};
-ghost use Rattle.hp_world.specs.Named.{IsNextNamed};
+ghost use Rattle.hp_world.specs.Named.{IsNamedWithAt, IsNextNamed, IsNextNamedWith, IsNoLaterThan};
+ghost use Rattle.hp_world.specs.Recorded.{history_in, Knows};
 ghost use Rattle.hp_world.specs.Stages.{live_atoms, PlacesKept, AllBelow, StageBelow, ChangesBelow};
 
+use crate::part_index::key_of;
 use crate::store::{Applied, Store};
 use hp_cells::{Cell, Cells};
 use std::alloc::{AllocError, Global};
 use std::marker::Model;
 
-/// Atoms in order of place, each once, and protections, with the trail of their changes.
+/// Atoms in order of place, each once, and protections, with the trail of their changes. It may keep indexes of the
+/// places by parts of their atoms: the name is part 0, and the arguments are those behind it.
 pub struct World {
     store: Store,
 }
@@ -24,14 +29,13 @@ impl Drop for World {
 }
 
 impl Model for World {
-    ghost use Rattle.hp_world.specs.Histories.{History};
-    ghost use Rattle.hp_world.specs.Stages.{Stage};
+    ghost use Rattle.hp_world.specs.Recorded.{Recorded, recorded_of};
 
-    ghost Value = { History Stage };
+    ghost Value = { Recorded };
 
-    ghost use Rattle.hp_world.specs.Undoing.{history_of, IsSound};
+    ghost use Rattle.hp_world.specs.Undoing.{IsSound};
 
-    ghost view = { λ w. history_of w.store };
+    ghost view = { λ w. recorded_of w.store };
 
     ghost invariant = { λ w. IsSound w.store };
 }
@@ -39,17 +43,30 @@ impl Model for World {
 impl World {
     /// No atoms and no protections.
     pub fn new(alloc: Global) -> World
-        ensures { result ≡ record { past = []; now = record { places = []; guards = [] } } }
+        ensures { result ≡ record { past = []; now = record { places = []; guards = [] }; parts = [] } }
     {
         World {
             store: Store::new(alloc),
         }
     }
 
+    /// No atoms and no protections, with an index of the places by each of so many parts of their atoms, the name first.
+    pub fn indexed(alloc: Global, parts: usize) -> Result<World, AllocError>
+        ensures empty { IfOk result (λ w. history_in w ≡ record { past = []; now = record { places = []; guards = [] } }) }
+        ensures knows { IfOk result (λ w. (terms : List Term) → Knows terms w) }
+    {
+        let mut store = Store::new(alloc);
+        for part in 0..parts {
+            store.add_part(part)?;
+        }
+        Ok(World { store })
+    }
+
     /// Cancels for each of `unguard` its first equal protection, deletes atoms, whose places stay and are empty then,
     /// adds atoms that are absent behind the others, and adds protections. Where an atom to delete is still protected
     /// after the cancelling, nothing is changed, and the first such atom is answered. All memory that is needed is
-    /// taken before the first change, so an error leaves the world as it was.
+    /// taken before the first change, so an error leaves the world as it was. The names of the atoms are not told, so
+    /// the world keeps no indexes.
     pub fn apply(
         &mut self,
         unguard: &[Cell],
@@ -59,19 +76,45 @@ impl World {
     ) -> Result<Applied, AllocError>
         ensures ok { IfOk result (λ a. Applies a
             (record { unguard = unguard.now; delete = del.now; add = add.now; guard = guard.now })
-            self.old self.new) }
+            (history_in self.old) (history_in self.new)) }
+        ensures parts { self.new.parts ≡ [] }
         ensures below { (n : ℕ) → StageBelow n self.old.now → ChangesBelow n
             (record { unguard = unguard.now; delete = del.now; add = add.now; guard = guard.now })
             → StageBelow n self.new.now }
         ensures kept { PlacesKept self.old.now.places self.new.now.places }
-        ensures err { OnErr result (self.new ≡ self.old) }
+        ensures err { OnErr result (history_in self.new ≡ history_in self.old) }
     {
+        self.store.forget_parts();
         self.store.apply(unguard, del, add, guard)
     }
 
-    /// The same places and protections, with an empty trail.
+    /// As `apply`, and the indexes follow: the parts of the added atoms are those in the cells.
+    pub fn apply_in(
+        &mut self,
+        cells: &Cells,
+        unguard: &[Cell],
+        del: &[Cell],
+        add: &[Cell],
+        guard: &[Cell],
+    ) -> Result<Applied, AllocError>
+        requires { AllBelow (length cells.now) add.now }
+        ensures ok { IfOk result (λ a. Applies a
+            (record { unguard = unguard.now; delete = del.now; add = add.now; guard = guard.now })
+            (history_in self.old) (history_in self.new)) }
+        ensures knows { Knows cells.now self.old → Knows cells.now self.new }
+        ensures below { (n : ℕ) → StageBelow n self.old.now → ChangesBelow n
+            (record { unguard = unguard.now; delete = del.now; add = add.now; guard = guard.now })
+            → StageBelow n self.new.now }
+        ensures kept { PlacesKept self.old.now.places self.new.now.places }
+        ensures err { OnErr result (history_in self.new ≡ history_in self.old) }
+    {
+        self.store.prepare(cells, add)?;
+        self.store.apply(unguard, del, add, guard)
+    }
+
+    /// The same places and protections, with an empty trail and without indexes.
     pub fn copy(&self) -> Result<World, AllocError>
-        ensures { IfOk result (λ w. w ≡ record { past = []; now = self.now.now }) }
+        ensures { IfOk result (λ w. w ≡ record { past = []; now = self.now.now; parts = [] }) }
     {
         Ok(World {
             store: self.store.copy()?,
@@ -116,6 +159,89 @@ impl World {
         self.store.next_of(cells, name, from)
     }
 
+    /// As `next_of`, and found without a scan where the world has an index by names.
+    pub fn next_named(&self, cells: &Cells, name: Cell, from: usize) -> Option<usize>
+        requires atoms { AllBelow (length cells.now) (live_atoms self.now.now.places) }
+        requires name { name < length cells.now }
+        requires known { Knows cells.now self.now }
+        ensures { IsNextNamed cells.now name self.now.now.places from result }
+    {
+        // No term stands at two cells.
+        let _ = cells.len();
+        match self.store.index(0) {
+            Some(index) => index.next_of(name, from),
+            None => self.store.next_of(cells, name, from),
+        }
+    }
+
+    /// The least place not below one whose atom has this name and, as the part of this number, this term; the arguments
+    /// are the parts from 1 on. It is found along the atoms with that part, where the world has an index by it, and else
+    /// along those with that name.
+    pub fn next_with(
+        &self,
+        cells: &Cells,
+        name: Cell,
+        part: usize,
+        argument: Cell,
+        from: usize,
+    ) -> Option<usize>
+        requires atoms { AllBelow (length cells.now) (live_atoms self.now.now.places) }
+        requires name { name < length cells.now }
+        requires argument { argument < length cells.now }
+        requires known { Knows cells.now self.now }
+        ensures { IsNextNamedWith cells.now name part argument self.now.now.places from result }
+    {
+        let end = self.places();
+        let mut at = from;
+        while at < end {
+            let Some(place) = self.next_likely(cells, name, part, argument, at) else {
+                return None;
+            };
+            if self.is_at(cells, name, part, argument, place) {
+                return Some(place);
+            }
+            at = place + 1;
+        }
+        None
+    }
+
+    // A place not below one, before which no atom has this name and this part.
+    fn next_likely(
+        &self,
+        cells: &Cells,
+        name: Cell,
+        part: usize,
+        argument: Cell,
+        from: usize,
+    ) -> Option<usize>
+        requires atoms { AllBelow (length cells.now) (live_atoms self.now.now.places) }
+        requires name { name < length cells.now }
+        requires argument { argument < length cells.now }
+        requires known { Knows cells.now self.now }
+        ensures { IsNoLaterThan (IsNamedWithAt cells.now name part argument self.now.now.places)
+            (length self.now.now.places) from result }
+    {
+        // No term stands at two cells.
+        let _ = cells.len();
+        match self.store.index(part) {
+            Some(index) => index.next_of(argument, from),
+            None => self.next_named(cells, name, from),
+        }
+    }
+
+    // Whether the atom of a place has this name and this part.
+    fn is_at(&self, cells: &Cells, name: Cell, part: usize, argument: Cell, place: usize) -> bool
+        requires place { place < length self.now.now.places }
+        requires atoms { AllBelow (length cells.now) (live_atoms self.now.now.places) }
+        requires argument { argument < length cells.now }
+        ensures { IsTrue result ↔ IsNamedWithAt cells.now name part argument self.now.now.places place }
+    {
+        match self.store.at(place) {
+            Some(atom) => has_parts(cells, atom, name, part, argument),
+            None => false,
+        }
+    }
+
     /// The protections, in order.
     pub fn guards(&self) -> &[Cell]
         ensures { result.now ≡ self.now.now.guards }
@@ -125,16 +251,35 @@ impl World {
 
     /// The number of changes that can be undone.
     pub fn mark(&self) -> usize
-        ensures { result ≡ mark_of self.now }
+        ensures { result ≡ mark_of (history_in self.now) }
     {
         self.store.mark()
     }
 
     /// Makes the past at a mark the present: places, atoms and protections. It takes no memory.
     pub fn undo_to(&mut self, mark: usize)
-        requires { mark ≤ mark_of self.old }
-        ensures { self.new ≡ undone_to mark self.old }
+        requires { mark ≤ mark_of (history_in self.old) }
+        ensures back { history_in self.new ≡ undone_to mark (history_in self.old) }
+        ensures knows { (terms : List Term) → Knows terms self.old → Knows terms self.new }
     {
         self.store.undo_to(mark);
+    }
+}
+
+// Whether an atom has this name and this part.
+fn has_parts(cells: &Cells, atom: Cell, name: Cell, part: usize, argument: Cell) -> bool
+    requires { atom < length cells.now }
+    ensures { (places : List (Option ℕ)) (i : ℕ) → slice_get places i ≡ Some (Some atom)
+        → IsTrue result ↔ IsNamedWithAt cells.now name part argument places i }
+{
+    is_cell(key_of(cells, atom, 0), name) && is_cell(key_of(cells, atom, part), argument)
+}
+
+fn is_cell(key: Option<u32>, cell: Cell) -> bool
+    ensures { IsTrue result ↔ (key ≡ Some cell) }
+{
+    match key {
+        Some(place) => place as usize == cell.index(),
+        None => false,
     }
 }

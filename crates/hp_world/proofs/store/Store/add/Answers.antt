@@ -2,9 +2,15 @@ use Rattle.std.proofs.Common.{◌∷◌, ◌++◌, [], cond, List, Option, ℕ, 
 use Rattle.std.proofs.lemmas.List.{length_push}
 use Rattle.hp_world.specs.Indexed.{Row, IsAbsent}
 use Rattle.hp_world.specs.Stages.{live_atoms, PlacesKept}
-use Rattle.hp_world.specs.Undoing.{all_but_last}
+use Rattle.hp_world.specs.Undoing.{all_but_last, stage_of, IsFollowed}
+use Rattle.hp_world.specs.declared.store.Change.{Change}
+use Rattle.hp_world.specs.declared.part_index.Step.TheVariants.{More}
+use Rattle.hp_world.specs.Keyed.{Learns, RightAt, Steps}
 use Rattle.hp_world.specs.declared.store.Change.TheVariants.{Added}
 use Rattle.hp_world.proofs.StageLemmas.{absent_from, present_from, among_absent, live_pushed, kept_joined}
+use Rattle.hp_world.proofs.LearningLemmas.{learns_more, learns_same}
+use Rattle.hp_world.proofs.SoundLemmas.{AllFollow, all_added}
+use Rattle.hp_world.proofs.ZipLemmas.{zip_where, zip_same}
 use Rattle.hp_world.proofs.UndoingLemmas.{moved, all_but_last_pushed, same_stage}
 use Rattle.hp_world.proofs.store.Store.add.Goals as goal
 
@@ -27,12 +33,32 @@ returns-then-is_none-clause-places c =
 
 pub returns-then-is_none-clause-moves : goal.returns-then-is_none-clause-moves
 returns-then-is_none-clause-moves c =
+    let s = c.args.self.now in
     let ps : List (Option ℕ) = c.args.self.now.places.places in
     let back = ap (λ (r : Row). all_but_last r.places) c.push.ensures ∙ all_but_last_pushed ps (Some c.args.atom) in
     let kept = subst (PlacesKept ps) (sym (ap (λ (r : Row). r.places) c.push.ensures)) (kept_joined ps _) in
     moved _ _ Added c.requires.sound c.push_reserved.ensures.items (same_stage _ _ _ _ back refl) kept tt
     c.push_reserved.ensures.len c.push_reserved.ensures.capacity refl (ap (λ (r : Row). r.room) c.push.ensures)
     (ap (λ (r : Row). r.width) c.push.ensures)
+    (subst (λ (ts : List Change). AllFollow (record { places = c.push.new.self.places; guards = s.guards.items }) ts
+    c.follow_all.new.indexes.items) (sym c.push_reserved.ensures.items)
+    (subst (λ (xs : List (Option ℕ)). AllFollow (record { places = xs; guards = s.guards.items })
+    (s.trail.items ++ Added ∷ []) c.follow_all.new.indexes.items) (sym (ap (λ (r : Row). r.places) c.push.ensures))
+    (all_added s c.requires.sound c.follow_all.new.indexes.items c.args.atom c.args.number c.requires.allowed
+    c.follow_all.ensures)))
+
+pub returns-then-is_none-clause-parts : goal.returns-then-is_none-clause-parts
+returns-then-is_none-clause-parts c =
+    let a = c.args.atom in
+    let n = c.args.number in
+    zip_where (IsFollowed (stage_of c.args.self.now) c.args.self.now.trail.items) (Steps (More a n))
+    (Learns (RightAt a n) 1) (λ p q f step. learns_more a n p q (f.now.aligned ∙ sym f.now.count) step)
+    c.args.self.now.parts.items c.follow_all.new.indexes.items c.requires.sound.followed c.follow_all.ensures
+
+pub returns-else-is_none-clause-parts : goal.returns-else-is_none-clause-parts
+returns-else-is_none-clause-parts c =
+    let right = RightAt c.args.atom c.args.number in
+    zip_same (Learns right 1) (learns_same right 1) c.args.self.now.parts.items _ refl
 
 pub returns-else-is_none-clause-atoms : goal.returns-else-is_none-clause-atoms
 returns-else-is_none-clause-atoms c =

@@ -1,12 +1,16 @@
-use Rattle.std.proofs.Common.{◌≡◌, ◌++◌, List, ℕ, refl, ap, ◌∙◌, sym, subst}
+use Rattle.std.proofs.Common.{◌≡◌, ◌++◌, List, ℕ, length, refl, ap, ◌∙◌, sym, subst, arith}
 use Rattle.std.specs.Global.{Vec}
+use Rattle.std.specs.List.{All, AllZip}
 use Rattle.hp_syntax.specs.Applying.{ChangesOf, cancelled, with_added, first_guarded}
 use Rattle.hp_world.specs.Deleting.{deleted}
 use Rattle.hp_world.specs.Histories.{History, undone_to, KeepsPasts}
 use Rattle.hp_world.specs.Indexed.{Row}
+use Rattle.hp_world.specs.Keyed.{Keyed, HasWaiting, Learns, Nothing, RightFor}
 use Rattle.hp_world.specs.Stages.{Stage, live_atoms, same_cell, PlacesKept}
 use Rattle.hp_world.specs.Undoing.{history_of}
 use Rattle.hp_world.proofs.AnswerLemmas.{deleted_is, gives_guarded, gives_done}
+use Rattle.hp_world.proofs.LearningLemmas.{learns_same, learns_then, learns_weaker, waits_still}
+use Rattle.hp_world.proofs.ZipLemmas.{all_zipped, zip_same, zip_twice, zip_where}
 use Rattle.hp_world.proofs.StageLemmas.{kept_same}
 use Rattle.hp_world.proofs.HistoryLemmas.{rewound}
 use Rattle.hp_world.proofs.UndoingLemmas.{moves_more}
@@ -90,3 +94,51 @@ returns-clause-kept c =
     subst (λ (h : History Stage). PlacesKept h.now.places c.protect_all.new.self.places.places)
     c.in_ok-reserve.ensures.same
     moves.kept
+
+pub returns-in_err-changes-clause-parts : goal.returns-in_err-changes-clause-parts
+returns-in_err-changes-clause-parts c =
+    let right = RightFor c.args.add.now in
+    zip_same (Learns right _) (learns_same right _) c.args.self.now.parts.items _ refl
+
+pub returns-in_err-reserve-clause-parts : goal.returns-in_err-reserve-clause-parts
+returns-in_err-reserve-clause-parts c =
+    let right = RightFor c.args.add.now in
+    zip_same (Learns right _) (learns_same right _) c.args.self.now.parts.items c.reserve.new.self.parts.items
+    (ap (λ (v : Vec Keyed). v.items) c.reserve.ensures.parts)
+
+-- the indexes are those before the cancelling
+cancelled_parts : (old reserved cancelled : Vec Keyed) → reserved ≡ old → cancelled ≡ reserved
+    → cancelled.items ≡ old.items
+cancelled_parts old reserved cancelled e f = ap (λ (v : Vec Keyed). v.items) (f ∙ e)
+
+pub returns-in-Some-clause-parts : goal.returns-in-Some-clause-parts
+returns-in-Some-clause-parts c =
+    let add : List ℕ = c.args.add.now in
+    let same = cancelled_parts _ _ _ c.reserve.ensures.parts c.cancel_all.ensures.parts in
+    subst (λ (ps : List Keyed). AllZip (Learns (RightFor add) (length add)) ps c.undo_to.new.self.parts.items) same
+    (zip_where (λ p. Unit {0}) (Learns Nothing 0) (Learns (RightFor add) (length add))
+    (λ p q h f. learns_weaker (RightFor add) (length add) p q f) c.cancel_all.new.self.parts.items
+    c.undo_to.new.self.parts.items (λ k d l. tt) c.undo_to.ensures.parts)
+
+pub add_all-requires-clause-waits : goal.add_all-requires-clause-waits
+add_all-requires-clause-waits c =
+    let add : List ℕ = c.args.add.now in
+    let same = cancelled_parts _ _ _ c.reserve.ensures.parts c.cancel_all.ensures.parts in
+    all_zipped (HasWaiting (length add) (length add)) (HasWaiting (length add) (length add)) (Learns Nothing 0)
+    (λ p q h f. waits_still Nothing (length add) (length add) (length add) 0 (omega arith) p q h f)
+    c.cancel_all.new.self.parts.items c.delete_all.new.self.parts.items
+    (subst (λ (ps : List Keyed). All (HasWaiting (length add) (length add)) ps) (sym same) c.requires.waits)
+    c.delete_all.ensures.parts
+
+pub returns-clause-parts : goal.returns-clause-parts
+returns-clause-parts c =
+    let add : List ℕ = c.args.add.now in
+    let same = cancelled_parts _ _ _ c.reserve.ensures.parts c.cancel_all.ensures.parts in
+    let learns = Learns (RightFor add) (length add) in
+    let all : AllZip learns c.cancel_all.new.self.parts.items c.add_all.new.self.parts.items =
+    zip_twice (Learns Nothing 0) learns learns (λ p q r f g. learns_then add (length add) p q r f g)
+    c.cancel_all.new.self.parts.items c.delete_all.new.self.parts.items c.add_all.new.self.parts.items
+    c.delete_all.ensures.parts c.add_all.ensures.parts in
+    subst (λ (ps : List Keyed). AllZip learns ps c.protect_all.new.self.parts.items) same
+    (subst (λ (v : Vec Keyed). AllZip learns c.cancel_all.new.self.parts.items v.items)
+    (sym c.protect_all.ensures.parts) all)

@@ -1,11 +1,14 @@
-use Rattle.std.proofs.Common.{◌≡◌, ◌+◌, List, ℕ, length, ap, ◌∙◌, refl, sym, subst, arith}
+use Rattle.std.proofs.Common.{◌≡◌, ◌+◌, [], List, ℕ, length, ap, ◌∙◌, refl, sym, subst, arith}
 use Rattle.std.proofs.lemmas.List.{get_or_default}
 use Rattle.std.proofs.lemmas.List.Edits.{length-remove}
 use Rattle.std.specs.List.{insert}
 use Rattle.hp_world.specs.Deleting.{IsFirstAt}
+use Rattle.hp_world.specs.declared.store.Change.{Change}
 use Rattle.hp_world.specs.declared.store.Change.TheVariants.{Cancelled}
 use Rattle.hp_world.proofs.StageLemmas.{kept_same}
 use Rattle.hp_world.proofs.DeletingLemmas.{without_first_absent, without_first_at, put_back}
+use Rattle.hp_world.specs.Stages.{Stage}
+use Rattle.hp_world.proofs.SoundLemmas.{AllFollow, all_same}
 use Rattle.hp_world.proofs.UndoingLemmas.{moved, same_stage}
 use Rattle.hp_world.proofs.store.Store.cancel.Goals as goal
 
@@ -17,7 +20,9 @@ returns-in-Some-clause-guards c =
 
 pub returns-in-Some-clause-moves : goal.returns-in-Some-clause-moves
 returns-in-Some-clause-moves c =
-    let guards : List ℕ = c.args.self.now.guards.items in
+    let s = c.args.self.now in
+    let after : Stage = record { places = s.places.places; guards = c.remove.new.self.items } in
+    let guards : List ℕ = s.guards.items in
     let i = c.in-Some.index in
     let a = c.args.atom in
     let first = subst (λ (xs : List ℕ). IsFirstAt a xs i) c.deref.ensures.value c.in-Some.ensures in
@@ -30,6 +35,8 @@ returns-in-Some-clause-moves c =
     (kept_same _ _ refl)
     (omega arith, omega (arith, c.remove.ensures.capacity, c.args.self.now.guards.ok.1)) c.push_reserved.ensures.len
     c.push_reserved.ensures.capacity c.remove.ensures.capacity refl refl
+    (subst (λ (ts : List Change). AllFollow after ts s.parts.items) (sym c.push_reserved.ensures.items)
+    (all_same s c.requires.sound [] (Cancelled i a) after refl (same_stage _ _ _ _ refl back) (λ p. tt)))
 
 pub returns-in_default-clause-guards : goal.returns-in_default-clause-guards
 returns-in_default-clause-guards c =

@@ -9,6 +9,7 @@ invariant-loop-atom l = record {
   guards : cancelled same_cell l.self.guards.items (drop l.atom-index l.atoms)
       ≡ cancelled same_cell l.initial.self.guards.items l.atoms;
   places : l.self.places ≡ l.initial.self.places;
+  parts : l.self.parts ≡ l.initial.self.parts;
   fewer : vec_len l.self.guards ≤ vec_len l.initial.self.guards;
   moves : Moves l.atom-index l.initial.self l.self;
 }

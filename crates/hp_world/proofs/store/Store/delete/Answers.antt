@@ -1,9 +1,15 @@
-use Rattle.std.proofs.Common.{List, Option, ℕ, Some, None, length, set, ap, ◌∙◌, refl, sym, subst}
+use Rattle.std.proofs.Common.{[], ◌∷◌, ◌++◌, List, Option, ℕ, Some, None, length, set, ap, ◌∙◌, refl, sym, subst}
 use Rattle.std.proofs.lemmas.List.{set-set, set-get_or, length-set}
 use Rattle.hp_world.specs.Indexed.{Row}
 use Rattle.hp_world.specs.Stages.{live_atoms, PlacesKept}
 use Rattle.hp_world.specs.Undoing.{IsVacant}
+use Rattle.hp_world.specs.declared.store.Change.{Change}
 use Rattle.hp_world.specs.declared.store.Change.TheVariants.{Deleted}
+use Rattle.hp_world.specs.declared.part_index.Step.TheVariants.{Out}
+use Rattle.hp_world.specs.Keyed.{Learns, Nothing, Steps}
+use Rattle.hp_world.proofs.LearningLemmas.{learns_out, learns_same}
+use Rattle.hp_world.proofs.SoundLemmas.{AllFollow, out_allowed, all_deleted}
+use Rattle.hp_world.proofs.ZipLemmas.{zip_where, zip_same}
 use Rattle.hp_world.proofs.StageLemmas.{without_absent, live_cleared, kept_cleared}
 use Rattle.hp_world.proofs.UndoingLemmas.{moved, vacated, same_stage}
 use Rattle.hp_world.proofs.store.Store.delete.Goals as goal
@@ -23,6 +29,7 @@ returns-in-Some-clause-places c =
 
 pub returns-in-Some-clause-moves : goal.returns-in-Some-clause-moves
 returns-in-Some-clause-moves c =
+    let s = c.args.self.now in
     let ps : List (Option ℕ) = c.args.self.now.places.places in
     let i = c.in-Some.place in
     let a = c.args.atom in
@@ -40,6 +47,24 @@ returns-in-Some-clause-moves c =
     moved _ _ (Deleted i a) c.requires.sound c.push_reserved.ensures.items (same_stage _ _ _ _ back refl) kept
     fits c.push_reserved.ensures.len c.push_reserved.ensures.capacity refl
     (ap (λ (r : Row). r.room) c.clear.ensures.cleared) width
+    (subst (λ (ts : List Change). AllFollow (record { places = c.clear.new.self.places; guards = s.guards.items }) ts
+    c.follow_all.new.indexes.items) (sym c.push_reserved.ensures.items)
+    (subst (λ (xs : List (Option ℕ)). AllFollow (record { places = xs; guards = s.guards.items })
+    (s.trail.items ++ Deleted i a ∷ []) c.follow_all.new.indexes.items) (sym places)
+    (all_deleted s c.requires.sound c.follow_all.new.indexes.items i a stands c.follow_all.ensures)))
+
+pub follow_all-requires : goal.follow_all-requires
+follow_all-requires c =
+    out_allowed c.args.self.now c.requires.sound [] c.in-Some.place c.args.atom c.in-Some.ensures.stands
+
+pub returns-in-Some-clause-parts : goal.returns-in-Some-clause-parts
+returns-in-Some-clause-parts c =
+    zip_where (λ p. Unit {0}) (Steps (Out c.in-Some.place)) (Learns Nothing 0)
+    (λ p q h step. learns_out c.in-Some.place p q step) c.args.self.now.parts.items c.follow_all.new.indexes.items
+    (λ k d l. tt) c.follow_all.ensures
+
+pub returns-in_default-clause-parts : goal.returns-in_default-clause-parts
+returns-in_default-clause-parts c = zip_same (Learns Nothing 0) (learns_same Nothing 0) c.args.self.now.parts.items _ refl
 
 pub returns-in_default-clause-atoms : goal.returns-in_default-clause-atoms
 returns-in_default-clause-atoms c = sym (without_absent c.args.atom c.args.self.now.places.places c.in_default.ensures)

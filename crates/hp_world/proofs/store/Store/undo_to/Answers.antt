@@ -1,4 +1,7 @@
 use Rattle.std.proofs.Common.{◌∙◌, refl, sym, arith}
+use Rattle.hp_world.specs.Keyed.{Learns, Nothing}
+use Rattle.hp_world.proofs.LearningLemmas.{learns_same, learns_on}
+use Rattle.hp_world.proofs.ZipLemmas.{zip_same, zip_twice}
 use Rattle.hp_world.specs.Undoing.{undone, stage_of}
 use Rattle.hp_world.proofs.TrailLemmas.{length_pasts}
 use Rattle.hp_world.proofs.HistoryLemmas.{undone_end}
@@ -8,15 +11,19 @@ pub loop-self-init : goal.loop-self-init
 loop-self-init c =
     let s = c.args.self.now in
     let many = length_pasts undone s.trail.items (stage_of s) in
-    record { mark = omega (arith, c.requires.mark, many, s.trail.ok.0); sound = c.requires.sound; back = refl }
+    record { mark = omega (arith, c.requires.mark, many, s.trail.ok.0); sound = c.requires.sound; parts = zip_same (Learns Nothing 0) (learns_same Nothing 0) s.parts.items _ refl; back = refl }
 
 pub loop-self-preserved : goal.loop-self-preserved
 loop-self-preserved c =
     let more = c.loop-self-test.true in
-    let undoes = c.undo_last.ensures in
+    let undoes = c.undo_last.ensures.undoes in
     record {
       mark = omega (arith, undoes.fewer, c.len.ensures, more);
       sound = undoes.sound;
+      parts =
+          zip_twice (Learns Nothing 0) (Learns Nothing 0) (Learns Nothing 0) learns_on c.args.self.now.parts.items
+          c.loop-self.self.parts.items c.undo_last.new.self.parts.items c.loop-self.invariant.parts
+          c.undo_last.ensures.parts;
       back = undoes.back c.args.mark (omega (arith, c.len.ensures, more)) ∙ c.loop-self.invariant.back;
     }
 

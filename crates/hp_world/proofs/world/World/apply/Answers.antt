@@ -1,6 +1,7 @@
 use Rattle.std.proofs.Common.{ℕ, subst, sym}
 use Rattle.hp_syntax.specs.Applying.{ChangesOf}
 use Rattle.hp_world.specs.Histories.{History}
+use Rattle.hp_world.specs.Recorded.{Recorded}
 use Rattle.hp_world.specs.Stages.{Stage, StageBelow}
 use Rattle.hp_world.specs.Undoing.{history_of}
 use Rattle.hp_world.proofs.AnswerLemmas.{applied_below}
@@ -14,6 +15,7 @@ returns-clause-below c = λ n s b.
       add = c.args.add.now;
       guard = c.args.guard.now;
     } in
-    applied_below c.apply.result changes (history_of c.self.inside.store) (history_of c.apply.new.self)
+    applied_below c.apply.result changes (history_of c.forget_parts.new.self) (history_of c.apply.new.self)
     c.apply.ensures.ok c.apply.ensures.err n
-    (subst (λ (h : History Stage). StageBelow n h.now) (sym c.self.view_is) s) b
+    (subst (λ (h : History Stage). StageBelow n h.now) (sym c.forget_parts.ensures.same)
+    (subst (λ (w : Recorded). StageBelow n w.now) (sym c.self.view_is) s)) b

@@ -1,0 +1,10 @@
+pub mod NearestLemmas
+pub mod StandingLemmas
+pub mod JoiningLemmas
+pub mod RingLemmas
+pub mod TakingOutLemmas
+pub mod PuttingBackLemmas
+pub mod AppendingLemmas
+pub mod TellingLemmas
+pub mod ReturnLemmas
+pub mod ViewLemmas
