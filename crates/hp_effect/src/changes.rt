@@ -8,6 +8,7 @@ ghost use Rattle.hp_cells.specs.Cells.{AreCells};
 ghost use Rattle.hp_eval.specs.Growth.{Grows};
 ghost use Rattle.hp_eval.specs.Slotted.{AreBelow, bindings_of};
 ghost use Rattle.hp_world.specs.Answers.{Applies};
+ghost use Rattle.hp_world.specs.Recorded.{history_in};
 ghost use Rattle.hp_world.specs.Stages.{PlacesKept, state_of, guards_of, changes_of, StageBelow, ChangesBelow};
 ghost use Rattle.hp_effect.specs.Gathering.{part_of_atoms, part_of_protections};
 ghost use Rattle.hp_effect.specs.Puts.{Puts, Pushes, list_of, IsApplied};
@@ -155,16 +156,17 @@ impl Changes {
     }
 
     /// Applies the four lists to a world. Where an atom to delete is protected once the protections to cancel are, or
-    /// memory is wanting, the world stays as it was.
+    /// memory is wanting, the world stays as it was. Its indexes go, as with `World::apply`.
     pub fn apply_to(&self, world: &mut World) -> Result<Applied, AllocError>
-        ensures ok { IfOk result (λ a. Applies a self.now world.old world.new) }
+        ensures ok { IfOk result (λ a. Applies a self.now (history_in world.old) (history_in world.new)) }
         ensures terms { IfOk result (λ a. (terms : List Term) → AreCells terms
             → StageBelow (length terms) world.old.now → ChangesBelow (length terms) self.now
             → IsApplied a terms world.new.now (apply (state_of terms world.old.now) (guards_of terms world.old.now)
             (changes_of terms self.now))) }
         ensures below { (n : ℕ) → StageBelow n world.old.now → ChangesBelow n self.now → StageBelow n world.new.now }
         ensures kept { PlacesKept world.old.now.places world.new.now.places }
-        ensures err { OnErr result (world.new ≡ world.old) }
+        ensures parts { world.new.parts ≡ [] }
+        ensures err { OnErr result (history_in world.new ≡ history_in world.old) }
     {
         world.apply(
             self.unguard.as_slice(),

@@ -36,6 +36,7 @@ use Rattle.hp_world.specs.declared.store.Applied.TheVariants.{Done, Guarded as W
 use Rattle.hp_eval.specs.GoalViews.{term_at}
 use Rattle.hp_net.specs.FlatNetworks.{FlatNetwork, focused, place_of, EntryBelow}
 use Rattle.hp_world.specs.Histories.{History}
+use Rattle.hp_world.specs.Recorded.{Recorded}
 use Rattle.hp_world.specs.Stages.{Stage, state_of, guards_of, terms_at}
 use Rattle.hp_tree.specs.Children.{children_by, done_by}
 use Rattle.hp_tree.proofs.ChildLemmas.{operator_met}
@@ -52,7 +53,7 @@ use Rattle.hp_plain.proofs.CandidateLemmas.{done_stays}
 
 -- ---- nodes
 
-module _ (terms : List Term) (world : History Stage) (net : History FlatNetwork) (steps : Vec ℕ Global)
+module _ (terms : List Term) (world : Recorded) (net : History FlatNetwork) (steps : Vec ℕ Global)
     (cost : ℤ) (depth : ℕ) where
   -- a search node of these parts
   abbrev pub node_by : SearchNode
