@@ -7,6 +7,7 @@ use Rattle.hp_syntax.specs.declared.expression.Expr.{Expr}
 use Rattle.hp_syntax.specs.declared.domain.Effect as public_effect
 use Rattle.hp_syntax.specs.declared.domain.Effect.TheVariants as public_effects
 use Rattle.hp_syntax.specs.declared.domain.Operator.{Operator}
+use Rattle.hp_syntax.specs.declared.domain.Side.TheVariants.{Deletes, Adds}
 use Rattle.hp_syntax.specs.Preconditions.{heard}
 use Rattle.hp_syntax.specs.Syntax.{Axiom}
 use Rattle.hp_syntax.specs.Terms.{Term}
@@ -21,7 +22,6 @@ use Rattle.hp_eval.specs.Slotted.{Slotted, AreBelow, bindings_of}
 use Rattle.hp_eval.proofs.GrowthLemmas.{bindings_stay}
 use Rattle.hp_eval.proofs.Loops.{left_more}
 use Rattle.hp_world.specs.Stages.{Stage, StageBelow, state_of}
-use Rattle.hp_effect.specs.declared.side.Side.TheVariants.{Deletes, Adds}
 use Rattle.hp_effect.specs.declared.obstacle.Obstacle.{Obstacle}
 use Rattle.hp_effect.specs.Costs.{Costs}
 use Rattle.hp_effect.specs.Gathering.{obstacle_of, with_gathered, both, each_going, StopsHere}

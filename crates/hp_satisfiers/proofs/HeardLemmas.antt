@@ -4,7 +4,7 @@ use Rattle.std.proofs.lemmas.List.{map-append, append-nil, drop_more}
 use Rattle.std.proofs.lemmas.List.Elements.{All-nil, All-append, All-same}
 use Rattle.hp_syntax.specs.Terms.{Term}
 use Rattle.hp_syntax.specs.Events as plain
-use Rattle.hp_syntax.specs.Events.{Event, through, in_place}
+use Rattle.hp_syntax.specs.Events.{Event}
 use Rattle.hp_syntax.specs.Preconditions.{heard}
 use Rattle.hp_laws.specs.HeardAlike.{AreHeardAlike}
 use Rattle.hp_laws.proofs.HeardAlikeLemmas.{alike_behind, alike_before}
@@ -124,7 +124,8 @@ hears_both old new g vars found more items xs ys h m is =
     let left = joined (ys ∷ []) in
     let begun : HearsUpTo old vars found (xs ++ ys) left = record {
       so_far =
-          ap (λ zs. heard (xs ++ zs)) (sym (append-nil ys)) ∙ alike_before xs (answer_events old found) left (sym h.stand);
+          ap (λ zs. heard (xs ++ zs)) (sym (append-nil ys)) ∙ alike_before xs (answer_events old found) left
+          (sym h.stand);
       fit = h.fit;
     } in
     hears_all new vars items (xs ++ ys) [] refl

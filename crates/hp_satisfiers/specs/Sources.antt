@@ -25,7 +25,8 @@ module _ (scene : Scene) (level : ℕ) (terms : List Term) (slots : Slotted) whe
   -- the events of each item
   abbrev pub pieces : Source → List (List Event)
   pieces (Parts parts) =
-      map (λ p. sat (axioms_in scene) level (state_in terms scene) (expression_of p) (bindings_of terms slots)) parts.now
+      map (λ p. sat (axioms_in scene) level (state_in terms scene) (expression_of p) (bindings_of terms slots))
+      parts.now
   pieces (Sats found part negate) =
       let part_events = sat (axioms_in scene) level (state_in terms scene) (expression_of part.now) in
       map (in_place (λ b. turned negate (part_events b) b)) (answer_events terms found.now)

@@ -58,7 +58,8 @@ alike_back p ps i a h l =
       keys = λ j m. elim (cases_eq j i) [
         | inl same ↦
             ap (λ k. standing_again (entry_at (set p.entries i e) k)) same
-            ∙ ap standing_again (get_or-set_same p.entries i e Bare within) ∙ following.standing_twice (entry_at p.entries i)
+            ∙ ap standing_again (get_or-set_same p.entries i e Bare within)
+            ∙ following.standing_twice (entry_at p.entries i)
             ∙ ap (λ k. standing_again (entry_at p.entries k)) (sym same)
         | inr n ↦ ap standing_again (get_or-set_other p.entries i j e Bare n)
       ];

@@ -4,7 +4,8 @@ use Rattle.std.proofs.lemmas.List.{get_or-set_same, get_or-set_other, length-set
 use Rattle.std.proofs.lemmas.Bool.{cases_eq}
 use Rattle.std.proofs.lemmas.Option.{none-some}
 use Rattle.hp_cells.proofs.PlaceLemmas.{kept, stands_last, stays}
-use Rattle.hp_chains.specs.Entries.{Entry, Bare, Standing, Loose, StandsAt, Reversed, IsNearest, IsTakenOut, AreNeighbours, FitsBack, MayReturn, entry_at, standing_again, new_entry}
+use Rattle.hp_chains.proofs.NearestLemmas.{nearest_same}
+use Rattle.hp_chains.specs.Entries.{Entry, Bare, Standing, Loose, StandsAt, Reversed, IsTakenOut, AreNeighbours, FitsBack, MayReturn, entry_at, standing_again, new_entry}
 use Rattle.hp_world.specs.declared.store.Change.{Change}
 use Rattle.hp_world.specs.declared.store.Change.TheVariants.{Deleted, Added, Cancelled, Protected}
 use Rattle.hp_world.specs.Following.{HasKey, Follows, AreAround, KeepsNeighbours, Rejoins}
@@ -15,22 +16,15 @@ use Rattle.hp_world.specs.Undoing.{undone, Fits, IsAny}
 
 -- ---- neighbours
 
--- what is nearest among some is nearest among the same
-pub nearest_alike : (Before : ℕ → ℕ → Type 0) (Side S T : ℕ → Type 0) → ((i : ℕ) → Side i → S i → T i)
-    → ((i : ℕ) → Side i → T i → S i) → (r : Option ℕ) → IsNearest Before Side S r → IsNearest Before Side T r
-nearest_alike Before Side S T to back None h = λ i side stands. h i side (back i side stands)
-nearest_alike Before Side S T to back (Some i) h =
-    (h.0, to i h.0 h.1, λ j side before stands. h.2 j side before (back j side stands))
-
 -- the neighbours of a place are the same among what is the same but at the place
 pub around_alike : (S T : ℕ → Type 0) (place : ℕ) (p n : Option ℕ) → ((i : ℕ) → i ≢ place → S i → T i)
     → ((i : ℕ) → i ≢ place → T i → S i) → AreAround S place p n → AreAround T place p n
 around_alike S T place p n to back h = record {
   before =
-      nearest_alike (Reversed ◌<◌) (λ i. i < place) S T (λ i l. to i (omega arith)) (λ i l. back i (omega arith)) p
+      nearest_same (Reversed ◌<◌) (λ i. i < place) S T p (λ i l. to i (omega arith)) (λ i l. back i (omega arith))
       h.before;
   behind =
-      nearest_alike ◌<◌ (λ i. place + 1 ≤ i) S T (λ i l. to i (omega arith)) (λ i l. back i (omega arith)) n h.behind;
+      nearest_same ◌<◌ (λ i. place + 1 ≤ i) S T n (λ i l. to i (omega arith)) (λ i l. back i (omega arith)) h.behind;
 }
 
 -- ---- places and entries at numbers

@@ -39,7 +39,8 @@ knows_still terms p fs same h = λ i a g. subst (λ (k : Option ℕ). IsKeyOf te
 
 -- what is learnt where only entries change, and keep their keys
 learns_rekeyed : (p : Keyed) (fs : List Entry) → length fs ≡ length p.entries
-    → ((j : ℕ) → key_of (entry_at fs j) ≡ key_of (entry_at p.entries j)) → Learns Nothing 0 p (record p { entries = fs })
+    → ((j : ℕ) → key_of (entry_at fs j) ≡ key_of (entry_at p.entries j))
+    → Learns Nothing 0 p (record p { entries = fs })
 learns_rekeyed p fs count same = record {
   part = refl;
   keys = refl;

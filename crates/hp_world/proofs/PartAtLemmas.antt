@@ -3,6 +3,7 @@ use Rattle.std.proofs.Common.{◌≡◌, ◌↔◌, ◌<◌, ◌≤◌, ℕ, Lis
 use Rattle.std.proofs.lemmas.Option.{slice_get-get_or, slice_get_within, get_or_from_slice_get, same_Some}
 use Rattle.hp_syntax.specs.Terms.{Term, Symbol, Number, Listed, NoTerm, More}
 use Rattle.hp_cells.specs.Cells.{AreCells}
+use Rattle.hp_chains.proofs.NearestLemmas.{nearest_same}
 use Rattle.hp_chains.specs.Entries.{Entry, Bare, Standing, Loose, StandsAt, IsNext, entry_at, standing_again}
 use Rattle.hp_eval.specs.GoalViews.{term_at}
 use Rattle.hp_eval.proofs.CellViews.{named_at}
@@ -11,7 +12,7 @@ use Rattle.hp_world.specs.Keyed.{Keyed, KnowsParts, key_of}
 use Rattle.hp_world.specs.Named.{IsNamedAt, IsNamedWithAt, IsNextNamed, IsNoLaterThan}
 use Rattle.hp_world.specs.Parts.{IsKeyOf, NamesPart, part_of}
 use Rattle.hp_world.specs.Stages.{AllBelow, live_atoms}
-use Rattle.hp_world.proofs.FollowingLemmas.{stands_has, place_within, nearest_alike}
+use Rattle.hp_world.proofs.FollowingLemmas.{stands_has, place_within}
 use Rattle.hp_world.proofs.StageLemmas.{atom_below}
 
 -- an entry that stands and has a key stands under it
@@ -86,7 +87,8 @@ module _ (terms : List Term) (cells : AreCells terms) where
             one_key n a part k l g (subst (λ b. IsKeyOf terms n b (Some k)) same h.has),
           )
 
-module _ (terms : List Term) (cells : AreCells terms) (p : Keyed) (places : List (Option ℕ)) (follows : Follows p places)
+module _ (terms : List Term) (cells : AreCells terms) (p : Keyed) (places : List (Option ℕ))
+    (follows : Follows p places)
     (known : KnowsParts terms p) (below : AllBelow (length terms) (live_atoms places)) where
   -- a place under a key has an atom with that part
   pub part_at : (key i : ℕ) → StandsAt key p.entries i
@@ -124,7 +126,7 @@ module _ (terms : List Term) (cells : AreCells terms) (p : Keyed) (places : List
   pub next_named : p.part ≡ 0 → (name from : ℕ) (r : Option ℕ) → IsNext name p.entries from r
       → IsNextNamed terms name places from r
   next_named zeroth name from r h =
-      nearest_alike ◌<◌ (λ i. from ≤ i) (StandsAt name p.entries) (IsNamedAt terms name places)
+      nearest_same ◌<◌ (λ i. from ≤ i) (StandsAt name p.entries) (IsNamedAt terms name places) r
       (λ i l s.
       let at = part_at name i s in
       let here : get_or places i None ≡ Some at.0 = get_or_from_slice_get places i (Some at.0) None at.1 in
@@ -136,7 +138,7 @@ module _ (terms : List Term) (cells : AreCells terms) (p : Keyed) (places : List
       (λ t e.
       let same : t ≡ Listed (More k.first k.rest) = same_Some t (Listed (More k.first k.rest)) (sym e ∙ k.names) in
       ap (λ n. part_of n t) zeroth ∙ ap (part_of 0) same))
-      r h
+      h
 
   -- a place whose atom has a name and a part is under the key of the part
   under : (name part key : ℕ) (x : Term) → p.part ≡ part → slice_get terms key ≡ Some x → (i : ℕ)

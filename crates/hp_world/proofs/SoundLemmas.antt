@@ -51,7 +51,8 @@ module _ (s : Store) (h : IsSound s) (ps : List Keyed) where
       → ((p : Keyed) → Rejoins p t after) → AllFollow after (s.trail.items ++ t ∷ []) s.parts.items
   all_same t after places back r =
       All-weaker (IsFollowed (stage_of s) s.trail.items) _
-      (λ p f. followed.followed_same s.places.width (vec_capacity s.guards) p p (stage_of s) s.trail.items h.undoable f t
+      (λ p f. followed.followed_same s.places.width (vec_capacity s.guards) p p
+      (stage_of s) s.trail.items h.undoable f t
       after places back (r p)) s.parts.items h.followed
 
   -- all indexes follow where there is more room

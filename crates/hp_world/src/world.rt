@@ -50,9 +50,11 @@ impl World {
         }
     }
 
-    /// No atoms and no protections, with an index of the places by each of so many parts of their atoms, the name first.
+    /// No atoms and no protections, with an index of the places by each of so many parts of their atoms, the name
+    /// first.
     pub fn indexed(alloc: Global, parts: usize) -> Result<World, AllocError>
-        ensures empty { IfOk result (λ w. history_in w ≡ record { past = []; now = record { places = []; guards = [] } }) }
+        ensures empty { IfOk result (λ w. history_in w
+            ≡ record { past = []; now = record { places = []; guards = [] } }) }
         ensures knows { IfOk result (λ w. (terms : List Term) → Knows terms w) }
     {
         let mut store = Store::new(alloc);
@@ -174,9 +176,9 @@ impl World {
         }
     }
 
-    /// The least place not below one whose atom has this name and, as the part of this number, this term; the arguments
-    /// are the parts from 1 on. It is found along the atoms with that part, where the world has an index by it, and else
-    /// along those with that name.
+    /// The least place not below one whose atom has this name and, as the part of this number, this term; the
+    /// arguments are the parts from 1 on. It is found along the atoms with that part, where the world has an index by
+    /// it, and else along those with that name.
     pub fn next_with(
         &self,
         cells: &Cells,

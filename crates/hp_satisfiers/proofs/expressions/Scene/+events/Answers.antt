@@ -307,7 +307,8 @@ joined_events-loop-number-preserved t c =
           source_next old mid held.grows c.args.self.now c.args.level c.requires.world c.args.slots.now
           c.requires.slots c.args.source c.requires.source new got.cells c.loop-number.found.items
           c.in_ok-more.more.items c.add.new.found.items _ c.loop-number.number
-          (omega (arith, c.count-number-end.ensures, c.loop-number-test.true)) held.found got.finds c.in_ok-over.ensures.added;
+          (omega (arith, c.count-number-end.ensures, c.loop-number-test.true)) held.found got.finds
+          c.in_ok-over.ensures.added;
     }
 
 pub joined_events-returns-then-over-clause-finds : goal.joined_events-returns-then-over-clause-finds
@@ -333,7 +334,12 @@ joined_events-returns-clause-finds t c =
     let ps = pieces c.args.self.now c.args.level old s c.args.source in
     let count = pieces_count c.args.self.now c.args.level old s c.args.source in
     hears_all c.loop-number.cells (length s.values) c.loop-number.found.items _ _
-    (ap joined (drop_all c.loop-number.number ps (omega (arith, count, c.count-number-end.ensures, c.loop-number-test.false))))
+    (ap joined (drop_all c.loop-number.number ps (omega (
+      arith,
+      count,
+      c.count-number-end.ensures,
+      c.loop-number-test.false,
+    ))))
     c.loop-number.invariant.found
 
 -- ---- an item
@@ -867,7 +873,8 @@ one_events-returns-in_ok-more-in-Sat-clause-cells t c = c.events.ensures.cells
 pub one_events-events-requires : goal.one_events-events-requires
 one_events-events-requires t c =
     let fits =
-    sat_fits (length c.args.slots.now.values) (length c.args.cells.now) c.args.found.now c.in-Sat.own c.in-Sat.is c.requires.found in
+    sat_fits (length c.args.slots.now.values) (length c.args.cells.now) c.args.found.now c.in-Sat.own c.in-Sat.is
+    c.requires.found in
     (omega (arith, c.decreases), (fits.1, c.requires.world))
 
 pub one_events-returns-in-Cut-clause-finds : goal.one_events-returns-in-Cut-clause-finds

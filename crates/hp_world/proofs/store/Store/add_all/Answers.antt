@@ -52,7 +52,8 @@ loop-number-preserved c =
       waits =
           all_zipped (HasWaiting (length atoms) (length atoms - n)) (HasWaiting (length atoms) (length atoms - (n + 1)))
           (Learns (RightAt a n) 1)
-          (λ p q h f. waits_still (RightAt a n) (length atoms) (length atoms - n) (length atoms - (n + 1)) 1 left p q h f)
+          (λ p q h f. waits_still (RightAt a n) (length atoms) (length atoms - n)
+          (length atoms - (n + 1)) 1 left p q h f)
           c.loop-number.self.parts.items c.add.new.self.parts.items c.loop-number.invariant.waits c.add.ensures.parts;
       moves = moves_more _ _ _ _ _ c.loop-number.invariant.moves c.add.ensures.moves;
     }

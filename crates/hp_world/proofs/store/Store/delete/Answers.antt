@@ -64,7 +64,8 @@ returns-in-Some-clause-parts c =
     (λ k d l. tt) c.follow_all.ensures
 
 pub returns-in_default-clause-parts : goal.returns-in_default-clause-parts
-returns-in_default-clause-parts c = zip_same (Learns Nothing 0) (learns_same Nothing 0) c.args.self.now.parts.items _ refl
+returns-in_default-clause-parts c = zip_same (Learns Nothing 0)
+    (learns_same Nothing 0) c.args.self.now.parts.items _ refl
 
 pub returns-in_default-clause-atoms : goal.returns-in_default-clause-atoms
 returns-in_default-clause-atoms c = sym (without_absent c.args.atom c.args.self.now.places.places c.in_default.ensures)

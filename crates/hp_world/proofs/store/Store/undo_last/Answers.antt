@@ -25,7 +25,8 @@ insert-requires c =
     let s = c.args.self.now in
     let fits =
     last_fits s.places.width (vec_capacity s.guards) s.trail.items _
-    (Cancelled c.in-Cancelled.index c.in-Cancelled.atom) (stage_of s) c.requires.sound.undoable c.in-Cancelled.ensures.items in
+    (Cancelled c.in-Cancelled.index c.in-Cancelled.atom) (stage_of s) c.requires.sound.undoable
+    c.in-Cancelled.ensures.items in
     omega (arith, fits, s.guards.ok.0)
 
 pub unwrap-requires : goal.unwrap-requires
@@ -33,7 +34,8 @@ unwrap-requires c =
     let s = c.args.self.now in
     let fits =
     last_fits s.places.width (vec_capacity s.guards) s.trail.items _
-    (Cancelled c.in-Cancelled.index c.in-Cancelled.atom) (stage_of s) c.requires.sound.undoable c.in-Cancelled.ensures.items in
+    (Cancelled c.in-Cancelled.index c.in-Cancelled.atom) (stage_of s) c.requires.sound.undoable
+    c.in-Cancelled.ensures.items in
     c.insert.ensures.succeeds (omega (arith, fits, s.guards.ok.0))
 
 pub returns-in-Deleted-clause-undoes : goal.returns-in-Deleted-clause-undoes

@@ -11,7 +11,13 @@ pub loop-self-init : goal.loop-self-init
 loop-self-init c =
     let s = c.args.self.now in
     let many = length_pasts undone s.trail.items (stage_of s) in
-    record { mark = omega (arith, c.requires.mark, many, s.trail.ok.0); sound = c.requires.sound; parts = zip_same (Learns Nothing 0) (learns_same Nothing 0) s.parts.items _ refl; back = refl }
+    record {
+      mark = omega (arith, c.requires.mark, many, s.trail.ok.0);
+      sound = c.requires.sound;
+      parts =
+          zip_same (Learns Nothing 0) (learns_same Nothing 0) s.parts.items _ refl;
+      back = refl;
+    }
 
 pub loop-self-preserved : goal.loop-self-preserved
 loop-self-preserved c =
