@@ -39,7 +39,7 @@ pub struct Twins {
     at: At,
     left: Left,
     at_did: bool,
-    ghost world_is: { world ≡ record { past = []; now = record { places = []; guards = [] } } },
+    ghost world_is: { world ≡ record { past = []; now = record { places = []; guards = [] }; parts = [] } },
     ghost steps_are: { terms_at cells steps.items ≡ task ∷ [] },
     ghost below: { AllBelow (length cells) steps.items },
 }
