@@ -2,10 +2,12 @@
 #![tactic(auto)]
 
 mod draws;
+mod large;
 mod rounds;
 mod scans;
 
 use crate::draws::Draws;
+use crate::large::{found_by_argument, found_by_name};
 use crate::rounds::{differing, found, found_symbols, make_table};
 use hp_cells::Cells;
 use hp_world::World;
@@ -16,8 +18,13 @@ const ROUNDS: usize = 10_000;
 // The name and two arguments.
 const PARTS: usize = 3;
 
-// What was found: symbols, atoms by their parts, a number that stands nowhere; the look-ups that differ from a scan, and
-// the places in the end.
+// Of a large world.
+const ATOMS: u32 = 100_000;
+
+const CHANGES: u32 = 10_000;
+
+// What was found: symbols, atoms by their parts, a number that stands nowhere; the look-ups that differ from a
+// scan, and the places in the end.
 #[derive(Drop)]
 struct Findings {
     symbols: usize,
@@ -58,5 +65,9 @@ fn main(rt: HostRuntime) -> io::Result<()> {
     println!(rt; "a number that stands nowhere is found: {numbers}")?;
     println!(rt; "changes and undoings: {ROUNDS}")?;
     println!(rt; "look-ups that differ from a scan: {differ}")?;
-    println!(rt; "places in the end: {places}")
+    println!(rt; "places in the end: {places}")?;
+    let by_argument = found_by_argument(rt.alloc(), ATOMS, CHANGES, PARTS)?;
+    println!(rt; "changes of {ATOMS} atoms that find theirs by an argument: {by_argument}")?;
+    let by_name = found_by_name(rt.alloc(), CHANGES, PARTS)?;
+    println!(rt; "changes of a counter that find it by its name: {by_name}")
 }

@@ -47,11 +47,14 @@ fn symbol_pattern(alloc: Global, word: &[u8]) -> Result<Pat, AllocError> {
     })
 }
 
-// The pattern of an atom of a name with two arguments.
-fn pattern(alloc: Global, name: &[u8], first: &[u8], second: &[u8]) -> Result<AtomPat, AllocError> {
-    let mut args = Vec::with_capacity(alloc, 2)?;
-    args.push(symbol_pattern(alloc, first)?)?;
-    args.push(symbol_pattern(alloc, second)?)?;
+/// The pattern of an atom of a name with two arguments.
+pub fn atom_pattern(
+    alloc: Global,
+    name: &[u8],
+    first: Pat,
+    second: Pat,
+) -> Result<AtomPat, AllocError> {
+    let args = vec![in alloc; first, second]?;
     let name = Name::new(alloc, name)?;
     Ok(AtomPat {
         span: SPAN,
@@ -71,8 +74,8 @@ fn symbols(alloc: Global, cells: &mut Cells, words: &[&[u8]]) -> Result<Vec<Cell
     Ok(found)
 }
 
-// The cell of an atom that is ground, which no fault meets.
-fn interned(alloc: Global, cells: &mut Cells, atom: &AtomPat) -> Result<Cell, AllocError> {
+/// The cell of an atom that is ground, which no fault meets.
+pub fn interned(alloc: Global, cells: &mut Cells, atom: &AtomPat) -> Result<Cell, AllocError> {
     let slots = Slots::new(alloc, 0)?;
     match atom_value(alloc, atom, &slots, cells) {
         Ok(cell) => Ok(cell),
@@ -84,7 +87,9 @@ fn interned(alloc: Global, cells: &mut Cells, atom: &AtomPat) -> Result<Cell, Al
 fn atoms_of(alloc: Global, cells: &mut Cells, name: &[u8]) -> Result<Vec<Cell>, AllocError> {
     let mut found = Vec::new(alloc);
     for number in 0..36 {
-        let atom = pattern(alloc, name, ARGUMENTS[number / 6], ARGUMENTS[number % 6])?;
+        let first = symbol_pattern(alloc, ARGUMENTS[number / 6])?;
+        let second = symbol_pattern(alloc, ARGUMENTS[number % 6])?;
+        let atom = atom_pattern(alloc, name, first, second)?;
         found.push(interned(alloc, cells, &atom)?)?;
     }
     Ok(found)
