@@ -8,8 +8,10 @@ ghost use Rattle.hp_cells.specs.Cells.{AreCells};
 ghost use Rattle.hp_eval.specs.Growth.{Grows};
 ghost use Rattle.hp_eval.specs.Slotted.{AreBelow, bindings_of};
 ghost use Rattle.hp_world.specs.Answers.{Applies};
-ghost use Rattle.hp_world.specs.Recorded.{history_in};
-ghost use Rattle.hp_world.specs.Stages.{PlacesKept, state_of, guards_of, changes_of, StageBelow, ChangesBelow};
+ghost use Rattle.hp_world.specs.Keyed.{parts_of};
+ghost use Rattle.hp_world.specs.Recorded.{history_in, Knows};
+ghost use Rattle.hp_world.specs.Stages.{PlacesKept, AllBelow, state_of, guards_of, changes_of, StageBelow};
+ghost use Rattle.hp_world.specs.Stages.{ChangesBelow};
 ghost use Rattle.hp_effect.specs.Gathering.{part_of_atoms, part_of_protections};
 ghost use Rattle.hp_effect.specs.Puts.{Puts, Pushes, list_of, IsApplied};
 
@@ -173,6 +175,29 @@ impl Changes {
             self.delete.as_slice(),
             self.add.as_slice(),
             self.guard.as_slice(),
+        )
+    }
+
+    /// As `apply_to`, and the indexes of the world follow, as with `World::apply_in`.
+    pub fn apply_in(&self, cells: &Cells, world: &mut World) -> Result<Applied, AllocError>
+        requires { AllBelow (length cells.now) self.now.add }
+        ensures ok { IfOk result (λ a. Applies a self.now (history_in world.old) (history_in world.new)) }
+        ensures terms { IfOk result (λ a. (terms : List Term) → AreCells terms
+            → StageBelow (length terms) world.old.now → ChangesBelow (length terms) self.now
+            → IsApplied a terms world.new.now (apply (state_of terms world.old.now) (guards_of terms world.old.now)
+            (changes_of terms self.now))) }
+        ensures indexes { parts_of world.new.parts ≡ parts_of world.old.parts }
+        ensures knows { Knows cells.now world.old → Knows cells.now world.new }
+        ensures below { (n : ℕ) → StageBelow n world.old.now → ChangesBelow n self.now → StageBelow n world.new.now }
+        ensures kept { PlacesKept world.old.now.places world.new.now.places }
+        ensures err { OnErr result (history_in world.new ≡ history_in world.old) }
+    {
+        world.apply_in(
+            cells,
+            self.list(Part::Unguard),
+            self.list(Part::Delete),
+            self.list(Part::Add),
+            self.list(Part::Guard),
         )
     }
 }

@@ -191,7 +191,7 @@ pub fn found_by_argument(
     alloc: Global,
     most: u32,
     count: u32,
-    parts: usize,
+    parts: &[usize],
 ) -> Result<usize, AllocError> {
     let mut cells = Cells::new(alloc)?;
     let word = Name::new(alloc, b"at")?;
@@ -204,7 +204,7 @@ pub fn found_by_argument(
 }
 
 /// How many of so many changes of a counter find it by its name.
-pub fn found_by_name(alloc: Global, count: u32, parts: usize) -> Result<usize, AllocError> {
+pub fn found_by_name(alloc: Global, count: u32, parts: &[usize]) -> Result<usize, AllocError> {
     let mut cells = Cells::new(alloc)?;
     let word = Name::new(alloc, b"counter")?;
     let name = cells.sym(&word)?;

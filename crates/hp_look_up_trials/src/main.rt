@@ -16,7 +16,7 @@ use std::io;
 
 const ROUNDS: usize = 10_000;
 // The name and two arguments.
-const PARTS: usize = 3;
+const PARTS: [usize; 3] = [0, 1, 2];
 
 // Of a large world.
 const ATOMS: u32 = 100_000;
@@ -40,7 +40,7 @@ fn tried(alloc: Global) -> Result<Findings, AllocError> {
     let symbols = found_symbols(alloc, &cells)?;
     let atoms = found(&cells, &table);
     let numbers = cells.find_num(7).is_some();
-    let mut world = World::indexed(alloc, PARTS)?;
+    let mut world = World::indexed(alloc, &PARTS)?;
     let mut draws = Draws { state: 1 };
     let differ = differing(&cells, &table, &mut world, &mut draws, ROUNDS)?;
     Ok(Findings {
@@ -66,8 +66,8 @@ fn main(rt: HostRuntime) -> io::Result<()> {
     println!(rt; "changes and undoings: {ROUNDS}")?;
     println!(rt; "look-ups that differ from a scan: {differ}")?;
     println!(rt; "places in the end: {places}")?;
-    let by_argument = found_by_argument(rt.alloc(), ATOMS, CHANGES, PARTS)?;
+    let by_argument = found_by_argument(rt.alloc(), ATOMS, CHANGES, &PARTS)?;
     println!(rt; "changes of {ATOMS} atoms that find theirs by an argument: {by_argument}")?;
-    let by_name = found_by_name(rt.alloc(), CHANGES, PARTS)?;
+    let by_name = found_by_name(rt.alloc(), CHANGES, &PARTS)?;
     println!(rt; "changes of a counter that find it by its name: {by_name}")
 }

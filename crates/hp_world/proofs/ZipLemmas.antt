@@ -1,5 +1,5 @@
 -- Lists whose items are changed one after another.
-use Rattle.std.proofs.Common.{◌≡◌, ◌≢◌, ℕ, zero, suc, ◌+◌, ◌<◌, ◌≤◌, List, [], ◌∷◌, ◌++◌, length, get_or, set, take, refl, sym, ap, ◌∙◌, subst, arith}
+use Rattle.std.proofs.Common.{◌≡◌, ◌≢◌, ℕ, zero, suc, ◌+◌, ◌<◌, ◌≤◌, List, [], ◌∷◌, ◌++◌, map, length, get_or, set, take, refl, sym, ap, ◌∙◌, subst, arith}
 use Rattle.std.specs.List.{All, AllZip}
 use Rattle.std.proofs.lemmas.List.{length-set, get_or-set_same, get_or-set_other, take_more, take_all}
 use Rattle.std.proofs.lemmas.List.Elements.{All-nil, All-cons, All-head, All-tail, All-more, AllZip-push}
@@ -93,6 +93,15 @@ module _ {X : Type 0} where
   all_zipped P Q R f (x ∷ xs) [] h z = absurd z
   all_zipped P Q R f (x ∷ xs) (y ∷ ys) h z =
       All-cons Q y ys (f x y (All-head P x xs h) z.0) (all_zipped P Q R f xs ys (All-tail P x xs h) z.1)
+
+  -- what no item's change touches stays of all
+  pub zip_map : {Y : Type 0} → (f : X → Y) (R : X → X → Type 0) → ((x y : X) → R x y → f y ≡ f x) → (xs ys : List X)
+      → AllZip R xs ys → map f ys ≡ map f xs
+  zip_map f R same [] [] z = refl
+  zip_map f R same [] (y ∷ ys) z = absurd z
+  zip_map f R same (x ∷ xs) [] z = absurd z
+  zip_map f R same (x ∷ xs) (y ∷ ys) z =
+      ap (λ v. v ∷ map f ys) (same x y z.0) ∙ ap (λ vs. f x ∷ vs) (zip_map f R same xs ys z.1)
 
   -- items that are changed twice are related by both changes
   pub zip_twice : (R S T : X → X → Type 0) → ((x y z : X) → R x y → S y z → T x z) → (xs ys zs : List X)

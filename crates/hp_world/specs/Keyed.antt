@@ -1,5 +1,5 @@
 -- Places by a part of their atoms.
-use Rattle.std.specs.Prelude.{◌≡◌, ℕ, ◌+◌, ◌-◌, ◌<◌, ◌≤◌, min, List, [], ◌∷◌, ◌++◌, Option, Some, None, IfSome, length, take, slice_get, slice_index_or, vec_capacity}
+use Rattle.std.specs.Prelude.{◌≡◌, ℕ, ◌+◌, ◌-◌, ◌<◌, ◌≤◌, min, List, [], ◌∷◌, ◌++◌, map, Option, Some, None, IfSome, length, take, slice_get, slice_index_or, vec_capacity}
 use Rattle.hp_syntax.specs.Terms.{Term}
 use Rattle.hp_chains.specs.Entries.{Entry, Bare, Standing, Loose, FitsBack, IsTakenOut, entry_at, new_entry, returned}
 use Rattle.hp_world.specs.declared.part_index.PartIndex.TheInside.{Inside}
@@ -16,6 +16,10 @@ pub record Keyed : Type 0 where
   pub keys : ℕ
   pub room : ℕ
   pub waiting : List (Option ℕ)
+
+-- the parts by which indexes have places, in order
+abbrev pub parts_of : List Keyed → List ℕ
+parts_of indexes = map (λ (p : Keyed). p.part) indexes
 
 -- the view of an index
 abbrev pub keyed_of : Inside → Keyed

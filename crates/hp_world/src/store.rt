@@ -57,7 +57,7 @@ impl Store {
     ghost use Rattle.hp_world.specs.Deleting.{without, deleted};
     ghost use Rattle.hp_world.specs.Histories.{mark_of, undone_to};
     ghost use Rattle.hp_world.specs.Indexed.{IsAbsent, IsOnlyAt};
-    ghost use Rattle.hp_world.specs.Keyed.{Allows, Awaits, HasWaiting, IsAsRoomy, KnowsParts};
+    ghost use Rattle.hp_world.specs.Keyed.{Allows, Awaits, HasWaiting, IsAsRoomy, KnowsParts, parts_of};
     ghost use Rattle.hp_world.specs.Keyed.{Learns, Nothing, RightAt, RightFor};
     ghost use Rattle.hp_world.specs.declared.part_index.Step.TheVariants.{More};
     ghost use Rattle.hp_syntax.specs.Terms.{Term};
@@ -181,6 +181,7 @@ impl Store {
         requires empty { history_of self.old ≡ record { past = []; now = record { places = []; guards = [] } } }
         ensures sound { IsSound self.new }
         ensures same { history_of self.new ≡ history_of self.old }
+        ensures indexes { OnOk result (parts_of self.new.parts.items ≡ parts_of self.old.parts.items ++ part ∷ []) }
         ensures knows { (terms : List Term) → All (KnowsParts terms) self.old.parts.items
             → All (KnowsParts terms) self.new.parts.items }
     {

@@ -6,6 +6,7 @@ ghost use Rattle.hp_world.specs.Answers.{Applies};
 ghost use Rattle.hp_world.specs.Histories.{mark_of, undone_to};
 ghost use Rattle.hp_world.specs.Indexed.{IsAbsent, IsOnlyAt};
 ghost use Rattle.hp_world.specs.Named.{IsNamedWithAt, IsNextNamed, IsNextNamedWith, IsNoLaterThan};
+ghost use Rattle.hp_world.specs.Keyed.{parts_of};
 ghost use Rattle.hp_world.specs.Recorded.{history_in, Knows};
 ghost use Rattle.hp_world.specs.Stages.{live_atoms, PlacesKept, AllBelow, StageBelow, ChangesBelow};
 
@@ -50,16 +51,16 @@ impl World {
         }
     }
 
-    /// No atoms and no protections, with an index of the places by each of so many parts of their atoms, the name
-    /// first.
-    pub fn indexed(alloc: Global, parts: usize) -> Result<World, AllocError>
+    /// No atoms and no protections, with an index of the places by each of these parts of their atoms.
+    pub fn indexed(alloc: Global, parts: &[usize]) -> Result<World, AllocError>
         ensures empty { IfOk result (λ w. history_in w
             ≡ record { past = []; now = record { places = []; guards = [] } }) }
+        ensures indexes { IfOk result (λ w. parts_of w.parts ≡ parts.now) }
         ensures knows { IfOk result (λ w. (terms : List Term) → Knows terms w) }
     {
         let mut store = Store::new(alloc);
-        for part in 0..parts {
-            store.add_part(part)?;
+        for part in parts {
+            store.add_part(*part)?;
         }
         Ok(World { store })
     }
@@ -103,6 +104,7 @@ impl World {
         ensures ok { IfOk result (λ a. Applies a
             (record { unguard = unguard.now; delete = del.now; add = add.now; guard = guard.now })
             (history_in self.old) (history_in self.new)) }
+        ensures indexes { parts_of self.new.parts ≡ parts_of self.old.parts }
         ensures knows { Knows cells.now self.old → Knows cells.now self.new }
         ensures below { (n : ℕ) → StageBelow n self.old.now → ChangesBelow n
             (record { unguard = unguard.now; delete = del.now; add = add.now; guard = guard.now })
@@ -177,8 +179,8 @@ impl World {
     }
 
     /// The least place not below one whose atom has this name and, as the part of this number, this term; the
-    /// arguments are the parts from 1 on. It is found along the atoms with that part, where the world has an index by
-    /// it, and else along those with that name.
+    /// arguments are the parts from 1 on. Where the world has an index by that part, and one by names, it is found
+    /// along the atoms with the part and along those with the name by turns, so that the fewer of them bound the turns.
     pub fn next_with(
         &self,
         cells: &Cells,
@@ -196,13 +198,11 @@ impl World {
         let end = self.places();
         let mut at = from;
         while at < end {
-            let Some(place) = self.next_likely(cells, name, part, argument, at) else {
-                return None;
-            };
+            let place = self.next_likely(cells, name, part, argument, at)?;
             if self.is_at(cells, name, part, argument, place) {
                 return Some(place);
             }
-            at = place + 1;
+            at = self.next_named(cells, name, place + 1)?;
         }
         None
     }
@@ -262,6 +262,7 @@ impl World {
     pub fn undo_to(&mut self, mark: usize)
         requires { mark ≤ mark_of (history_in self.old) }
         ensures back { history_in self.new ≡ undone_to mark (history_in self.old) }
+        ensures indexes { parts_of self.new.parts ≡ parts_of self.old.parts }
         ensures knows { (terms : List Term) → Knows terms self.old → Knows terms self.new }
     {
         self.store.undo_to(mark);

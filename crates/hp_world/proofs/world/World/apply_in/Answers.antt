@@ -1,11 +1,13 @@
-use Rattle.std.proofs.Common.{ℕ, subst, sym}
+use Rattle.std.proofs.Common.{ℕ, length, ◌∙◌, ap, subst, sym}
 use Rattle.hp_syntax.specs.Applying.{ChangesOf}
 use Rattle.hp_world.specs.Histories.{History}
+use Rattle.hp_world.specs.Keyed.{Keyed, IsAsRoomy, Learns, RightFor, parts_of}
 use Rattle.hp_world.specs.Recorded.{Recorded, Knows}
 use Rattle.hp_world.specs.Stages.{Stage, StageBelow}
 use Rattle.hp_world.specs.Undoing.{history_of}
 use Rattle.hp_world.proofs.AnswerLemmas.{applied_below}
 use Rattle.hp_world.proofs.LearningLemmas.{all_known, known_roomier}
+use Rattle.hp_world.proofs.ZipLemmas.{zip_map}
 use Rattle.hp_world.proofs.world.World.apply_in.Goals as goal
 
 pub returns-in_err-prepare-clause-knows : goal.returns-in_err-prepare-clause-knows
@@ -32,3 +34,17 @@ returns-clause-below c = λ n s b.
     c.apply.ensures.ok c.apply.ensures.err n
     (subst (λ (h : History Stage). StageBelow n h.now) (sym c.prepare.ensures.same)
     (subst (λ (w : Recorded). StageBelow n w.now) (sym c.self.view_is) s)) b
+
+pub returns-in_err-prepare-clause-indexes : goal.returns-in_err-prepare-clause-indexes
+returns-in_err-prepare-clause-indexes c =
+    zip_map (λ (p : Keyed). p.part) IsAsRoomy (λ p q f. f.part) c.self.inside.store.parts.items
+    c.prepare.new.self.parts.items c.prepare.ensures.roomier
+    ∙ ap (λ (w : Recorded). parts_of w.parts) c.self.view_is
+
+pub returns-clause-indexes : goal.returns-clause-indexes
+returns-clause-indexes c =
+    zip_map (λ (p : Keyed). p.part) (Learns (RightFor c.args.add.now) (length c.args.add.now)) (λ p q f. f.part)
+    c.prepare.new.self.parts.items c.apply.new.self.parts.items c.apply.ensures.parts
+    ∙ zip_map (λ (p : Keyed). p.part) IsAsRoomy (λ p q f. f.part) c.self.inside.store.parts.items
+    c.prepare.new.self.parts.items c.prepare.ensures.roomier
+    ∙ ap (λ (w : Recorded). parts_of w.parts) c.self.view_is

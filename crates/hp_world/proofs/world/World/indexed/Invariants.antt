@@ -1,7 +1,7 @@
-use Rattle.std.proofs.Common.{◌≡◌, List, []}
+use Rattle.std.proofs.Common.{◌≡◌, List, [], take}
 use Rattle.std.specs.List.{All}
 use Rattle.hp_syntax.specs.Terms.{Term}
-use Rattle.hp_world.specs.Keyed.{KnowsParts}
+use Rattle.hp_world.specs.Keyed.{KnowsParts, parts_of}
 use Rattle.hp_world.specs.Undoing.{IsSound, history_of}
 use Rattle.hp_world.proofs.world.World.indexed.Given as goal
 
@@ -9,5 +9,6 @@ abbrev pub invariant-loop-part : goal.invariant-loop-part
 invariant-loop-part l = record {
   sound : IsSound l.store;
   empty : history_of l.store ≡ record { past = []; now = record { places = []; guards = [] } };
+  indexes : parts_of l.store.parts.items ≡ take l.part-index l.parts;
   knows : (terms : List Term) → All (KnowsParts terms) l.store.parts.items;
 }
