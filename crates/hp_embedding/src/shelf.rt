@@ -1,5 +1,5 @@
 //! A folder of one's own.
-ghost use Rattle.std.specs.Prelude.{◌≡◌, ◌≢◌, ℕ, List, true, Some, None, IfSome, IfNone};
+ghost use Rattle.std.specs.Prelude.{◌≡◌, ◌≢◌, ℕ, List, true, false, Some, None, IfSome, IfNone};
 ghost use Rattle.hp_io.specs.declared.folder.Input.{Input};
 ghost use Rattle.hp_embedding.specs.Shelves.{texts, text_named, left_of, is_begun};
 
@@ -17,8 +17,10 @@ pub struct Shelf<'a> {
 }
 
 impl<'a> Shelf<'a> {
+    /// The texts of the names `domain` and `problem`, of which none is begun.
     pub fn new(domain: &'a str, problem: &'a str) -> Shelf<'a>
-        ensures { (n : List ℕ) → text_named result n ≡ texts domain.now problem.now n }
+        ensures named { (n : List ℕ) → text_named result n ≡ texts domain.now problem.now n }
+        ensures begun { (w : Input) → is_begun result w ≡ false }
     {
         Shelf {
             domain: domain.as_bytes(),

@@ -12,8 +12,10 @@ pub struct Tray {
 }
 
 impl Tray {
+    /// Nothing written yet, and no write failed.
     pub fn new(alloc: Global) -> Tray
         ensures empty { result.bytes.items ≡ [] }
+        ensures faults { result.faults ≡ 0 }
     {
         Tray {
             bytes: Vec::new(alloc),

@@ -3,8 +3,8 @@ ghost use Rattle.std.specs.Prelude.{◌≡◌, true};
 ghost use Rattle.std.specs.List.{All};
 ghost use Rattle.hp_top.specs.Telling.{IsAtItsNode};
 
-use crate::cheapest::{CheapestPlan, cheapest};
 use crate::swap::{print_pruned, print_visits, print_way_back};
+use hp_embedding::cheapest::{CheapestPlan, cheapest};
 use hp_io::HostSink;
 use hp_net::Walk;
 use hp_out::Pen;

@@ -3,8 +3,8 @@ ghost use Rattle.std.specs.Prelude.{◌≢◌, [], Some, map, string_bytes};
 ghost use Rattle.hp_top.specs.Run.{IsOutcome};
 ghost use Rattle.hp_embedding.specs.Shelves.{texts};
 
-use crate::shelf::Shelf;
-use crate::tray::Tray;
+use hp_embedding::shelf::Shelf;
+use hp_embedding::tray::Tray;
 use hp_top::{Status, run};
 use std::alloc::Global;
 

@@ -1,5 +1,5 @@
 use Rattle.std.proofs.Common.{◌≡◌, true}
-use Rattle.hp_embedding.proofs.swap.print_visits.Given as goal
+use Rattle.hp_courier.proofs.swap.print_pruned.Given as goal
 
 abbrev pub invariant-loop : goal.invariant-loop
 invariant-loop g l = g.W.Walk.is_live l.walk ≡ true

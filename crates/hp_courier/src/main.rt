@@ -1,16 +1,14 @@
 //! An example: a program of one's own over the planner's crates. It runs a command over a folder and a sink of its
-//! own, and it walks the tree itself, call by call and to find the cheapest plan.
+//! own, and it walks the tree itself, call by call and to find the cheapest plan. Both, and the search for that plan,
+//! stand in `hp_embedding`.
 #![tactic(auto)]
 
-mod cheapest;
 mod courier;
 mod loading;
 mod planning;
-mod shelf;
 mod showing;
 mod steps;
 mod swap;
-mod tray;
 
 use hp_io::HostSink;
 use hp_out::Pen;

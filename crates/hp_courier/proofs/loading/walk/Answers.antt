@@ -6,7 +6,7 @@ use Rattle.hp_syntax.specs.Views.{domain_of, pair_of, problem_of}
 use Rattle.hp_syntax.specs.Walk.{root}
 use Rattle.hp_syntax.specs.declared.limits.TheConstants.{USUAL_LEVELS}
 use Rattle.hp_top.proofs.PlanEnds.{held_by_first, ok_weaker, one_in_memory, one_pair}
-use Rattle.hp_embedding.proofs.loading.walk.Goals as goal
+use Rattle.hp_courier.proofs.loading.walk.Goals as goal
 
 pub index-pair-requires : goal.index-pair-requires
 index-pair-requires c =
