@@ -1,5 +1,5 @@
 -- The events of single values and atoms.
-use Rattle.std.proofs.Common.{◌≡◌, ℕ, ◌<◌, Bool, true, false, List, [], ◌∷◌, ◌++◌, length, map, slice_get, Option, Some, None, Result, Ok, refl, sym, ◌∙◌, ap}
+use Rattle.std.proofs.Common.{◌≡◌, ℕ, ℤ, Bor, ◌<◌, Bool, true, false, List, [], ◌∷◌, ◌++◌, length, map, slice_get, Option, Some, None, Result, Ok, refl, sym, ◌∙◌, ap}
 use Rattle.std.specs.List.{All}
 use Rattle.std.proofs.lemmas.Option.{get_or_from_slice_get}
 use Rattle.hp_cells.specs.declared.keys.View.{View}
@@ -28,6 +28,16 @@ use Rattle.hp_answers.specs.AnswerViews.{Finds}
 use Rattle.hp_satisfiers.specs.Places.{place_events, IsAtomBelow}
 
 -- ---- values
+
+-- a view other than the empty list isn't the empty list, of a symbol, of a number and of a list with a first part
+pub sym_not_nil : (v : View) (x : Bor (List ℕ)) → v ≡ Sym x → v ≡ Nil → ⊥
+sym_not_nil v x h n = cc
+
+pub num_not_nil : (v : View) (k : ℤ) → v ≡ Num k → v ≡ Nil → ⊥
+num_not_nil v k h n = cc
+
+pub cons_not_nil : (v : View) (head tail : ℕ) → v ≡ Cons head tail → v ≡ Nil → ⊥
+cons_not_nil v head tail h n = cc
 
 -- a term that is shown as a symbol, a number or a list with a first part is true
 pub shown_true : (terms : List Term) (v : View) (t : Term) (e : Bindings) → Shows terms v t → (v ≡ Nil → ⊥)

@@ -43,7 +43,7 @@ pieces_count scene level terms s (Branches found head goal) =
     length-map (answer_events terms found.now) _ ∙ length-map found.now (answer_event terms)
 
 -- the piece of an item has its events
-piece_is : {X : Type 0} (f : X → List Event) (xs : List X) (i : ℕ) (x : X) (ps : List (List Event)) → ps ≡ map f xs
+pub piece_is : {X : Type 0} (f : X → List Event) (xs : List X) (i : ℕ) (x : X) (ps : List (List Event)) → ps ≡ map f xs
     → i < length xs → x ≡ get_or xs i x → f x ≡ get_or ps i []
 piece_is f xs i x ps whole l is = ap f is ∙ (sym (get_or-map f xs i x [] l) ∙ ap (λ qs. get_or qs i []) (sym whole))
 

@@ -1,4 +1,5 @@
-use Rattle.std.proofs.Common.{◌+◌, length, map, drop, ap, ◌∙◌, subst, sym}
+use Rattle.std.proofs.Common.{◌+◌, length, map, drop, ap, ◌∙◌, subst, sym, arith}
+use Rattle.std.proofs.lemmas.List.{drop_all}
 use Rattle.hp_syntax.specs.Events.{state_events}
 use Rattle.hp_eval.specs.GoalViews.{goal_of}
 use Rattle.hp_eval.specs.Slotted.{named, bindings_of}
@@ -6,7 +7,7 @@ use Rattle.hp_eval.proofs.Loops.{left_at}
 use Rattle.hp_world.specs.Stages.{live_atoms, terms_at, state_of}
 use Rattle.hp_answers.specs.AnswerViews.{Finds}
 use Rattle.hp_satisfiers.specs.Places.{place_events}
-use Rattle.hp_answers.proofs.AnswerLemmas.{upto_none, upto_more, upto_same}
+use Rattle.hp_answers.proofs.AnswerLemmas.{upto_none, upto_more, upto_same, upto_all}
 use Rattle.hp_satisfiers.proofs.MatchSteps.{live_at, places_step}
 use Rattle.std.specs.Prelude.{slice_get}
 use Rattle.hp_satisfiers.proofs.matches.state_events.Goals as goal
@@ -57,3 +58,18 @@ loop-place-init c =
       same = c.in_ok-own.ensures;
       found = upto_none terms (length s.values) c.new-found.result.items whole c.new-found.ensures.items;
     }
+
+pub at_place-requires-clause-goal : goal.at_place-requires-clause-goal
+at_place-requires-clause-goal c = c.requires.goal
+
+pub returns : goal.returns
+returns c =
+    let terms = c.args.cells.now in
+    let stage = c.args.world.now.now in
+    let q = goal_of terms c.args.goal.now in
+    let e = bindings_of terms c.args.slots.now in
+    upto_all terms (length c.args.slots.now.values) c.loop-place.found.items (state_events (state_of terms stage) q e)
+    (state_events (terms_at terms (live_atoms (drop c.loop-place.place stage.places))) q e)
+    (ap (λ ps. state_events (terms_at terms (live_atoms ps)) q e)
+    (drop_all c.loop-place.place stage.places (omega (arith, c.places-place-end.ensures, c.loop-place-test.false))))
+    c.loop-place.invariant.found

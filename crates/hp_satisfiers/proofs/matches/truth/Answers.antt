@@ -5,7 +5,7 @@ use Rattle.hp_eval.specs.Slotted.{bindings_of}
 use Rattle.hp_eval.proofs.CellViews.{named_at}
 use Rattle.hp_cells.specs.declared.keys.View.TheVariants.{Nil}
 use Rattle.hp_answers.proofs.AnswerLemmas.{finds_same}
-use Rattle.hp_satisfiers.proofs.MatchSteps.{shown_true}
+use Rattle.hp_satisfiers.proofs.MatchSteps.{shown_true, sym_not_nil, num_not_nil, cons_not_nil}
 use Rattle.hp_satisfiers.proofs.matches.truth.Goals as goal
 
 pub returns-in-Sym : goal.returns-in-Sym
@@ -15,8 +15,11 @@ returns-in-Sym c =
     let shown = c.get.ensures.shows t (named_at terms c.args.cell c.requires.cell) in
     let other : c.get.result ≡ Nil → ⊥ =
     elim c.in-Sym.is [
-      | inl h ↦ λ n. cc
-      | inr q ↦ elim q [ inl h ↦ λ n. cc | inr h ↦ λ n. cc ]
+      | inl h ↦ sym_not_nil c.get.result h.0 h.1
+      | inr q ↦ elim q [
+        | inl h ↦ num_not_nil c.get.result h.0 h.1
+        | inr h ↦ cons_not_nil c.get.result h.0 h.1 h.2
+      ]
     ] in
     IfOk-weaker c.satisfied.result _ _
     (λ v h. finds_same terms _ v.items _ _

@@ -1,4 +1,6 @@
-use Rattle.std.proofs.Common.{◌≡◌, ◌+◌, ◌-◌, ◌*◌, ◌<◌, true, false, List, map, vec_len, ◌++◌, length, drop, get_or, Result, Ok, ap, ap₂, sym, ◌∙◌, subst, arith}
+use Rattle.std.specs.Result.{IfOk}
+use Rattle.hp_syntax.specs.Syntax.{Axiom}
+use Rattle.std.proofs.Common.{◌≡◌, ◌+◌, ◌-◌, ◌*◌, ◌<◌, ◌≤◌, true, false, List, map, vec_len, ◌++◌, length, drop, get_or, Option, option_map, Result, Ok, Err, ap, ap₂, sym, ◌∙◌, subst, arith}
 use Rattle.std.proofs.lemmas.List.{nil_from_length, drop_all}
 use Rattle.hp_laws.proofs.Listings.{map_has}
 use Rattle.hp_syntax.specs.Syntax.{Clause}
@@ -13,25 +15,31 @@ use Rattle.hp_eval.specs.Slotted.{bindings_of}
 use Rattle.hp_eval.proofs.GrowthLemmas.{grows_self, grows_on, bindings_stay, below_grows}
 use Rattle.hp_syntax.specs.Preconditions.{heard}
 use Rattle.std.specs.List.{All}
-use Rattle.std.proofs.lemmas.List.Elements.{All-weaker}
+use Rattle.std.proofs.lemmas.List.Elements.{All-weaker, All-get_or}
+use Rattle.hp_answers.specs.declared.answer.Answer.TheVariants.{Cut}
 use Rattle.hp_answers.specs.AnswerViews.{answer_events, Fits, AllFit, BindsBelow, MeetsHead}
 use Rattle.hp_laws.specs.HeardAlike.{AreHeardAlike}
 use Rattle.hp_laws.specs.RulesByName.{concluding}
 use Rattle.hp_answers.specs.RuleIndexes.{axiom_at}
 use Rattle.hp_satisfiers.specs.Scenes.{rules_in, axioms_in, stage_in, state_in, below_at, placed_events}
 use Rattle.hp_eval.proofs.GoalViewLemmas.{goal_below_grows, goal_stays}
-use Rattle.hp_answers.proofs.AnswerLemmas.{finds_none, sat_replaced, cut_replaced, fault_replaced, fits_below, stage_below_grows, state_stays, sat_fits}
+use Rattle.hp_answers.proofs.AnswerLemmas.{finds_none, finds_one, finds_same, sat_replaced, cut_replaced, fault_replaced, fits_below, stage_below_grows, state_stays, sat_fits}
 use Rattle.hp_satisfiers.proofs.Sizes.{size, sizes, item_work, left_to_do, less_to_do_below, branch_size, size_of-atom, size_of-and, size_of-or, size_of-not, size_of-forall, part_size}
 use Rattle.hp_satisfiers.proofs.SearchSteps.{sat_of-atom, sat_of-and, sat_of-or, sat_of-not, sat_of-forall, sat_of-assign, sat_of-call, forall_sat, all_of, all_begin, all_go_on, all_end, any_of}
 use Rattle.hp_satisfiers.proofs.AxiomSteps.{goal_begins, placed_axiom, few_at, axiom_among, axiom_unstarted, axiom_started, some_met, none_met}
-use Rattle.hp_satisfiers.proofs.ChosenBranches.{chosen_left, chosen_here, chosen_passes}
+use Rattle.hp_satisfiers.proofs.ChosenBranches.{branches_begin, chosen_left, chosen_here, chosen_passes}
 use Rattle.hp_satisfiers.proofs.SceneGrowth.{turned_sat, turned_stays, sat_stays, turn_gives, negation_gives}
 use Rattle.hp_laws.proofs.HeardAlikeLemmas.{alike_through}
 use Rattle.hp_satisfiers.proofs.HeardLemmas.{hears_found, hears_same, hears_vars, hears_begin, hears_all, hears_over, hears_both}
-use Rattle.hp_satisfiers.specs.Sources.{item_count, pieces, joined}
-use Rattle.hp_satisfiers.proofs.SourceSteps.{pieces_count, replaced_piece, source_grows, source_next, sats_joined, parts_joined, axioms_joined}
+use Rattle.hp_satisfiers.specs.Sources.{item_count, pieces, joined, SourceBelow}
+use Rattle.hp_satisfiers.proofs.SourceSteps.{pieces_count, piece_is, replaced_piece, source_grows, source_next, sats_joined, parts_joined, axioms_joined}
 use Rattle.std.proofs.lemmas.Bool.{eqb-true, eqb-false}
 use Rattle.hp_satisfiers.proofs.expressions.Scene.+events.Goals as goal
+
+-- what holds of a value where there is one holds together
+IfOk-both : {T E : Type 0} (r : Result T E) (P Q : T → Type 0) → IfOk r P → IfOk r Q → IfOk r (λ x. P x × Q x)
+IfOk-both (Ok x) P Q h k = (h, k)
+IfOk-both (Err e) P Q h k = tt
 
 -- ---- an expression by its kind
 
@@ -913,3 +921,163 @@ atom_events-goal_events-requires t c =
         ),
       ),
     )
+
+-- ---- items
+
+pub item_events-at-requires : goal.item_events-at-requires
+item_events-at-requires t c =
+    subst (λ source. c.args.number < item_count source) c.in-Parts.is c.requires.number
+
+pub item_events-at-requires-in-Sats : goal.item_events-at-requires-in-Sats
+item_events-at-requires-in-Sats t c =
+    subst (λ source. c.args.number < item_count source) c.in-Sats.is c.requires.number
+
+pub item_events-at-requires-in-Axioms : goal.item_events-at-requires-in-Axioms
+item_events-at-requires-in-Axioms t c =
+    subst (λ source. c.args.number < item_count source) c.in-Axioms.is c.requires.number
+
+pub item_events-at-requires-in-Branches : goal.item_events-at-requires-in-Branches
+item_events-at-requires-in-Branches t c =
+    subst (λ source. c.args.number < item_count source) c.in-Branches.is c.requires.number
+
+pub item_events-one_events-requires : goal.item_events-one_events-requires
+item_events-one_events-requires t c =
+    let vars = length c.args.slots.now.values in
+    let n = length c.args.cells.now in
+    let number = c.args.number in
+    let found = c.in-Sats.found.now in
+    let within = subst (λ source. number < item_count source) c.in-Sats.is c.requires.number in
+    let fit = subst (SourceBelow vars n) c.in-Sats.is c.requires.source in (
+      omega (arith, c.decreases, ap item_work c.in-Sats.is),
+      (
+        subst (Fits vars n) (sym c.at-in-Sats.ensures)
+            (All-get_or (Fits vars n) found number c.at-in-Sats.result.now within fit),
+        c.requires.world,
+      ),
+    )
+
+pub item_events-axiom_events-requires : goal.item_events-axiom_events-requires
+item_events-axiom_events-requires t c =
+    let vars = length c.args.slots.now.values in
+    let below = subst (SourceBelow vars (length c.args.cells.now)) c.in-Axioms.is c.requires.source in
+    (omega (arith, c.decreases, ap item_work c.in-Axioms.is), (c.requires.slots, (below, c.requires.world)))
+
+pub item_events-conclusion-requires : goal.item_events-conclusion-requires
+item_events-conclusion-requires t c =
+    let n = length c.args.cells.now in
+    let number = c.args.number in
+    let within = subst (λ source. number < item_count source) c.in-Branches.is c.requires.number in
+    let below = subst (SourceBelow (length c.args.slots.now.values) n) c.in-Branches.is c.requires.source in
+    record {
+      slots = c.requires.slots;
+      goal = below.0;
+      found =
+          subst (BindsBelow n) (sym c.at-in-Branches.ensures)
+          (All-get_or (BindsBelow n) c.in-Branches.found.now number c.at-in-Branches.result.now within below.1);
+    }
+
+pub item_events-returns-in-Parts-clause-finds : goal.item_events-returns-in-Parts-clause-finds
+item_events-returns-in-Parts-clause-finds t c =
+    let scene = c.args.self.now in
+    let axioms = axioms_in scene in
+    let old = c.args.cells.now in
+    let s = c.args.slots.now in
+    let number = c.args.number in
+    let within = subst (λ source. number < item_count source) c.in-Parts.is c.requires.number in
+    let piece =
+    ap heard (piece_is (λ p. sat axioms c.args.level (state_in old scene) (expression_of p) (bindings_of old s))
+    c.in-Parts.parts.now number c.at.result.now _ (ap (pieces scene c.args.level old s) c.in-Parts.is) within
+    c.at.ensures) in
+    IfOk-weaker c.events.result _ _ (λ v h. record { stand = h.0 ∙ piece; fit = h.1 })
+    (IfOk-both c.events.result _ _ c.events.ensures.found c.events.ensures.fit)
+
+pub item_events-returns-in-Axioms-clause-finds : goal.item_events-returns-in-Axioms-clause-finds
+item_events-returns-in-Axioms-clause-finds t c =
+    let scene = c.args.self.now in
+    let old = c.args.cells.now in
+    let s = c.args.slots.now in
+    let number = c.args.number in
+    let within = subst (λ source. number < item_count source) c.in-Axioms.is c.requires.number in
+    let lower = below_at (axioms_in scene) c.args.level (state_in old scene) in
+    let piece =
+    ap heard (piece_is
+    (λ place. placed_events lower (axiom_at (rules_in scene) place) (goal_of old c.in-Axioms.goal.now)
+    (bindings_of old s))
+    c.in-Axioms.places.now number c.at-in-Axioms.result.now _
+    (ap (pieces scene c.args.level old s) c.in-Axioms.is) within c.at-in-Axioms.ensures) in
+    IfOk-weaker c.axiom_events.result _ _
+    (λ v h. hears_same c.axiom_events.new.cells (length s.values) v.items _ _ piece h) c.axiom_events.ensures.finds
+
+pub item_events-returns-in-Parts-clause-cells : goal.item_events-returns-in-Parts-clause-cells
+item_events-returns-in-Parts-clause-cells t c = c.events.ensures.cells
+
+pub item_events-returns-in-Sats-clause-cells : goal.item_events-returns-in-Sats-clause-cells
+item_events-returns-in-Sats-clause-cells t c = c.one_events.ensures.cells
+
+pub item_events-returns-in-Axioms-clause-cells : goal.item_events-returns-in-Axioms-clause-cells
+item_events-returns-in-Axioms-clause-cells t c = c.axiom_events.ensures.cells
+
+pub item_events-returns-in-Branches-clause-cells : goal.item_events-returns-in-Branches-clause-cells
+item_events-returns-in-Branches-clause-cells t c = c.conclusion.ensures.cells
+
+-- ---- where nothing is called again
+
+pub goal_events-state_events-requires : goal.goal_events-state_events-requires
+goal_events-state_events-requires t c = record {
+  slots = c.requires.slots;
+  goal = c.requires.goal;
+  world = c.requires.world;
+}
+
+pub axiom_events-returns-in_default-clause-finds : goal.axiom_events-returns-in_default-clause-finds
+axiom_events-returns-in_default-clause-finds t c =
+    let scene = c.args.self.now in
+    let old = c.args.cells.now in
+    let vars = length c.args.slots.now.values in
+    let items = c.new.result.items in
+    let lower = below_at (axioms_in scene) c.args.level (state_in old scene) in
+    let placed = λ (o : Option Axiom). placed_events lower o (goal_of old c.args.goal.now) (bindings_of old c.args.slots.now) in
+    let none = sym c.axiom.ensures ∙ ap (option_map (λ b. axiom_of b.now)) c.in_default.is in
+    hears_found old vars items _ (finds_none old vars items _ c.new.ensures.items (ap placed none))
+
+pub branch_events-loop-clause-init : goal.branch_events-loop-clause-init
+branch_events-loop-clause-init t c =
+    let scene = c.args.self.now in
+    let old = c.args.cells.now in
+    record {
+      grows = grows_self old;
+      so_far =
+          branches_begin (axioms_in scene) c.args.level (state_in old scene) (axiom_of c.args.rule.now)
+          (bindings_of old c.args.slots.now) (omega (arith, c.if-level-eq0.false));
+    }
+
+pub branch_events-returns-clause-finds : goal.branch_events-returns-clause-finds
+branch_events-returns-clause-finds t c =
+    let scene = c.args.self.now in
+    let old = c.args.cells.now in
+    let new = c.loop-clause.cells in
+    let vars = length c.args.slots.now.values in
+    let i = c.loop-clause.clause-index in
+    let clauses = c.args.rule.now.clauses.items in
+    let f : Clause → List Event
+    = λ x. sat (axioms_in scene) (c.args.level - 1) (state_in old scene) x.body (bindings_of old c.args.slots.now) in
+    let over = subst (λ cs. length cs ≤ i) c.deref-clause-items.ensures.value c.loop-clause-test.false in
+    hears_found new vars c.new.result.items _
+    (finds_none new vars c.new.result.items _ c.new.ensures.items
+    (c.loop-clause.invariant.so_far
+    ∙ ap (λ cs. chosen_events (chosen f (map clause_of cs))) (drop_all i clauses over)))
+
+pub branch_events-returns-then-level-eq0-clause-finds : goal.branch_events-returns-then-level-eq0-clause-finds
+branch_events-returns-then-level-eq0-clause-finds t c =
+    let scene = c.args.self.now in
+    let old = c.args.cells.now in
+    let vars = length c.args.slots.now.values in
+    let e = bindings_of old c.args.slots.now in
+    let none =
+    ap (λ n. branch_events (below_at (axioms_in scene) n (state_in old scene)) (axiom_of c.args.rule.now) e)
+    c.if-level-eq0.true in
+    IfOk-weaker c.only.result _ _
+    (λ v is.
+    hears_found old vars v.items _
+    (finds_same old vars v.items _ _ (sym none) (finds_one old vars Cut v.items is tt)))
+    c.only.ensures
