@@ -1,4 +1,5 @@
 pub mod TellingLemmas
+pub mod CountSteps
 pub mod LoadingSteps
 pub mod NextVisits
 pub mod NoteSteps

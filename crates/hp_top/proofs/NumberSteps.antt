@@ -1,8 +1,10 @@
 -- Numbers of a command.
-use Rattle.std.proofs.Common.{◌≡◌, ℕ, ◌+◌, ◌-◌, ◌*◌, ◌<◌, ◌≤◌, ◌≢◌, nat_le, drop, add-one, drop-cons, ◌∙◌, Bool, true, false, ◌&&◌, List, [], ◌∷◌, length, map, Option, Some, None, String, Global, string_bytes, bytes_eq, codes, get_or, arith, refl, sym}
+use Rattle.std.proofs.Common.{◌≡◌, ℕ, ◌+◌, ◌-◌, ◌*◌, ◌<◌, ◌≤◌, ◌≢◌, nat_le, take, drop, not, subst, option_map, add-one, drop-cons, ◌∙◌, Bool, true, false, ◌&&◌, List, [], ◌∷◌, length, map, Option, Some, None, String, Global, string_bytes, bytes_eq, codes, get_or, arith, refl, sym}
+use Rattle.std.proofs.lemmas.List.{take_all}
 use Rattle.std.proofs.lemmas.Bool.{lt-leb}
 use Rattle.std.proofs.lemmas.Bool.Decides.{nat_tests}
-use Rattle.hp_top.specs.Command.{Options, Planning, Request, only_if, is_number, number_from, number_within, planning, making, asked_by_three, accepts}
+use Rattle.hp_syntax.specs.declared.limits.TheConstants.{MOST_PLANS, GREATEST_DEPTH}
+use Rattle.hp_top.specs.Command.{Job, Options, Planning, on_files, plan_options, Request, only_if, is_number, number_from, number_within, planning, making, asked_by_three, accepts}
 use Rattle.hp_top.specs.declared.words.TheConstants.{LARGEST_SEED, MOST_PACKAGES}
 
 -- more digits spell no smaller number
@@ -64,6 +66,49 @@ accepts_three (p ∷ []) w x y u v t a b i j k l m n = absurd (omega arith)
 accepts_three (p ∷ d ∷ []) w x y u v t a b i j k l m n = absurd (omega arith)
 accepts_three (p ∷ d ∷ q ∷ []) w x y u v t a b i j k l m n = rw (l, m, n, i, j, k) refl
 accepts_three (p ∷ d ∷ q ∷ z ∷ zs) w x y u v t a b i j k l m n = absurd (omega arith)
+
+-- a word that isn't found to be another than `plan` is `plan`
+is_plan : (b e : Bool) → b ≡ not e → b ≡ false → e ≡ true
+is_plan b true t f = refl
+is_plan b false t f = absurd cc
+
+-- a word that is found to be another than `plan` isn't `plan`
+is_other : (b e : Bool) → b ≡ not e → b ≡ true → e ≡ false
+is_other b true t f = absurd cc
+is_other b false t f = refl
+
+-- five words and more of which the first is `plan` ask for the job that the others plan
+pub accepts_planned : (ws : List (String Global)) (w d p k n : String Global) (u : List ℕ) (b : Bool)
+    (o : Option Job) → 5 ≤ length ws → w ≡ get_or ws 0 w → d ≡ get_or ws 1 d → p ≡ get_or ws 2 p
+    → k ≡ get_or ws 3 k → n ≡ get_or ws 4 n → u ≡ string_bytes w → b ≡ not (bytes_eq u (codes "plan")) → b ≡ false
+    → o ≡ planning (number_within 1 MOST_PLANS (string_bytes k)) (number_within 0 GREATEST_DEPTH (string_bytes n))
+    (plan_options (map string_bytes (take (length ws - 5) (drop 5 ws))))
+    → option_map (on_files (string_bytes d) (string_bytes p)) o ≡ accepts (map string_bytes ws)
+accepts_planned [] w d p k n u b o a h i j l m s t f e = absurd (omega arith)
+accepts_planned (v ∷ []) w d p k n u b o a h i j l m s t f e = absurd (omega arith)
+accepts_planned (v ∷ x ∷ []) w d p k n u b o a h i j l m s t f e = absurd (omega arith)
+accepts_planned (v ∷ x ∷ y ∷ []) w d p k n u b o a h i j l m s t f e = absurd (omega arith)
+accepts_planned (v ∷ x ∷ y ∷ z ∷ []) w d p k n u b o a h i j l m s t f e = absurd (omega arith)
+accepts_planned (v ∷ x ∷ y ∷ z ∷ r ∷ ws) w d p k n u b o a h i j l m s t f e =
+    let all : take (length (v ∷ x ∷ y ∷ z ∷ r ∷ ws) - 5) ws ≡ ws = take_all _ ws (omega arith) in
+    let plan : bytes_eq (string_bytes v) (codes "plan") ≡ true = rw (← h, ← s) (is_plan b _ t f) in
+    let job : o ≡ planning (number_within 1 MOST_PLANS (string_bytes z))
+    (number_within 0 GREATEST_DEPTH (string_bytes r)) (plan_options (map string_bytes ws)) =
+    rw (← l, ← m) (subst (λ more. o ≡ planning (number_within 1 MOST_PLANS (string_bytes k))
+    (number_within 0 GREATEST_DEPTH (string_bytes n)) (plan_options (map string_bytes more))) all e) in
+    rw (job, plan, i, j) refl
+
+-- five words and more of which the first is another than `plan` are no command
+pub accepts_other : (ws : List (String Global)) (w : String Global) (u : List ℕ) (b : Bool) → 5 ≤ length ws
+    → w ≡ get_or ws 0 w → u ≡ string_bytes w → b ≡ not (bytes_eq u (codes "plan")) → b ≡ true
+    → None ≡ accepts (map string_bytes ws)
+accepts_other [] w u b a h s t f = absurd (omega arith)
+accepts_other (v ∷ []) w u b a h s t f = absurd (omega arith)
+accepts_other (v ∷ x ∷ []) w u b a h s t f = absurd (omega arith)
+accepts_other (v ∷ x ∷ y ∷ []) w u b a h s t f = absurd (omega arith)
+accepts_other (v ∷ x ∷ y ∷ z ∷ []) w u b a h s t f = absurd (omega arith)
+accepts_other (v ∷ x ∷ y ∷ z ∷ r ∷ ws) w u b a h s t f =
+    let other : bytes_eq (string_bytes v) (codes "plan") ≡ false = rw (← h, ← s) (is_other b _ t f) in rw other refl
 
 -- two numbers and options that are spelled are planned
 pub planned : (k n : ℕ) (o : Options) (plans depth : Option ℕ) (spelled : Option Options) → Some k ≡ plans

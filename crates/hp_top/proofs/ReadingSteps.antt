@@ -1,9 +1,21 @@
 -- One more read.
-use Rattle.std.proofs.Common.{◌≡◌, ℕ, ◌+◌, ◌≤◌, ◌<◌, List, [], ◌∷◌, ◌++◌, length, take, drop, Option, Some, None, arith, ap, sym, ◌∙◌, subst, length-append, length-take, append-nil}
+use Rattle.std.proofs.Common.{◌≡◌, ℕ, ◌+◌, ◌≤◌, ◌<◌, List, [], ◌∷◌, ◌++◌, length, take, drop, Option, Some, None, arith, ap, sym, ◌∙◌, subst, length-append, length-take, append-nil, append_assoc, refl}
 use Rattle.std.proofs.Math.Seq.{take-append_seam, drop-append_seam, drop-append-add}
 use Rattle.std.proofs.lemmas.List.{take_all}
 use Rattle.hp_io.specs.Rules.{Taken}
 use Rattle.hp_top.specs.Reading.{ReadsTo, Left, TakesUpTo, Grows}
+
+-- a piece and the rest behind others are the rest behind those with the piece
+joined : (before piece rest after : List ℕ) → after ≡ before ++ piece → before ++ (piece ++ rest) ≡ after ++ rest
+joined before piece rest after e = rw (e, append_assoc) refl
+
+-- bytes that were read, and some more behind them, are all that was read
+pub grown_left : (n : ℕ) (before after : List ℕ) (old mid new : Option (List ℕ)) → Left before old mid
+    → Grows n before after mid new → Left after old new
+grown_left n before after None mid new a t = subst (λ m. Grows n before after m new) a t
+grown_left n before after (Some old) mid new a t =
+    let t' = subst (λ m. Grows n before after m new) a.1 t in
+    (t'.0, t'.2, a.2 ∙ (ap (λ r. before ++ r) t'.3 ∙ joined before t'.1 t'.0 after t'.4))
 
 -- bytes that were read up to the limit are the prefix of the rest, up to one byte past it
 pub full : (most : ℕ) (bytes : List ℕ) (old now : Option (List ℕ)) → Left bytes old now
@@ -67,3 +79,7 @@ taken_up_to n room most buffer (Some old) new t h =
 pub none_taken : (most : ℕ) (old new : Option (List ℕ)) → new ≡ old → TakesUpTo most old new
 none_taken most None new e = e
 none_taken most (Some old) new e = (0, omega arith, e)
+
+-- the first n elements of a list that has as many are n
+pub whole_prefix : (n : ℕ) (xs : List ℕ) → n ≤ length xs → n ≡ length (take n xs)
+whole_prefix n xs h = omega (arith, length-take n xs)

@@ -1,7 +1,20 @@
 use Rattle.std.proofs.Common.{◌≡◌, ◌≤◌, ◌++◌, take, arith}
 use Rattle.std.proofs.lemmas.Grind.{common_steps}
-use Rattle.hp_top.proofs.ReadingSteps.{grown_by, taken_up_to, none_taken}
+use Rattle.hp_top.proofs.ReadingSteps.{grown_by, taken_up_to, none_taken, whole_prefix}
 use Rattle.hp_top.proofs.reading.read_more.Goals as goal
+
+pub slice_bounds-read-end : goal.slice_bounds-read-end
+slice_bounds-read-end g c =
+    let few : c.min-room.result ≤ 8192 = omega arith in whole_prefix c.min-room.result _ few
+
+pub slice_bounds-buffer-end-in-Ok : goal.slice_bounds-buffer-end-in-Ok
+slice_bounds-buffer-end-in-Ok g c = grind (arith, common_steps)
+
+pub slice_bounds-extend_from_slice-end : goal.slice_bounds-extend_from_slice-end
+slice_bounds-extend_from_slice-end g c = whole_prefix c.in-Ok.count _ (grind (arith, common_steps))
+
+pub returns-in-Ok-extend_from_slice-clause-length : goal.returns-in-Ok-extend_from_slice-clause-length
+returns-in-Ok-extend_from_slice-clause-length g c = (grind (arith, common_steps), grind (arith, common_steps))
 
 -- a read that failed took nothing
 pub returns-in-Err-clause-takes : goal.returns-in-Err-clause-takes

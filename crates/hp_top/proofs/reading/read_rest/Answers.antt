@@ -1,8 +1,24 @@
-use Rattle.std.proofs.Common.{◌+◌, arith}
+use Rattle.std.proofs.Common.{◌+◌, ◌∙◌, arith}
 use Rattle.hp_syntax.specs.declared.limits.TheConstants.{LARGEST_TEXT}
-use Rattle.hp_top.proofs.ReadingSteps.{full, ended, left_takes, takes_more}
+use Rattle.hp_top.proofs.ReadingSteps.{full, ended, left_takes, takes_more, grown_left}
 use Rattle.hp_top.proofs.reading.read_rest.Goals.{else-loop-which-test, then-loop-which-test+in_ok-count+then-count-eq0}
 use Rattle.hp_top.proofs.reading.read_rest.Goals as goal
+
+pub loop-which-preserved : goal.loop-which-preserved
+loop-which-preserved g c = record {
+  room = omega (arith, c.in_ok-count.ensures.length.0, c.in_ok-count.ensures.length.1);
+  left =
+      grown_left c.in_ok-count.count c.loop-which.bytes.items _ _ _ _ c.loop-which.invariant.left
+      c.in_ok-count.ensures.grown;
+  begun = c.read_more.ensures.begun;
+  others =
+      λ w other. (
+        (c.read_more.ensures.others w other).0 ∙ (c.loop-which.invariant.others w other).0,
+        (c.read_more.ensures.others w other).1 ∙ (c.loop-which.invariant.others w other).1,
+      );
+  files = λ n. c.read_more.ensures.files n ∙ c.loop-which.invariant.files n;
+  later = λ w. omega (arith, c.loop-which.invariant.later w, c.read_more.ensures.later w);
+}
 
 pub returns-clause-bytes : goal.returns-clause-bytes
 returns-clause-bytes g c =
