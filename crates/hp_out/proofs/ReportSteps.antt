@@ -1,13 +1,16 @@
 -- The texts of plans and endings, of the parts that are put one behind the other.
-use Rattle.std.proofs.Common.{◌≡◌, ℕ, ◌<◌, ◌^◌, ◌-◌, ℤ, FitsSigned, to_z, of_z, List, ◌++◌, Option, Some, None, Bool, true, cond, [], length, codes, decimal, min, refl, ap, sym, ◌∙◌, arith, append_assoc}
+use Rattle.std.proofs.Common.{◌≡◌, ℕ, ◌<◌, ◌^◌, ◌-◌, ℤ, FitsSigned, to_z, of_z, List, ◌++◌, Option, Some, None, Bool, true, false, cond, [], length, codes, decimal, min, refl, ap, sym, ◌∙◌, arith, append_assoc, append-nil}
 use Rattle.std.specs.Int.{w128}
 use Rattle.std.specs.Option.{MatchOption}
 use Rattle.std.proofs.lemmas.Int.{to_z-of_z}
 use Rattle.std.proofs.lemmas.List.{length-map}
 use Rattle.hp_eval.specs.GoalViews.{term_at}
+use Rattle.hp_syntax.specs.PlaceTexts.{at_span}
 use Rattle.hp_syntax.specs.Report as report
 use Rattle.hp_syntax.specs.Report.{lines_text, plan_line, plan_text, state_text, told_plan, ending_word, ending_text}
 use Rattle.hp_syntax.specs.Terms.{Term}
+use Rattle.hp_syntax.specs.TermTexts.{num_text}
+use Rattle.hp_syntax.specs.declared.pattern.Span.{Span}
 use Rattle.hp_syntax.specs.Walk.{Node}
 use Rattle.hp_world.specs.Stages.{Stage, live_atoms, terms_at, state_of, guards_of}
 
@@ -33,6 +36,13 @@ pub plan_parts : (n : Node) (i : ℕ) (cost : ℤ) (terms : List Term) (steps : 
 plan_parts n i cost terms steps s c fits =
     ap (λ t. t ++ lines_text (terms_at terms steps)) (line_part n i cost terms steps s c fits)
     ∙ ap (λ ts. plan_line i n.cost (length n.steps) ++ lines_text ts) (sym s)
+
+-- the words of the line of a plan
+pub plan_words : (i : ℕ) (cost : ℤ) (count : ℕ) (a b c : List ℕ) → a ≡ decimal i → b ≡ num_text cost
+    → c ≡ decimal count
+    → codes "plan " ++ (a ++ (codes " cost " ++ (b ++ (codes " steps " ++ (c ++ codes "\n"))))) ≡ plan_line i cost count
+unfolding plan_line
+plan_words i cost count a b c p q r = rw (p, q, r) (simp append_assoc)
 
 -- ---- states
 
@@ -75,12 +85,28 @@ pub told_with_state : (states : Bool) (i : ℕ) (n : Node) → states ≡ true
     → plan_text i n ++ state_text n ≡ told_plan states i n
 told_with_state states i n e = ap (λ b. plan_text i n ++ cond b (state_text n) []) (sym e)
 
+-- a plan without its state, where states aren't asked for
+pub told_alone : (states : Bool) (i : ℕ) (n : Node) → states ≡ false → plan_text i n ≡ told_plan states i n
+told_alone states i n e =
+    sym (ap (λ b. plan_text i n ++ cond b (state_text n) []) e ∙ append-nil (plan_text i n))
+
 -- ---- endings
+
+-- the words of a fault and its place
+pub fault_words : (word : List ℕ) (span : Span) (a b c : List ℕ) → a ≡ word → b ≡ decimal span.from
+    → c ≡ decimal span.to
+    → codes "fault " ++ (a ++ (codes " at " ++ (b ++ (codes "-" ++ (c ++ []))))) ≡ codes "fault " ++ at_span word span
+fault_words word span a b c p q r = rw (p, q, r) (simp (append_assoc, append-nil))
 
 -- how many plans were found and by how many expansions
 abbrev pub counts_text : ℕ → ℕ → List ℕ
 counts_text plans expansions =
     codes " plans " ++ decimal plans ++ codes " expansions " ++ decimal expansions ++ codes "\n"
+
+-- the words of the counts
+pub counts_words : (plans expansions : ℕ) (a b : List ℕ) → a ≡ decimal plans → b ≡ decimal expansions
+    → codes " plans " ++ (a ++ (codes " expansions " ++ (b ++ codes "\n"))) ≡ counts_text plans expansions
+counts_words plans expansions a b p q = rw (p, q) (simp append_assoc)
 
 -- the words of an ending and then the counts
 pub ending_parts : (x : report.Ending) (plans expansions : ℕ) → expansions < 2 ^ 64
