@@ -87,6 +87,29 @@ levels_push rules nest terms fs f =
     ap reverse (map-append (level_of rules nest terms) fs (f ∷ []))
     ∙ reverse-append (map (level_of rules nest terms) fs) (level_of rules nest terms f ∷ [])
 
+-- where the frame reached goes above a new one, the tree stays
+pub tree_entered : (s : Search) (top : Frame) (above : Vec Frame Global) (path : Vec ℕ Global) (d : ℕ)
+    → above.items ≡ s.above.items ++ record s.top { dids = d } ∷ []
+    → tree_in (record s { top = top; above = above; path = path; at_did = true }) ≡ tree_in s
+tree_entered s top above path d e =
+    let rules = rules_in_search s in
+    ap (λ ls. record { rules = rules; nest = s.nest; root = root_of (level_of rules s.nest s.cells top) ls })
+    (ap (levels_of rules s.nest s.cells) e
+    ∙ levels_push rules s.nest s.cells s.above.items (record s.top { dids = d }))
+
+-- where the frames above stay, the tree stays
+pub tree_above : (s : Search) (above : Vec Frame Global) (path : Vec ℕ Global) → above.items ≡ s.above.items
+    → tree_in (record s { above = above; path = path }) ≡ tree_in s
+tree_above s above path e =
+    let rules = rules_in_search s in
+    ap (λ fs. record {
+      rules = rules;
+      nest = s.nest;
+      root = root_of (level_of rules s.nest s.cells s.top)
+          (levels_of rules s.nest s.cells fs);
+    })
+    e
+
 -- a root is told by the node of its level
 root_node : (l k : Level) (ls : List Level) → l.node ≡ k.node → root_of l ls ≡ root_of k ls
 root_node l k [] e = e

@@ -1,10 +1,10 @@
-use Rattle.std.proofs.Common.{◌≡◌, true, false, ◌∙◌, sym, subst, ◌<◌, rules, refl}
+use Rattle.std.proofs.Common.{◌≡◌, true, false, ◌∙◌, sym, subst, ◌<◌, ◌≤◌, rules, refl, length, arith}
 use Rattle.std.specs.Prelude.{is_some}
 use Rattle.hp_eval.proofs.GrowthLemmas.{grows_on, grows_self}
 use Rattle.hp_tree.proofs.SearchNodeLemmas.{node_grows}
 use Rattle.hp_plain.specs.Agendas.{rules_of, IsQueue, work_left}
 use Rattle.hp_plain.specs.SearchNodes.{held}
-use Rattle.hp_plain.proofs.AgendaSteps.{agenda_takes, agenda_passes}
+use Rattle.hp_plain.proofs.AgendaSteps.{agenda_takes, agenda_passes, agenda_ends}
 use Rattle.hp_plain.proofs.agenda.Agenda.next.Goals as goal
 
 pub returns-then-is_some-clause-takes : goal.returns-then-is_some-clause-takes
@@ -116,3 +116,18 @@ returns-then-self-len-clause-agenda c = record {
       subst (IsQueue (rules_of c.args.context.now) c.args.node.now) (sym c.next_of_open.ensures.queue)
       c.loop-child.invariant.agenda.queue;
 }
+
+pub returns-then-self-len-clause-takes : goal.returns-then-self-len-clause-takes
+returns-then-self-len-clause-takes c =
+    let old = c.args.cells.now in
+    let mid = c.loop-child.cells in
+    let context = c.args.context.now in
+    let node = c.args.node.now in
+    let queue = c.next_of_open.new.self.queue in
+    let before = c.loop-child.invariant in
+    let told = c.in_ok-child.ensures in
+    let none : is_some c.in_ok-child.child ≡ false = search rules in
+    let done : length queue.candidates.items ≤ queue.at = omega arith in
+    agenda_ends mid c.next_of_open.new.cells told.cells (rules_of context) context.nest node
+    (node_grows old mid before.grows (held node) c.requires.node) c.loop-child.self c.next_of_open.new.self
+    c.in_ok-child.child _ before.left told.takes told.queue none done

@@ -1,4 +1,5 @@
 use Rattle.std.proofs.Common.{◌+◌, ◌++◌, ap₂, sym, ◌∙◌, subst, arith}
+use Rattle.std.proofs.lemmas.Grind.{common_steps}
 use Rattle.std.proofs.lemmas.List.Elements.{All-get_or}
 use Rattle.std.proofs.lemmas.Option.{slice_get_within}
 use Rattle.hp_syntax.specs.Networks.{part_at}
@@ -77,3 +78,16 @@ relevant_rule-requires-clause-candidate c =
 
 pub returns-in-None-clause-cells : goal.returns-in-None-clause-cells
 returns-in-None-clause-cells c = grows_self c.args.cells.now
+
+pub returns-in_ok-choice-in-Some-clause-less : goal.returns-in_ok-choice-in-Some-clause-less
+returns-in_ok-choice-in-Some-clause-less c = grind (arith, common_steps)
+
+pub returns-in-None-clause-less : goal.returns-in-None-clause-less
+returns-in-None-clause-less c = grind (arith, common_steps)
+
+pub returns-in-None-clause-queue : goal.returns-in-None-clause-queue
+returns-in-None-clause-queue c = record {
+  candidates = c.requires.queue.candidates;
+  tried = omega arith;
+  deep = λ l. c.requires.queue.deep c.requires.some;
+}
