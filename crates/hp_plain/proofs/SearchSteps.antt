@@ -20,6 +20,7 @@ use Rattle.hp_net.specs.declared.walk.Step.TheVariants as steps
 use Rattle.hp_net.specs.Standings.{gone_back, next_below, pruned, standing, step_of, told}
 use Rattle.hp_tree.specs.Successors.{Successor, ThePlan, TheChild, successors, visits_of, dids_in}
 use Rattle.hp_tree.specs.Stacks.{Level, Stack, given_at, path_to, root_of, standing_of, told_of, with_left, taken, IsStack}
+use Rattle.hp_tree.specs.SearchNodes.{node_of}
 use Rattle.hp_tree.proofs.SearchNodeLemmas.{node_stays, node_grows}
 use Rattle.hp_tree.proofs.StackLemmas.{step_next, step_over, step_end, back_to, pruned_to, dids_append, level_new, given_new, given_did, given_other}
 use Rattle.hp_tree.proofs.SuccessorLemmas.{visits_split}
@@ -109,6 +110,28 @@ tree_above s above path e =
           (levels_of rules s.nest s.cells fs);
     })
     e
+
+-- a search that begins at a node begins at an equal one
+pub begins_tree : (rules : List Rule) (nest : ℕ) (n m : Node) (s : Search) → BeginsAt rules nest n s → n ≡ m
+    → tree_in s ≡ record { rules = rules; nest = nest; root = m }
+begins_tree rules nest n m s h e = h.tree ∙ ap (λ r. record { rules = rules; nest = nest; root = r }) e
+
+-- where a search begins at a node, all visits of an equal one are left
+pub begins_stands : (rules : List Rule) (nest : ℕ) (n m : Node) (s : Search) → BeginsAt rules nest n s → n ≡ m
+    → stands_in s ≡ standing [] (visits rules nest m []) false
+begins_stands rules nest n m s h e = h.stands ∙ ap (λ r. standing [] (visits rules nest r []) false) e
+
+-- a node whose list of steps is empty is the node without steps
+pub without_steps : (terms : List Term) (s : SearchNode) (n : Node) → s.steps.items ≡ []
+    → node_of terms
+    (record { stage = s.world.now; network = s.net.now; steps = []; cost = s.cost; depth = s.depth }) ≡ n
+    → node_in terms s ≡ n
+without_steps terms s n e h =
+    ap
+    (λ ks. node_of terms
+    (record { stage = s.world.now; network = s.net.now; steps = ks; cost = s.cost; depth = s.depth }))
+    e
+    ∙ h
 
 -- a root is told by the node of its level
 root_node : (l k : Level) (ls : List Level) → l.node ≡ k.node → root_of l ls ≡ root_of k ls
