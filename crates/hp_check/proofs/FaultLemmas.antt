@@ -1,7 +1,7 @@
 -- Of many faults the first: which one is told doesn't depend on how the parts are put together.
-use Rattle.std.proofs.Common.{◌≡◌, ℕ, Bool, true, false, cond, ◌&&◌, ◌||◌, nat_lt, ◌==◌, Option, Some, None, List, [], ◌∷◌, ◌++◌, ◌+◌, ◌<◌, length, get_or, take, map, ap, sym, ◌∙◌, refl, arith}
+use Rattle.std.proofs.Common.{◌≡◌, ℕ, Bool, true, false, cond, ◌&&◌, ◌||◌, nat_lt, ◌==◌, Option, Some, None, List, [], ◌∷◌, ◌++◌, ◌+◌, ◌<◌, ◌≤◌, length, get_or, take, map, ap, sym, ◌∙◌, refl, arith}
 use Rattle.std.proofs.lemmas.Bool.Decides.{nat_tests}
-use Rattle.std.proofs.lemmas.List.{take_more, map-append, append-nil}
+use Rattle.std.proofs.lemmas.List.{take_more, take_all, map-append, append-nil}
 use Rattle.std.proofs.lemmas.Grind.{flat_map-append}
 use Rattle.std.specs.List.{flat_map}
 use Rattle.hp_syntax.specs.declared.check.CheckFault.{CheckFault}
@@ -95,7 +95,8 @@ earlier-append a xs ys =
 -- for `grind`: a watch that sees one part and then another
 pub ruleset joined = (earlier-append, earlier-none)
 
-flat_map-more : {X Y : Type 0} (f : Y → List CheckFault) (v : X → Y) (xs : List X) (i : ℕ) (x : X)
+-- what the first parts of a list and the next part give is what one part more gives
+pub flat_map-more : {X Y A : Type 0} (f : Y → List A) (v : X → Y) (xs : List X) (i : ℕ) (x : X)
     → i < length xs → x ≡ get_or xs i x
     → flat_map f (map v (take (i + 1) xs)) ≡ flat_map f (map v (take i xs)) ++ f (v x)
 flat_map-more f v xs i x h e =
@@ -117,3 +118,9 @@ pub seen_more : {X Y : Type 0} (f : Y → List CheckFault) (v : X → Y) (xs : L
 seen_more f v xs i x a b c h e k m =
     seen_both a b c (flat_map f (map v (take i xs))) (f (v x)) k m
     ∙ ap (λ fs. earlier a (first_of fs)) (sym (flat_map-more f v xs i x h e))
+
+-- a watch that has seen all parts of a list has seen the list
+pub seen_all : {X Y : Type 0} (f : Y → List CheckFault) (v : X → Y) (xs : List X) (i : ℕ) (a b : Option CheckFault)
+    → length xs ≤ i → b ≡ earlier a (first_of (flat_map f (map v (take i xs))))
+    → b ≡ earlier a (first_of (flat_map f (map v xs)))
+seen_all f v xs i a b past k = k ∙ ap (λ ys. earlier a (first_of (flat_map f (map v ys)))) (take_all i xs past)
