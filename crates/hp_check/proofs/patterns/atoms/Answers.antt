@@ -15,5 +15,5 @@ loop-part-preserved c =
 
 pub returns : goal.returns
 returns c =
-    seen_all (atom_faults (place_of c.args.place)) atom_of c.args.list.now c.loop-part.part-index _ _ c.loop-part-test.false
-    c.loop-part.invariant
+    seen_all (atom_faults (place_of c.args.place)) atom_of c.args.list.now c.loop-part.part-index _ _
+    c.loop-part-test.false c.loop-part.invariant

@@ -15,7 +15,8 @@ returns-then-not-states-clause-puts g c =
     for_two _ _ (λ n. c.cost.result ≡ n.cost) _ c.plan.ensures.steps c.cost.ensures
     (λ n s k.
     subst (λ t. Put t (desk (g.K.Sink.bytes c.args.sink.now) c.args.page.now)
-    (desk (g.K.Sink.bytes c.push_plan.new.sink) c.push_plan.new.page)) (told_alone c.args.states c.args.number n c.if-not-states.true)
+    (desk (g.K.Sink.bytes c.push_plan.new.sink) c.push_plan.new.page))
+    (told_alone c.args.states c.args.number n c.if-not-states.true)
     (c.in_ok-push_plan.ensures.puts n (sym s ∙ ap (λ ts. terms_at ts c.plan.result.now) (sym c.cells.ensures))
     (sym k ∙ sym (to_z-of_z w128 c.cost.result fits))))
 

@@ -1036,7 +1036,8 @@ axiom_events-returns-in_default-clause-finds t c =
     let vars = length c.args.slots.now.values in
     let items = c.new.result.items in
     let lower = below_at (axioms_in scene) c.args.level (state_in old scene) in
-    let placed = λ (o : Option Axiom). placed_events lower o (goal_of old c.args.goal.now) (bindings_of old c.args.slots.now) in
+    let placed =
+    λ (o : Option Axiom). placed_events lower o (goal_of old c.args.goal.now) (bindings_of old c.args.slots.now) in
     let none = sym c.axiom.ensures ∙ ap (option_map (λ b. axiom_of b.now)) c.in_default.is in
     hears_found old vars items _ (finds_none old vars items _ c.new.ensures.items (ap placed none))
 
