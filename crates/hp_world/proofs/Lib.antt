@@ -14,3 +14,4 @@ pub mod ZipLemmas
 pub mod SoundLemmas
 pub mod LearningLemmas
 pub mod PartAtLemmas
+pub mod WaitingLemmas
