@@ -1,14 +1,15 @@
 -- Functions of the call table, number by number.
-use Rattle.std.proofs.Common.{◌≡◌, ℕ, zero, suc, ◌+◌, ◌<◌, ◌≤◌, Bool, true, false, cond, ℤ, pos, neg_ℤ, unsigned_abs, FitsSigned, List, [], ◌∷◌, length, drop, get_or, Option, Some, None, Result, Ok, Err, refl, ap, sym, ◌∙◌, arith}
+use Rattle.std.proofs.Common.{◌≡◌, ℕ, zero, suc, ◌+◌, ◌-◌, ◌<◌, ◌≤◌, Bool, true, false, cond, ℤ, pos, neg_ℤ, unsigned_abs, FitsSigned, List, [], ◌∷◌, length, take, drop, get_or, Option, Some, None, Result, Ok, Err, refl, ap, sym, ◌∙◌, arith}
 use Rattle.std.specs.Prelude.{negsuc}
 use Rattle.std.specs.Int.{w64}
 use Rattle.std.specs.Option.{SomeIff}
+use Rattle.std.proofs.lemmas.Grind.{common_steps}
 use Rattle.std.proofs.lemmas.List.{drop_more}
 use Rattle.hp_syntax.specs.declared.pattern.Span.{Span}
 use Rattle.hp_syntax.specs.declared.fault.RunFault.{RunFault}
-use Rattle.hp_syntax.specs.declared.fault.FaultKind.TheVariants.{Overflow, NotNumber}
+use Rattle.hp_syntax.specs.declared.fault.FaultKind.TheVariants.{Overflow, NotNumber, ZeroDivisor}
 use Rattle.hp_syntax.specs.Terms.{Term, Terms}
-use Rattle.hp_syntax.specs.Calls.{fits, fault_at, numbers, in_turn, from_left, of_one, of_two, Row, row, called, call}
+use Rattle.hp_syntax.specs.Calls.{fits, fault_at, quotient, numbers, in_turn, from_left, of_one, of_two, Row, row, called, call}
 use Rattle.hp_eval.specs.declared.arithmetic.OfNumbers.{OfNumbers}
 use Rattle.hp_eval.specs.declared.arithmetic.OfNumbers.TheVariants as functions
 use Rattle.hp_eval.specs.CallRows.{step_of, two_of, size_of, numbers_called, numbers_row, all_numbers, fitted}
@@ -40,6 +41,14 @@ module _ (f : ℤ → ℤ → ℤ) (s : Span) (ns : List ℤ) (i : ℕ) (m n : �
       by_case v true h = absurd (cc)
       by_case v false h = let same : e ≡ fault_at Overflow s = cc in ap Err same
 
+-- a function carried from the left starts at the first number and goes on through those behind it
+pub from_left_first : (f : ℤ → ℤ → ℤ) (s : Span) (ns : List ℤ) (m : ℤ) → 1 ≤ length ns → m ≡ get_or ns 0 (pos 0)
+    → in_turn f s m (take (length ns - 1) (drop 1 ns)) ≡ from_left f s (Some ns)
+from_left_first f s [] m h is = absurd (omega arith)
+from_left_first f s (n ∷ ns) m h is =
+    let others : take (length (n ∷ ns) - 1) (drop 1 (n ∷ ns)) ≡ ns = grind (arith, common_steps) in
+    ap (λ k. in_turn f s k (take (length (n ∷ ns) - 1) (drop 1 (n ∷ ns)))) is ∙ ap (in_turn f s n) others
+
 -- ---- absolute values
 
 -- the opposite of a number that fits, fits where the number's size does
@@ -65,6 +74,12 @@ pub of_one_first : (f : Span → ℤ → Result Term RunFault) (s : Span) (ns : 
 of_one_first f s [] h k = absurd (omega arith)
 of_one_first f s (n ∷ []) h k = refl
 of_one_first f s (n ∷ m ∷ ms) h k = absurd (omega arith)
+
+-- ---- quotients
+
+-- a quotient by zero is a fault
+pub quotient_by_zero : (s : Span) (m n : ℤ) → n ≡ pos 0 → quotient s m n ≡ Err (fault_at ZeroDivisor s)
+quotient_by_zero s m n e = rw e refl
 
 -- ---- functions of numbers
 

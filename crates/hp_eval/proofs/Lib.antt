@@ -1,3 +1,4 @@
+pub mod Sizes
 pub mod Loops
 pub mod PowerSteps
 pub mod CallRowLemmas

@@ -31,6 +31,11 @@ list_in_front (v ∷ vs) = ap (λ us. v ∷ us) (list_in_front vs)
 abbrev pub behind : {V W : Type 0} → (V → W → W) → List V → Result W RunFault → Result W RunFault
 behind cons vs r = on_ok r (λ w. Ok (in_front cons vs w))
 
+-- behind no value what is left is the whole
+pub behind_none : {V W : Type 0} (cons : V → W → W) (r : Result W RunFault) → r ≡ behind cons [] r
+behind_none cons (Ok w) = refl
+behind_none cons (Err f) = refl
+
 module _ {X V W : Type 0} (one : X → Result V RunFault) (all : List X → Result W RunFault) (cons : V → W → W)
     (step : (x : X) (xs : List X) → all (x ∷ xs) ≡ on_ok (one x) (λ v. on_ok (all xs) (λ w. Ok (cons v w)))) where
   -- the next value goes behind those that are there

@@ -1,8 +1,9 @@
-use Rattle.std.proofs.Common.{◌≡◌, true, false, ◌&&◌, ap, sym, ◌∙◌, rules}
+use Rattle.std.proofs.Common.{◌≡◌, true, false, ◌&&◌, ap, sym, ◌∙◌, rules, arith}
 use Rattle.hp_syntax.specs.Events.{parts_bound, tail_is_bound}
 use Rattle.hp_syntax.specs.Views.{patterns_of}
 use Rattle.hp_eval.specs.Slotted.{bindings_of}
 use Rattle.hp_eval.proofs.ConcludeSteps.{all_bound-var, all_bound-sym, all_bound-num, all_bound-list, all_bound-call, bound_fails, bound_goes_on, bound_to_the_end}
+use Rattle.hp_eval.proofs.Sizes.{pattern-smaller, list-size, call-size}
 use Rattle.hp_eval.proofs.concluding.+bound.Goals as goal
 
 pub are_bound-returns-then-not-is_all_bound : goal.are_bound-returns-then-not-is_all_bound
@@ -68,3 +69,30 @@ is_all_bound-returns-in-Call t c =
     c.are_bound-in-Call.ensures terms below
     ∙ (ap (λ ps. parts_bound (patterns_of ps) e) c.as_slice-in-Call.ensures.value
     ∙ sym (all_bound-call c.args.pat.now e c.in-Call.field-0 c.in-Call.args c.in-Call.is))
+
+-- ---- recursion goes to smaller patterns
+
+pub are_bound-is_all_bound-requires : goal.are_bound-is_all_bound-requires
+are_bound-is_all_bound-requires t c =
+    let smaller = pattern-smaller c.args.pats.now c.loop-pat.pat-index c.pat-item.result c.loop-pat-test.true
+    c.pat-item.is in
+    let whole = c.decreases in
+    omega (arith, smaller, whole)
+
+pub is_all_bound-are_bound-requires : goal.is_all_bound-are_bound-requires
+is_all_bound-are_bound-requires t c =
+    let size = list-size c.args.pat.now c.as_slice.result.now c.in-List.parts c.in-List.tail c.in-List.is
+    c.as_slice.ensures.value in
+    let whole = c.decreases in
+    omega (arith, size, whole)
+
+pub is_all_bound-are_bound-requires-in-Call : goal.is_all_bound-are_bound-requires-in-Call
+is_all_bound-are_bound-requires-in-Call t c =
+    let args = c.as_slice-in-Call in
+    let size = call-size c.args.pat.now args.result.now c.in-Call.field-0 c.in-Call.args c.in-Call.is
+    args.ensures.value in
+    let whole = c.decreases in
+    omega (arith, size, whole)
+
+pub are_bound-loop-pat-smaller : goal.are_bound-loop-pat-smaller
+are_bound-loop-pat-smaller t c = omega arith

@@ -1,5 +1,5 @@
 use Rattle.std.proofs.Common.{◌≡◌, true, length, sym, ◌∙◌, ap, subst, rules, arith}
-use Rattle.std.proofs.lemmas.List.Elements.{All-push}
+use Rattle.std.proofs.lemmas.List.Elements.{All-nil, All-push}
 use Rattle.std.proofs.lemmas.Option.{slice_get_within}
 use Rattle.std.proofs.lemmas.Result.{err_from_is_err_and}
 use Rattle.hp_syntax.specs.ViewLaws.{pattern_of-var, pattern_of-list}
@@ -8,10 +8,11 @@ use Rattle.hp_syntax.specs.Goals as plain
 use Rattle.hp_eval.specs.Slotted.{bindings_of}
 use Rattle.hp_eval.specs.Growth.{GivesBy}
 use Rattle.hp_eval.specs.GoalViews.{filled_of, fillings_of, is_below}
-use Rattle.hp_eval.specs.FillSteps.{rest_of, untailed}
+use Rattle.hp_eval.specs.FillSteps.{rest_of, untailed, AreFilledBelow}
 use Rattle.hp_eval.proofs.GrowthLemmas.{bindings_stay, below_grows, grows_self, grows_length, grows_on}
 use Rattle.hp_eval.proofs.GoalViewLemmas.{known_below, is_below-free, all_below_grow, fillings_grow}
-use Rattle.hp_eval.proofs.FillStepLemmas.{AreFilledTo, bound_below, fill_bound, fill_free, fill_valued, filled_fault, filled_more, filled_all, stop_passes, list_parts_stop, list_rest_stop, list_is_filled, valued_stop, valued_filled}
+use Rattle.hp_eval.proofs.FillStepLemmas.{AreFilledTo, bound_below, fill_bound, fill_free, fill_valued, filled_fault, filled_none, filled_more, filled_all, stop_passes, list_parts_stop, list_rest_stop, list_is_filled, valued_stop, valued_filled}
+use Rattle.hp_eval.proofs.Sizes.{pattern-smaller, list-size}
 use Rattle.hp_eval.proofs.goals.+fill.Goals as goal
 
 pub fill-returns-in_err-filled-in-List-clause-gives : goal.fill-returns-in_err-filled-in-List-clause-gives
@@ -189,3 +190,40 @@ fill_parts-returns-clause-below t c = c.loop-pat.invariant.below
 
 pub fill_parts-returns-clause-cells : goal.fill_parts-returns-clause-cells
 fill_parts-returns-clause-cells t c = c.loop-pat.invariant.grows
+
+pub fill-value-requires : goal.fill-value-requires
+fill-value-requires t c = record { slots = c.requires.slots }
+
+pub fill_parts-loop-pat-init : goal.fill_parts-loop-pat-init
+fill_parts-loop-pat-init t c =
+    let old = c.args.cells.now in
+    let pats = c.args.pats.now in
+    let e = bindings_of old c.args.slots.now in
+    let made = c.in_ok-filled.ensures in
+    let items = made.items in
+    record {
+      grows = grows_self old;
+      room = (made.len, made.capacity);
+      below = subst (AreFilledBelow (length old)) (sym items) (All-nil (λ f. is_below (length old) f ≡ true));
+      so_far = subst (λ fs. AreFilledTo pats 0 e (fillings_of old fs)) (sym items) (filled_none pats e);
+    }
+
+pub fill_parts-loop-pat-smaller : goal.fill_parts-loop-pat-smaller
+fill_parts-loop-pat-smaller t c = omega arith
+
+pub fill-fill_parts-requires : goal.fill-fill_parts-requires
+fill-fill_parts-requires t c =
+    let size = list-size c.args.pat.now c.as_slice.result.now c.in-List.parts c.in-List.tail c.in-List.is
+    c.as_slice.ensures.value in
+    let whole = c.decreases in
+    (omega (arith, size, whole), c.requires.slots)
+
+pub fill_parts-fill-requires : goal.fill_parts-fill-requires
+fill_parts-fill-requires t c =
+    let grows = c.loop-pat.invariant.grows in
+    let smaller = pattern-smaller c.args.pats.now c.loop-pat.pat-index c.pat-item.result c.loop-pat-test.true
+    c.pat-item.is in
+    let whole = c.decreases in (
+      omega (arith, smaller, whole),
+      below_grows c.args.cells.now c.loop-pat.cells grows c.args.slots.now c.requires.slots,
+    )

@@ -1,9 +1,9 @@
-use Rattle.std.proofs.Common.{ap, sym, ◌∙◌, subst, map, Some, inl, inr, FitsSigned, rules, arith}
+use Rattle.std.proofs.Common.{◌≡◌, ◌<◌, length, refl, ap, sym, ◌∙◌, subst, map, Some, inl, inr, FitsSigned, rules, arith}
 use Rattle.std.specs.Int.{w64}
-use Rattle.std.proofs.lemmas.Grind.{common_steps}
+use Rattle.std.specs.List.{All}
 use Rattle.std.proofs.lemmas.Int.{to_z-of_z}
+use Rattle.std.proofs.lemmas.List.Elements.{All-nil}
 use Rattle.std.proofs.lemmas.Option.{slice_get_within}
-use Rattle.hp_syntax.specs.declared.pattern.PatKind.TheViews.{sized-List, size_is-Pat}
 use Rattle.hp_syntax.specs.GroundPatterns.{AreGroundPatterns, term_said, terms_said}
 use Rattle.hp_syntax.specs.Terms.{Number, Listed}
 use Rattle.hp_syntax.specs.Views.{pattern_of, patterns_of}
@@ -13,6 +13,8 @@ use Rattle.hp_eval.proofs.ListSteps.{interns_grows}
 use Rattle.hp_eval.proofs.GroundSteps.{first_ground, said_more, said_all, said-sym, said-num, said-list, ground-var, ground-call, ground-list}
 use Rattle.hp_eval.proofs.GrowthLemmas.{grows_on, grows_self, grows_same}
 use Rattle.hp_eval.proofs.ValueSteps.{terms_pushed, below_pushed}
+use Rattle.hp_eval.specs.Steps.{onto}
+use Rattle.hp_eval.proofs.Sizes.{pattern-smaller, list-size}
 use Rattle.hp_eval.proofs.grounds.+ground.Goals as goal
 
 -- ---- parts
@@ -67,9 +69,10 @@ ground_parts-returns-in_err-cell-clause-cells t c =
 
 pub ground_term-ground_list-requires : goal.ground_term-ground_list-requires
 ground_term-ground_list-requires t c =
-    let kind = sized-List c.in-List.parts c.in-List.field-1 in
-    let pat = size_is-Pat c.args.pat.now in (
-      grind (arith, common_steps, kind, pat),
+    let size = list-size c.args.pat.now c.as_slice.result.now c.in-List.parts c.in-List.field-1 c.in-List.is
+    c.as_slice.ensures.value in
+    let whole = c.decreases in (
+      omega (arith, size, whole),
       subst (λ ps. AreGroundPatterns (patterns_of ps)) (sym c.as_slice.ensures.value)
           (ground-list c.args.pat.now c.requires.ground c.in-List.parts c.in-List.field-1 c.in-List.is),
     )
@@ -130,3 +133,35 @@ ground_term-returns-in_ok-cell-in-Num-clause-cells t c =
 
 pub ground_term-returns-in-Var-clause-cells : goal.ground_term-returns-in-Var-clause-cells
 ground_term-returns-in-Var-clause-cells t c = grows_self c.args.cells.now
+
+-- ---- recursion goes to smaller patterns
+
+pub ground_list-ground_parts-requires : goal.ground_list-ground_parts-requires
+ground_list-ground_parts-requires t c = let whole = c.decreases in (omega (arith, whole), c.requires.ground)
+
+pub ground_parts-ground_term-requires : goal.ground_parts-ground_term-requires
+ground_parts-ground_term-requires t c =
+    let i = c.loop-part.part-index in
+    let p = c.part-item.result in
+    let smaller = pattern-smaller c.args.parts.now i p c.loop-part-test.true c.part-item.is in
+    let whole = c.decreases in (
+      omega (arith, smaller, whole),
+      (first_ground c.args.parts.now i p c.loop-part-test.true c.part-item.is c.loop-part.invariant.left).0,
+    )
+
+pub ground_parts-loop-part-init : goal.ground_parts-loop-part-init
+ground_parts-loop-part-init t c =
+    let old = c.args.cells.now in
+    let said = terms_said (patterns_of c.args.parts.now) in
+    let made = c.in_ok-found.ensures in
+    let items = made.items in
+    record {
+      grows = grows_self old;
+      room = (made.len, made.capacity);
+      below = subst (All (λ n. n < length old)) (sym items) (All-nil (λ n. n < length old));
+      left = c.requires.ground;
+      so_far = subst (λ ns. said ≡ onto (map (term_at old) ns) said) (sym items) refl;
+    }
+
+pub ground_parts-loop-part-smaller : goal.ground_parts-loop-part-smaller
+ground_parts-loop-part-smaller t c = omega arith

@@ -1,13 +1,13 @@
-use Rattle.std.proofs.Common.{[], ◌∷◌, ◌++◌, ap, sym, ◌∙◌, subst, length, map, arith}
-use Rattle.std.proofs.lemmas.Grind.{common_steps}
-use Rattle.hp_syntax.specs.declared.tasks.NetPat.TheViews.{sized-Ordered, sized-Unordered}
+use Rattle.std.proofs.Common.{◌≡◌, [], refl, ◌∷◌, ◌++◌, ap, sym, ◌∙◌, subst, length, map, arith}
 use Rattle.hp_syntax.specs.GroundPatterns.{IsGroundTaskList, networks_said}
-use Rattle.hp_syntax.specs.Networks.{Task, Ordered, Unordered}
+use Rattle.hp_syntax.specs.Networks.{And, Task, Ordered, Unordered}
 use Rattle.hp_syntax.specs.Views.{task_list_of}
-use Rattle.hp_eval.specs.GoalViews.{network_of}
+use Rattle.hp_eval.specs.GoalViews.{network_of, TreesBelow}
+use Rattle.hp_eval.specs.Steps.{in_front}
 use Rattle.hp_eval.proofs.GroundSteps.{first_task_ground, tasks_said_more, tasks_said_all, said-task, said-ordered, said-unordered, ground-task, ground-ordered, ground-unordered}
 use Rattle.hp_eval.proofs.GrowthLemmas.{grows_on, grows_self}
 use Rattle.hp_eval.proofs.TreeViews.{network_of-task, network_of-ordered, network_of-unordered, below-task, below-ordered, below-unordered, trees_pushed, trees_below_pushed}
+use Rattle.hp_eval.proofs.Sizes.{tasks-smaller, ordered-size, unordered-size}
 use Rattle.hp_eval.proofs.grounds.+ground_tasks.Goals as goal
 
 -- ---- the parts of a list
@@ -109,8 +109,10 @@ ground_tasks-ground_atom-requires t c = record {
 
 pub ground_tasks-ground_task_list-requires : goal.ground_tasks-ground_task_list-requires
 ground_tasks-ground_task_list-requires t c =
-    let deep = sized-Ordered c.in-Ordered.parts in (
-      grind (arith, common_steps, deep),
+    let size = ordered-size c.args.tasks.now c.as_slice.result.now c.in-Ordered.parts c.in-Ordered.is
+    c.as_slice.ensures.value in
+    let whole = c.decreases in (
+      omega (arith, size, whole),
       subst (λ ts. IsGroundTaskList (task_list_of ts)) (sym c.as_slice.ensures.value)
           (ground-ordered c.args.tasks.now c.requires.ground c.in-Ordered.parts c.in-Ordered.is),
     )
@@ -118,8 +120,40 @@ ground_tasks-ground_task_list-requires t c =
 pub ground_tasks-ground_task_list-requires-in-Unordered :
     goal.ground_tasks-ground_task_list-requires-in-Unordered
 ground_tasks-ground_task_list-requires-in-Unordered t c =
-    let deep = sized-Unordered c.in-Unordered.parts in (
-      grind (arith, common_steps, deep),
+    let parts = c.as_slice-in-Unordered in
+    let size = unordered-size c.args.tasks.now parts.result.now c.in-Unordered.parts c.in-Unordered.is
+    parts.ensures.value in
+    let whole = c.decreases in (
+      omega (arith, size, whole),
       subst (λ ts. IsGroundTaskList (task_list_of ts)) (sym c.as_slice-in-Unordered.ensures.value)
           (ground-unordered c.args.tasks.now c.requires.ground c.in-Unordered.parts c.in-Unordered.is),
     )
+
+-- ---- recursion goes to smaller task lists
+
+pub ground_task_list-ground_tasks-requires : goal.ground_task_list-ground_tasks-requires
+ground_task_list-ground_tasks-requires t c =
+    let i = c.loop-part.part-index in
+    let part = c.part-item.result in
+    let smaller = tasks-smaller c.args.tasks.now i part c.loop-part-test.true c.part-item.is in
+    let whole = c.decreases in (
+      omega (arith, smaller, whole),
+      (first_task_ground c.args.tasks.now i part c.loop-part-test.true c.part-item.is c.loop-part.invariant.left).0,
+    )
+
+pub ground_task_list-loop-part-init : goal.ground_task_list-loop-part-init
+ground_task_list-loop-part-init t c =
+    let old = c.args.cells.now in
+    let said = networks_said (task_list_of c.args.tasks.now) in
+    let made = c.in_ok-found.ensures in
+    let items = made.items in
+    record {
+      grows = grows_self old;
+      room = (made.len, made.capacity);
+      below = subst (TreesBelow (length old)) (sym items) refl;
+      left = c.requires.ground;
+      so_far = subst (λ ts. said ≡ in_front And (map (network_of old) ts) said) (sym items) refl;
+    }
+
+pub ground_task_list-loop-part-smaller : goal.ground_task_list-loop-part-smaller
+ground_task_list-loop-part-smaller t c = omega arith

@@ -1,11 +1,18 @@
 use Rattle.std.proofs.Common.{◌≡◌, ◌≤◌, length, map, drop, vec_len, vec_capacity}
 use Rattle.hp_syntax.specs.GroundPatterns.{IsGroundTaskList, networks_said}
 use Rattle.hp_syntax.specs.Networks.{And}
-use Rattle.hp_syntax.specs.Views.{task_list_of}
+use Rattle.hp_syntax.specs.Views.{tasks_of, task_list_of}
 use Rattle.hp_eval.specs.GoalViews.{network_of, TreesBelow}
 use Rattle.hp_eval.specs.Growth.{Grows}
 use Rattle.hp_eval.specs.Steps.{in_front}
+use Rattle.hp_eval.proofs.Sizes.{tasks_size, task_list_size}
 use Rattle.hp_eval.proofs.grounds.+ground_tasks.Given as goal
+
+abbrev pub decreases-ground_tasks : goal.decreases-ground_tasks
+decreases-ground_tasks l = tasks_size (tasks_of l.tasks.now)
+
+abbrev pub decreases-ground_task_list : goal.decreases-ground_task_list
+decreases-ground_task_list l = task_list_size (task_list_of l.tasks.now)
 
 abbrev pub invariant-ground_task_list-loop-part : goal.invariant-ground_task_list-loop-part
 invariant-ground_task_list-loop-part l = record {

@@ -1,15 +1,15 @@
-use Rattle.std.proofs.Common.{◌+◌, ap, sym, ◌∙◌, drop, Bool, cond, None, rules, arith}
-use Rattle.std.proofs.lemmas.Grind.{common_steps}
+use Rattle.std.proofs.Common.{◌+◌, refl, ap, sym, ◌∙◌, drop, Bool, cond, None, rules, arith}
+use Rattle.std.proofs.lemmas.Option.{slice_get_within}
 use Rattle.hp_syntax.specs.Goals.{match_fillings}
 use Rattle.hp_eval.specs.GoalViews.{fillings_of}
 use Rattle.hp_eval.specs.Slotted.{bindings_of}
 use Rattle.hp_eval.specs.Attempts.{extended}
 use Rattle.hp_eval.specs.FillSteps.{parts_at}
-use Rattle.hp_eval.proofs.SlotLemmas.{binds_through}
+use Rattle.hp_eval.proofs.SlotLemmas.{binds_self, binds_through}
 use Rattle.hp_eval.proofs.GoalViewLemmas.{below_cell}
 use Rattle.hp_eval.proofs.AttemptLemmas.{tries_here, tries_as, tries_above, then_fails, then_goes_on, names_list}
 use Rattle.hp_eval.proofs.GoalMatchSteps.{below_part, matches_known, matches_free, matches_partly, fillings_missing, fillings_step, fillings_end}
-use Rattle.hp_eval.specs.declared.goals.Filled.TheViews.{sized-List}
+use Rattle.hp_eval.proofs.Sizes.{filled-smaller, partly-size}
 use Rattle.hp_eval.proofs.matching.+filled.Goals as goal
 
 pub match_fillings-returns-in_default : goal.match_fillings-returns-in_default
@@ -102,9 +102,33 @@ pub match_filled-match_fillings-requires : goal.match_filled-match_fillings-requ
 match_filled-match_fillings-requires t c =
     let terms = c.args.cells.now in
     let list = names_list terms c.args.cell c.requires.cell (sym c.is_listed.ensures ∙ c.if-is_listed.true) in
-    let deep = sized-List c.in-List.parts c.in-List.tail in
-    (grind (arith, common_steps, deep), (c.requires.slots, (search (rules, below_part), list)))
+    let size = partly-size terms c.args.part.now c.as_slice.result.now c.in-List.parts c.in-List.tail c.in-List.is
+    c.as_slice.ensures.value in
+    let whole = c.decreases in
+    (omega (arith, size, whole), (c.requires.slots, (search (rules, below_part), list)))
+
+pub match_fillings-match_filled-requires : goal.match_fillings-match_filled-requires
+match_fillings-match_filled-requires t c =
+    let smaller = filled-smaller c.args.cells.now c.args.parts.now c.loop-part.part-index c.part-item.result
+    c.loop-part-test.true c.part-item.is in
+    let whole = c.decreases in
+    (omega (arith, smaller, whole), (c.loop-part.invariant.below, (search rules, c.in-Some.ensures.first_named)))
+
+pub match_fillings-loop-part-init : goal.match_fillings-loop-part-init
+match_fillings-loop-part-init t c = record {
+  list = c.requires.list;
+  binds = binds_self c.args.slots.now;
+  below = c.requires.slots;
+  so_far = refl;
+}
 
 pub match_filled-same_term-requires-clause-a : goal.match_filled-same_term-requires-clause-a
 match_filled-same_term-requires-clause-a t c =
     below_cell _ c.args.part.now c.in-Known.own c.requires.part c.in-Known.is
+
+pub match_fillings-loop-part-smaller : goal.match_fillings-loop-part-smaller
+match_fillings-loop-part-smaller t c = omega arith
+
+pub match_fillings-split-requires : goal.match_fillings-split-requires
+match_fillings-split-requires t c =
+    let list = c.loop-part.invariant.list in slice_get_within c.args.cells.now c.loop-part.left _ list.1

@@ -1,4 +1,4 @@
-use Rattle.std.proofs.Common.{◌+◌, ap, sym, ◌∙◌, false, drop, Bool, cond, None, FitsSigned, rules, arith}
+use Rattle.std.proofs.Common.{◌+◌, refl, ap, sym, ◌∙◌, false, drop, Bool, cond, None, FitsSigned, rules, arith}
 use Rattle.std.specs.Int.{w64}
 use Rattle.std.proofs.lemmas.Int.{to_z-of_z}
 use Rattle.hp_cells.specs.Compared.{is_number}
@@ -9,12 +9,11 @@ use Rattle.hp_eval.specs.GoalViews.{term_at}
 use Rattle.hp_eval.specs.Slotted.{bindings_of}
 use Rattle.hp_eval.specs.Attempts.{extended}
 use Rattle.hp_eval.specs.FillSteps.{parts_at}
-use Rattle.hp_eval.proofs.SlotLemmas.{binds_through}
+use Rattle.hp_eval.proofs.SlotLemmas.{binds_self, binds_through}
 use Rattle.hp_eval.proofs.CellViews.{named_at}
 use Rattle.hp_eval.proofs.AttemptLemmas.{tries_here, tries_as, tries_above, then_fails, then_goes_on, names_list}
 use Rattle.hp_eval.proofs.MatchingSteps.{matches_variable, matches_symbol, matches_number, matches_list, matches_call, parts_missing, parts_step, parts_end}
-use Rattle.std.proofs.lemmas.Grind.{common_steps}
-use Rattle.hp_syntax.specs.declared.pattern.PatKind.TheViews.{sized-List, size_is-Pat}
+use Rattle.hp_eval.proofs.Sizes.{pattern-smaller, list-size}
 use Rattle.hp_eval.proofs.matching.+matching.Goals as goal
 
 pub match_parts-returns-in_default : goal.match_parts-returns-in_default
@@ -128,6 +127,31 @@ pub match_pattern-match_parts-requires : goal.match_pattern-match_parts-requires
 match_pattern-match_parts-requires t c =
     let terms = c.args.cells.now in
     let list = names_list terms c.args.cell c.requires.cell (sym c.is_listed.ensures ∙ c.if-is_listed.true) in
-    let kind = sized-List c.in-List.parts c.in-List.tail in
-    let pat = size_is-Pat c.args.pat.now in
-    (grind (arith, common_steps, kind, pat), (c.requires.slots, list))
+    let size = list-size c.args.pat.now c.as_slice.result.now c.in-List.parts c.in-List.tail c.in-List.is
+    c.as_slice.ensures.value in
+    let whole = c.decreases in
+    (omega (arith, size, whole), (c.requires.slots, list))
+
+pub match_parts-match_pattern-requires : goal.match_parts-match_pattern-requires
+match_parts-match_pattern-requires t c =
+    let smaller = pattern-smaller c.args.parts.now c.loop-part.part-index c.part-item.result c.loop-part-test.true
+    c.part-item.is in
+    let whole = c.decreases in
+    (omega (arith, smaller, whole), (c.loop-part.invariant.below, search rules))
+
+pub match_parts-loop-part-smaller : goal.match_parts-loop-part-smaller
+match_parts-loop-part-smaller t c = omega arith
+
+pub match_parts-loop-part-init : goal.match_parts-loop-part-init
+match_parts-loop-part-init t c = record {
+  list = c.requires.list;
+  binds = binds_self c.args.slots.now;
+  below = c.requires.slots;
+  so_far = refl;
+}
+
+pub match_pattern-is_symbol-requires : goal.match_pattern-is_symbol-requires
+match_pattern-is_symbol-requires t c = c.requires.cell
+
+pub match_pattern-is_number-requires : goal.match_pattern-is_number-requires
+match_pattern-is_number-requires t c = c.requires.cell

@@ -1,8 +1,6 @@
-use Rattle.std.proofs.Common.{◌≡◌, ◌+◌, ap, sym, ◌∙◌, true, false, drop, length, arith, rules}
-use Rattle.std.proofs.lemmas.Grind.{common_steps}
+use Rattle.std.proofs.Common.{◌≡◌, ◌+◌, refl, ap, sym, ◌∙◌, true, false, drop, length, arith, rules}
 use Rattle.std.proofs.lemmas.List.{take_rest}
 use Rattle.std.proofs.lemmas.List.Elements.{All-drop}
-use Rattle.hp_syntax.specs.declared.pattern.PatKind.TheViews.{sized-List, size_is-Pat}
 use Rattle.hp_syntax.specs.Views.{pattern_of, patterns_of}
 use Rattle.hp_syntax.specs.ViewLaws.{pattern_of-var, pattern_of-list}
 use Rattle.hp_syntax.specs.Syntax.{NoPattern}
@@ -10,12 +8,13 @@ use Rattle.hp_syntax.specs.Goals.{start_parts}
 use Rattle.hp_eval.specs.Slotted.{bindings_of}
 use Rattle.hp_eval.specs.GoalViews.{fillings_of, is_below}
 use Rattle.hp_eval.specs.Attempts.{extended}
-use Rattle.hp_eval.proofs.SlotLemmas.{binds_through}
+use Rattle.hp_eval.proofs.SlotLemmas.{binds_self, binds_through}
 use Rattle.hp_eval.proofs.GrowthLemmas.{grows_length, grows_on, grows_self}
 use Rattle.hp_eval.proofs.GoalViewLemmas.{below_cell, all_below_grow}
 use Rattle.hp_eval.proofs.AttemptLemmas.{tries_here, tries_as, starts_same, starts_above, starts_failed, then_fails, then_goes_on}
 use Rattle.hp_eval.proofs.GoalMatchSteps.{below_part}
 use Rattle.hp_eval.proofs.StartingSteps.{starts_known, starts_free, starts_variable, starts_list, starts_never, starts_missing, starts_next, starts_rest}
+use Rattle.hp_eval.proofs.Sizes.{pattern-smaller, list-size}
 use Rattle.hp_eval.proofs.starting.+starting.Goals as goal
 
 pub start_part-match_pattern-requires-clause-cell : goal.start_part-match_pattern-requires-clause-cell
@@ -24,9 +23,17 @@ start_part-match_pattern-requires-clause-cell t c =
 
 pub start_part-start_parts-requires : goal.start_part-start_parts-requires
 start_part-start_parts-requires t c =
-    let kind = sized-List c.in-List-kind.parts c.in-List-kind.own in
-    let pat = size_is-Pat c.args.pat.now in
-    (grind (arith, common_steps, kind, pat), (c.requires.slots, search (rules, below_part)))
+    let size = list-size c.args.pat.now c.as_slice.result.now c.in-List-kind.parts c.in-List-kind.own c.in-List-kind.is
+    c.as_slice.ensures.value in
+    let whole = c.decreases in
+    (omega (arith, size, whole), (c.requires.slots, search (rules, below_part)))
+
+pub start_parts-start_part-requires : goal.start_parts-start_part-requires
+start_parts-start_part-requires t c =
+    let smaller = pattern-smaller c.args.parts.now c.loop-i.i c.index-parts-i.result c.loop-i-test.true
+    c.index-parts-i.is in
+    let whole = c.decreases in
+    (omega (arith, smaller, whole), (c.loop-i.invariant.below, search rules))
 
 pub start_part-returns-in-Known-clause-started : goal.start_part-returns-in-Known-clause-started
 start_part-returns-in-Known-clause-started t c =
@@ -197,3 +204,13 @@ pub start_parts-returns-clause-cells : goal.start_parts-returns-clause-cells
 start_parts-returns-clause-cells t c =
     grows_on c.args.cells.now c.loop-i.cells c.start_behind.new.cells c.loop-i.invariant.grows
     c.start_behind.ensures.cells
+
+pub start_parts-loop-i-init : goal.start_parts-loop-i-init
+start_parts-loop-i-init t c = record {
+  within = omega arith;
+  grows = grows_self c.args.cells.now;
+  binds = binds_self c.args.slots.now;
+  below = c.requires.slots;
+  fillings = c.requires.fillings;
+  so_far = refl;
+}

@@ -1,4 +1,4 @@
-use Rattle.std.proofs.Common.{ap, sym, ◌∙◌, List, length, map, Ok, Result, Vec, arith}
+use Rattle.std.proofs.Common.{◌≡◌, refl, ap, subst, sym, ◌∙◌, List, length, map, Ok, Result, Vec, arith}
 use Rattle.std.specs.Global.{Global}
 use Rattle.std.proofs.lemmas.Option.{slice_get_within}
 use Rattle.std.proofs.lemmas.Result.{err_from_is_err_and}
@@ -9,14 +9,15 @@ use Rattle.hp_syntax.specs.Terms.{Term}
 use Rattle.hp_syntax.specs.Values.{Bindings, on_ok, atom_value}
 use Rattle.hp_syntax.specs.Views.{atom_of, tasks_of, task_list_of}
 use Rattle.hp_eval.specs.declared.tasks.TaskTree.{TaskTree}
-use Rattle.hp_eval.specs.GoalViews.{network_of, networks_of}
+use Rattle.hp_eval.specs.GoalViews.{network_of, networks_of, TreesBelow}
 use Rattle.hp_eval.specs.Slotted.{bindings_of}
 use Rattle.hp_eval.proofs.CellViews.{at_named}
-use Rattle.hp_eval.proofs.GrowthLemmas.{bindings_stay, grows_on, grows_self}
-use Rattle.hp_eval.proofs.Loops.{values_more, values_stop, values_all}
+use Rattle.hp_eval.proofs.GrowthLemmas.{bindings_stay, below_grows, grows_on, grows_self}
+use Rattle.hp_eval.proofs.Loops.{behind, behind_none, values_more, values_stop, values_all}
 use Rattle.hp_eval.proofs.Stops.{stop_by, stop_of_cell, stops_too, gives_stop_by}
 use Rattle.hp_eval.proofs.TaskSteps.{tasks_step, tasks_none, networks_in_front, value_of-task, value_of-ordered, value_of-unordered}
 use Rattle.hp_eval.proofs.TreeViews.{network_of-task, network_of-ordered, network_of-unordered, below-task, below-ordered, below-unordered, trees_pushed, trees_below_pushed}
+use Rattle.hp_eval.proofs.Sizes.{tasks-smaller, ordered-size, unordered-size}
 use Rattle.hp_eval.proofs.tasks.+tasks.Goals as goal
 
 -- the networks of trees
@@ -233,3 +234,47 @@ tasks_value-returns-in_ok-trees-in-Unordered-clause-cells t c = c.task_list_valu
 
 pub task_list_value-returns-clause-below : goal.task_list_value-returns-clause-below
 task_list_value-returns-clause-below t c = c.loop-part.invariant.below
+
+-- ---- recursion goes to smaller task lists
+
+pub tasks_value-task_list_value-requires : goal.tasks_value-task_list_value-requires
+tasks_value-task_list_value-requires t c =
+    let size = ordered-size c.args.tasks.now c.as_slice.result.now c.in-Ordered.parts c.in-Ordered.is
+    c.as_slice.ensures.value in
+    let whole = c.decreases in
+    (omega (arith, size, whole), c.requires.slots)
+
+pub tasks_value-task_list_value-requires-in-Unordered : goal.tasks_value-task_list_value-requires-in-Unordered
+tasks_value-task_list_value-requires-in-Unordered t c =
+    let parts = c.as_slice-in-Unordered in
+    let size = unordered-size c.args.tasks.now parts.result.now c.in-Unordered.parts c.in-Unordered.is
+    parts.ensures.value in
+    let whole = c.decreases in
+    (omega (arith, size, whole), c.requires.slots)
+
+pub task_list_value-tasks_value-requires : goal.task_list_value-tasks_value-requires
+task_list_value-tasks_value-requires t c =
+    let grows = c.loop-part.invariant.grows in
+    let smaller = tasks-smaller c.args.tasks.now c.loop-part.part-index c.part-item.result c.loop-part-test.true
+    c.part-item.is in
+    let whole = c.decreases in (
+      omega (arith, smaller, whole),
+      below_grows c.args.cells.now c.loop-part.cells grows c.args.slots.now c.requires.slots,
+    )
+
+pub task_list_value-loop-part-init : goal.task_list_value-loop-part-init
+task_list_value-loop-part-init t c =
+    let old = c.args.cells.now in
+    let value = task_list_value (task_list_of c.args.tasks.now) (bindings_of old c.args.slots.now) in
+    let made = c.in_ok-found.ensures in
+    let items = made.items in
+    record {
+      grows = grows_self old;
+      room = (made.len, made.capacity);
+      below = subst (TreesBelow (length old)) (sym items) refl;
+      so_far =
+          subst (λ ts. value ≡ behind And (map (network_of old) ts) value) (sym items) (behind_none And value);
+    }
+
+pub task_list_value-loop-part-smaller : goal.task_list_value-loop-part-smaller
+task_list_value-loop-part-smaller t c = omega arith

@@ -1,6 +1,8 @@
-use Rattle.std.proofs.Common.{ap, sym, ◌∙◌, subst, Some, None, Ok, Err, map, FitsSigned, rules, arith}
+use Rattle.std.proofs.Common.{◌≡◌, ap, sym, ◌∙◌, length, ◌<◌, subst, Some, None, Ok, Err, map, FitsSigned, rules, arith}
 use Rattle.std.specs.Int.{w64}
 use Rattle.std.proofs.lemmas.Int.{to_z-of_z}
+use Rattle.std.specs.List.{All}
+use Rattle.std.proofs.lemmas.List.Elements.{All-nil}
 use Rattle.std.proofs.lemmas.Result.{err_from_is_err_and}
 use Rattle.hp_syntax.specs.Calls.{call}
 use Rattle.hp_syntax.specs.Terms.{Symbol, Number, More}
@@ -10,10 +12,11 @@ use Rattle.hp_eval.specs.GoalViews.{term_at, row_of}
 use Rattle.hp_eval.specs.Slotted.{bindings_of}
 use Rattle.hp_eval.specs.Steps.{GivesCell}
 use Rattle.hp_eval.proofs.GrowthLemmas.{bindings_stay, grows_on, below_grows, grows_self, grows_same}
-use Rattle.hp_eval.proofs.Loops.{values_more, values_stop, values_all}
+use Rattle.hp_eval.proofs.Loops.{behind, behind_none, values_more, values_stop, values_all}
 use Rattle.hp_eval.proofs.Stops.{stop_of_cell, gives_same}
 use Rattle.hp_eval.proofs.ValueSteps.{values_step, values_none, part_stops, terms_pushed, below_pushed, tail_faults, tail_gives, parts_give, variable_gives, value_of-var, value_of-sym, value_of-num, value_of-list, value_of-call}
 use Rattle.hp_eval.proofs.ListSteps.{interns_grows}
+use Rattle.hp_eval.proofs.Sizes.{pattern-smaller, list-size, call-size}
 use Rattle.hp_eval.proofs.values.+value.Goals as goal
 
 -- ---- parts
@@ -277,3 +280,54 @@ value-returns-in-List-clause-cells t c = c.list_value.ensures.cells
 
 pub value-returns-in-Call-clause-cells : goal.value-returns-in-Call-clause-cells
 value-returns-in-Call-clause-cells t c = c.call_value.ensures.cells
+
+-- ---- recursion goes to smaller patterns
+
+pub value-list_value-requires : goal.value-list_value-requires
+value-list_value-requires t c =
+    let size = list-size c.args.pat.now c.as_slice.result.now c.in-List.parts c.in-List.tail c.in-List.is
+    c.as_slice.ensures.value in
+    let whole = c.decreases in
+    (omega (arith, size, whole), c.requires.slots)
+
+pub value-call_value-requires : goal.value-call_value-requires
+value-call_value-requires t c =
+    let args = c.as_slice-in-Call in
+    let size = call-size c.args.pat.now args.result.now c.in-Call.name c.in-Call.args c.in-Call.is args.ensures.value in
+    let whole = c.decreases in
+    (omega (arith, size, whole), c.requires.slots)
+
+pub list_value-part_values-requires : goal.list_value-part_values-requires
+list_value-part_values-requires t c = let whole = c.decreases in (omega (arith, whole), c.requires.slots)
+
+pub call_value-part_values-requires : goal.call_value-part_values-requires
+call_value-part_values-requires t c = let whole = c.decreases in (omega (arith, whole), c.requires.slots)
+
+pub part_values-value-requires : goal.part_values-value-requires
+part_values-value-requires t c =
+    let grows = c.loop-part.invariant.grows in
+    let smaller = pattern-smaller c.args.parts.now c.loop-part.part-index c.part-item.result c.loop-part-test.true
+    c.part-item.is in
+    let whole = c.decreases in (
+      omega (arith, smaller, whole),
+      below_grows c.args.cells.now c.loop-part.cells grows c.args.slots.now c.requires.slots,
+    )
+
+pub part_values-loop-part-init : goal.part_values-loop-part-init
+part_values-loop-part-init t c =
+    let old = c.args.cells.now in
+    let ps = patterns_of c.args.parts.now in
+    let e = bindings_of old c.args.slots.now in
+    let made = c.in_ok-found.ensures in
+    let items = made.items in
+    record {
+      grows = grows_self old;
+      room = (made.len, made.capacity);
+      below = subst (All (λ n. n < length old)) (sym items) (All-nil (λ n. n < length old));
+      so_far =
+          λ tail. subst (λ ns. values ps tail e ≡ behind More (map (term_at old) ns) (values ps tail e)) (sym items)
+          (behind_none More (values ps tail e));
+    }
+
+pub part_values-loop-part-smaller : goal.part_values-loop-part-smaller
+part_values-loop-part-smaller t c = omega arith
