@@ -1,4 +1,4 @@
-use Rattle.std.proofs.Common.{◌≡◌, ◌<◌, ◌≤◌, ap, arith, length, refl, rules, sym, ◌∙◌}
+use Rattle.std.proofs.Common.{◌≡◌, ◌<◌, ◌≤◌, true, ap, arith, length, refl, rules, sym, ◌∙◌}
 use Rattle.std.proofs.lemmas.Result.{err_from_is_err_and}
 use Rattle.hp_syntax.specs.declared.expression.ExprKind.TheVariants as exprs
 use Rattle.hp_syntax.specs.Grammar as grammar
@@ -8,7 +8,7 @@ use Rattle.hp_syntax.specs.ViewLaws.{expression_of-atom, expression_of-call, exp
 use Rattle.hp_syntax.specs.Views.{expression_of}
 use Rattle.hp_text.specs.Nodes.{nodes_of}
 use Rattle.hp_terms.proofs.Turns.{one_viewed, refused_next, refused_same}
-use Rattle.hp_terms.proofs.PartSteps.{expressions_read, expressions_refused, reads_same, conjunction-list}
+use Rattle.hp_terms.proofs.PartSteps.{expressions_read, expressions_refused, reads_same, conjunction-list, conjunction-nil, word_first}
 use Rattle.hp_terms.proofs.Sizes.{item-smaller}
 use Rattle.hp_conditions.proofs.KeyLemmas.{seen_as, by_nothing, by_and, by_or, by_not, by_imply, by_forall, by_assign, by_call, by_name, by_no_name}
 use Rattle.hp_conditions.proofs.expressions.+expression.Goals as goal
@@ -17,7 +17,7 @@ pub expressions-expression-requires : goal.expressions-expression-requires
 expressions-expression-requires t c =
     let smaller = item-smaller c.args.nodes.now c.loop-node.node-index c.node-item.result c.loop-node-test.true
     c.node-item.is in
-    search rules
+    (omega (arith, c.decreases, smaller), tt)
 
 pub expressions-returns-in_err-expression : goal.expressions-returns-in_err-expression
 expressions-returns-in_err-expression t c =
@@ -162,16 +162,85 @@ one_expression-expression-requires t c =
     let least : 1 ≤ length c.args.nodes.now = c.in-len1.len_at_least in
     let some : 0 < length c.args.nodes.now = omega arith in
     let smaller = item-smaller c.args.nodes.now 0 c.only-item.result some c.only-item.is in
-    search rules
+    (omega (arith, c.decreases, smaller), tt)
 
 pub one_expression-expression-requires-in-len2-up : goal.one_expression-expression-requires-in-len2-up
 one_expression-expression-requires-in-len2-up t c =
     let least : 2 ≤ length c.args.nodes.now = c.in-len2-up.len_at_least in
     let some : 0 < length c.args.nodes.now = omega arith in
     let smaller = item-smaller c.args.nodes.now 0 c.first-item.result some c.first-item.is in
-    search rules
+    (omega (arith, c.decreases, smaller), tt)
 
 pub list_kind-returns-in_default : goal.list_kind-returns-in_default
 list_kind-returns-in_default t c =
     let none : length c.args.nodes.now ≡ 0 = search rules in
     by_nothing c.args.span c.args.nodes.now c.new.result c.args.scope.now.names.keys none c.new.ensures.items
+
+-- ---- calls that go to something smaller
+
+pub list_expression-list_kind-requires : goal.list_expression-list_kind-requires
+list_expression-list_kind-requires t c = (omega (arith, c.decreases), tt)
+
+pub list_kind-conjunction-requires : goal.list_kind-conjunction-requires
+list_kind-conjunction-requires t c = (omega (arith, c.decreases), tt)
+
+pub list_kind-conjunction-requires-in-Name : goal.list_kind-conjunction-requires-in-Name
+list_kind-conjunction-requires-in-Name t c = (omega (arith, c.decreases), tt)
+
+pub conjunction-expressions-requires : goal.conjunction-expressions-requires
+conjunction-expressions-requires t c = (omega (arith, c.decreases), tt)
+
+pub keyed-conjunction-requires : goal.keyed-conjunction-requires
+keyed-conjunction-requires t c = (omega (arith, c.decreases), tt)
+
+pub keyed-expressions-requires : goal.keyed-expressions-requires
+keyed-expressions-requires t c = (omega (arith, c.decreases), tt)
+
+pub keyed-one_expression-requires : goal.keyed-one_expression-requires
+keyed-one_expression-requires t c = (omega (arith, c.decreases), tt)
+
+pub keyed-implied-requires : goal.keyed-implied-requires
+keyed-implied-requires t c = (omega (arith, c.decreases), tt)
+
+pub keyed-quantified-requires : goal.keyed-quantified-requires
+keyed-quantified-requires t c = (omega (arith, c.decreases), tt)
+
+pub implied-two_expressions-requires : goal.implied-two_expressions-requires
+implied-two_expressions-requires t c = (omega (arith, c.decreases), tt)
+
+-- ---- refusals, and lists that begin with a word
+
+pub list_kind-returns-in-Name : goal.list_kind-returns-in-Name
+list_kind-returns-in-Name t c =
+    let nil : grammar.is_nil c.in-Name.key ≡ true = sym c.is.ensures ∙ c.if-is.true in
+    reads_same _ c.conjunction-in-Name.result _ _ _ _
+    (conjunction-nil c.args.span c.args.nodes.now c.in-Some.rest.now c.in-Some.first.now c.in-Name.key _
+    c.in-Some.ensures.cases.0 c.in-Name.is nil)
+    c.conjunction-in-Name.ensures
+
+pub list_kind-returns-in-Name-2 : goal.list_kind-returns-in-Name-2
+list_kind-returns-in-Name-2 t c =
+    reads_same _ c.keyed.result _ _ _ _
+    (ap (λ f. grammar.list_expression c.args.span f c.args.scope.now.names.keys)
+    (word_first c.args.nodes.now c.in-Some.rest.now c.in-Some.first.now c.in-Name-2.key
+    c.in-Some.ensures.cases.0 c.in-Name-2.is))
+    (c.keyed.ensures c.in-Some.first.now.span)
+
+pub keyed-returns-in_err-expressions : goal.keyed-returns-in_err-expressions
+keyed-returns-in_err-expressions t c = λ s.
+    let why = c.in_err-expressions.field-0.0 in
+    let p = err_from_is_err_and c.from_residual.result c.from_residual.ensures.1 in
+    rw (p.1, p.2) (refused_same why _ _
+    (by_or c.args.span s c.args.key.now (nodes_of c.args.rest.now) c.args.scope.now.names.keys c.requires
+    (sym c.is.ensures ∙ c.if-is.false) (sym c.is-else-is.ensures ∙ c.if-is-2.true))
+    (refused_next why _ _ c.in_err-expressions.ensures))
+
+pub keyed-returns-in_err-part : goal.keyed-returns-in_err-part
+keyed-returns-in_err-part t c = λ s.
+    let why = c.in_err-part.field-0.0 in
+    let p = err_from_is_err_and c.from_residual-in_err-part.result c.from_residual-in_err-part.ensures.1 in
+    rw (p.1, p.2) (refused_same why _ _
+    (by_not c.args.span s c.args.key.now (nodes_of c.args.rest.now) c.args.scope.now.names.keys c.requires
+    (sym c.is.ensures ∙ c.if-is.false) (sym c.is-else-is.ensures ∙ c.if-is-2.false)
+    (sym c.is-else-is-2.ensures ∙ c.if-is-3.true))
+    (refused_next why _ _ (rw c.closing.ensures at c.in_err-part.ensures)))
