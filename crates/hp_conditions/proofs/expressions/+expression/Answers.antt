@@ -10,7 +10,7 @@ use Rattle.hp_text.specs.Nodes.{nodes_of}
 use Rattle.hp_terms.proofs.Turns.{one_viewed, refused_next, refused_same}
 use Rattle.hp_terms.proofs.PartSteps.{expressions_read, expressions_refused, reads_same, conjunction-list, conjunction-nil, word_first}
 use Rattle.hp_terms.proofs.Sizes.{item-smaller}
-use Rattle.hp_conditions.proofs.KeyLemmas.{seen_as, by_nothing, by_and, by_or, by_not, by_imply, by_forall, by_assign, by_call, by_name, by_no_name}
+use Rattle.hp_conditions.proofs.KeyLemmas.{one_alone, one_too_many, one_refused, seen_as, by_nothing, by_and, by_or, by_not, by_imply, by_forall, by_assign, by_call, by_name, by_no_name}
 use Rattle.hp_conditions.proofs.expressions.+expression.Goals as goal
 
 pub expressions-expression-requires : goal.expressions-expression-requires
@@ -244,3 +244,23 @@ keyed-returns-in_err-part t c = λ s.
     (sym c.is.ensures ∙ c.if-is.false) (sym c.is-else-is.ensures ∙ c.if-is-2.false)
     (sym c.is-else-is-2.ensures ∙ c.if-is-3.true))
     (refused_next why _ _ (rw c.closing.ensures at c.in_err-part.ensures)))
+
+pub one_expression-returns-in-len1 : goal.one_expression-returns-in-len1
+one_expression-returns-in-len1 t c =
+    reads_same _ c.expression.result _ _ _ _
+    (one_alone c.args.end c.args.nodes.now c.only-item.result c.args.scope.now.names.keys c.in-len1.len_at_least
+    c.in-len1.len_below c.only-item.is)
+    c.expression.ensures
+
+pub one_expression-returns-in_ok-expression-in-len2-up : goal.one_expression-returns-in_ok-expression-in-len2-up
+one_expression-returns-in_ok-expression-in-len2-up t c =
+    rw c.expected-in-len2-up.ensures (one_too_many c.args.end c.args.nodes.now c.first-item.result c.second-item.result _ _ _
+    c.in-len2-up.len_at_least c.first-item.is c.second-item.is c.in_ok-expression-in-len2-up.ensures)
+
+pub one_expression-returns-in_err-expression-in-len2-up : goal.one_expression-returns-in_err-expression-in-len2-up
+one_expression-returns-in_err-expression-in-len2-up t c =
+    let p = err_from_is_err_and c.from_residual.result c.from_residual.ensures.1 in
+    let least : 2 ≤ length c.args.nodes.now = c.in-len2-up.len_at_least in
+    rw (p.1, p.2) (one_refused c.in_err-expression-in-len2-up.field-0.0 c.args.end c.args.nodes.now
+    c.first-item.result c.args.scope.now.names.keys (omega arith) c.first-item.is
+    c.in_err-expression-in-len2-up.ensures)
