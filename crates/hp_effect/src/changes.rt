@@ -9,7 +9,8 @@ ghost use Rattle.hp_eval.specs.Growth.{Grows};
 ghost use Rattle.hp_eval.specs.Slotted.{AreBelow, bindings_of};
 ghost use Rattle.hp_world.specs.Answers.{Applies};
 ghost use Rattle.hp_world.specs.Keyed.{parts_of};
-ghost use Rattle.hp_world.specs.Recorded.{history_in, Knows};
+ghost use Rattle.hp_world.specs.Pasts.{PastsBelow};
+ghost use Rattle.hp_world.specs.Recorded.{history_in, Knows, IndexedBelow, IndexesStood};
 ghost use Rattle.hp_world.specs.Stages.{PlacesKept, AllBelow, state_of, guards_of, changes_of, StageBelow};
 ghost use Rattle.hp_world.specs.Stages.{ChangesBelow};
 ghost use Rattle.hp_effect.specs.Gathering.{part_of_atoms, part_of_protections};
@@ -166,6 +167,8 @@ impl Changes {
             → IsApplied a terms world.new.now (apply (state_of terms world.old.now) (guards_of terms world.old.now)
             (changes_of terms self.now))) }
         ensures below { (n : ℕ) → StageBelow n world.old.now → ChangesBelow n self.now → StageBelow n world.new.now }
+        ensures pasts { (n : ℕ) → AllBelow n self.now.add → PastsBelow n (history_in world.old)
+            → PastsBelow n (history_in world.new) }
         ensures kept { PlacesKept world.old.now.places world.new.now.places }
         ensures parts { world.new.parts ≡ [] }
         ensures err { OnErr result (history_in world.new ≡ history_in world.old) }
@@ -188,7 +191,11 @@ impl Changes {
             (changes_of terms self.now))) }
         ensures indexes { parts_of world.new.parts ≡ parts_of world.old.parts }
         ensures knows { Knows cells.now world.old → Knows cells.now world.new }
+        ensures stood { IndexesStood world.new }
+        ensures entries { (n : ℕ) → AllBelow n self.now.add → IndexedBelow n world.old → IndexedBelow n world.new }
         ensures below { (n : ℕ) → StageBelow n world.old.now → ChangesBelow n self.now → StageBelow n world.new.now }
+        ensures pasts { (n : ℕ) → AllBelow n self.now.add → PastsBelow n (history_in world.old)
+            → PastsBelow n (history_in world.new) }
         ensures kept { PlacesKept world.old.now.places world.new.now.places }
         ensures err { OnErr result (history_in world.new ≡ history_in world.old) }
     {

@@ -1,20 +1,23 @@
 -- Indexes that follow places through one change, made or undone.
-use Rattle.std.proofs.Common.{◌≡◌, ◌≢◌, ℕ, ◌-◌, ◌<◌, ◌≤◌, List, [], ◌∷◌, ◌++◌, Option, Some, None, length, get_or, set, take, slice_get, sym, ap, ◌∙◌, subst, inl, inr, arith}
+use Rattle.std.proofs.Common.{◌≡◌, ◌≢◌, ℕ, ◌-◌, ◌<◌, ◌≤◌, List, [], ◌∷◌, ◌++◌, Option, Some, None, length, get_or, set, take, slice_get, refl, sym, ap, ◌∙◌, subst, inl, inr, arith}
 use Rattle.std.proofs.lemmas.List.{get_or-set_same, get_or-set_other, get_or-take, length-take-le}
 use Rattle.std.proofs.lemmas.Bool.{cases_eq}
-use Rattle.std.proofs.lemmas.Option.{none-some}
+use Rattle.std.proofs.lemmas.Option.{none-some, get_or_from_slice_get}
 use Rattle.std.specs.Option.{IfSome}
 use Rattle.hp_chains.specs.Entries.{Entry, Bare, Standing, IsTakenOut, entry_at, standing_again, new_entry}
 use Rattle.hp_world.specs.declared.store.Change.{Change}
 use Rattle.hp_world.specs.declared.store.Change.TheVariants.{Deleted, Added}
 use Rattle.hp_world.specs.declared.part_index.Step.TheVariants.{Out, Back, More, Fewer}
 use Rattle.hp_world.specs.Following.{Follows, Rejoins}
+use Rattle.hp_world.specs.Histories.{history}
 use Rattle.hp_world.specs.Keyed.{Keyed, Allows, Steps, IsAsRoomy, waiting_at}
 use Rattle.hp_world.specs.Stages.{Stage}
 use Rattle.hp_world.specs.Trails.{IsUndoable}
 use Rattle.hp_world.specs.Undoing.{undone, Fits, IsVacant, IsAny, IsFollowed}
-use Rattle.hp_cells.proofs.PlaceLemmas.{kept, stays}
+use Rattle.hp_cells.proofs.PlaceLemmas.{before_or_last, kept, stands_last, stays}
+use Rattle.hp_cells.proofs.PlaceLemmas.{stood as cut_from}
 use Rattle.hp_world.proofs.TrailLemmas.{undoable_pushed, undoable_popped}
+use Rattle.hp_world.proofs.PastLemmas.{has_stood, stands_now, stood_before, stood_undone}
 use Rattle.hp_world.proofs.FollowingLemmas as following
 use Rattle.hp_world.proofs.FollowingLemmas.{IsAlike, rejoins_alike}
 use Rattle.hp_world.proofs.UndoingLemmas.{all_but_last_pushed}
@@ -108,6 +111,7 @@ module _ (width room : ℕ) (p q : Keyed) (s : Stage) (ts : List Change)
             (following.rejoins_out p s.places s.guards i a fs f.now live step.0)
             (subst (λ (u : Stage). IsUndoable undone (Rejoins rest) IsAny ts u) (sym back)
             (rejoins_alike p rest s width room ts (alike_out p s.places i a fs live step.0) sound f.back));
+        stood = has_stood p rest ts (Deleted i a) s after back refl f.stood;
       } in
       subst (λ (x : Keyed). IsFollowed after (ts ++ Deleted i a ∷ []) x) (sym step.1) all
 
@@ -126,6 +130,14 @@ module _ (width room : ℕ) (p q : Keyed) (s : Stage) (ts : List Change)
             undoable_pushed undone (Rejoins more) IsAny ts Added after tt tt
             (subst (λ (u : Stage). IsUndoable undone (Rejoins more) IsAny ts u) (sym back)
             (rejoins_alike p more s width room ts (alike_more p s.places a (new_entry key) f.now) sound f.back));
+        stood = λ j b g. elim (before_or_last p.atoms a j b g) [
+          | inl was ↦ stood_before ts Added s after j b back (f.stood j b was)
+          | inr last ↦
+              stands_now (history undone (ts ++ Added ∷ []) after) j b
+              (ap (λ k. get_or after.places k None) (last.0 ∙ f.now.aligned)
+              ∙ get_or_from_slice_get after.places (length s.places) (Some a) None (stands_last s.places (Some a))
+              ∙ ap Some last.1)
+        ];
       } in
       subst (λ (x : Keyed). IsFollowed after (ts ++ Added ∷ []) x) (sym step) all
 
@@ -137,6 +149,7 @@ module _ (width room : ℕ) (p q : Keyed) (s : Stage) (ts : List Change)
     back =
         undoable_pushed undone (Rejoins p) IsAny ts t after tt r
         (subst (λ (u : Stage). IsUndoable undone (Rejoins p) IsAny ts u) (sym back) f.back);
+    stood = has_stood p p ts t s after back refl f.stood;
   }
 
 -- ---- one change undone
@@ -154,6 +167,11 @@ module _ (width room : ℕ) (p q : Keyed) (s : Stage) (ts : List Change) where
         now = following.followed_back p s.places i a f.now vacant.place popped.0.0;
         back =
             rejoins_alike p back before width room ts (alike_back p s.places i a f.now vacant.place) sound popped.1;
+        stood = λ j b g.
+            stood_undone ts (Deleted i a) s j b
+            (λ e. get_or-set_other s.places i j (Some a) None
+            (λ same. none-some b (sym vacant.empty ∙ ap (λ k. get_or s.places k None) (sym same) ∙ e)) ∙ e)
+            (f.stood j b g);
       } in
       subst (λ (x : Keyed). IsFollowed before ts x) (sym step) all
 
@@ -175,6 +193,9 @@ module _ (width room : ℕ) (p q : Keyed) (s : Stage) (ts : List Change) where
       let all : IsFollowed before ts fewer = record {
         now = following.followed_fewer p s.places n (omega arith) f.now;
         back = rejoins_alike p fewer before width room ts (alike_fewer p s.places n (omega arith)) sound popped.1;
+        stood = λ j b g.
+            let was = cut_from n p.atoms j b g in
+            stood_undone ts Added s j b (λ e. get_or-take n s.places j None was.0 ∙ e) (f.stood j b was.1);
       } in
       let same : length p.atoms - 1 ≡ n = ap (λ k. k - 1) f.now.aligned in
       let is : q ≡ fewer = step ∙ ap (λ k. record p { atoms = take k p.atoms; entries = take k p.entries }) same in
@@ -186,6 +207,8 @@ module _ (width room : ℕ) (p q : Keyed) (s : Stage) (ts : List Change) where
   followed_before t places f = record {
     now = subst (λ (ps : List (Option ℕ)). Follows p ps) (sym places) f.now;
     back = (undoable_popped undone (Rejoins p) IsAny ts t s f.back).1;
+    stood = λ j b g.
+        stood_undone ts t s j b (λ e. ap (λ (qs : List (Option ℕ)). get_or qs j None) places ∙ e) (f.stood j b g);
   }
 
   -- an index follows places when there is more room
@@ -212,6 +235,7 @@ module _ (width room : ℕ) (p q : Keyed) (s : Stage) (ts : List Change) where
               empty = λ i l e. same i;
               atoms = λ i a l g. atoms i a g;
             }) sound f.back;
+        stood = λ i a g. f.stood i a (sym (ap (λ (xs : List ℕ). slice_get xs i) r.atoms) ∙ g);
       }
 
 -- an index without places follows where there are none
@@ -227,4 +251,5 @@ followed_empty p e f = record {
         let bad : Bare ≡ Standing key = sym (ap (λ es. standing_again (entry_at es i)) e) ∙ g in absurd (cc);
   };
   back = tt;
+  stood = λ i a g. absurd (none-some a (sym (ap (λ (xs : List ℕ). slice_get xs i) f) ∙ g));
 }

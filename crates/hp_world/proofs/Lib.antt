@@ -1,5 +1,6 @@
 pub mod TrailLemmas
 pub mod HistoryLemmas
+pub mod PastLemmas
 pub mod IndexedLemmas
 pub mod StageLemmas
 pub mod DeletingLemmas

@@ -99,7 +99,7 @@ module _ (terms : List Term) (cells : AreCells terms) (p : Keyed) (places : List
       let atom = (follows.here i has.atom has.here).0 in (
         has.atom,
         slice_get-get_or places i None within ∙ ap Some has.here,
-        subst (λ (e : Entry). IsKeyOf terms p.part has.atom (key_of e)) s (known i has.atom atom),
+        subst (λ (e : Entry). IsKeyOf terms p.part has.atom (key_of e)) s (known i has.atom atom).has_key,
       )
 
   -- a place whose atom has a part is under its key
@@ -112,7 +112,7 @@ module _ (terms : List Term) (cells : AreCells terms) (p : Keyed) (places : List
       let t = term_at terms a in
       let is : slice_get terms a ≡ Some t = named_at terms a l in
       let knows : NamesPart terms (Some x) (key_of (entry_at p.entries i)) =
-      subst (λ o. NamesPart terms o (key_of (entry_at p.entries i))) (has t is) (known i a entry.0 t is) in
+      subst (λ o. NamesPart terms o (key_of (entry_at p.entries i))) (has t is) ((known i a entry.0).has_key t is) in
       by_key (key_of (entry_at p.entries i)) refl knows entry.1
     where
       by_key : (k : Option ℕ) → key_of (entry_at p.entries i) ≡ k → NamesPart terms (Some x) k

@@ -8,9 +8,10 @@ use Rattle.hp_world.specs.declared.store.Store.{Store}
 use Rattle.hp_world.specs.declared.part_index.Step.TheVariants.{Out, Back, More, Fewer}
 use Rattle.hp_world.specs.Following.{Rejoins}
 use Rattle.hp_world.specs.Keyed.{Keyed, Allows, Steps, IsAsRoomy}
+use Rattle.hp_world.specs.Pasts.{HasStood}
 use Rattle.hp_world.specs.Stages.{Stage}
 use Rattle.hp_world.specs.Trails.{IsUndoable}
-use Rattle.hp_world.specs.Undoing.{undone, Fits, IsAny, IsFollowed, IsSound, stage_of}
+use Rattle.hp_world.specs.Undoing.{undone, Fits, IsAny, IsFollowed, IsSound, history_of, stage_of}
 use Rattle.hp_world.proofs.FollowedLemmas as followed
 use Rattle.hp_world.proofs.FollowingLemmas.{place_within}
 use Rattle.hp_world.proofs.TrailLemmas.{undoable_popped}
@@ -19,6 +20,12 @@ use Rattle.hp_world.proofs.ZipLemmas.{all_zipped}
 -- all indexes follow a stage that has these changes behind it
 abbrev pub AllFollow : Stage → List Change → List Keyed → Type 0
 AllFollow s ts ps = All (IsFollowed s ts) ps
+
+-- the indexes of a sound store have no atoms but those that stood
+pub all_stood : (s : Store) → IsSound s → All (HasStood (history_of s)) s.parts.items
+all_stood s h =
+    All-weaker (IsFollowed (stage_of s) s.trail.items) (HasStood (history_of s)) (λ p f. f.stood) s.parts.items
+    h.followed
 
 module _ (s : Store) (h : IsSound s) (ps : List Keyed) where
   -- a place with an atom may be taken out of all indexes

@@ -9,12 +9,13 @@ use Rattle.hp_world.specs.declared.store.Change.TheVariants.{Deleted, Added, Can
 use Rattle.hp_world.specs.declared.store.Store.{Store}
 use Rattle.hp_world.specs.Histories.{history, undone_to, KeepsPasts}
 use Rattle.hp_world.specs.Indexed.{IsOnlyAt}
-use Rattle.hp_world.specs.Stages.{Stage, PlacesKept}
+use Rattle.hp_world.specs.Stages.{Stage, AllBelow, PlacesKept, live_atoms}
 use Rattle.hp_world.specs.Trails.{IsUndoable}
 use Rattle.hp_world.specs.Undoing.{all_but_last, undone, Fits, IsVacant, IsAny, IsFollowed, stage_of, history_of, IsSound, Moves, Undoes}
 use Rattle.hp_world.proofs.StageLemmas.{kept_more}
 use Rattle.hp_world.proofs.HistoryLemmas.{undone_pushed}
-use Rattle.hp_world.proofs.TrailLemmas.{keeps_pushed, undoable_pushed, undoable_popped, undoable_weaker}
+use Rattle.hp_world.proofs.PastLemmas.{pasts_pushed, present_below}
+use Rattle.hp_world.proofs.TrailLemmas.{keeps_pushed, length_pasts, undoable_pushed, undoable_popped, undoable_weaker}
 
 -- all but what comes last are those before it
 pub all_but_last_pushed : {A : Type 0} (xs : List A) (x : A) → all_but_last (xs ++ x ∷ []) ≡ xs
@@ -57,28 +58,40 @@ vacated width ps i a h l = record {
 }
 
 -- where one change is noted, undoing takes it back and places are kept, what stood before is kept
-pub moved : (old new : Store) (t : Change) → IsSound old → new.trail.items ≡ old.trail.items ++ t ∷ []
+pub moved : (old new : Store) (t : Change) (added : List ℕ) → IsSound old → new.trail.items ≡ old.trail.items ++ t ∷ []
     → undone t (stage_of new) ≡ stage_of old → PlacesKept old.places.places new.places.places
-    → Fits new.places.width (vec_capacity new.guards) t (stage_of new)
+    → ((k : ℕ) → AllBelow k added → AllBelow k (live_atoms old.places.places)
+    → AllBelow k (live_atoms new.places.places)) → Fits new.places.width (vec_capacity new.guards) t (stage_of new)
     → vec_len new.trail ≡ vec_len old.trail + 1 → vec_capacity new.trail ≡ vec_capacity old.trail
     → vec_capacity new.guards ≡ vec_capacity old.guards → new.places.room ≡ old.places.room
     → new.places.width ≡ old.places.width → All (IsFollowed (stage_of new) new.trail.items) new.parts.items
-    → Moves 1 old new
-moved old new t sound trail back kept fits count trail_room guards_room places_room width followed =
+    → Moves 1 added old new
+moved old new t added sound trail back kept below fits count trail_room guards_room places_room width followed =
     let fit = Fits new.places.width (vec_capacity new.guards) in
     let before : IsUndoable undone fit IsAny old.trail.items (undone t (stage_of new)) =
     rw (back, guards_room, width) sound.undoable in
     let keeps : KeepsPasts (history undone old.trail.items (undone t (stage_of new)))
     (history undone (old.trail.items ++ t ∷ []) (stage_of new)) = keeps_pushed undone old.trail.items t
     (stage_of new) in
+    let all_kept : KeepsPasts (history_of old) (history_of new) =
+    subst (λ (ts : List Change). KeepsPasts (history_of old) (history undone ts (stage_of new))) (sym trail)
+    (subst
+    (λ (s : Stage). KeepsPasts (history undone old.trail.items s) (history undone (old.trail.items ++ t ∷ [])
+    (stage_of new)))
+    back keeps) in
     record {
-      keeps =
-          subst (λ (ts : List Change). KeepsPasts (history_of old) (history undone ts (stage_of new))) (sym trail)
-          (subst
-          (λ (s : Stage). KeepsPasts (history undone old.trail.items s) (history undone (old.trail.items ++ t ∷ [])
-          (stage_of new)))
-          back keeps);
+      keeps = all_kept;
       kept = kept;
+      below = λ k few pasts.
+          pasts_pushed k (history_of old) (history_of new) all_kept
+          (omega (
+            arith,
+            length_pasts undone old.trail.items (stage_of old),
+            length_pasts undone new.trail.items (stage_of new),
+            ap length trail,
+            length_push old.trail.items t,
+          )) pasts
+          (below k few (present_below k (history_of old) pasts));
       sound = record {
         undoable =
             subst (λ (ts : List Change). IsUndoable undone fit IsAny ts (stage_of new)) (sym trail)
@@ -127,17 +140,34 @@ taken_back old new t sound trail fewer back width room followed =
     }
 
 -- changes after others keep what stood before those
-pub moves_more : (n k : ℕ) (a b c : Store) → Moves n a b → Moves k b c → Moves (n + k) a c
-moves_more n k a b c f g = record {
+pub moves_more : (n k : ℕ) (added : List ℕ) (a b c : Store) → Moves n added a b → Moves k added b c
+    → Moves (n + k) added a c
+moves_more n k added a b c f g = record {
   keeps = record {
     mark = omega (arith, f.keeps.mark, g.keeps.mark);
     past = λ m l. g.keeps.past m (omega (arith, f.keeps.mark)) ∙ f.keeps.past m l;
   };
   kept = kept_more a.places.places b.places.places c.places.places f.kept g.kept;
+  below = λ m few pasts. g.below m few (f.below m few pasts);
   sound = g.sound;
   count = omega (arith, f.count, g.count);
   trail_room = g.trail_room ∙ f.trail_room;
   guards_room = g.guards_room ∙ f.guards_room;
   places_room = g.places_room ∙ f.places_room;
   width = g.width ∙ f.width;
+}
+
+-- changes that add some of fewer atoms add some of more
+pub moves_wider : (n : ℕ) (few many : List ℕ) (a b : Store) → ((k : ℕ) → AllBelow k many → AllBelow k few)
+    → Moves n few a b → Moves n many a b
+moves_wider n few many a b fewer f = record {
+  keeps = f.keeps;
+  kept = f.kept;
+  below = λ k l pasts. f.below k (fewer k l) pasts;
+  sound = f.sound;
+  count = f.count;
+  trail_room = f.trail_room;
+  guards_room = f.guards_room;
+  places_room = f.places_room;
+  width = f.width;
 }

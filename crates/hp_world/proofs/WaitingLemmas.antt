@@ -6,7 +6,7 @@ use Rattle.hp_syntax.specs.Terms.{Term}
 use Rattle.std.specs.Vec.{vec_len, vec_capacity}
 use Rattle.hp_world.specs.declared.part_index.PartIndex.TheInside.{Inside}
 use Rattle.hp_world.specs.Keyed.{Keyed, keyed_of, IsAsRoomy, waiting_at}
-use Rattle.hp_world.specs.Parts.{IsKeyOf}
+use Rattle.hp_world.specs.Parts.{IsKnownBy}
 
 -- an index that is as roomy as one that is as roomy as another is so too
 pub roomier_on : (p q r : Keyed) → IsAsRoomy p q → IsAsRoomy q r → IsAsRoomy p r
@@ -76,19 +76,19 @@ module _ (p q : Keyed) (key : Option ℕ) (same : IsAsRoomy p q) (waits : q.wait
       (λ m. below_more_keys p.keys q.keys same.keys (waiting_at p m) (before m)) n)
 
   pub more_right : (terms : List Term) (atoms : List ℕ) (i atom : ℕ) → length p.waiting ≡ i → i < length atoms
-      → atom ≡ get_or atoms i atom → IsKeyOf terms p.part atom key
-      → ((n a : ℕ) → n < i → slice_get atoms n ≡ Some a → IsKeyOf terms p.part a (waiting_at p n))
-      → (n a : ℕ) → n < i + 1 → slice_get atoms n ≡ Some a → IsKeyOf terms q.part a (waiting_at q n)
+      → atom ≡ get_or atoms i atom → IsKnownBy terms p.part atom key
+      → ((n a : ℕ) → n < i → slice_get atoms n ≡ Some a → IsKnownBy terms p.part a (waiting_at p n))
+      → (n a : ℕ) → n < i + 1 → slice_get atoms n ≡ Some a → IsKnownBy terms q.part a (waiting_at q n)
   more_right terms atoms i atom count l is last before n a k e =
-      below_more (λ m. (b : ℕ) → slice_get atoms m ≡ Some b → IsKeyOf terms q.part b (waiting_at q m)) i
+      below_more (λ m. (b : ℕ) → slice_get atoms m ≡ Some b → IsKnownBy terms q.part b (waiting_at q m)) i
       (λ m j b f. moved m b (sym (ap (λ ks. get_or ks m None) waits
       ∙ pushed_before p.waiting key m (omega (arith, j, count)))) (before m b j f))
       (λ b f. moved i b (sym (ap (λ ks. get_or ks i None) waits
       ∙ ap (λ m. get_or (p.waiting ++ key ∷ []) m None) (sym count) ∙ pushed_last p.waiting key))
-      (subst (λ x. IsKeyOf terms p.part x key) (same_item atoms i b atom l is f) last)) n k a e
+      (subst (λ x. IsKnownBy terms p.part x key) (same_item atoms i b atom l is f) last)) n k a e
     where
-      moved : (m b : ℕ) {o : Option ℕ} → o ≡ waiting_at q m → IsKeyOf terms p.part b o
-          → IsKeyOf terms q.part b (waiting_at q m)
+      moved : (m b : ℕ) {o : Option ℕ} → o ≡ waiting_at q m → IsKnownBy terms p.part b o
+          → IsKnownBy terms q.part b (waiting_at q m)
       moved m b f h =
-          subst (λ part. IsKeyOf terms part b (waiting_at q m)) (sym same.part)
-          (subst (λ o. IsKeyOf terms p.part b o) f h)
+          subst (λ part. IsKnownBy terms part b (waiting_at q m)) (sym same.part)
+          (subst (λ o. IsKnownBy terms p.part b o) f h)

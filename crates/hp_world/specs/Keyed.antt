@@ -5,7 +5,8 @@ use Rattle.hp_chains.specs.Entries.{Entry, Bare, Standing, Loose, FitsBack, IsTa
 use Rattle.hp_world.specs.declared.part_index.PartIndex.TheInside.{Inside}
 use Rattle.hp_world.specs.declared.part_index.Step.{Step}
 use Rattle.hp_world.specs.declared.part_index.Step.TheVariants.{Out, Back, More, Fewer}
-use Rattle.hp_world.specs.Parts.{IsKeyOf}
+use Rattle.hp_world.specs.Parts.{IsKnownBy}
+use Rattle.hp_world.specs.Stages.{AllBelow}
 
 -- by place the atom that was put there, and its entry among those with the same part; the number of keys there may be,
 -- of places that there is room for, and the keys that wait to be put behind the others
@@ -42,9 +43,14 @@ key_of Bare = None
 key_of (Standing key) = Some key
 key_of (Loose key previous next) = Some key
 
--- each atom has the key by its part, where cells name these terms
+-- each atom is a cell and has the key by its part, where cells name these terms
 abbrev pub KnowsParts : List Term → Keyed → Type 0
-KnowsParts terms p = (i a : ℕ) → slice_get p.atoms i ≡ Some a → IsKeyOf terms p.part a (key_of (entry_at p.entries i))
+KnowsParts terms p =
+    (i a : ℕ) → slice_get p.atoms i ≡ Some a → IsKnownBy terms p.part a (key_of (entry_at p.entries i))
+
+-- each atom is below a count
+abbrev pub AtomsBelow : ℕ → Keyed → Type 0
+AtomsBelow n p = AllBelow n p.atoms
 
 -- ---- steps
 
@@ -69,29 +75,30 @@ Steps Fewer p q =
 
 -- ---- what is known
 
--- the keys that wait for atoms are right, where cells name these terms
+-- the atoms are cells, and the keys that wait for them are right, where cells name these terms
 abbrev pub KeysRight : List Term → List ℕ → Keyed → Type 0
-KeysRight terms atoms p = (n a : ℕ) → slice_get atoms n ≡ Some a → IsKeyOf terms p.part a (waiting_at p n)
+KeysRight terms atoms p = (n a : ℕ) → slice_get atoms n ≡ Some a → IsKnownBy terms p.part a (waiting_at p n)
 
--- an index after changes, of which so many add a place: what was known of its atoms is known still, where something is
--- right of the keys that wait
-pub record Learns (Right : List Term → Keyed → Type 0) (most : ℕ) (p q : Keyed) : Type 0 where
+-- an index after changes, of which so many add a place with one of these atoms: what was known of its atoms is known
+-- still, where something is right of the keys that wait
+pub record Learns (Right : List Term → Keyed → Type 0) (added : List ℕ) (most : ℕ) (p q : Keyed) : Type 0 where
   pub part : q.part ≡ p.part
   pub keys : q.keys ≡ p.keys
   pub room : q.room ≡ p.room
   pub waiting : q.waiting ≡ p.waiting
   pub longer : length q.entries ≤ length p.entries + most
   pub knows : (terms : List Term) → Right terms p → KnowsParts terms p → KnowsParts terms q
+  pub below : (n : ℕ) → AllBelow n added → AtomsBelow n p → AtomsBelow n q
 
 -- nothing is asked of the keys that wait
 abbrev pub Nothing : List Term → Keyed → Type 0
 Nothing terms p = Unit {0}
 
--- the key that waits at a number is an atom's
+-- an atom is a cell, and the key that waits at a number is its
 abbrev pub RightAt : ℕ → ℕ → List Term → Keyed → Type 0
-RightAt a n terms p = IsKeyOf terms p.part a (waiting_at p n)
+RightAt a n terms p = IsKnownBy terms p.part a (waiting_at p n)
 
--- the keys that wait are those of atoms
+-- the atoms are cells, and the keys that wait are theirs
 abbrev pub RightFor : List ℕ → List Term → Keyed → Type 0
 RightFor atoms terms p = KeysRight terms atoms p
 

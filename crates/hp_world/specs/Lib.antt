@@ -8,5 +8,6 @@ pub mod Deleting
 pub mod Undoing
 pub mod Parts
 pub mod Keyed
+pub mod Pasts
 pub mod Following
 pub mod Recorded

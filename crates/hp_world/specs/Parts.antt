@@ -1,5 +1,5 @@
 -- The parts of atoms: part 0 is the name, and those behind it are the arguments.
-use Rattle.std.specs.Prelude.{◌≡◌, ℕ, zero, suc, List, Option, Some, None, slice_get}
+use Rattle.std.specs.Prelude.{◌≡◌, ℕ, zero, suc, ◌<◌, List, Option, Some, None, IfSome, length, slice_get}
 use Rattle.hp_syntax.specs.Terms.{Term, Terms, Symbol, Number, Listed, NoTerm, More}
 
 -- the part of a list at a place
@@ -24,3 +24,9 @@ NamesPart terms (Some t) None = ⊥
 -- the key of an atom by its part at a place: the cell of that part
 abbrev pub IsKeyOf : List Term → ℕ → ℕ → Option ℕ → Type 0
 IsKeyOf terms n atom key = (t : Term) → slice_get terms atom ≡ Some t → NamesPart terms (part_of n t) key
+
+-- the atom is a cell, and the key is that of its part at a place, whose cell stands before it
+pub record IsKnownBy (terms : List Term) (n : ℕ) (atom : ℕ) (key : Option ℕ) : Type 0 where
+  pub is_cell : atom < length terms
+  pub has_key : IsKeyOf terms n atom key
+  pub part_before : IfSome key (λ k. k < atom)

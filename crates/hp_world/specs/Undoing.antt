@@ -8,6 +8,7 @@ use Rattle.hp_world.specs.Histories.{History, history, KeepsPasts, undone_to}
 use Rattle.hp_world.specs.Following.{Follows, Rejoins}
 use Rattle.hp_world.specs.Indexed.{IsAbsent}
 use Rattle.hp_world.specs.Keyed.{Keyed}
+use Rattle.hp_world.specs.Pasts.{HasStood, PastsBelow}
 use Rattle.hp_world.specs.Stages.{Stage, AllBelow, PlacesKept}
 use Rattle.hp_world.specs.Trails.{IsUndoable}
 
@@ -40,10 +41,11 @@ Fits width room Protected s = Unit {0}
 abbrev pub IsAny : Stage → Type 0
 IsAny s = Unit {0}
 
--- an index follows places, also where changes are undone
+-- an index follows places, also where changes are undone, and has no atoms but those that stood there
 pub record IsFollowed (s : Stage) (trail : List Change) (p : Keyed) : Type 0 where
   pub now : Follows p s.places
   pub back : IsUndoable undone (Rejoins p) IsAny trail s
+  pub stood : HasStood (history undone trail s) p
 
 -- the stage of a store
 abbrev pub stage_of : Store → Stage
@@ -59,10 +61,11 @@ pub record IsSound (s : Store) : Type 0 where
   pub followed : All (IsFollowed (stage_of s) s.trail.items) s.parts.items
 
 -- at most n changes were made, each on the trail, in the table and the room that there were; places were only emptied
--- or put behind the others
-pub record Moves (n : ℕ) (old new : Store) : Type 0 where
+-- or put behind the others, with some of these atoms
+pub record Moves (n : ℕ) (added : List ℕ) (old new : Store) : Type 0 where
   pub keeps : KeepsPasts (history_of old) (history_of new)
   pub kept : PlacesKept old.places.places new.places.places
+  pub below : (k : ℕ) → AllBelow k added → PastsBelow k (history_of old) → PastsBelow k (history_of new)
   pub sound : IsSound new
   pub count : vec_len new.trail ≤ vec_len old.trail + n
   pub trail_room : vec_capacity new.trail ≡ vec_capacity old.trail

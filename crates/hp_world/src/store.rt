@@ -57,12 +57,13 @@ impl Store {
     ghost use Rattle.hp_world.specs.Deleting.{without, deleted};
     ghost use Rattle.hp_world.specs.Histories.{mark_of, undone_to};
     ghost use Rattle.hp_world.specs.Indexed.{IsAbsent, IsOnlyAt};
-    ghost use Rattle.hp_world.specs.Keyed.{Allows, Awaits, HasWaiting, IsAsRoomy, KnowsParts, parts_of};
+    ghost use Rattle.hp_world.specs.Keyed.{Allows, AtomsBelow, Awaits, HasWaiting, IsAsRoomy, KnowsParts, parts_of};
     ghost use Rattle.hp_world.specs.Keyed.{Learns, Nothing, RightAt, RightFor};
     ghost use Rattle.hp_world.specs.declared.part_index.Step.TheVariants.{More};
     ghost use Rattle.hp_syntax.specs.Terms.{Term};
     ghost use Rattle.std.specs.List.{All, AllZip};
     ghost use Rattle.hp_world.specs.Named.{IsNextNamed};
+    ghost use Rattle.hp_world.specs.Pasts.{PastsBelow};
     ghost use Rattle.hp_world.specs.Stages.{live_atoms, same_cell, AllBelow, PlacesKept};
     ghost use Rattle.hp_world.specs.Undoing.{IsSound, Moves, Undoes, HasRoom, history_of, stage_of};
 
@@ -184,6 +185,7 @@ impl Store {
         ensures indexes { OnOk result (parts_of self.new.parts.items ≡ parts_of self.old.parts.items ++ part ∷ []) }
         ensures knows { (terms : List Term) → All (KnowsParts terms) self.old.parts.items
             → All (KnowsParts terms) self.new.parts.items }
+        ensures below { (n : ℕ) → All (AtomsBelow n) self.old.parts.items → All (AtomsBelow n) self.new.parts.items }
     {
         let alloc = *self.guards.allocator();
         self.parts.push(PartIndex::new(alloc, part))?;
@@ -210,11 +212,14 @@ impl Store {
         requires sound { IsSound self.old }
         requires waits { All (HasWaiting (length add.now) (length add.now)) self.old.parts.items }
         ensures sound { IsSound self.new }
-        ensures parts { AllZip (Learns (RightFor add.now) (length add.now)) self.old.parts.items self.new.parts.items }
+        ensures parts { AllZip (Learns (RightFor add.now) add.now (length add.now)) self.old.parts.items
+            self.new.parts.items }
         ensures ok { IfOk result (λ a. Applies a
             (record { unguard = unguard.now; delete = del.now; add = add.now; guard = guard.now })
             (history_of self.old) (history_of self.new)) }
         ensures kept { PlacesKept (stage_of self.old).places (stage_of self.new).places }
+        ensures pasts { (n : ℕ) → AllBelow n add.now → PastsBelow n (history_of self.old)
+            → PastsBelow n (history_of self.new) }
         ensures err { OnErr result (history_of self.new ≡ history_of self.old) }
     {
         let changes = most_changes(unguard, del, add, guard)?;
@@ -251,7 +256,7 @@ impl Store {
         ensures places { self.new.places ≡ self.old.places }
         ensures parts { self.new.parts ≡ self.old.parts }
         ensures fewer { vec_len self.new.guards ≤ vec_len self.old.guards }
-        ensures moves { Moves 1 self.old self.new }
+        ensures moves { Moves 1 [] self.old self.new }
     {
         if let Some(index) = first_place(&self.guards, atom) {
             self.guards.remove(index);
@@ -265,8 +270,8 @@ impl Store {
         ensures atoms { live_atoms self.new.places.places ≡ without atom (live_atoms self.old.places.places) }
         ensures guards { self.new.guards ≡ self.old.guards }
         ensures places { length self.new.places.places ≡ length self.old.places.places }
-        ensures parts { AllZip (Learns Nothing 0) self.old.parts.items self.new.parts.items }
-        ensures moves { Moves 1 self.old self.new }
+        ensures parts { AllZip (Learns Nothing [] 0) self.old.parts.items self.new.parts.items }
+        ensures moves { Moves 1 [] self.old self.new }
     {
         if let Some(place) = self.places.place_of(atom) {
             self.places.clear(place, atom);
@@ -286,8 +291,8 @@ impl Store {
             ≡ with_added same_cell (live_atoms self.old.places.places) (atom ∷ []) }
         ensures guards { self.new.guards ≡ self.old.guards }
         ensures places { length self.new.places.places ≤ length self.old.places.places + 1 }
-        ensures parts { AllZip (Learns (RightAt atom number) 1) self.old.parts.items self.new.parts.items }
-        ensures moves { Moves 1 self.old self.new }
+        ensures parts { AllZip (Learns (RightAt atom number) (atom ∷ []) 1) self.old.parts.items self.new.parts.items }
+        ensures moves { Moves 1 (atom ∷ []) self.old self.new }
     {
         if self.places.place_of(atom).is_none() {
             self.places.push(atom);
@@ -304,7 +309,7 @@ impl Store {
         ensures more { vec_len self.new.guards ≡ vec_len self.old.guards + 1 }
         ensures places { self.new.places ≡ self.old.places }
         ensures parts { self.new.parts ≡ self.old.parts }
-        ensures moves { Moves 1 self.old self.new }
+        ensures moves { Moves 1 [] self.old self.new }
     {
         self.guards.push_reserved(atom);
         self.trail.push_reserved(Change::Protected);
@@ -317,7 +322,7 @@ impl Store {
         ensures places { self.new.places ≡ self.old.places }
         ensures parts { self.new.parts ≡ self.old.parts }
         ensures fewer { vec_len self.new.guards ≤ vec_len self.old.guards }
-        ensures moves { Moves (length atoms.now) self.old self.new }
+        ensures moves { Moves (length atoms.now) [] self.old self.new }
     {
         for atom in atoms {
             self.cancel(*atom);
@@ -331,8 +336,8 @@ impl Store {
             ≡ deleted (live_atoms self.old.places.places) atoms.now }
         ensures guards { self.new.guards ≡ self.old.guards }
         ensures places { length self.new.places.places ≡ length self.old.places.places }
-        ensures parts { AllZip (Learns Nothing 0) self.old.parts.items self.new.parts.items }
-        ensures moves { Moves (length atoms.now) self.old self.new }
+        ensures parts { AllZip (Learns Nothing [] 0) self.old.parts.items self.new.parts.items }
+        ensures moves { Moves (length atoms.now) [] self.old self.new }
     {
         for atom in atoms {
             self.delete(*atom);
@@ -348,9 +353,9 @@ impl Store {
         ensures atoms { live_atoms self.new.places.places
             ≡ with_added same_cell (live_atoms self.old.places.places) atoms.now }
         ensures guards { self.new.guards ≡ self.old.guards }
-        ensures parts { AllZip (Learns (RightFor atoms.now) (length atoms.now)) self.old.parts.items
+        ensures parts { AllZip (Learns (RightFor atoms.now) atoms.now (length atoms.now)) self.old.parts.items
             self.new.parts.items }
-        ensures moves { Moves (length atoms.now) self.old self.new }
+        ensures moves { Moves (length atoms.now) atoms.now self.old self.new }
     {
         for (number, atom) in atoms.iter().enumerate() {
             self.add(*atom, number);
@@ -364,7 +369,7 @@ impl Store {
         ensures guards { self.new.guards.items ≡ self.old.guards.items ++ atoms.now }
         ensures places { self.new.places ≡ self.old.places }
         ensures parts { self.new.parts ≡ self.old.parts }
-        ensures moves { Moves (length atoms.now) self.old self.new }
+        ensures moves { Moves (length atoms.now) [] self.old self.new }
     {
         for atom in atoms {
             self.protect(*atom);
@@ -394,7 +399,7 @@ impl Store {
         requires mark { mark ≤ mark_of (history_of self.old) }
         ensures sound { IsSound self.new }
         ensures back { history_of self.new ≡ undone_to mark (history_of self.old) }
-        ensures parts { AllZip (Learns Nothing 0) self.old.parts.items self.new.parts.items }
+        ensures parts { AllZip (Learns Nothing [] 0) self.old.parts.items self.new.parts.items }
     {
         while self.trail.len() > mark {
             self.undo_last();
@@ -405,7 +410,7 @@ impl Store {
         requires sound { IsSound self.old }
         requires some { 0 < vec_len self.old.trail }
         ensures undoes { Undoes self.old self.new }
-        ensures parts { AllZip (Learns Nothing 0) self.old.parts.items self.new.parts.items }
+        ensures parts { AllZip (Learns Nothing [] 0) self.old.parts.items self.new.parts.items }
     {
         match self.trail.take_last() {
             Change::Deleted(place, atom) => {

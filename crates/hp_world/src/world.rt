@@ -7,7 +7,8 @@ ghost use Rattle.hp_world.specs.Histories.{mark_of, undone_to};
 ghost use Rattle.hp_world.specs.Indexed.{IsAbsent, IsOnlyAt};
 ghost use Rattle.hp_world.specs.Named.{IsNamedWithAt, IsNextNamed, IsNextNamedWith, IsNoLaterThan};
 ghost use Rattle.hp_world.specs.Keyed.{parts_of};
-ghost use Rattle.hp_world.specs.Recorded.{history_in, Knows};
+ghost use Rattle.hp_world.specs.Recorded.{history_in, Knows, IndexedBelow, IndexesStood};
+ghost use Rattle.hp_world.specs.Pasts.{PastsBelow};
 ghost use Rattle.hp_world.specs.Stages.{live_atoms, PlacesKept, AllBelow, StageBelow, ChangesBelow};
 
 use crate::part_index::key_of;
@@ -57,6 +58,8 @@ impl World {
             ≡ record { past = []; now = record { places = []; guards = [] } }) }
         ensures indexes { IfOk result (λ w. parts_of w.parts ≡ parts.now) }
         ensures knows { IfOk result (λ w. (terms : List Term) → Knows terms w) }
+        ensures stood { IfOk result (λ w. IndexesStood w) }
+        ensures entries { IfOk result (λ w. (n : ℕ) → IndexedBelow n w) }
     {
         let mut store = Store::new(alloc);
         for part in parts {
@@ -84,6 +87,8 @@ impl World {
         ensures below { (n : ℕ) → StageBelow n self.old.now → ChangesBelow n
             (record { unguard = unguard.now; delete = del.now; add = add.now; guard = guard.now })
             → StageBelow n self.new.now }
+        ensures pasts { (n : ℕ) → AllBelow n add.now → PastsBelow n (history_in self.old)
+            → PastsBelow n (history_in self.new) }
         ensures kept { PlacesKept self.old.now.places self.new.now.places }
         ensures err { OnErr result (history_in self.new ≡ history_in self.old) }
     {
@@ -106,9 +111,13 @@ impl World {
             (history_in self.old) (history_in self.new)) }
         ensures indexes { parts_of self.new.parts ≡ parts_of self.old.parts }
         ensures knows { Knows cells.now self.old → Knows cells.now self.new }
+        ensures stood { IndexesStood self.new }
+        ensures entries { (n : ℕ) → AllBelow n add.now → IndexedBelow n self.old → IndexedBelow n self.new }
         ensures below { (n : ℕ) → StageBelow n self.old.now → ChangesBelow n
             (record { unguard = unguard.now; delete = del.now; add = add.now; guard = guard.now })
             → StageBelow n self.new.now }
+        ensures pasts { (n : ℕ) → AllBelow n add.now → PastsBelow n (history_in self.old)
+            → PastsBelow n (history_in self.new) }
         ensures kept { PlacesKept self.old.now.places self.new.now.places }
         ensures err { OnErr result (history_in self.new ≡ history_in self.old) }
     {
@@ -264,6 +273,8 @@ impl World {
         ensures back { history_in self.new ≡ undone_to mark (history_in self.old) }
         ensures indexes { parts_of self.new.parts ≡ parts_of self.old.parts }
         ensures knows { (terms : List Term) → Knows terms self.old → Knows terms self.new }
+        ensures stood { IndexesStood self.new }
+        ensures entries { (n : ℕ) → IndexedBelow n self.old → IndexedBelow n self.new }
     {
         self.store.undo_to(mark);
     }

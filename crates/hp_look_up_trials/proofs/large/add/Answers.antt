@@ -10,3 +10,9 @@ returns-in_ok-apply_in-clause-below c =
     (omega (arith, c.if-index-len.true, c.index.ensures, c.len.ensures.count)) nothing in
     c.apply_in.ensures.below n c.requires.below
     (record { unguard = nothing; delete = nothing; add = added; guard = nothing })
+
+pub returns-in_err-apply_in-clause-knows : goal.returns-in_err-apply_in-clause-knows
+returns-in_err-apply_in-clause-knows c = c.apply_in.ensures.knows c.requires.knows
+
+pub returns-in_ok-apply_in-clause-knows : goal.returns-in_ok-apply_in-clause-knows
+returns-in_ok-apply_in-clause-knows c = c.apply_in.ensures.knows c.requires.knows

@@ -13,3 +13,9 @@ returns-in_ok-apply_in-in-Some-gone-clause-below c =
     let added = All-cons (λ x. x < n) c.args.atom [] within nothing in
     c.apply_in.ensures.below n c.requires.below
     (record { unguard = nothing; delete = deleted; add = added; guard = nothing })
+
+pub returns-in_err-apply_in-in-Some-gone-clause-knows : goal.returns-in_err-apply_in-in-Some-gone-clause-knows
+returns-in_err-apply_in-in-Some-gone-clause-knows c = c.apply_in.ensures.knows c.requires.knows
+
+pub returns-in_ok-apply_in-in-Some-gone-clause-knows : goal.returns-in_ok-apply_in-in-Some-gone-clause-knows
+returns-in_ok-apply_in-in-Some-gone-clause-knows c = c.apply_in.ensures.knows c.requires.knows

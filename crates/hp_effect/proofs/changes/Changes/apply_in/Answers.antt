@@ -10,3 +10,9 @@ pub returns-clause-terms : goal.returns-clause-terms
 returns-clause-terms c =
     comes_to_terms c.apply_in.result c.args.self.now (history_in c.args.world.now) (history_in c.apply_in.new.self)
     (rw (c.list.ensures, c.list-2.ensures, c.list-3.ensures, c.list-4.ensures) at c.apply_in.ensures.ok)
+
+pub returns-clause-entries : goal.returns-clause-entries
+returns-clause-entries c = λ n l below. c.apply_in.ensures.entries n (rw (c.list-3.ensures) l) below
+
+pub returns-clause-pasts : goal.returns-clause-pasts
+returns-clause-pasts c = λ n l below. c.apply_in.ensures.pasts n (rw (c.list-3.ensures) l) below

@@ -12,3 +12,7 @@ returns-clause-terms c =
     rw (← c.self.view_is) (comes_to_terms c.apply.result _ (history_in c.args.world.now) (history_in c.apply.new.self)
     (rw (c.as_slice.ensures.value, c.as_slice-2.ensures.value, c.as_slice-3.ensures.value, c.as_slice-4.ensures.value)
     at c.apply.ensures.ok))
+
+pub returns-clause-pasts : goal.returns-clause-pasts
+returns-clause-pasts c = λ n l below.
+    c.apply.ensures.pasts n (rw (c.as_slice-3.ensures.value) (rw (← c.self.view_is) at l)) below

@@ -1,8 +1,10 @@
 use Rattle.std.proofs.Common.{◌≡◌, ◌+◌, ◌<◌, [], ◌∷◌, ◌++◌, length, refl, sym, ap, ◌∙◌, subst, arith}
 use Rattle.std.proofs.lemmas.List.{length_push}
+use Rattle.std.proofs.lemmas.List.Elements.{All-get_or}
 use Rattle.std.proofs.lemmas.Option.{slice_get_within}
 use Rattle.hp_world.specs.Keyed.{Keyed}
-use Rattle.hp_world.specs.Parts.{IsKeyOf}
+use Rattle.hp_world.specs.Parts.{IsKnownBy}
+use Rattle.hp_world.proofs.PartLemmas.{known_by}
 use Rattle.hp_world.proofs.WaitingLemmas.{roomier_on, begun, room_for, more_below, more_right}
 use Rattle.hp_world.proofs.part_index.PartIndex.prepare.Goals as goal
 
@@ -15,8 +17,13 @@ loop-atom-preserved c =
     let key = c.key_of.result in
     let i = c.loop-atom.atom-index in
     let waits : q.waiting ≡ p.waiting ++ key ∷ [] = got.waits in
-    let right : IsKeyOf c.args.cells.now p.part c.atom-item.result key =
-    subst (λ (k : Keyed). IsKeyOf c.args.cells.now k.part c.atom-item.result key) c.wait.view_is c.key_of.ensures.key in
+    let within : c.atom-item.result < length c.args.cells.now =
+    subst (λ a. a < length c.args.cells.now) (sym c.atom-item.is)
+    (All-get_or (λ a. a < length c.args.cells.now) c.args.atoms.now i c.atom-item.result c.loop-atom-test.true
+    c.requires) in
+    let known = known_by c.args.cells.now c.key_of.ensures.cells _ c.atom-item.result key within c.key_of.ensures.key in
+    let right : IsKnownBy c.args.cells.now p.part c.atom-item.result key =
+    subst (λ (k : Keyed). IsKnownBy c.args.cells.now k.part c.atom-item.result key) c.wait.view_is known in
     record {
       same = roomier_on _ p q held.same got.same;
       count = ap length waits ∙ length_push p.waiting key ∙ ap (λ n. n + 1) held.count;

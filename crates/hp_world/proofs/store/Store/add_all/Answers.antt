@@ -1,12 +1,12 @@
-use Rattle.std.proofs.Common.{◌≡◌, ◌+◌, ◌-◌, ◌<◌, ℕ, suc, ◌∷◌, List, Some, drop, drop-cons, add-one, slice_get, length, rules, refl, sym, ap, subst, ◌∙◌, arith}
+use Rattle.std.proofs.Common.{◌≡◌, ◌+◌, ◌-◌, ◌<◌, ℕ, suc, [], ◌∷◌, List, Some, drop, drop-cons, add-one, slice_get, length, rules, refl, sym, ap, subst, ◌∙◌, arith}
 use Rattle.std.specs.List.{All}
 use Rattle.std.proofs.lemmas.Option.{slice_get-get_or}
 use Rattle.hp_syntax.specs.Applying.{with_added}
 use Rattle.hp_world.specs.Stages.{live_atoms, same_cell}
 use Rattle.hp_world.specs.Keyed.{HasWaiting, Learns, RightAt, RightFor}
-use Rattle.hp_world.proofs.LearningLemmas.{learns_same, learns_each, waits_still}
+use Rattle.hp_world.proofs.LearningLemmas.{learns_same, learns_each, waits_still, one_below}
 use Rattle.hp_world.proofs.ZipLemmas.{all_zipped, zip_same, zip_twice}
-use Rattle.hp_world.proofs.UndoingLemmas.{moves_more}
+use Rattle.hp_world.proofs.UndoingLemmas.{moves_more, moves_wider}
 use Rattle.hp_world.proofs.store.Store.add_all.Goals as goal
 
 -- a number less nothing is the number
@@ -19,7 +19,8 @@ loop-number-init c = record {
   guards = refl;
   places = omega arith;
   parts =
-      zip_same (Learns (RightFor c.args.atoms.now) 0) (learns_same (RightFor c.args.atoms.now) 0)
+      let atoms = c.args.atoms.now in
+      zip_same (Learns (RightFor atoms) atoms 0) (learns_same (RightFor atoms) atoms 0)
       c.args.self.now.parts.items _ refl;
   waits =
       subst (λ m. All (HasWaiting (length c.args.atoms.now) m) c.args.self.now.parts.items)
@@ -46,14 +47,16 @@ loop-number-preserved c =
       guards = c.add.ensures.guards ∙ c.loop-number.invariant.guards;
       places = omega (arith, c.loop-number.invariant.places, c.add.ensures.places);
       parts =
-          zip_twice (Learns (RightFor atoms) n) (Learns (RightAt a n) 1) (Learns (RightFor atoms) (n + 1))
+          zip_twice (Learns (RightFor atoms) atoms n) (Learns (RightAt a n) (a ∷ []) 1)
+          (Learns (RightFor atoms) atoms (n + 1))
           (λ p q r f g. learns_each atoms n a p q r at f g) c.args.self.now.parts.items
           c.loop-number.self.parts.items c.add.new.self.parts.items c.loop-number.invariant.parts c.add.ensures.parts;
       waits =
           all_zipped (HasWaiting (length atoms) (length atoms - n)) (HasWaiting (length atoms) (length atoms - (n + 1)))
-          (Learns (RightAt a n) 1)
-          (λ p q h f. waits_still (RightAt a n) (length atoms) (length atoms - n)
+          (Learns (RightAt a n) (a ∷ []) 1)
+          (λ p q h f. waits_still (RightAt a n) (a ∷ []) (length atoms) (length atoms - n)
           (length atoms - (n + 1)) 1 left p q h f)
           c.loop-number.self.parts.items c.add.new.self.parts.items c.loop-number.invariant.waits c.add.ensures.parts;
-      moves = moves_more _ _ _ _ _ c.loop-number.invariant.moves c.add.ensures.moves;
+      moves = moves_more _ _ atoms _ _ _ c.loop-number.invariant.moves
+          (moves_wider 1 (a ∷ []) atoms _ _ (λ k l. one_below k atoms n a l at) c.add.ensures.moves);
     }

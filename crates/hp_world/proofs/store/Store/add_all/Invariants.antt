@@ -12,7 +12,7 @@ invariant-loop-number l = record {
       ≡ with_added same_cell (live_atoms l.initial.self.places.places) l.atoms;
   guards : l.self.guards ≡ l.initial.self.guards;
   places : length l.self.places.places ≤ length l.initial.self.places.places + l.number;
-  parts : AllZip (Learns (RightFor l.atoms) l.number) l.initial.self.parts.items l.self.parts.items;
+  parts : AllZip (Learns (RightFor l.atoms) l.atoms l.number) l.initial.self.parts.items l.self.parts.items;
   waits : All (HasWaiting (length l.atoms) (length l.atoms - l.number)) l.self.parts.items;
-  moves : Moves l.number l.initial.self l.self;
+  moves : Moves l.number l.atoms l.initial.self l.self;
 }

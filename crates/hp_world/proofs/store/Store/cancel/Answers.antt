@@ -31,8 +31,8 @@ returns-in-Some-clause-moves c =
     let back =
     ap (λ (xs : List ℕ). insert xs i a) c.remove.ensures.items
     ∙ put_back guards i a first.within (get_or_default guards i a 0 first.within ∙ first.stands) in
-    moved _ _ (Cancelled i a) c.requires.sound c.push_reserved.ensures.items (same_stage _ _ _ _ refl back)
-    (kept_same _ _ refl)
+    moved _ _ (Cancelled i a) [] c.requires.sound c.push_reserved.ensures.items (same_stage _ _ _ _ refl back)
+    (kept_same _ _ refl) (λ k l h. h)
     (omega arith, omega (arith, c.remove.ensures.capacity, c.args.self.now.guards.ok.1)) c.push_reserved.ensures.len
     c.push_reserved.ensures.capacity c.remove.ensures.capacity refl refl
     (subst (λ (ts : List Change). AllFollow after ts s.parts.items) (sym c.push_reserved.ensures.items)

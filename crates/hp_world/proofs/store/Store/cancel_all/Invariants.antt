@@ -1,4 +1,4 @@
-use Rattle.std.proofs.Common.{◌≡◌, ◌≤◌, drop, vec_len}
+use Rattle.std.proofs.Common.{◌≡◌, ◌≤◌, [], drop, vec_len}
 use Rattle.hp_syntax.specs.Applying.{cancelled}
 use Rattle.hp_world.specs.Stages.{same_cell}
 use Rattle.hp_world.specs.Undoing.{Moves}
@@ -11,5 +11,5 @@ invariant-loop-atom l = record {
   places : l.self.places ≡ l.initial.self.places;
   parts : l.self.parts ≡ l.initial.self.parts;
   fewer : vec_len l.self.guards ≤ vec_len l.initial.self.guards;
-  moves : Moves l.atom-index l.initial.self l.self;
+  moves : Moves l.atom-index [] l.initial.self l.self;
 }

@@ -1,7 +1,8 @@
-use Rattle.std.proofs.Common.{[], ◌∷◌, ◌++◌, List, Option, ℕ, Some, None, length, set, ap, ◌∙◌, refl, sym, subst}
+use Rattle.std.proofs.Common.{◌<◌, not, [], ◌∷◌, ◌++◌, List, Option, ℕ, Some, None, length, set, ap, ◌∙◌, refl, sym, subst}
+use Rattle.std.proofs.lemmas.List.Elements.{All-filter}
 use Rattle.std.proofs.lemmas.List.{set-set, set-get_or, length-set}
 use Rattle.hp_world.specs.Indexed.{Row}
-use Rattle.hp_world.specs.Stages.{live_atoms, PlacesKept}
+use Rattle.hp_world.specs.Stages.{live_atoms, same_cell, AllBelow, PlacesKept}
 use Rattle.hp_world.specs.Undoing.{IsVacant}
 use Rattle.hp_world.specs.declared.store.Change.{Change}
 use Rattle.hp_world.specs.declared.store.Change.TheVariants.{Deleted}
@@ -44,7 +45,10 @@ returns-in-Some-clause-moves c =
     subst (λ w. IsVacant w c.clear.new.self.places i a) (sym width)
     (subst (λ (xs : List (Option ℕ)). IsVacant c.args.self.now.places.width xs i a) (sym places) vacant) in
     let kept = subst (PlacesKept ps) (sym places) (kept_cleared ps i) in
-    moved _ _ (Deleted i a) c.requires.sound c.push_reserved.ensures.items (same_stage _ _ _ _ back refl) kept
+    let atoms = ap (λ (r : Row). live_atoms r.places) c.clear.ensures.cleared
+    ∙ live_cleared a ps i c.in-Some.ensures in
+    moved _ _ (Deleted i a) [] c.requires.sound c.push_reserved.ensures.items (same_stage _ _ _ _ back refl) kept
+    (λ k l h. subst (AllBelow k) (sym atoms) (All-filter (λ x. not (same_cell x a)) (λ x. x < k) (live_atoms ps) h))
     fits c.push_reserved.ensures.len c.push_reserved.ensures.capacity refl
     (ap (λ (r : Row). r.room) c.clear.ensures.cleared) width
     (subst (λ (ts : List Change). AllFollow (record { places = c.clear.new.self.places; guards = s.guards.items }) ts
@@ -59,13 +63,13 @@ follow_all-requires c =
 
 pub returns-in-Some-clause-parts : goal.returns-in-Some-clause-parts
 returns-in-Some-clause-parts c =
-    zip_where (λ p. Unit {0}) (Steps (Out c.in-Some.place)) (Learns Nothing 0)
+    zip_where (λ p. Unit {0}) (Steps (Out c.in-Some.place)) (Learns Nothing [] 0)
     (λ p q h step. learns_out c.in-Some.place p q step) c.args.self.now.parts.items c.follow_all.new.indexes.items
     (λ k d l. tt) c.follow_all.ensures
 
 pub returns-in_default-clause-parts : goal.returns-in_default-clause-parts
-returns-in_default-clause-parts c = zip_same (Learns Nothing 0)
-    (learns_same Nothing 0) c.args.self.now.parts.items _ refl
+returns-in_default-clause-parts c = zip_same (Learns Nothing [] 0)
+    (learns_same Nothing [] 0) c.args.self.now.parts.items _ refl
 
 pub returns-in_default-clause-atoms : goal.returns-in_default-clause-atoms
 returns-in_default-clause-atoms c = sym (without_absent c.args.atom c.args.self.now.places.places c.in_default.ensures)

@@ -1,4 +1,4 @@
-use Rattle.std.proofs.Common.{◌≡◌, ◌+◌, ◌<◌, ◌∷◌, List, ℕ, suc, length, drop, drop-cons, add-one, rules, refl, sym, ap, ◌∙◌, arith}
+use Rattle.std.proofs.Common.{◌≡◌, ◌+◌, ◌<◌, [], ◌∷◌, List, ℕ, suc, length, drop, drop-cons, add-one, rules, refl, sym, ap, ◌∙◌, arith}
 use Rattle.hp_world.specs.Deleting.{deleted}
 use Rattle.hp_world.specs.Stages.{live_atoms}
 use Rattle.hp_world.specs.Keyed.{Learns, Nothing}
@@ -12,7 +12,7 @@ loop-atom-init c = record {
   atoms = search rules;
   guards = refl;
   places = refl;
-  parts = zip_same (Learns Nothing 0) (learns_same Nothing 0) c.args.self.now.parts.items _ refl;
+  parts = zip_same (Learns Nothing [] 0) (learns_same Nothing [] 0) c.args.self.now.parts.items _ refl;
   moves = search rules;
 }
 
@@ -32,7 +32,8 @@ loop-atom-preserved c =
       guards = c.delete.ensures.guards ∙ c.loop-atom.invariant.guards;
       places = c.delete.ensures.places ∙ c.loop-atom.invariant.places;
       parts =
-          zip_twice (Learns Nothing 0) (Learns Nothing 0) (Learns Nothing 0) learns_on c.args.self.now.parts.items
-          c.loop-atom.self.parts.items c.delete.new.self.parts.items c.loop-atom.invariant.parts c.delete.ensures.parts;
-      moves = moves_more _ _ _ _ _ c.loop-atom.invariant.moves c.delete.ensures.moves;
+          zip_twice (Learns Nothing [] 0) (Learns Nothing [] 0) (Learns Nothing [] 0) learns_on
+          c.args.self.now.parts.items c.loop-atom.self.parts.items c.delete.new.self.parts.items
+          c.loop-atom.invariant.parts c.delete.ensures.parts;
+      moves = moves_more _ _ [] _ _ _ c.loop-atom.invariant.moves c.delete.ensures.moves;
     }

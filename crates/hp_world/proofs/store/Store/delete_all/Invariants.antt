@@ -1,4 +1,4 @@
-use Rattle.std.proofs.Common.{◌≡◌, drop, length}
+use Rattle.std.proofs.Common.{◌≡◌, [], drop, length}
 use Rattle.std.specs.List.{AllZip}
 use Rattle.hp_world.specs.Keyed.{Learns, Nothing}
 use Rattle.hp_world.specs.Deleting.{deleted}
@@ -12,6 +12,6 @@ invariant-loop-atom l = record {
       ≡ deleted (live_atoms l.initial.self.places.places) l.atoms;
   guards : l.self.guards ≡ l.initial.self.guards;
   places : length l.self.places.places ≡ length l.initial.self.places.places;
-  parts : AllZip (Learns Nothing 0) l.initial.self.parts.items l.self.parts.items;
-  moves : Moves l.atom-index l.initial.self l.self;
+  parts : AllZip (Learns Nothing [] 0) l.initial.self.parts.items l.self.parts.items;
+  moves : Moves l.atom-index [] l.initial.self l.self;
 }

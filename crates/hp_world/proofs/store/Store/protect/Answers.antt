@@ -14,8 +14,8 @@ returns-clause-moves c =
     let after : Stage = record { places = s.places.places; guards = c.push_reserved.new.self.items } in
     let back = ap all_but_last c.push_reserved.ensures.items
     ∙ all_but_last_pushed c.args.self.now.guards.items c.args.atom in
-    moved _ _ Protected c.requires.sound c.push_reserved-2.ensures.items (same_stage _ _ _ _ refl back)
-    (kept_same _ _ refl) tt c.push_reserved-2.ensures.len c.push_reserved-2.ensures.capacity
+    moved _ _ Protected [] c.requires.sound c.push_reserved-2.ensures.items (same_stage _ _ _ _ refl back)
+    (kept_same _ _ refl) (λ k l h. h) tt c.push_reserved-2.ensures.len c.push_reserved-2.ensures.capacity
     c.push_reserved.ensures.capacity refl refl
     (subst (λ (ts : List Change). AllFollow after ts s.parts.items) (sym c.push_reserved-2.ensures.items)
     (all_same s c.requires.sound [] Protected after refl (same_stage _ _ _ _ refl back) (λ p. tt)))

@@ -96,19 +96,19 @@ follow_all-requires c =
 
 pub returns-in-Deleted-clause-parts : goal.returns-in-Deleted-clause-parts
 returns-in-Deleted-clause-parts c =
-    zip_where (λ p. Unit {0}) (Steps (Back c.in-Deleted.place)) (Learns Nothing 0)
+    zip_where (λ p. Unit {0}) (Steps (Back c.in-Deleted.place)) (Learns Nothing [] 0)
     (λ p q h step. learns_back c.in-Deleted.place p q step) c.args.self.now.parts.items _ (λ k d l. tt)
     c.follow_all.ensures
 
 pub returns-in-Added-clause-parts : goal.returns-in-Added-clause-parts
 returns-in-Added-clause-parts c =
-    zip_where (λ p. Unit {0}) (Steps Fewer) (Learns Nothing 0) (λ p q h step. learns_fewer p q step)
+    zip_where (λ p. Unit {0}) (Steps Fewer) (Learns Nothing [] 0) (λ p q h step. learns_fewer p q step)
     c.args.self.now.parts.items _ (λ k d l. tt) c.follow_all-in-Added.ensures
 
 pub returns-in-Cancelled-clause-parts : goal.returns-in-Cancelled-clause-parts
 returns-in-Cancelled-clause-parts c =
-    zip_same (Learns Nothing 0) (learns_same Nothing 0) c.args.self.now.parts.items _ refl
+    zip_same (Learns Nothing [] 0) (learns_same Nothing [] 0) c.args.self.now.parts.items _ refl
 
 pub returns-in-Protected-clause-parts : goal.returns-in-Protected-clause-parts
 returns-in-Protected-clause-parts c =
-    zip_same (Learns Nothing 0) (learns_same Nothing 0) c.args.self.now.parts.items _ refl
+    zip_same (Learns Nothing [] 0) (learns_same Nothing [] 0) c.args.self.now.parts.items _ refl

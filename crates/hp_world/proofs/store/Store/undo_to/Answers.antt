@@ -1,4 +1,4 @@
-use Rattle.std.proofs.Common.{◌∙◌, refl, sym, arith}
+use Rattle.std.proofs.Common.{[], ◌∙◌, refl, sym, arith}
 use Rattle.hp_world.specs.Keyed.{Learns, Nothing}
 use Rattle.hp_world.proofs.LearningLemmas.{learns_same, learns_on}
 use Rattle.hp_world.proofs.ZipLemmas.{zip_same, zip_twice}
@@ -15,7 +15,7 @@ loop-self-init c =
       mark = omega (arith, c.requires.mark, many, s.trail.ok.0);
       sound = c.requires.sound;
       parts =
-          zip_same (Learns Nothing 0) (learns_same Nothing 0) s.parts.items _ refl;
+          zip_same (Learns Nothing [] 0) (learns_same Nothing [] 0) s.parts.items _ refl;
       back = refl;
     }
 
@@ -27,9 +27,9 @@ loop-self-preserved c =
       mark = omega (arith, undoes.fewer, c.len.ensures, more);
       sound = undoes.sound;
       parts =
-          zip_twice (Learns Nothing 0) (Learns Nothing 0) (Learns Nothing 0) learns_on c.args.self.now.parts.items
-          c.loop-self.self.parts.items c.undo_last.new.self.parts.items c.loop-self.invariant.parts
-          c.undo_last.ensures.parts;
+          zip_twice (Learns Nothing [] 0) (Learns Nothing [] 0) (Learns Nothing [] 0) learns_on
+          c.args.self.now.parts.items c.loop-self.self.parts.items c.undo_last.new.self.parts.items
+          c.loop-self.invariant.parts c.undo_last.ensures.parts;
       back = undoes.back c.args.mark (omega (arith, c.len.ensures, more)) ∙ c.loop-self.invariant.back;
     }
 

@@ -1,4 +1,4 @@
-use Rattle.std.proofs.Common.{◌≡◌, ◌≤◌, vec_len}
+use Rattle.std.proofs.Common.{◌≡◌, ◌≤◌, [], vec_len}
 use Rattle.std.specs.List.{AllZip}
 use Rattle.hp_world.specs.Keyed.{Learns, Nothing}
 use Rattle.hp_world.specs.Histories.{undone_to}
@@ -9,7 +9,7 @@ abbrev pub invariant-loop-self : goal.invariant-loop-self
 invariant-loop-self l = record {
   mark : l.mark ≤ vec_len l.self.trail;
   sound : IsSound l.self;
-  parts : AllZip (Learns Nothing 0) l.initial.self.parts.items l.self.parts.items;
+  parts : AllZip (Learns Nothing [] 0) l.initial.self.parts.items l.self.parts.items;
   back : undone_to l.mark (history_of l.self) ≡ undone_to l.mark (history_of l.initial.self);
 }
 

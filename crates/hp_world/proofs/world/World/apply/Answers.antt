@@ -1,7 +1,8 @@
 use Rattle.std.proofs.Common.{ℕ, subst, sym}
 use Rattle.hp_syntax.specs.Applying.{ChangesOf}
 use Rattle.hp_world.specs.Histories.{History}
-use Rattle.hp_world.specs.Recorded.{Recorded}
+use Rattle.hp_world.specs.Recorded.{Recorded, history_in}
+use Rattle.hp_world.specs.Pasts.{PastsBelow}
 use Rattle.hp_world.specs.Stages.{Stage, StageBelow}
 use Rattle.hp_world.specs.Undoing.{history_of}
 use Rattle.hp_world.proofs.AnswerLemmas.{applied_below}
@@ -19,3 +20,9 @@ returns-clause-below c = λ n s b.
     c.apply.ensures.ok c.apply.ensures.err n
     (subst (λ (h : History Stage). StageBelow n h.now) (sym c.forget_parts.ensures.same)
     (subst (λ (w : Recorded). StageBelow n w.now) (sym c.self.view_is) s)) b
+
+pub returns-clause-pasts : goal.returns-clause-pasts
+returns-clause-pasts c = λ n l below.
+    c.apply.ensures.pasts n l
+    (subst (PastsBelow n) (sym c.forget_parts.ensures.same)
+    (subst (λ (w : Recorded). PastsBelow n (history_in w)) (sym c.self.view_is) below))
