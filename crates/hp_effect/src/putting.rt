@@ -114,7 +114,7 @@ fn put_next<B, S: Sats<B>>(
 ) -> Result<bool, Obstacle>
     requires live { S.is_live sats.old ≡ true }
     requires open { S.is_open sats.old ≡ true }
-    requires base { S.suits sats.old base.now }
+    requires base { S.suits sats.old base.now cells.old }
     requires slots { S.fits sats.old slots.old }
     requires cells { S.kept sats.old ≤ length cells.old }
     requires below { ChangesBelow (length cells.old) changes.old }
@@ -124,7 +124,7 @@ fn put_next<B, S: Sats<B>>(
         cells.new (changes_of cells.old changes.old) changes.new }
     ensures fewer { result ≡ Ok true → length (S.rest sats.new base.now cells.new slots.new)
         < length (S.rest sats.old base.now cells.old slots.old) }
-    ensures base { S.suits sats.new base.now }
+    ensures base { S.suits sats.new base.now cells.new }
     ensures slots { S.fits sats.new slots.new }
     ensures undone { undone (S.start sats.new) slots.new ≡ undone (S.start sats.old) slots.old }
     ensures start { S.start sats.new ≡ S.start sats.old }
@@ -150,7 +150,7 @@ pub fn put_each<B, S: Sats<B>>(
 ) -> Result<(), Obstacle>
     requires live { S.is_live sats.old ≡ true }
     requires open { S.is_open sats.old ≡ true }
-    requires base { S.suits sats.old base.now }
+    requires base { S.suits sats.old base.now cells.old }
     requires slots { S.fits sats.old slots.old }
     requires cells { S.kept sats.old ≤ length cells.old }
     requires below { ChangesBelow (length cells.old) changes.old }

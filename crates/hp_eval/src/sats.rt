@@ -19,8 +19,8 @@ pub trait Sats<B> {
     /// The events that are left.
     ghost rest: { Self → B → List Term → Slotted → List PlainEvent };
 
-    /// The base is one that these satisfiers were started over.
-    ghost suits: { Self → B → Type 0 };
+    /// The base is one that these satisfiers were started over, with its cells among those at hand.
+    ghost suits: { Self → B → List Term → Type 0 };
 
     /// The slots are as the last call left them.
     ghost fits: { Self → Slotted → Type 0 };
@@ -43,7 +43,7 @@ pub trait Sats<B> {
     fn next(&mut self, base: &B, cells: &mut Cells, slots: &mut Slots) -> Result<Event, AllocError>
         requires live { is_live self.old ≡ true }
         requires open { is_open self.old ≡ true }
-        requires base { suits self.old base.now }
+        requires base { suits self.old base.now cells.old }
         requires slots { fits self.old slots.old }
         requires cells { kept self.old ≤ length cells.old }
         ensures event { IfOk result (λ x. x ≡ event_of (rest self.old base.now cells.old slots.old)) }
@@ -51,7 +51,7 @@ pub trait Sats<B> {
             ≡ left_after (rest self.old base.now cells.old slots.old)) }
         ensures sat { OnOk result (AreOfFirst (rest self.old base.now cells.old slots.old)
             (bindings_of cells.new slots.new)) }
-        ensures base { suits self.new base.now }
+        ensures base { suits self.new base.now cells.new }
         ensures slots { fits self.new slots.new }
         ensures above { Binds (undone (start self.old) slots.old) slots.new }
         ensures below { AreBelow (kept self.new) slots.new }
@@ -78,11 +78,16 @@ pub trait Sats<B> {
     /// The slots hold the bindings of the start, and their cells are among those that are kept.
     ghost fits_hold: { (s : Self) (e : Slotted) → fits s e → (start s ≤ length e.trail) × AreBelow (kept s) e };
 
+    /// The base suits any cells that agree with these below the kept number, as they do once cells were added, or given
+    /// back down to that number.
+    ghost same_base: { (s : Self) (b : B) (c d : List Term) → suits s b c → take (kept s) c ≡ take (kept s) d
+        → suits s b d };
+
     /// The events that are left are the same over any cells that agree with these below the kept number.
-    ghost same_cells: { (s : Self) (b : B) (c d : List Term) (e : Slotted) → suits s b → fits s e
+    ghost same_cells: { (s : Self) (b : B) (c d : List Term) (e : Slotted) → suits s b c → fits s e
         → take (kept s) c ≡ take (kept s) d → rest s b c e ≡ rest s b d e };
 
     /// Each Sat that is left extends the bindings of the start.
-    ghost sats_extend: { (s : Self) (b : B) (c : List Term) (e : Slotted) → suits s b → fits s e
+    ghost sats_extend: { (s : Self) (b : B) (c : List Term) (e : Slotted) → suits s b c → fits s e
         → All (EventExtends (bindings_of c (undone (start s) e))) (rest s b c e) };
 }

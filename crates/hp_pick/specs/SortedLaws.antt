@@ -67,6 +67,13 @@ either_hold fits start mark kept None e h f =
     (subst (λ n. n ≤ length e.trail) (sym f.0) (h f.1).0, (h f.1).1)
 either_hold fits start mark kept (Some x) e h f = (f.above, f.below)
 
+-- a base that suits the list suits it over terms that agree below the kept number
+pub either_suits : (suits after : Type 0) (kept : ℕ) (o : Option Heard) (c d : List Term)
+    → (suits → take kept c ≡ take kept d → after) → SuitsEither suits o
+    → take (kept_of kept o) c ≡ take (kept_of kept o) d → SuitsEither after o
+either_suits suits after kept None c d h s q = h s q
+either_suits suits after kept (Some x) c d h s q = tt
+
 -- the events that are left are the same over terms that agree below the kept number
 pub either_same : (k : Key) (suits fits : Type 0) (start mark kept : ℕ) (o : Option Heard) (e : Slotted)
     (c d : List Term) (xs ys : List PlainEvent) → (suits → fits → take kept c ≡ take kept d → xs ≡ ys)

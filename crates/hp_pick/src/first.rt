@@ -32,7 +32,7 @@ impl<S> First<S> {
         S: Sats<B>,
         ensures rest { (b : B) (c : List Term) (e : Slotted)
             → ⟦<First<S> as Sats<B>>⟧.rest result b c e ≡ up_to_sat (S.rest inner b c e) }
-        ensures suits { (b : B) → S.suits inner b → ⟦<First<S> as Sats<B>>⟧.suits result b }
+        ensures suits { (b : B) (c : List Term) → S.suits inner b c → ⟦<First<S> as Sats<B>>⟧.suits result b c }
         ensures fits { (e : Slotted) → S.fits inner e → ⟦<First<S> as Sats<B>>⟧.fits result e }
         ensures start { ⟦<First<S> as Sats<B>>⟧.start result ≡ S.start inner }
         ensures kept { ⟦<First<S> as Sats<B>>⟧.kept result ≡ S.kept inner }
@@ -65,7 +65,7 @@ impl<B, S: Sats<B>> Sats<B> for First<S> {
 
     ghost rest = { λ s b c e. cond s.ended [] (up_to_sat (S.rest s.inner b c e)) };
 
-    ghost suits = { λ s b. S.suits s.inner b };
+    ghost suits = { λ s b c. S.suits s.inner b c };
 
     ghost fits = { λ s e. S.fits s.inner e };
 
@@ -100,6 +100,8 @@ impl<B, S: Sats<B>> Sats<B> for First<S> {
     }
 
     ghost fits_hold = { λ s e h. S.fits_hold s.inner e h };
+
+    ghost same_base = { λ s b c d u k. S.same_base s.inner b c d u k };
 
     ghost same_cells = { λ s b c d e u h k. first_same s.ended (S.same_cells s.inner b c d e u h k) };
 

@@ -27,7 +27,7 @@ fn hear_next<B, S: Sats<B>>(
 ) -> Result<bool, EvalStop>
     requires live { S.is_live inner.old ≡ true }
     requires open { S.is_open inner.old ≡ true }
-    requires base { S.suits inner.old base.now }
+    requires base { S.suits inner.old base.now cells.old }
     requires slots { S.fits inner.old slots.old }
     requires cells { S.kept inner.old ≤ length cells.old }
     requires noted { All (IsNoted (length cells.old) (undone (S.start inner.old) slots.old)) notes.old.sats.items }
@@ -38,7 +38,7 @@ fn hear_next<B, S: Sats<B>>(
     ensures fewer { result ≡ Ok true → length (S.rest inner.new base.now cells.new slots.new)
         < length (S.rest inner.old base.now cells.old slots.old) }
     ensures noted { All (IsNoted (length cells.new) (undone (S.start inner.new) slots.new)) notes.new.sats.items }
-    ensures base { S.suits inner.new base.now }
+    ensures base { S.suits inner.new base.now cells.new }
     ensures slots { S.fits inner.new slots.new }
     ensures undone { undone (S.start inner.new) slots.new ≡ undone (S.start inner.old) slots.old }
     ensures start { S.start inner.new ≡ S.start inner.old }
@@ -62,7 +62,7 @@ fn hear<B, S: Sats<B>>(
 ) -> Result<NotedSats, EvalStop>
     requires live { S.is_live inner.old ≡ true }
     requires open { S.is_open inner.old ≡ true }
-    requires base { S.suits inner.old base.now }
+    requires base { S.suits inner.old base.now cells.old }
     requires slots { S.fits inner.old slots.old }
     requires cells { S.kept inner.old ≤ length cells.old }
     ensures heard { Hears cells.new result
@@ -92,7 +92,7 @@ fn hear_whole<B, S: Sats<B>>(
 ) -> Result<NotedSats, EvalStop>
     requires live { S.is_live inner.old ≡ true }
     requires open { S.is_open inner.old ≡ true }
-    requires base { S.suits inner.old base.now }
+    requires base { S.suits inner.old base.now cells.old }
     requires slots { S.fits inner.old slots.old }
     requires cells { S.kept inner.old ≤ length cells.old }
     ensures heard { Hears cells.new result
@@ -131,7 +131,7 @@ pub(crate) fn hear_in_order<B, S: Sats<B>>(
 ) -> Result<NotedSats, EvalStop>
     requires live { S.is_live inner.old ≡ true }
     requires open { S.is_open inner.old ≡ true }
-    requires base { S.suits inner.old base.now }
+    requires base { S.suits inner.old base.now cells.old }
     requires slots { S.fits inner.old slots.old }
     requires cells { S.kept inner.old ≤ length cells.old }
     ensures heard { HearsInOrder cells.new result (sorted_events (key_of key.now).order

@@ -50,7 +50,7 @@ impl<S> Sorted<S> {
         requires start { S.start inner ≡ length slots.now.trail }
         ensures rest { (b : B) (c : List Term) (e : Slotted) → ⟦<Sorted<S> as Sats<B>>⟧.rest result b c e
             ≡ sorted_events (key_of key).order (keyed (key_of key) (S.rest inner b c e)) }
-        ensures suits { (b : B) → S.suits inner b → ⟦<Sorted<S> as Sats<B>>⟧.suits result b }
+        ensures suits { (b : B) (c : List Term) → S.suits inner b c → ⟦<Sorted<S> as Sats<B>>⟧.suits result b c }
         ensures fits { ⟦<Sorted<S> as Sats<B>>⟧.fits result slots.now }
         ensures start { ⟦<Sorted<S> as Sats<B>>⟧.start result ≡ S.start inner }
         ensures kept { ⟦<Sorted<S> as Sats<B>>⟧.kept result ≡ S.kept inner }
@@ -70,11 +70,11 @@ impl<S> Sorted<S> {
 impl<B, S: Sats<B>> Sats<B> for Sorted<S> {
     ghost use Rattle.hp_syntax.specs.Views.{key_of};
     ghost use Rattle.hp_pick.specs.Heard.{rest_in_order, SuitsEither, FitsEither, kept_of, live_of, open_of};
-    ghost use Rattle.hp_pick.specs.SortedLaws.{either_hold, either_same, either_extend};
+    ghost use Rattle.hp_pick.specs.SortedLaws.{either_hold, either_suits, either_same, either_extend};
 
     ghost rest = { λ s b c e. rest_in_order (key_of s.key) (S.rest s.inner b c e) c s.heard };
 
-    ghost suits = { λ s b. SuitsEither (S.suits s.inner b) s.heard };
+    ghost suits = { λ s b c. SuitsEither (S.suits s.inner b c) s.heard };
 
     ghost fits = { λ s e. FitsEither (S.fits s.inner e) (S.start s.inner) s.mark s.heard e };
 
@@ -121,10 +121,13 @@ impl<B, S: Sats<B>> Sats<B> for Sorted<S> {
     ghost fits_hold = { λ s e h. either_hold (S.fits s.inner e) (S.start s.inner) s.mark (S.kept s.inner) s.heard e
         (S.fits_hold s.inner e) h };
 
-    ghost same_cells = { λ s b c d e u h k. either_same (key_of s.key) (S.suits s.inner b) (S.fits s.inner e)
+    ghost same_base = { λ s b c d u k. either_suits (S.suits s.inner b c) (S.suits s.inner b d) (S.kept s.inner) s.heard
+        c d (S.same_base s.inner b c d) u k };
+
+    ghost same_cells = { λ s b c d e u h k. either_same (key_of s.key) (S.suits s.inner b c) (S.fits s.inner e)
         (S.start s.inner) s.mark (S.kept s.inner) s.heard e c d (S.rest s.inner b c e) (S.rest s.inner b d e)
         (S.same_cells s.inner b c d e) u h k };
 
-    ghost sats_extend = { λ s b c e u h. either_extend (key_of s.key) (S.suits s.inner b) (S.fits s.inner e)
+    ghost sats_extend = { λ s b c e u h. either_extend (key_of s.key) (S.suits s.inner b c) (S.fits s.inner e)
         (S.start s.inner) s.mark s.heard e c (S.rest s.inner b c e) (S.sats_extend s.inner b c e) u h };
 }

@@ -86,7 +86,7 @@ impl Listed {
         requires fit { AllFit (length slots.now.values) (length cells.now) found.items }
         ensures rest { (terms : List Term) (e : Slotted)
             → ⟦<Listed as Sats<()>>⟧.rest result tt terms e ≡ heard (answer_events terms found.items) }
-        ensures suits { ⟦<Listed as Sats<()>>⟧.suits result tt }
+        ensures suits { (terms : List Term) → ⟦<Listed as Sats<()>>⟧.suits result tt terms }
         ensures fits { ⟦<Listed as Sats<()>>⟧.fits result slots.now }
         ensures start { ⟦<Listed as Sats<()>>⟧.start result ≡ length slots.now.trail }
         ensures kept { ⟦<Listed as Sats<()>>⟧.kept result ≤ length cells.now }
@@ -107,7 +107,7 @@ impl Sats<()> for Listed {
 
     ghost rest = { λ s b c e. left_from c s.found.items s.place };
 
-    ghost suits = { λ s b. Unit {0} };
+    ghost suits = { λ s b c. Unit {0} };
 
     ghost fits = { λ s e. FitsListed s.kept s.found.items e };
 
@@ -140,6 +140,8 @@ impl Sats<()> for Listed {
     }
 
     ghost fits_hold = { λ s e h. listed_hold s.kept s.found.items e h };
+
+    ghost same_base = { λ s b c d u k. tt };
 
     ghost same_cells = { λ s b c d e u h k. left_agrees s.kept c d s.found.items s.place e h k };
 

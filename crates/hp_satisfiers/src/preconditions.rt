@@ -86,7 +86,7 @@ fn take_next<S: Sats<()>>(
 ) -> Result<bool, AllocError>
     requires live { S.is_live sats.old ≡ true }
     requires open { S.is_open sats.old ≡ true }
-    requires suits { S.suits sats.old tt }
+    requires suits { S.suits sats.old tt cells.old }
     requires fits { S.fits sats.old slots.old }
     requires kept { S.kept sats.old ≤ length cells.old }
     ensures takes { IfOk result (λ more. (whole : List PlainEvent)
@@ -99,7 +99,7 @@ fn take_next<S: Sats<()>>(
     ensures vars { length slots.new.values ≡ length slots.old.values }
     ensures live { OnOk result (S.is_live sats.new ≡ true) }
     ensures open { S.is_open sats.new ≡ true }
-    ensures suits { S.suits sats.new tt }
+    ensures suits { S.suits sats.new tt cells.new }
     ensures fits { S.fits sats.new slots.new }
     ensures kept { S.kept sats.new ≤ length cells.new }
     ensures cells { Grows cells.old cells.new }
@@ -117,7 +117,7 @@ fn drained<S: Sats<()>>(
 ) -> Result<Vec<Answer>, AllocError>
     requires live { S.is_live sats.old ≡ true }
     requires open { S.is_open sats.old ≡ true }
-    requires suits { S.suits sats.old tt }
+    requires suits { S.suits sats.old tt cells.old }
     requires fits { S.fits sats.old slots.old }
     requires kept { S.kept sats.old ≤ length cells.old }
     ensures finds { IfOk result (λ v. Finds cells.new (length slots.old.values) v.items

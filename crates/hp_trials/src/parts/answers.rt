@@ -97,7 +97,7 @@ impl Sats<u8> for Answers {
 
     ghost rest = { λ s b c e. answered c (undone s.mark e) s.var (drop s.place s.answers.items) };
 
-    ghost suits = { λ s b. Unit {0} };
+    ghost suits = { λ s b c. Unit {0} };
 
     ghost fits = { λ s e. AreTold s.var s.mark s.kept (drop s.place s.answers.items) e };
 
@@ -132,6 +132,8 @@ impl Sats<u8> for Answers {
     }
 
     ghost fits_hold = { λ s e h. (h.above, h.below) };
+
+    ghost same_base = { λ s b c d u k. tt };
 
     ghost same_cells = { λ s b c d e u h k. answers_agree s.kept c d (undone s.mark e) s.var
         (drop s.place s.answers.items) h.start h.own k };

@@ -46,12 +46,12 @@ fn next_told<B, S: Sats<B>>(
 ) -> Result<Told, AllocError>
     requires live { S.is_live sats.old ≡ true }
     requires open { S.is_open sats.old ≡ true }
-    requires base { S.suits sats.old base.now }
+    requires base { S.suits sats.old base.now cells.old }
     requires slots { S.fits sats.old slots.old }
     requires cells { S.kept sats.old ≤ length cells.old }
     ensures live { OnOk result (S.is_live sats.new ≡ true) }
     ensures open { S.is_open sats.new ≡ true }
-    ensures base { S.suits sats.new base.now }
+    ensures base { S.suits sats.new base.now cells.new }
     ensures slots { S.fits sats.new slots.new }
     ensures cells { S.kept sats.new ≤ length cells.new }
 {
@@ -69,7 +69,7 @@ fn first_five<B, S: Sats<B>>(
 ) -> Result<[Told; 5], AllocError>
     requires live { S.is_live sats.old ≡ true }
     requires open { S.is_open sats.old ≡ true }
-    requires base { S.suits sats.old base.now }
+    requires base { S.suits sats.old base.now cells.old }
     requires slots { S.fits sats.old slots.old }
     requires cells { S.kept sats.old ≤ length cells.old }
     ensures slots { S.fits sats.new slots.new }

@@ -15,7 +15,7 @@ invariant-loop g l = record {
       (changes_of l.initial.cells l.initial.changes) l.changes;
   live : g.S.Sats.is_live l.sats ≡ true;
   still_open : g.S.Sats.is_open l.sats ≡ true;
-  base : g.S.Sats.suits l.sats l.base;
+  base : g.S.Sats.suits l.sats l.base l.cells;
   slots : g.S.Sats.fits l.sats l.slots;
   same_below : undone (g.S.Sats.start l.sats) l.slots ≡ undone (g.S.Sats.start l.initial.sats) l.initial.slots;
   start : g.S.Sats.start l.sats ≡ g.S.Sats.start l.initial.sats;

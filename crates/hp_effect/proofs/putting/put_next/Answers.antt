@@ -97,7 +97,10 @@ pub returns-in_err-event-clause-open : goal.returns-in_err-event-clause-open
 returns-in_err-event-clause-open g c = c.next.ensures.open
 
 pub returns-clause-base : goal.returns-clause-base
-returns-clause-base g c = c.next.ensures.base
+returns-clause-base g c =
+    g.met.S.Sats.same_base c.next.new.self c.args.base.now c.next.new.cells c.put_event.new.cells c.next.ensures.base
+    (kept_agree c.next.new.cells c.put_event.new.cells c.put_event.ensures.cells (g.S.Sats.kept c.next.new.self)
+    c.next.ensures.kept.1)
 
 pub returns-clause-slots : goal.returns-clause-slots
 returns-clause-slots g c = c.next.ensures.slots

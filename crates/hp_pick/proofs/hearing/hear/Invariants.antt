@@ -15,7 +15,7 @@ invariant-loop-notes g l = record {
   noted : All (IsNoted (length l.cells) (undone (g.S.Sats.start l.inner) l.slots)) l.notes.sats.items;
   live : g.S.Sats.is_live l.inner ≡ true;
   still_open : g.S.Sats.is_open l.inner ≡ true;
-  base : g.S.Sats.suits l.inner l.base;
+  base : g.S.Sats.suits l.inner l.base l.cells;
   slots : g.S.Sats.fits l.inner l.slots;
   same_below : undone (g.S.Sats.start l.inner) l.slots ≡ undone (g.S.Sats.start l.initial.inner) l.initial.slots;
   start : g.S.Sats.start l.inner ≡ g.S.Sats.start l.initial.inner;

@@ -12,7 +12,7 @@ invariant-loop-found g l = record {
   vars : length l.slots.values ≡ length l.initial.slots.values;
   live : g.S.Sats.is_live l.sats ≡ true;
   still_open : g.S.Sats.is_open l.sats ≡ true;
-  suits : g.S.Sats.suits l.sats tt;
+  suits : g.S.Sats.suits l.sats tt l.cells;
   fits : g.S.Sats.fits l.sats l.slots;
   kept : g.S.Sats.kept l.sats ≤ length l.cells;
   grown : Grows l.initial.cells l.cells;

@@ -6,7 +6,7 @@ invariant-loop-place g l = record {
   size : length l.told ≡ 5;
   live : g.S.Sats.is_live l.sats ≡ true;
   still_open : g.S.Sats.is_open l.sats ≡ true;
-  base : g.S.Sats.suits l.sats l.base;
+  base : g.S.Sats.suits l.sats l.base l.cells;
   slots : g.S.Sats.fits l.sats l.slots;
   cells : g.S.Sats.kept l.sats ≤ length l.cells;
 }
