@@ -1,3 +1,4 @@
+pub mod AskingLemmas
 pub mod CheckedLemmas
 pub mod CodeLemmas
 pub mod EffectLemmas
@@ -5,6 +6,7 @@ pub mod LayingLemmas
 pub mod LayingSteps
 pub mod ListingLemmas
 pub mod ListingSteps
+pub mod MarkLemmas
 pub mod LookUpSteps
 pub mod LoweredLemmas
 pub mod NodeLemmas

@@ -1,3 +1,4 @@
+pub mod Asked
 pub mod CodeProps
 pub mod CodeValues
 pub mod CodeViews
@@ -6,6 +7,7 @@ pub mod Compiled
 pub mod Laying
 pub mod Listing
 pub mod Lowered
+pub mod Marks
 pub mod NodeViews
 pub mod Sources
 pub mod Trees

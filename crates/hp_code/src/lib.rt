@@ -2,6 +2,7 @@
 //! source.
 #![tactic(auto)]
 
+mod asking;
 mod code;
 mod effects;
 mod expressions;
@@ -10,9 +11,11 @@ mod laying;
 mod lines;
 mod look_ups;
 mod lowering;
+mod marks;
 mod node;
 mod rules;
 
+pub use asking::{LAST_PART, asked_parts};
 pub use code::Code;
 pub use lines::listing;
 pub use lowering::lower;
