@@ -1,15 +1,10 @@
-pub mod AskingLemmas
 pub mod CheckedLemmas
 pub mod CodeLemmas
 pub mod EffectLemmas
-pub mod LayingLemmas
-pub mod LayingSteps
 pub mod ListingLemmas
 pub mod ListingSteps
-pub mod MarkLemmas
 pub mod LookUpSteps
 pub mod LoweredLemmas
 pub mod NodeLemmas
 pub mod RuleLemmas
 pub mod SourceLemmas
-pub mod TreeLemmas

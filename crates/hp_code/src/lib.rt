@@ -2,21 +2,14 @@
 //! source.
 #![tactic(auto)]
 
-mod asking;
 mod code;
-mod effects;
-mod expressions;
 pub mod laws;
-mod laying;
 mod lines;
 mod look_ups;
 mod lowering;
-mod marks;
-mod node;
-mod rules;
 
-pub use asking::{LAST_PART, asked_parts};
 pub use code::Code;
+pub use hp_nodes::{CodeNode, LAST_PART, Op};
 pub use lines::listing;
+pub use look_ups::asked_parts;
 pub use lowering::lower;
-pub use node::{CodeNode, Op};

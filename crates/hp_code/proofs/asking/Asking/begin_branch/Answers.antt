@@ -1,5 +1,0 @@
-use Rattle.std.proofs.Common.{rules}
-use Rattle.hp_code.proofs.asking.Asking.begin_branch.Goals as goal
-
-pub returns-clause-known : goal.returns-clause-known
-returns-clause-known c = search rules
