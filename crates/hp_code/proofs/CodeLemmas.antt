@@ -11,15 +11,15 @@ use Rattle.hp_laws.specs.RulesByName.{is_name, axiom_head, relevant, concluding}
 use Rattle.hp_tables.specs.declared.Kind.{Kind}
 use Rattle.hp_tables.specs.declared.Kind.TheVariants as kinds
 use Rattle.hp_tables.specs.Tables.{name_as, places_of}
+use Rattle.hp_nodes.specs.Compiled.{rule_tree, rule_trees, vars_of}
+use Rattle.hp_nodes.specs.Trees.{Trees, NoTree, More, size, roots, trees, all_laid}
+use Rattle.hp_nodes.proofs.TreeLemmas.{laid_back}
 use Rattle.hp_code.specs.CodeViews.{CodeView, IsCodeOf, IsCode, beside, ends, or_empty, rule_nodes, rules_in, rules_of, vars_at}
-use Rattle.hp_code.specs.Compiled.{rule_tree, rule_trees, vars_of}
 use Rattle.hp_code.specs.Lowered.{lowered_rule, lowered_rules}
 use Rattle.hp_code.specs.Sources.{made_of, rule_read, rules_read}
-use Rattle.hp_code.specs.Trees.{Trees, NoTree, More, size, roots, trees, all_laid}
 use Rattle.hp_code.proofs.CheckedLemmas.{rules_checked, rules_numbered}
 use Rattle.hp_code.proofs.NodeLemmas.{positive}
 use Rattle.hp_code.proofs.SourceLemmas.{rules_back}
-use Rattle.hp_code.proofs.TreeLemmas.{laid_back}
 
 -- ---- rules of a name
 

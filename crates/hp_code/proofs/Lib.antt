@@ -1,8 +1,6 @@
 pub mod CheckedLemmas
 pub mod CodeLemmas
 pub mod EffectLemmas
-pub mod LayingLemmas
-pub mod LayingSteps
 pub mod ListingLemmas
 pub mod ListingSteps
 pub mod LookUpSteps
@@ -10,4 +8,3 @@ pub mod LoweredLemmas
 pub mod NodeLemmas
 pub mod RuleLemmas
 pub mod SourceLemmas
-pub mod TreeLemmas

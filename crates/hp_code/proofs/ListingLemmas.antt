@@ -3,9 +3,9 @@ use Rattle.std.proofs.Common.{◌≡◌, ℕ, suc, List, [], ◌∷◌, ◌++◌
 use Rattle.hp_syntax.specs.Syntax.{Rule}
 use Rattle.hp_tables.specs.declared.Kind.{Kind}
 use Rattle.hp_tables.specs.declared.Kind.TheVariants.{Task, Axiom}
+use Rattle.hp_nodes.specs.Trees.{Laid, roots, trees}
 use Rattle.hp_code.specs.CodeViews.{CodeView, IsCodeOf, beside, or_empty, compiled, vars_at}
 use Rattle.hp_code.specs.Listing.{head_line, head_of, listing_text, name_line, name_lines, node_lines, word_of}
-use Rattle.hp_code.specs.Trees.{Laid, roots, trees}
 
 -- the line of a name by two tables that have the same for it
 head_same : (word : List ℕ) (f g : List ℕ → List ℕ) → ((name : List ℕ) → f name ≡ g name) → (o : Option (List ℕ))

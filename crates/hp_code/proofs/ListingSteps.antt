@@ -3,10 +3,10 @@ use Rattle.std.proofs.Common.{◌≡◌, ℕ, suc, ◌+◌, ◌<◌, List, ◌�
 use Rattle.std.proofs.lemmas.List.{append_assoc}
 use Rattle.std.proofs.lemmas.Option.{slice_get-get_or, slice_get-map}
 use Rattle.hp_tables.specs.declared.Kind.{Kind}
-use Rattle.hp_code.specs.declared.node.CodeNode.{CodeNode}
+use Rattle.hp_nodes.specs.declared.node.CodeNode.{CodeNode}
+use Rattle.hp_nodes.specs.NodeViews.{laid_of}
+use Rattle.hp_nodes.specs.Trees.{Laid}
 use Rattle.hp_code.specs.Listing.{head_line, head_of, name_lines, names_from, node_line, node_lines, word_of}
-use Rattle.hp_code.specs.NodeViews.{laid_of}
-use Rattle.hp_code.specs.Trees.{Laid}
 use Rattle.hp_code.proofs.NodeLemmas.{drop_there}
 
 module _ (items : List CodeNode) (nodes : List Laid) (same : map laid_of items ≡ nodes) (i : ℕ) (node : CodeNode)

@@ -8,8 +8,8 @@ use Rattle.std.proofs.lemmas.Bool.Decides.{nat_tests}
 use Rattle.std.proofs.lemmas.Cmp.{ranked}
 use Rattle.std.proofs.lemmas.List.Sorted.{IsNonDecreasingBy-from_default}
 use Rattle.std.proofs.lemmas.Option.{slice_get_past, slice_get-get_or, slice_get-map}
+use Rattle.hp_nodes.specs.Trees.{trees}
 use Rattle.hp_code.specs.CodeViews.{CodeView, beside, or_empty, rule_nodes, vars_at}
-use Rattle.hp_code.specs.Trees.{trees}
 use Rattle.hp_code.proofs.CodeLemmas.{AscendFrom, beside_later, roots_ascend}
 
 -- numbers that ascend from one are at least that

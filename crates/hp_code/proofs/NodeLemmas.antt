@@ -4,8 +4,8 @@ use Rattle.std.proofs.lemmas.List.{append_assoc, append-nil, drop-drop, length-a
 use Rattle.std.proofs.lemmas.Option.{slice_get_cases, slice_get_within}
 use Rattle.std.proofs.Math.Seq.{drop-append-add, drop-append_seam}
 use Rattle.hp_syntax.specs.declared.pattern.Span.{Span}
-use Rattle.hp_code.specs.Trees as trees
-use Rattle.hp_code.proofs.TreeLemmas.{tree_back, within_more}
+use Rattle.hp_nodes.specs.Trees as trees
+use Rattle.hp_nodes.proofs.TreeLemmas.{tree_back, within_more}
 
 -- ---- what stands at an index
 

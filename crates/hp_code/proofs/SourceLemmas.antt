@@ -7,8 +7,8 @@ use Rattle.hp_syntax.specs.declared.domain.Side.TheVariants.{Deletes, Adds}
 use Rattle.hp_syntax.specs.declared.pattern.Span.{Span}
 use Rattle.hp_syntax.specs.Changes.{pattern_span}
 use Rattle.hp_syntax.specs.Syntax as syntax
-use Rattle.hp_code.specs.Trees.{CostOf, Trees, More}
-use Rattle.hp_code.specs.Compiled as compiled
+use Rattle.hp_nodes.specs.Trees.{CostOf, Trees, More}
+use Rattle.hp_nodes.specs.Compiled as compiled
 use Rattle.hp_code.specs.Lowered.{lowered, all_lowered, lowered_precondition, lowered_effect, idle_prefix, behind_idle, lowered_branch, lowered_clause, lowered_rule, lowered_rules}
 use Rattle.hp_code.specs.Sources as sources
 

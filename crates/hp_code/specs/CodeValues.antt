@@ -3,9 +3,9 @@ use Rattle.std.specs.Prelude.{ℕ, List, map, Vec}
 use Rattle.std.specs.Global.{Global}
 use Rattle.hp_tables.specs.declared.Table.{Table}
 use Rattle.hp_tables.specs.Tables.{places_in}
-use Rattle.hp_code.specs.declared.node.CodeNode.{CodeNode}
+use Rattle.hp_nodes.specs.declared.node.CodeNode.{CodeNode}
+use Rattle.hp_nodes.specs.NodeViews.{laid_of}
 use Rattle.hp_code.specs.CodeViews.{CodeView, IsCode}
-use Rattle.hp_code.specs.NodeViews.{laid_of}
 
 -- nodes, names and tables as plain values
 abbrev pub value_of : List CodeNode → List (Vec (List ℕ) Global) → Table → Table → CodeView

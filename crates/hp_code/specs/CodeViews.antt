@@ -6,9 +6,9 @@ use Rattle.hp_syntax.specs.Numbered.{IsNumberedRule}
 use Rattle.hp_syntax.specs.Checks.{first_of, rule_faults}
 use Rattle.hp_tables.specs.declared.Kind.TheVariants.{Task, Axiom}
 use Rattle.hp_tables.specs.Tables.{places_of}
-use Rattle.hp_code.specs.Compiled.{rule_trees, vars_of}
+use Rattle.hp_nodes.specs.Compiled.{rule_trees, vars_of}
+use Rattle.hp_nodes.specs.Trees.{Laid, all_laid, roots, trees}
 use Rattle.hp_code.specs.Sources.{rules_read}
-use Rattle.hp_code.specs.Trees.{Laid, all_laid, roots, trees}
 
 -- the nodes of all rules, the names of each rule's variables, and by each name the nodes of the rules for its tasks and
 -- of the axioms that conclude it

@@ -2,10 +2,6 @@ pub mod CodeProps
 pub mod CodeValues
 pub mod CodeViews
 pub mod Codes
-pub mod Compiled
-pub mod Laying
 pub mod Listing
 pub mod Lowered
-pub mod NodeViews
 pub mod Sources
-pub mod Trees

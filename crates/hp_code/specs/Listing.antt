@@ -6,8 +6,8 @@ use Rattle.hp_syntax.specs.Written as written
 use Rattle.hp_syntax.specs.Written.{node_text, name_of, order_word}
 use Rattle.hp_tables.specs.declared.Kind.{Kind}
 use Rattle.hp_tables.specs.declared.Kind.TheVariants.{Task, Axiom}
+use Rattle.hp_nodes.specs.Trees as trees
 use Rattle.hp_code.specs.CodeViews.{CodeView, vars_at}
-use Rattle.hp_code.specs.Trees as trees
 
 -- ---- nodes
 

@@ -1,7 +1,7 @@
 -- What the trees of a code read back as, if they are those of rules.
 use Rattle.std.specs.Prelude.{ℕ, Bool, true, false, ◌||◌, cond, List, [], ◌∷◌, map, Option, Some, None, option_map}
 use Rattle.hp_syntax.specs.Syntax as syntax
-use Rattle.hp_code.specs.Trees as trees
+use Rattle.hp_nodes.specs.Trees as trees
 
 -- a value made of two, where both are there
 abbrev pub made_of : {A B C : Type 0} → (A → B → C) → Option A → Option B → Option C

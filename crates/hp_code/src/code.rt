@@ -4,7 +4,7 @@ ghost use Rattle.hp_code.specs.CodeValues.{IsKept, value_of};
 ghost use Rattle.hp_code.specs.CodeViews.{rule_nodes};
 ghost use Rattle.hp_code.specs.CodeProps.{code_prop};
 
-use crate::node::CodeNode;
+use hp_nodes::CodeNode;
 use hp_syntax::Name;
 use hp_tables::Table;
 

@@ -12,13 +12,13 @@ ghost use Rattle.hp_syntax.specs.Preconditions.{precondition_events};
 ghost use Rattle.hp_syntax.specs.Values.{Bindings};
 ghost use Rattle.hp_syntax.specs.Walk.{Node, children, node_at, visits, walk};
 ghost use Rattle.hp_laws.specs.RulesByName.{concluding, relevant};
+ghost use Rattle.hp_nodes.specs.Compiled.{rule_trees, vars_of};
+ghost use Rattle.hp_nodes.specs.Trees as trees;
+ghost use Rattle.hp_nodes.specs.Trees.{Laid, Tree, Trees, all_laid, tree_at, trees_between};
 ghost use Rattle.hp_code.specs.CodeViews.{CodeView, IsCode, IsCodeOf, beside, compiled, rule_nodes, rules_in, rules_of, vars_at};
-ghost use Rattle.hp_code.specs.Compiled.{rule_trees, vars_of};
 ghost use Rattle.hp_code.specs.Listing.{listing_text};
 ghost use Rattle.hp_code.specs.Lowered.{lowered, lowered_axiom, lowered_operator, lowered_precondition, lowered_rules};
 ghost use Rattle.hp_code.specs.Sources.{rules_read};
-ghost use Rattle.hp_code.specs.Trees as trees;
-ghost use Rattle.hp_code.specs.Trees.{Laid, Tree, Trees, all_laid, tree_at, trees_between};
 
 /// Looking for the satisfiers of a lowered expression or precondition under lowered axioms meets what it meets for the
 /// expression or precondition itself, and a lowered operator changes and costs what the operator does.

@@ -3,17 +3,13 @@
 #![tactic(auto)]
 
 mod code;
-mod effects;
-mod expressions;
 pub mod laws;
-mod laying;
 mod lines;
 mod look_ups;
 mod lowering;
-mod node;
-mod rules;
 
 pub use code::Code;
+pub use hp_nodes::{CodeNode, LAST_PART, Op};
 pub use lines::listing;
+pub use look_ups::asked_parts;
 pub use lowering::lower;
-pub use node::{CodeNode, Op};

@@ -4,14 +4,14 @@ ghost use Rattle.std.specs.Option.{option_copied};
 ghost use Rattle.hp_syntax.specs.Views.{atom_of, key_of, pattern_of, tasks_of};
 ghost use Rattle.hp_syntax.specs.Written as written;
 ghost use Rattle.hp_syntax.specs.Written.{node_text, name_of, order_word};
+ghost use Rattle.hp_nodes.specs.NodeViews.{laid_of, operation_of};
 ghost use Rattle.hp_code.specs.Codes.{code_of};
 ghost use Rattle.hp_code.specs.CodeViews.{vars_at};
 ghost use Rattle.hp_code.specs.Listing as plain;
 ghost use Rattle.hp_code.specs.Listing.{atom_text, head_line, head_of, indices_text, is_rule, listing_text, name_line, name_lines, names_from, node_line, node_lines, operation_text, pattern_text, table_of, word_of};
-ghost use Rattle.hp_code.specs.NodeViews.{laid_of, operation_of};
 
 use crate::code::Code;
-use crate::node::{CodeNode, Op};
+use hp_nodes::{CodeNode, Op};
 use hp_print::words::{order_word, push_all, variable_name};
 use hp_print::{atom_pat_text, pat_text, tasks_text};
 use hp_syntax::{AtomPat, Name, NetPat, Pat, SortKey};

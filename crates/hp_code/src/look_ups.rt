@@ -1,12 +1,14 @@
-//! What a code holds, and the rules of a name.
-ghost use Rattle.std.specs.Prelude.{◌≡◌, map};
+//! What a code holds, the rules of a name, and what its goals ask for.
+ghost use Rattle.std.specs.Prelude.{◌≡◌, IfOk, map};
+ghost use Rattle.hp_nodes.specs.Asked.{asked_parts};
+ghost use Rattle.hp_nodes.specs.NodeViews.{laid_of};
 ghost use Rattle.hp_code.specs.Codes.{code_of};
 ghost use Rattle.hp_code.specs.CodeViews.{vars_at};
-ghost use Rattle.hp_code.specs.NodeViews.{laid_of};
 
 use crate::code::Code;
-use crate::node::CodeNode;
+use hp_nodes::{CodeNode, asked_by_nodes};
 use hp_syntax::Name;
+use std::alloc::{AllocError, Global};
 
 impl Code {
     /// All nodes: each rule's, in the order of the domain, and behind each node those below it.
@@ -42,4 +44,13 @@ impl Code {
     {
         self.axiom_rules.get(name)
     }
+}
+
+/// The parts of atoms that the goals of a code ask for, in order, each once: 0 where there is a goal, since each asks for
+/// its name, and the places of arguments that some goal knows when it is come to, none above `LAST_PART`. A world may
+/// keep indexes by them.
+pub fn asked_parts(alloc: Global, code: &Code) -> Result<Vec<usize>, AllocError>
+    ensures { IfOk result (λ parts. parts.items ≡ asked_parts (code_of code.now).nodes) }
+{
+    asked_by_nodes(alloc, code.nodes())
 }

@@ -4,12 +4,12 @@ ghost use Rattle.hp_syntax.specs.Checks.{first_of, domain_faults};
 ghost use Rattle.hp_syntax.specs.Numbered.{IsNumberedDomain};
 ghost use Rattle.hp_syntax.specs.Views.{domain_of, rule_of};
 ghost use Rattle.hp_tables.specs.Tables.{places_in, places_of};
+ghost use Rattle.hp_nodes.specs.Compiled.{vars_of};
 ghost use Rattle.hp_code.specs.Codes.{code_of};
 ghost use Rattle.hp_code.specs.CodeViews.{IsCodeOf};
-ghost use Rattle.hp_code.specs.Compiled.{vars_of};
 
 use crate::code::Code;
-use crate::rules::{LaidRules, lay_rules};
+use hp_nodes::{LaidRules, lay_rules};
 use hp_syntax::{Domain, Name, Rule};
 use hp_tables::{Kind, Table};
 use std::alloc::{AllocError, Global};

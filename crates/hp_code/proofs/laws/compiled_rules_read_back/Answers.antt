@@ -1,5 +1,5 @@
+use Rattle.hp_nodes.proofs.TreeLemmas.{laid_back}
 use Rattle.hp_code.proofs.SourceLemmas.{rules_back}
-use Rattle.hp_code.proofs.TreeLemmas.{laid_back}
 use Rattle.hp_code.proofs.laws.compiled_rules_read_back.Goals as goal
 
 pub returns-clause-nodes : goal.returns-clause-nodes

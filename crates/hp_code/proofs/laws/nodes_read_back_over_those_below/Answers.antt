@@ -1,4 +1,4 @@
-use Rattle.hp_code.specs.Trees.{trees}
+use Rattle.hp_nodes.specs.Trees.{trees}
 use Rattle.hp_code.proofs.CodeLemmas.{code_read}
 use Rattle.hp_code.proofs.NodeLemmas.{node_there, none_between, first_between, laid_by_ends}
 use Rattle.hp_code.proofs.laws.nodes_read_back_over_those_below.Goals as goal

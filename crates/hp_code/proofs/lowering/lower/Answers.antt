@@ -4,10 +4,10 @@ use Rattle.hp_syntax.specs.Checks.{domain_faults}
 use Rattle.hp_syntax.specs.Views.{domain_of, rule_of}
 use Rattle.hp_tables.specs.declared.Kind.TheVariants.{Task, Axiom}
 use Rattle.hp_tables.specs.Tables.{places_of}
+use Rattle.hp_nodes.specs.Compiled.{rule_trees, vars_of}
+use Rattle.hp_nodes.specs.Trees.{all_laid, roots}
 use Rattle.hp_code.specs.CodeValues.{value_of}
 use Rattle.hp_code.specs.CodeViews.{IsCodeOf}
-use Rattle.hp_code.specs.Compiled.{rule_trees, vars_of}
-use Rattle.hp_code.specs.Trees.{all_laid, roots}
 use Rattle.hp_code.proofs.CodeLemmas.{code_keeps, code_trees, length-rule_nodes}
 use Rattle.hp_code.proofs.lowering.lower.Goals as goal
 

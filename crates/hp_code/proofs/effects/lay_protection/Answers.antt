@@ -1,8 +1,0 @@
-use Rattle.hp_code.specs.Trees.{NoTree}
-use Rattle.hp_code.proofs.LayingSteps.{node_of_equal}
-use Rattle.hp_code.proofs.effects.lay_protection.Goals as goal
-
-pub returns : goal.returns
-returns c =
-    node_of_equal c.leaf.result c.args.atom.now.span NoTree c.args.nodes.now.items c.leaf.new.nodes.items
-    c.in_ok-op.ensures c.leaf.ensures

@@ -1,0 +1,5 @@
+pub mod AskingLemmas
+pub mod LayingLemmas
+pub mod LayingSteps
+pub mod MarkLemmas
+pub mod TreeLemmas
