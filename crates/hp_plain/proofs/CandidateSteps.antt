@@ -1,5 +1,5 @@
 -- The children of a node by a candidate, step by step.
-use Rattle.std.proofs.Common.{◌≡◌, ℕ, ◌<◌, ℤ, Vec, List, [], ◌∷◌, length, map, get_or, Bool, true, false, Option, option_map, Some, None, sym, ◌∙◌, ap, ap₂, subst}
+use Rattle.std.proofs.Common.{◌≡◌, ℕ, ◌<◌, ℤ, Vec, List, [], ◌∷◌, length, map, get_or, Bool, true, false, Option, option_map, Some, None, refl, sym, ◌∙◌, ap, ap₂, subst}
 use Rattle.std.specs.List.{All}
 use Rattle.std.specs.Option.{option_map_or}
 use Rattle.std.specs.Prelude.{flat_map, slice_get}
@@ -29,7 +29,7 @@ use Rattle.hp_eval.specs.Slotted.{Slotted, AreBelow, Matched, no_bindings, bindi
 use Rattle.hp_satisfiers.specs.Scenes.{axioms_in, state_in}
 use Rattle.hp_syntax.specs.Terms.{Term}
 use Rattle.hp_syntax.specs.Networks.{Network, Place, finish, expand}
-use Rattle.hp_syntax.specs.Walk.{Node, Child, DidChild, child_of, after_effects, method_children}
+use Rattle.hp_syntax.specs.Walk.{Node, Child, DidChild, child_of, after_effects, method_children, operated}
 use Rattle.hp_effect.specs.Puts.{IsApplied}
 use Rattle.hp_world.specs.declared.store.Applied.{Applied}
 use Rattle.hp_world.specs.declared.store.Applied.TheVariants.{Done, Guarded as WasGuarded}
@@ -106,6 +106,14 @@ pub applied_done : (terms : List Term) (stage : Stage) (a : Applied) (x : change
 applied_done terms stage Done (Now s g) e h = ap₂ Now h.0 h.1
 applied_done terms stage Done (Guarded d) e h = absurd h
 applied_done terms stage (WasGuarded d) x e h = absurd cc
+
+-- where applying meets what is protected, there is no child
+pub applied_guarded : (terms : List Term) (stage : Stage) (a : Applied) (atom : ℕ) (x : changes.Applied) (n : Node)
+    (p : Place) (task : Term) (cost : ℤ) → a ≡ WasGuarded atom → IsApplied a terms stage x
+    → [] ≡ operated n p task cost x
+applied_guarded terms stage Done atom x n p task cost e h = absurd cc
+applied_guarded terms stage (WasGuarded a) atom (Now s g) n p task cost e h = absurd h
+applied_guarded terms stage (WasGuarded a) atom (Guarded d) n p task cost e h = refl
 
 -- ---- scenes
 

@@ -63,12 +63,17 @@ pub report_left : (tell : ℕ → Visit → List ℕ) (k : ℕ) (vs ws : List Vi
     → report tell k nothing_seen vs ≡ report tell k nothing_seen ws
 report_left tell k vs ws e = sym (report_heard tell k nothing_seen vs) ∙ ap (report tell k nothing_seen) e
 
--- plans with their steps are told of what is heard
-pub plans_left : (detail : Detail) (states : Bool) (k : ℕ) (vs ws : List Visit) → telling detail ≡ plan_of states
-    → heard_visits vs ≡ ws → report (telling detail) k nothing_seen vs ≡ plan_report k states ws
+-- the report of visits, each plan told with its state or without
+pub plans_told : (detail : Detail) (states : Bool) (k : ℕ) (vs : List Visit) → telling detail ≡ plan_of states
+    → report (telling detail) k nothing_seen vs ≡ plan_report k states vs
 unfolding plan_report
-plans_left detail states k vs ws d e =
-    ap (λ tell. report tell k nothing_seen vs) d ∙ report_left (plan_of states) k vs ws e
+plans_told detail states k vs d = ap (λ tell. report tell k nothing_seen vs) d
+
+-- plans with their steps are told of what is heard
+pub plans_left : (states : Bool) (k : ℕ) (vs ws : List Visit) → heard_visits vs ≡ ws
+    → plan_report k states vs ≡ plan_report k states ws
+unfolding plan_report
+plans_left states k vs ws e = report_left (plan_of states) k vs ws e
 
 -- the telling of an answer, whole or stopped, is that of an equal one
 pub tells_equal : (a b : Answer) (o : Result Status Halt) (s : Status) (r : SinkRun) → a ≡ b → s ≡ status_told o

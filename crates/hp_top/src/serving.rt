@@ -1,17 +1,17 @@
 //! A domain and a problem that are read, served: the checks first, and then the job.
 
 ghost use Rattle.std.specs.List.{All};
-ghost use Rattle.std.specs.Prelude.{◌≡◌, ◌≤◌, ℕ, List, IfOk, None, true};
-ghost use Rattle.hp_out.specs.Writing.{sink_run};
+ghost use Rattle.std.specs.Prelude.{◌≡◌, ◌≤◌, ◌<◌, ℕ, List, IfOk, IfErr, OnOk, None, true};
+ghost use Rattle.hp_out.specs.Writing.{Wrote, sink_run};
 ghost use Rattle.hp_plain.specs.Walked.{stands_walked, tree_walked};
 ghost use Rattle.hp_syntax.specs.Grammar.{problem_form};
-ghost use Rattle.hp_syntax.specs.Report.{plan_of};
+ghost use Rattle.hp_syntax.specs.Report.{plan_of, plan_report};
 ghost use Rattle.hp_syntax.specs.Views.{domain_of, problem_of};
 ghost use Rattle.hp_syntax.specs.Walk.{heard_visits};
 ghost use Rattle.hp_top.specs.Command.{Summing, make_command};
 ghost use Rattle.hp_top.specs.Loading.{HasText};
 ghost use Rattle.hp_top.specs.Outcome.{first_fault, job_answer, answer_of_read, walk_of_pairs};
-ghost use Rattle.hp_top.specs.Telling.{IsAtItsNode, Tells, status_told, telling};
+ghost use Rattle.hp_top.specs.Telling.{Halts, IsAtItsNode, Tells, status_told, telling};
 ghost use Rattle.hp_top.specs.Words.{IsAsked, IsPlanned, job_of};
 
 use crate::checking::tell_accepted;
@@ -28,6 +28,7 @@ use hp_laws::pair_laws::{
     accepted_domains_are_checked, accepted_pairs_are_ground, problems_have_one_pair,
 };
 use hp_laws::tree_laws::visits_are_in_the_tree;
+use hp_net::Walk;
 use hp_out::Refusal;
 use hp_plain::PlainWalk;
 use hp_syntax::Status;
@@ -82,6 +83,26 @@ fn detail_of(states: bool) -> Detail
     if states { Detail::State } else { Detail::Steps }
 }
 
+/// Tells the plans of a walk, each with its state or without.
+fn tell_plans<W: Walk, K: Sink>(
+    walk: &mut W,
+    plans: u64,
+    states: bool,
+    out: &mut K,
+) -> Result<Status, Halt>
+    requires live { W.is_live walk.old ≡ true }
+    requires at { All (IsAtItsNode (W.tree walk.old)) (W.stands walk.old).rest }
+    requires plans { 0 < plans }
+    ensures written { OnOk result (Wrote (plan_report plans states (W.stands walk.old).rest).0
+        (K.bytes out.old) (K.bytes out.new)) }
+    ensures status { IfOk result (λ s. s ≡ (plan_report plans states (W.stands walk.old).rest).1) }
+    ensures err { IfErr result (λ h. Halts h (plan_report plans states (W.stands walk.old).rest).0
+        (sink_run (K.faults out.old) (K.faults out.new) (K.bytes out.old) (K.bytes out.new))) }
+    ensures later { K.faults out.old ≤ K.faults out.new }
+{
+    tell(walk, plans, detail_of(states), out)
+}
+
 /// Looks for the plans of an accepted domain and problem.
 fn serve_plan<K: Sink>(alloc: Global, loaded: &Loaded, asked: Asked, out: &mut K) -> Status
     requires asked { IsPlanned asked }
@@ -96,7 +117,7 @@ fn serve_plan<K: Sink>(alloc: Global, loaded: &Loaded, asked: Asked, out: &mut K
     let Ok(mut walk) = walk_of(alloc, loaded, asked.depth, options.levels) else {
         return Status::NoMemory;
     };
-    status_told(tell(&mut walk, asked.plans, detail_of(options.states), out))
+    status_told(tell_plans(&mut walk, asked.plans, options.states, out))
 }
 
 /// Sums up the first plan of an accepted domain and problem that were made.
