@@ -1,7 +1,7 @@
 use Rattle.std.proofs.Common.{◌≡◌, ◌<◌, ℕ, suc, List, [], ◌∷◌, Option, Some, None, length, get_or, refl, arith}
 use Rattle.std.proofs.lemmas.List.Elements.{All-nil, All-cons}
 use Rattle.hp_world.specs.Stages.{AllBelow, live_atoms}
-use Rattle.hp_look_up_trials.proofs.scans.is_within.Goals as goal
+use Rattle.hp_trials.proofs.look_ups.scans.is_within.Goals as goal
 
 -- atoms are below a number where that of each place is
 below_each : (n : ℕ) (places : List (Option ℕ))

@@ -1,7 +1,7 @@
 use Rattle.std.proofs.Common.{◌<◌, length, arith}
 use Rattle.hp_eval.specs.GoalViews.{term_at}
 use Rattle.hp_eval.proofs.CellViews.{named_at}
-use Rattle.hp_look_up_trials.proofs.scans.is_found.Goals as goal
+use Rattle.hp_trials.proofs.look_ups.scans.is_found.Goals as goal
 
 pub find_cons-requires-clause-tail : goal.find_cons-requires-clause-tail
 find_cons-requires-clause-tail c =

@@ -1,7 +1,7 @@
 use Rattle.std.proofs.Common.{◌≤◌, length}
 use Rattle.hp_world.specs.Recorded.{Knows}
 use Rattle.hp_world.specs.Stages.{StageBelow}
-use Rattle.hp_look_up_trials.proofs.large.replaced.Given as goal
+use Rattle.hp_trials.proofs.look_ups.large.replaced.Given as goal
 
 abbrev pub invariant-loop-round : goal.invariant-loop-round
 invariant-loop-round l =

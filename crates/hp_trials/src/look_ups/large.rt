@@ -3,14 +3,14 @@ ghost use Rattle.std.specs.Prelude.{◌≤◌, IfOk, length};
 ghost use Rattle.hp_world.specs.Recorded.{Knows};
 ghost use Rattle.hp_world.specs.Stages.{StageBelow};
 
-use crate::rounds::{atom_pattern, interned};
+use crate::fixtures::symbol;
+use crate::look_ups::rounds::atoms_of;
 use hp_cells::{Cell, Cells};
-use hp_syntax::{Name, Pat, PatKind, Span};
 use hp_world::World;
 use std::alloc::{AllocError, Global};
 
-// Where each pattern stands.
-const SPAN: Span = Span { from: 3, to: 19 };
+// The atoms of a large world, by their first argument.
+const ATOMS: u32 = 100_000;
 
 /// An atom that takes the place of the first one of its name, or of its name and a first argument.
 #[derive(Clone, Copy)]
@@ -19,58 +19,22 @@ struct Replacement {
     atom: Cell,
 }
 
-// The cell of an atom of a name with two numbers.
-fn numbered(
-    alloc: Global,
-    cells: &mut Cells,
-    name: &[u8],
-    first: i64,
-    second: i64,
-) -> Result<Cell, AllocError> {
-    let first = Pat {
-        span: SPAN,
-        kind: PatKind::Num(first),
-    };
-    let second = Pat {
-        span: SPAN,
-        kind: PatKind::Num(second),
-    };
-    let atom = atom_pattern(alloc, name, first, second)?;
-    interned(alloc, cells, &atom)
-}
-
-// The cells of the atoms of a name with each number below one, and zero.
-fn each_numbered(
-    alloc: Global,
-    cells: &mut Cells,
-    name: &[u8],
-    most: u32,
-) -> Result<Vec<Cell>, AllocError> {
-    let mut atoms = Vec::new(alloc);
-    for number in 0..most {
-        atoms.push(numbered(alloc, cells, name, i64::from(number), 0)?)?;
-    }
-    Ok(atoms)
-}
-
-// Replacements of atoms that are drawn by their first argument.
+// So many replacements, by atoms that are drawn, of those with the same first argument, which is an atom's number.
 fn by_argument(
     alloc: Global,
     cells: &mut Cells,
-    name: &[u8],
-    most: u32,
+    atoms: &[Cell],
     count: u32,
 ) -> Result<Vec<Replacement>, AllocError> {
     let mut replacements = Vec::new(alloc);
     let mut number = 0;
     for _round in 0..count {
-        let argument = cells.num(i64::from(number))?;
-        let atom = numbered(alloc, cells, name, i64::from(number), 1)?;
-        replacements.push(Replacement {
-            argument: Some(argument),
-            atom,
-        })?;
-        number = next(number, most);
+        let argument = Some(cells.num(i64::from(number))?);
+        if let Some(atom) = atoms.get(number as usize) {
+            let atom = *atom;
+            replacements.push(Replacement { argument, atom })?;
+        }
+        number = next(number, ATOMS);
     }
     Ok(replacements)
 }
@@ -186,32 +150,43 @@ fn replaced(
     Ok(found)
 }
 
-/// How many of so many changes of a world of so many atoms find theirs by the name and an argument.
+// How many replacements find an atom in a world of some atoms.
+fn replaced_among(
+    alloc: Global,
+    cells: &Cells,
+    name: Cell,
+    atoms: &[Cell],
+    replacements: &[Replacement],
+    parts: &[usize],
+) -> Result<usize, AllocError> {
+    let mut world = World::indexed(alloc, parts)?;
+    add_each(cells, &mut world, atoms)?;
+    replaced(cells, &mut world, name, replacements)
+}
+
+/// How many of so many changes of a large world find their atoms by the name and an argument.
 pub fn found_by_argument(
     alloc: Global,
-    most: u32,
+    cells: &mut Cells,
     count: u32,
     parts: &[usize],
 ) -> Result<usize, AllocError> {
-    let mut cells = Cells::new(alloc)?;
-    let word = Name::new(alloc, b"at")?;
-    let name = cells.sym(&word)?;
-    let atoms = each_numbered(alloc, &mut cells, b"at", most)?;
-    let replacements = by_argument(alloc, &mut cells, b"at", most, count)?;
-    let mut world = World::indexed(alloc, parts)?;
-    add_each(&cells, &mut world, &atoms)?;
-    replaced(&cells, &mut world, name, &replacements)
+    let name = symbol(alloc, cells, b"at")?;
+    let atoms = atoms_of(alloc, cells, "(defproblem p d ({100000 (at # 0)}) ())")?;
+    let others = atoms_of(alloc, cells, "(defproblem p d ({100000 (at # 1)}) ())")?;
+    let replacements = by_argument(alloc, cells, &others, count)?;
+    replaced_among(alloc, cells, name, &atoms, &replacements, parts)
 }
 
-/// How many of so many changes of a counter find it by its name.
-pub fn found_by_name(alloc: Global, count: u32, parts: &[usize]) -> Result<usize, AllocError> {
-    let mut cells = Cells::new(alloc)?;
-    let word = Name::new(alloc, b"counter")?;
-    let name = cells.sym(&word)?;
-    let atoms = each_numbered(alloc, &mut cells, b"counter", count)?;
+/// How many of 10,000 changes of a counter find it by its name.
+pub fn found_by_name(
+    alloc: Global,
+    cells: &mut Cells,
+    parts: &[usize],
+) -> Result<usize, AllocError> {
+    let name = symbol(alloc, cells, b"counter")?;
+    let atoms = atoms_of(alloc, cells, "(defproblem p d ({10000 (counter # 0)}) ())")?;
     let replacements = by_name(alloc, &atoms)?;
-    let mut world = World::indexed(alloc, parts)?;
-    let zero = numbered(alloc, &mut cells, b"counter", -1, 0)?;
-    add(&cells, &mut world, zero)?;
-    replaced(&cells, &mut world, name, &replacements)
+    let first = atoms_of(alloc, cells, "(defproblem p d ((counter -1 0)) ())")?;
+    replaced_among(alloc, cells, name, &first, &replacements, parts)
 }

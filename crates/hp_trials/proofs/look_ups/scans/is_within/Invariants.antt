@@ -1,5 +1,5 @@
 use Rattle.std.proofs.Common.{◌≡◌, ◌<◌, ℕ, Some, None, length, get_or}
-use Rattle.hp_look_up_trials.proofs.scans.is_within.Given as goal
+use Rattle.hp_trials.proofs.look_ups.scans.is_within.Given as goal
 
 abbrev pub invariant-loop-place : goal.invariant-loop-place
 invariant-loop-place l =

@@ -1,6 +1,6 @@
 use Rattle.std.proofs.Common.{◌<◌, [], length, arith}
 use Rattle.std.proofs.lemmas.List.Elements.{All-nil, All-cons}
-use Rattle.hp_look_up_trials.proofs.large.add.Goals as goal
+use Rattle.hp_trials.proofs.look_ups.large.add.Goals as goal
 
 pub returns-in_ok-apply_in-clause-below : goal.returns-in_ok-apply_in-clause-below
 returns-in_ok-apply_in-clause-below c =

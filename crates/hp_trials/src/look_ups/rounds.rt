@@ -3,20 +3,40 @@ ghost use Rattle.std.specs.Prelude.{◌≤◌, List, IfOk, length, vec_len};
 ghost use Rattle.hp_syntax.specs.Terms.{Term};
 ghost use Rattle.hp_world.specs.Recorded.{Knows};
 
-use crate::draws::Draws;
-use crate::scans::{is_found, is_within, place, scanned};
+use crate::look_ups::draws::Draws;
+use crate::look_ups::scans::{is_found, is_within, place, scanned};
+use crate::repeats::with_repeats;
+use crate::texts::reading::problem_of;
 use hp_cells::{Cell, Cells};
 use hp_eval::{Slots, atom_value};
-use hp_syntax::{AtomPat, Name, Pat, PatKind, Span};
+use hp_syntax::{AtomPat, Name};
 use hp_world::World;
 use std::alloc::{AllocError, Global};
-
-// Where each pattern stands.
-const SPAN: Span = Span { from: 3, to: 19 };
 
 const NAMES: [&[u8]; 3] = [b"at", b"in", b"on"];
 
 const ARGUMENTS: [&[u8]; 6] = [b"a", b"b", b"c", b"d", b"e", b"f"];
+
+const ATOMS: &str = "(defproblem p d (
+  (at a a) (at a b) (at a c) (at a d) (at a e) (at a f)
+  (at b a) (at b b) (at b c) (at b d) (at b e) (at b f)
+  (at c a) (at c b) (at c c) (at c d) (at c e) (at c f)
+  (at d a) (at d b) (at d c) (at d d) (at d e) (at d f)
+  (at e a) (at e b) (at e c) (at e d) (at e e) (at e f)
+  (at f a) (at f b) (at f c) (at f d) (at f e) (at f f)
+  (in a a) (in a b) (in a c) (in a d) (in a e) (in a f)
+  (in b a) (in b b) (in b c) (in b d) (in b e) (in b f)
+  (in c a) (in c b) (in c c) (in c d) (in c e) (in c f)
+  (in d a) (in d b) (in d c) (in d d) (in d e) (in d f)
+  (in e a) (in e b) (in e c) (in e d) (in e e) (in e f)
+  (in f a) (in f b) (in f c) (in f d) (in f e) (in f f)
+  (on a a) (on a b) (on a c) (on a d) (on a e) (on a f)
+  (on b a) (on b b) (on b c) (on b d) (on b e) (on b f)
+  (on c a) (on c b) (on c c) (on c d) (on c e) (on c f)
+  (on d a) (on d b) (on d c) (on d d) (on d e) (on d f)
+  (on e a) (on e b) (on e c) (on e d) (on e e) (on e f)
+  (on f a) (on f b) (on f c) (on f d) (on f e) (on f f)
+) ())";
 
 /// Names, arguments, and the atoms of each name with two arguments.
 pub struct Table {
@@ -38,32 +58,6 @@ impl Drop for Table {
     }
 }
 
-// A pattern of a symbol.
-fn symbol_pattern(alloc: Global, word: &[u8]) -> Result<Pat, AllocError> {
-    let name = Name::new(alloc, word)?;
-    Ok(Pat {
-        span: SPAN,
-        kind: PatKind::Sym(name),
-    })
-}
-
-/// The pattern of an atom of a name with two arguments.
-pub fn atom_pattern(
-    alloc: Global,
-    name: &[u8],
-    first: Pat,
-    second: Pat,
-) -> Result<AtomPat, AllocError> {
-    let args = vec![in alloc; first, second]?;
-    let name = Name::new(alloc, name)?;
-    Ok(AtomPat {
-        span: SPAN,
-        name,
-        args,
-        tail: None,
-    })
-}
-
 // The cells of the symbols of these words.
 fn symbols(alloc: Global, cells: &mut Cells, words: &[&[u8]]) -> Result<Vec<Cell>, AllocError> {
     let mut found = Vec::new(alloc);
@@ -74,8 +68,8 @@ fn symbols(alloc: Global, cells: &mut Cells, words: &[&[u8]]) -> Result<Vec<Cell
     Ok(found)
 }
 
-/// The cell of an atom that is ground, which no fault meets.
-pub fn interned(alloc: Global, cells: &mut Cells, atom: &AtomPat) -> Result<Cell, AllocError> {
+// The cell of an atom that is ground, which no fault meets.
+fn interned(alloc: Global, cells: &mut Cells, atom: &AtomPat) -> Result<Cell, AllocError> {
     let slots = Slots::new(alloc, 0)?;
     match atom_value(alloc, atom, &slots, cells) {
         Ok(cell) => Ok(cell),
@@ -83,27 +77,31 @@ pub fn interned(alloc: Global, cells: &mut Cells, atom: &AtomPat) -> Result<Cell
     }
 }
 
-// The cells of the atoms of a name with two arguments.
-fn atoms_of(alloc: Global, cells: &mut Cells, name: &[u8]) -> Result<Vec<Cell>, AllocError> {
+fn cells_of(alloc: Global, cells: &mut Cells, atoms: &[AtomPat]) -> Result<Vec<Cell>, AllocError> {
     let mut found = Vec::new(alloc);
-    for number in 0..36 {
-        let first = symbol_pattern(alloc, ARGUMENTS[number / 6])?;
-        let second = symbol_pattern(alloc, ARGUMENTS[number % 6])?;
-        let atom = atom_pattern(alloc, name, first, second)?;
-        found.push(interned(alloc, cells, &atom)?)?;
+    for atom in atoms {
+        found.push(interned(alloc, cells, atom)?)?;
     }
     Ok(found)
+}
+
+/// The cells of the atoms in the state of a problem with repeated parts.
+pub fn atoms_of(alloc: Global, cells: &mut Cells, text: &str) -> Result<Vec<Cell>, AllocError> {
+    let text = with_repeats(alloc, text)?;
+    match problem_of(alloc, text.as_str()) {
+        Some(problem) => match problem.pairs.as_slice() {
+            [pair] => cells_of(alloc, cells, pair.state.as_slice()),
+            _ => Err(AllocError),
+        },
+        None => Err(AllocError),
+    }
 }
 
 /// The table of all atoms.
 pub fn make_table(alloc: Global, cells: &mut Cells) -> Result<Table, AllocError> {
     let names = symbols(alloc, cells, &NAMES)?;
     let arguments = symbols(alloc, cells, &ARGUMENTS)?;
-    let mut atoms = Vec::new(alloc);
-    for name in &NAMES {
-        let more = atoms_of(alloc, cells, name)?;
-        atoms.extend(more)?;
-    }
+    let atoms = atoms_of(alloc, cells, ATOMS)?;
     Ok(Table {
         names,
         arguments,
