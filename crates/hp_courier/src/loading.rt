@@ -26,7 +26,7 @@ use std::alloc::{AllocError, Global};
 use thiserror::Error;
 
 /// Why two texts can't be walked.
-#[derive(Clone, Copy, Debug, PartialEq, Eq, Error)]
+#[derive(Clone, Copy, Debug, Error)]
 pub enum InputError {
     #[error("a text is refused")]
     Text(TextRefusal),

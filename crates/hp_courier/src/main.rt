@@ -10,22 +10,19 @@ mod showing;
 mod steps;
 mod swap;
 
-use hp_io::HostSink;
-use hp_out::Pen;
 use loading::{accepted, walk};
 use showing::{Shown, show};
 use std::alloc::Global;
+use std::io;
+use std::io::Write;
 
 /// How many decompositions a plan may have here.
 const DEPTH: u32 = 20;
 
 /// Writes the courier's first ways.
-fn write_plans(rt: &impl Print, alloc: Global) -> anyhow::Result<()> {
+fn write_plans(rt: &impl Print, alloc: Global) -> io::Result<()> {
     let text = courier::plans(alloc)?;
-    let mut sink = HostSink::new(rt);
-    let mut pen = Pen::new(&mut sink);
-    pen.text(text.as_slice())?;
-    Ok(())
+    io::writer(rt).write_all(text.as_slice())
 }
 
 /// Shows something of the walk of two texts.

@@ -5,10 +5,10 @@ ghost use Rattle.hp_top.specs.Telling.{IsAtItsNode};
 
 use crate::swap::{print_pruned, print_visits, print_way_back};
 use hp_embedding::cheapest::{CheapestPlan, cheapest};
-use hp_io::HostSink;
 use hp_net::Walk;
-use hp_out::Pen;
 use std::alloc::Global;
+use std::io;
+use std::io::Write;
 
 /// The parts of a run that are shown.
 #[derive(Clone, Copy)]
@@ -20,15 +20,12 @@ pub enum Shown {
 }
 
 /// The cost of a plan, the place where it was found, and its lines.
-fn print_found(rt: &impl Print, found: &CheapestPlan) -> anyhow::Result<()> {
+fn print_found(rt: &impl Print, found: &CheapestPlan) -> io::Result<()> {
     println!(rt;
         "the cheapest costs {}, at path {:?}",
         found.cost, found.path
     )?;
-    let mut sink = HostSink::new(rt);
-    let mut pen = Pen::new(&mut sink);
-    pen.text(found.text.as_slice())?;
-    Ok(())
+    io::writer(rt).write_all(found.text.as_slice())
 }
 
 /// The cheapest plan of a walk.
@@ -37,11 +34,8 @@ fn print_cheapest<W: Walk>(rt: &impl Print, alloc: Global, walk: &mut W) -> anyh
     requires at { All (IsAtItsNode (W.tree walk.old)) (W.stands walk.old).rest }
 {
     match cheapest(alloc, walk)? {
-        Some(found) => print_found(rt, &found),
-        None => {
-            println!(rt; "no plan")?;
-            Ok(())
-        }
+        Some(found) => Ok(print_found(rt, &found)?),
+        None => Ok(println!(rt; "no plan")?),
     }
 }
 

@@ -3,7 +3,7 @@ use Rattle.std.proofs.Common.{◌≡◌, ◌<◌, ◌≤◌, ◌⊎◌, inl, inr
 use Rattle.std.specs.Prelude.{Contains}
 use Rattle.std.specs.List.{All, AllPairs, Any}
 use Rattle.std.specs.Int.Signed.{le_z, le_z_yes, clash_ℤ, <ℤ-≤ℤ_trans}
-use Rattle.std.proofs.lemmas.List.Elements.{All-head, All-tail, All-weaker, All-contains, All-contains_itself, Contains-append_right}
+use Rattle.std.proofs.lemmas.List.Elements.{All-cons, All-head, All-tail, All-weaker, All-contains, All-contains_itself, Contains-append_right}
 use Rattle.std.proofs.lemmas.Int.{by_lt_z}
 use Rattle.std.proofs.lemmas.Float.{T_from_true}
 use Rattle.hp_laws.proofs.JoinLemmas.{all_from_contains, all_right, pairs_head, pairs_tail}
@@ -14,7 +14,7 @@ use Rattle.hp_syntax.specs.Walk.{Sight, Visit, Did, Plan, CutHere, FaultHere, be
 use Rattle.hp_embedding.specs.declared.cheapest.CheapestPlan.{CheapestPlan}
 use Rattle.hp_embedding.specs.declared.cheapest.SearchError.{SearchError}
 use Rattle.hp_embedding.specs.declared.cheapest.SearchError.TheVariants as errors
-use Rattle.hp_embedding.specs.Search.{NeverFalls, reaches, lower, least_cost, cost_of, IsAt, IsOf, Explains, Goes}
+use Rattle.hp_embedding.specs.Search.{NeverFalls, reaches, lower, least_cost, cost_of, IsAt, IsOf, IsNoPlan, Explains, Goes}
 
 -- ---- costs
 
@@ -99,8 +99,9 @@ IsNoCheaper v w = begins v.path w.path ≡ true → v.node.cost ≤ℤ w.node.co
 -- a prefix of the visits is passed, which leaves the least cost as it is
 goes_past : (a b : Option CheapestPlan) (vs prefix ws : List Visit) → vs ≡ prefix ++ ws → length ws < length vs
     → (NeverFalls vs → least_cost (cost_of b) ws ≡ least_cost (cost_of a) vs)
-    → (b ≡ a) ⊎ IfSome b (λ f. Any (IsOf f) vs) → Goes a b vs ws
-goes_past a b vs prefix ws e shorter least plan = record {
+    → (b ≡ a) ⊎ IfSome b (λ f. Any (IsOf f) vs)
+    → (b ≡ None → (a ≡ None) × (All IsNoPlan ws → All IsNoPlan vs)) → Goes a b vs ws
+goes_past a b vs prefix ws e shorter least plan none = record {
   shorter = shorter;
   among =
       subst (λ l. All (Contains l) ws) (sym e)
@@ -108,7 +109,22 @@ goes_past a b vs prefix ws e shorter least plan = record {
   falls = λ h. pairs_right IsNoCheaper prefix ws (subst (AllPairs IsNoCheaper) e h);
   least = least;
   plan = plan;
+  none = none;
 }
+
+-- where no plan is told at the first visit nor at those behind it, none is told at all
+no_plan_first : (v : Visit) (vs ws : List Visit) → vs ≡ v ∷ ws → IsNoPlan v → All IsNoPlan ws → All IsNoPlan vs
+no_plan_first v vs ws e n a = subst (All IsNoPlan) (sym e) (All-cons IsNoPlan v ws n a)
+
+-- a cost that is reached is one that is known
+reached_some : (a : Option CheapestPlan) (c : ℤ) → reaches (cost_of a) c ≡ true → a ≡ None → ⊥
+reached_some a c r h = let f : reaches (cost_of None) c ≡ true = subst (λ o. reaches (cost_of o) c ≡ true) h r in cc
+
+-- the lower of two costs is known
+lower_some : (o : Option ℤ) (c : ℤ) (b : Bool) → reaches o c ≡ b → lower o c ≡ None → ⊥
+lower_some None c b r h = cc
+lower_some (Some k) c true r h = let f : Some k ≡ None = rw r at h in cc
+lower_some (Some k) c false r h = let f : Some c ≡ None = rw r at h in cc
 
 -- a decomposition is passed
 pub goes_did : (a : Option CheapestPlan) (v : Visit) (vs ws : List Visit) → vs ≡ v ∷ ws → v.sight ≡ Did → Goes a a vs ws
@@ -117,6 +133,7 @@ goes_did a v vs ws e d =
     (λ h. let same : least_cost (cost_of a) (v ∷ ws) ≡ least_cost (cost_of a) ws = rw d refl in
     sym (ap (least_cost (cost_of a)) e ∙ same))
     (inl refl)
+    (λ h. (h, no_plan_first v vs ws e (rw d refl)))
 
 -- a cut is passed
 pub goes_cut : (a : Option CheapestPlan) (v : Visit) (vs ws : List Visit) → vs ≡ v ∷ ws → v.sight ≡ CutHere
@@ -126,6 +143,7 @@ goes_cut a v vs ws e d =
     (λ h. let same : least_cost (cost_of a) (v ∷ ws) ≡ least_cost (cost_of a) ws = rw d refl in
     sym (ap (least_cost (cost_of a)) e ∙ same))
     (inl refl)
+    (λ h. (h, no_plan_first v vs ws e (rw d refl)))
 
 -- a decomposition is passed, and what lies below it is left out
 pub goes_pruned : (a : Option CheapestPlan) (v : Visit) (vs ws : List Visit) → vs ≡ v ∷ ws → v.sight ≡ Did
@@ -139,6 +157,7 @@ goes_pruned a v vs ws e d r =
     (pairs_head IsNoCheaper v ws (subst (AllPairs IsNoCheaper) e h))
     ∙ sym (ap (least_cost (cost_of a)) e ∙ same))
     (inl refl)
+    (λ h. absurd (reached_some a v.node.cost r h))
 
 -- a decomposition is passed, and what lies below it is left out where it costs no less than the best so far
 pub goes_down : (a : Option CheapestPlan) (v : Visit) (vs : List Visit) (t r : Standing) → vs ≡ v ∷ t.rest
@@ -172,6 +191,7 @@ goes_plan a b v vs ws e d low kept =
     (λ h. let one : least_cost (cost_of a) (v ∷ ws) ≡ least_cost (lower (cost_of a) v.node.cost) ws = rw d refl in
     ap (λ o. least_cost o ws) low ∙ sym (ap (least_cost (cost_of a)) e ∙ one))
     (elim kept [ inl same ↦ inl same | inr h ↦ inr (found_first b v vs ws e d h) ])
+    (λ h. absurd (lower_some (cost_of a) v.node.cost _ refl (sym low ∙ ap cost_of h)))
 
 -- the sight at a visit that is answered as a fault
 fault_seen : (f : RunFault) (x : Sight) (v : Visit) → v.sight ≡ x → steps.Fault f ≡ step_or_end (Some v)
@@ -195,6 +215,7 @@ pub record Searched (best : Option CheapestPlan) (all left : List Visit) : Type 
   pub falls : NeverFalls all → NeverFalls left
   pub least : NeverFalls all → least_cost (cost_of best) left ≡ least_cost None all
   pub plan : IfSome best (λ f. Any (IsOf f) all)
+  pub none : best ≡ None → All IsNoPlan left → All IsNoPlan all
 
 -- a search begins with nothing found
 pub searched_none : (best : Option CheapestPlan) (all : List Visit) → best ≡ None → Searched best all all
@@ -203,6 +224,7 @@ searched_none best all e = record {
   falls = λ h. h;
   least = λ h. rw e refl;
   plan = subst (λ o. IfSome o (λ f. Any (IsOf f) all)) (sym e) tt;
+  none = λ h a. a;
 }
 
 -- a fact of some of the visits left is one of some of all
@@ -231,6 +253,7 @@ searched_on a b all left more s g = record {
     | inl same ↦ subst (λ o. IfSome o (λ f. Any (IsOf f) all)) (sym same) s.plan
     | inr h ↦ some_among b all left s.among h
   ];
+  none = λ h a. let k = g.none h in s.none k.0 (k.1 a);
 }
 
 -- a fault among what is left is one of all

@@ -41,6 +41,10 @@ pub record IsAt (f : CheapestPlan) (n : Node) (p : List ℕ) : Type 0 where
 abbrev pub IsOf : CheapestPlan → Visit → Type 0
 IsOf f v = (v.sight ≡ Plan) × IsAt f v.node v.path
 
+-- a visit at which no plan is told
+abbrev pub IsNoPlan : Visit → Type 0
+IsNoPlan v = is_plan v.sight ≡ false
+
 -- a fault is told only where it was met
 abbrev pub Explains : SearchError → List Visit → Type 0
 Explains errors.NoMemory vs = Unit {0}
@@ -53,6 +57,7 @@ pub record Goes (a b : Option CheapestPlan) (vs ws : List Visit) : Type 0 where
   pub falls : NeverFalls vs → NeverFalls ws
   pub least : NeverFalls vs → least_cost (cost_of b) ws ≡ least_cost (cost_of a) vs
   pub plan : (b ≡ a) ⊎ IfSome b (λ f. Any (IsOf f) vs)
+  pub none : b ≡ None → (a ≡ None) × (All IsNoPlan ws → All IsNoPlan vs)
 
 -- after one visit the search goes on, or nothing was left
 abbrev pub Turned : Bool → Option CheapestPlan → Option CheapestPlan → List Visit → List Visit → Type 0

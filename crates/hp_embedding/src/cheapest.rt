@@ -1,9 +1,9 @@
 //! The cheapest plan, by a walk that leaves out what costs too much already.
-ghost use Rattle.std.specs.Prelude.{◌≡◌, ◌⊎◌, true, cond, None, IfOk, IfErr, IfSome, OnOk, MatchOption};
+ghost use Rattle.std.specs.Prelude.{◌≡◌, ◌⊎◌, true, cond, None, IfOk, IfErr, IfSome, IfNone, OnOk, MatchOption};
 ghost use Rattle.std.specs.List.{All, Any};
 ghost use Rattle.hp_net.specs.Standings.{node_reached, pruned};
 ghost use Rattle.hp_top.specs.Telling.{IsAtItsNode};
-ghost use Rattle.hp_embedding.specs.Search.{NeverFalls, least_cost, lower, reaches, cost_of, IsAt, IsOf, Explains, Turned};
+ghost use Rattle.hp_embedding.specs.Search.{NeverFalls, least_cost, lower, reaches, cost_of, IsAt, IsOf, IsNoPlan, Explains, Turned};
 
 use crate::tray::Tray;
 use hp_net::{Step, Walk};
@@ -139,6 +139,7 @@ pub fn cheapest<W: Walk>(alloc: Global, walk: &mut W) -> Result<Option<CheapestP
     ensures cheapest { IfOk result (λ best. NeverFalls (W.stands walk.old).rest
         → cost_of best ≡ least_cost None (W.stands walk.old).rest) }
     ensures plan { IfOk result (λ best. IfSome best (λ f. Any (IsOf f) (W.stands walk.old).rest)) }
+    ensures none { IfOk result (λ best. IfNone best (All IsNoPlan (W.stands walk.old).rest)) }
     ensures err { IfErr result (λ e. Explains e (W.stands walk.old).rest) }
 {
     let mut best = None;

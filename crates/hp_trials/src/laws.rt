@@ -12,7 +12,8 @@ use hp_syntax::samples::samples_are_spelled;
 use hp_top::laws::{every_run_has_an_outcome, outcomes_are_one};
 use hp_top::samples::{basic_comes_to_its_plan, makings_are_read};
 
-fn laws_of_texts_and_forms_can_be_cited() {
+/// Cites all of them.
+pub fn cite_all() {
     texts_spell_one_forest();
     texts_have_one_refusal();
     no_text_is_both();
@@ -24,29 +25,12 @@ fn laws_of_texts_and_forms_can_be_cited() {
     terms_are_compared();
     forms_are_numbered();
     misforms_are_decided_by_the_prefix();
-}
-
-fn laws_of_checks_can_be_cited() {
     the_first_fault_is_told();
     no_fault_is_left_out();
-}
-
-fn laws_of_runs_can_be_cited() {
     outcomes_are_one();
     every_run_has_an_outcome();
-}
-
-fn samples_can_be_cited() {
     samples_are_spelled();
     two_packages_are_made();
     basic_comes_to_its_plan();
     makings_are_read();
-}
-
-/// Cites all of them.
-pub fn cite_all() {
-    laws_of_texts_and_forms_can_be_cited();
-    laws_of_checks_can_be_cited();
-    laws_of_runs_can_be_cited();
-    samples_can_be_cited();
 }

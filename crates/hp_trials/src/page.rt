@@ -37,6 +37,14 @@ impl Page {
         }
     }
 
+    /// What was asked, and what was given if there was memory for it.
+    pub fn told<T: Debug>(&mut self, asked: &str, given: &Result<T, AllocError>) {
+        match given {
+            Ok(given) => self.line(asked, given),
+            Err(_) => self.is_whole = false,
+        }
+    }
+
     /// Bytes, as a literal has them, and what was given with them.
     pub fn row<T: Debug>(&mut self, bytes: &[u8], given: &T) {
         if writeln!(self.text, "  \"{}\": {given:?}", bytes.escape_ascii()).is_err() {

@@ -1,10 +1,10 @@
-//! Whole runs. The commands of `data/cases.txt` are run first; its head says how a case is added. Then come texts that
-//! are too long to stand in a file, which loops make.
+//! Whole runs. The commands of `data/cases.txt` are run first; its head says how a case is added. Then comes what is
+//! told otherwise than by what a command writes.
 
 mod cases;
-mod limits;
 mod made;
 mod rereads;
+mod statuses;
 mod trial;
 mod wide;
 
@@ -15,7 +15,7 @@ use std::rt::Files;
 
 /// Tries what is made, in the order in which it stands in `stdout`.
 fn try_made(alloc: Global, out: &mut Vec<u8>) -> Result<(), AllocError> {
-    limits::try_all(alloc, out)?;
+    statuses::try_all(alloc, out)?;
     made::try_all(alloc, out)?;
     rereads::try_all(alloc, out)?;
     wide::try_all(alloc, out)
@@ -23,7 +23,7 @@ fn try_made(alloc: Global, out: &mut Vec<u8>) -> Result<(), AllocError> {
 
 /// Prints what the runs write.
 pub fn print_all(rt: &(impl Files + Print + AllocGlobal)) -> io::Result<()> {
-    let mut out = Vec::new(rt.alloc());
+    let mut out = Vec::from_slice(rt.alloc(), b"\n== runs\n")?;
     cases::try_all(rt, &mut out)?;
     try_made(rt.alloc(), &mut out)?;
     io::writer(rt).write_all(out.as_slice())

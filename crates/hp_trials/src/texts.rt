@@ -2,19 +2,17 @@
 
 mod checks;
 mod copies;
-mod folders;
+pub mod folders;
 mod forests;
 mod forms;
 mod lines;
 mod makings;
 mod names;
 mod prints;
-mod reading;
+pub mod reading;
 
 use crate::page::Page;
 use std::alloc::{AllocError, Global};
-use std::io;
-use std::rt::Files;
 
 fn show_read(page: &mut Page, alloc: Global) -> Result<(), AllocError> {
     forests::show_forests(page, alloc)?;
@@ -31,11 +29,9 @@ fn show_written(page: &mut Page, alloc: Global) -> Result<(), AllocError> {
     lines::show_lines(page, alloc)
 }
 
-/// Prints what these calls give.
-pub fn print_all(rt: &(impl Files + Print + AllocGlobal)) -> io::Result<()> {
-    let mut page = Page::new(rt.alloc());
-    show_read(&mut page, rt.alloc())?;
-    show_written(&mut page, rt.alloc())?;
-    folders::show_host(&mut page, rt);
-    print!(rt; "{}", page.lines()?)
+/// What these calls give.
+pub fn show_all(page: &mut Page, alloc: Global) -> Result<(), AllocError> {
+    page.title("\n== texts");
+    show_read(page, alloc)?;
+    show_written(page, alloc)
 }

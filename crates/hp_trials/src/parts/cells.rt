@@ -24,6 +24,7 @@ fn leave_three(cells: &mut Cells) {
 
 // Each term stands once.
 fn show_terms(page: &mut Page, cells: &mut Cells, name: &Name) -> Result<(), AllocError> {
+    page.title("Each term stands once");
     let a = cells.sym(name)?;
     let list = list_of(cells, a)?;
     let three = cells.num(3)?;
@@ -48,6 +49,7 @@ fn is_list_of(cells: &Cells, list: Cell, part: Cell) -> bool
 
 // How deep 3, (3) and ((3)) nest.
 fn show_depths(page: &mut Page, cells: &mut Cells) -> Result<(), AllocError> {
+    page.title("Depths and parts are told");
     let three = cells.num(3)?;
     page.line("depth of 3", &cells.depth(three));
     let inner = list_of(cells, three)?;
@@ -58,21 +60,10 @@ fn show_depths(page: &mut Page, cells: &mut Cells) -> Result<(), AllocError> {
     Ok(())
 }
 
-fn show_named(page: &mut Page, alloc: Global, name: &Name) -> Result<(), AllocError> {
-    let mut cells = Cells::new(alloc)?;
-    show_terms(page, &mut cells, name)
-}
-
-fn show_lists(page: &mut Page, alloc: Global) -> Result<(), AllocError> {
-    let mut cells = Cells::new(alloc)?;
-    show_depths(page, &mut cells)
-}
-
 /// Terms and their depths.
 pub fn show_cells(page: &mut Page, alloc: Global) -> Result<(), AllocError> {
-    page.title("Each term stands once");
     let name = Name::new(alloc, b"a")?;
-    show_named(page, alloc, &name)?;
-    page.title("Depths and parts are told");
-    show_lists(page, alloc)
+    let mut cells = Cells::new(alloc)?;
+    show_terms(page, &mut cells, &name)?;
+    show_depths(page, &mut cells)
 }

@@ -69,60 +69,40 @@ fn expand_into(net: &mut Net, alloc: Global, first: Cell, second: Cell) -> Resul
     expand_first(net, alloc, &tree)
 }
 
-// Cells of four tasks.
-#[derive(Clone, Copy)]
-struct Tasks {
-    x: Cell,
-    y: Cell,
-    a: Cell,
-    b: Cell,
-}
-
-fn four_tasks(cells: &mut Cells) -> Result<Tasks, AllocError> {
-    let x = cells.num(1)?;
-    let y = cells.num(2)?;
-    let a = cells.num(3)?;
-    let b = cells.num(4)?;
-    Ok(Tasks { x, y, a, b })
-}
-
 // Of x and y, x is decomposed into a and b, and a is done.
 fn show_newest(
     page: &mut Page,
     alloc: Global,
     net: &mut Net,
-    tasks: &Tasks,
+    [x, y, a, b]: [Cell; 4],
 ) -> Result<(), AllocError> {
-    let Tasks { x, y, a, b } = *tasks;
-    page.line("x and y come next", &are_next(net, alloc, &[x, y])?);
+    page.title("The newest subtasks come first");
+    page.told("x and y come next", &are_next(net, alloc, &[x, y]));
     expand_into(net, alloc, a, b)?;
-    page.line(
+    page.told(
         "a comes next, once x is a and then b",
-        &are_next(net, alloc, &[a])?,
+        &are_next(net, alloc, &[a]),
     );
     finish_first(net, alloc)?;
-    page.line(
+    page.told(
         "b and y come next, once a is done",
-        &are_next(net, alloc, &[b, y])?,
+        &are_next(net, alloc, &[b, y]),
     );
     Ok(())
 }
 
-// A copy of a network with b and y stays as it is while both are done.
+// A copy of a network with two tasks stays as it is while both are done.
 fn show_copy(
     page: &mut Page,
     alloc: Global,
     net: &mut Net,
     copy: &Net,
-    tasks: &Tasks,
+    tasks: &[Cell],
 ) -> Result<(), AllocError> {
     finish_first(net, alloc)?;
     finish_first(net, alloc)?;
     page.line("nothing is left, once both are done", &net.is_empty());
-    page.line(
-        "b and y come next in a copy",
-        &are_next(copy, alloc, &[tasks.b, tasks.y])?,
-    );
+    page.told("b and y come next in a copy", &are_next(copy, alloc, tasks));
     Ok(())
 }
 
@@ -131,51 +111,51 @@ fn show_immediate(
     page: &mut Page,
     alloc: Global,
     net: &mut Net,
-    tasks: &Tasks,
+    x: Cell,
+    y: Cell,
 ) -> Result<(), AllocError> {
-    page.line(
-        "the immediate y comes next",
-        &are_next(net, alloc, &[tasks.y])?,
-    );
+    page.title("Immediate tasks come before others");
+    page.told("the immediate y comes next", &are_next(net, alloc, &[y]));
     expand_first(net, alloc, &TaskTree::Ordered(Vec::new(alloc)))?;
-    page.line(
+    page.told(
         "x comes next, once y is nothing",
-        &are_next(net, alloc, &[tasks.x])?,
+        &are_next(net, alloc, &[x]),
     );
     Ok(())
 }
 
+fn four_tasks(cells: &mut Cells) -> Result<[Cell; 4], AllocError> {
+    let x = cells.num(1)?;
+    let y = cells.num(2)?;
+    let a = cells.num(3)?;
+    let b = cells.num(4)?;
+    Ok([x, y, a, b])
+}
+
+// Of a network with two tasks a copy is made.
 fn show_copied(
     page: &mut Page,
     alloc: Global,
     net: &mut Net,
-    tasks: &Tasks,
+    tasks: &[Cell],
 ) -> Result<(), AllocError> {
     let copy = net.copy()?;
     show_copy(page, alloc, net, &copy, tasks)
 }
 
-fn show_newest_first(page: &mut Page, alloc: Global, tasks: &Tasks) -> Result<(), AllocError> {
-    page.title("The newest subtasks come first");
-    let mut net = unordered(alloc, tasks.x, tasks.y, false)?;
-    show_newest(page, alloc, &mut net, tasks)?;
-    show_copied(page, alloc, &mut net, tasks)
-}
-
-fn show_immediate_first(page: &mut Page, alloc: Global, tasks: &Tasks) -> Result<(), AllocError> {
-    page.title("Immediate tasks come before others");
-    let mut net = unordered(alloc, tasks.x, tasks.y, true)?;
-    show_immediate(page, alloc, &mut net, tasks)
-}
-
-fn tasks_of_cells(alloc: Global) -> Result<Tasks, AllocError> {
-    let mut cells = Cells::new(alloc)?;
-    four_tasks(&mut cells)
+fn show_newest_first(
+    page: &mut Page,
+    alloc: Global,
+    [x, y, a, b]: [Cell; 4],
+) -> Result<(), AllocError> {
+    let mut net = unordered(alloc, x, y, false)?;
+    show_newest(page, alloc, &mut net, [x, y, a, b])?;
+    show_copied(page, alloc, &mut net, &[b, y])
 }
 
 /// Networks and their candidates.
-pub fn show_networks(page: &mut Page, alloc: Global) -> Result<(), AllocError> {
-    let tasks = tasks_of_cells(alloc)?;
-    show_newest_first(page, alloc, &tasks)?;
-    show_immediate_first(page, alloc, &tasks)
+pub fn show_networks(page: &mut Page, alloc: Global, cells: &mut Cells) -> Result<(), AllocError> {
+    let [x, y, a, b] = four_tasks(cells)?;
+    show_newest_first(page, alloc, [x, y, a, b])?;
+    show_immediate(page, alloc, &mut unordered(alloc, x, y, true)?, x, y)
 }

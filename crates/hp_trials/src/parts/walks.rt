@@ -14,7 +14,7 @@ use hp_world::World;
 use std::alloc::{AllocError, Global};
 
 /// The node that is reached.
-#[derive(Clone, Copy, PartialEq, Eq)]
+#[derive(Clone, Copy)]
 pub enum At {
     Root,
     First,
@@ -22,7 +22,7 @@ pub enum At {
 }
 
 /// How many visits are left.
-#[derive(Clone, Copy, PartialEq, Eq)]
+#[derive(Clone, Copy)]
 pub enum Left {
     Four,
     Three,

@@ -4,6 +4,7 @@ ghost use Rattle.std.specs.Prelude.{◌≡◌, false};
 ghost use Rattle.hp_io.specs.declared.folder.Input.{Input};
 ghost use Rattle.hp_io.specs.Files.{is_begun};
 
+use crate::repeats::with_repeats;
 use crate::runs::trial::{ROOM, tell, try_words, words_of};
 use hp_io::MemFolder;
 use std::alloc::{AllocError, Global};
@@ -17,16 +18,21 @@ struct Given {
     text: String,
 }
 
-/// Tries the file of cases line by line, and then sinks without room for the whole text.
+/// Tries the file of cases, and then sinks without room for the whole text.
 pub fn try_all(rt: &(impl Files + AllocGlobal), out: &mut Vec<u8>) -> io::Result<()> {
     let text = fs::read_to_string(rt, "cases.txt")?;
+    try_lines(rt, out, text.as_str())?;
+    try_full_sinks(rt, out)
+}
+
+fn try_lines(rt: &(impl Files + AllocGlobal), out: &mut Vec<u8>, text: &str) -> io::Result<()> {
     let mut given = Vec::new(rt.alloc());
-    for line in text.as_str().lines() {
+    for line in text.lines() {
         if !line.is_empty() && !line.starts_with('#') {
             try_line(rt, out, &mut given, line)?;
         }
     }
-    try_full_sinks(rt, out)
+    Ok(())
 }
 
 /// Runs a line that is a command, and keeps the text that another line gives.
@@ -48,9 +54,8 @@ fn try_line(
 
 /// Keeps a text, without the space before it.
 fn give(alloc: Global, given: &mut Vec<Given>, name: &str, text: &str) -> Result<(), AllocError> {
-    let text = text.strip_prefix(' ').unwrap_or(text);
+    let text = with_repeats(alloc, text.strip_prefix(' ').unwrap_or(text))?;
     let name = String::from_str(alloc, name)?;
-    let text = String::from_str(alloc, text)?;
     given.push(Given { name, text })?;
     Ok(())
 }
@@ -65,13 +70,26 @@ fn try_command(
 ) -> io::Result<()> {
     let words = words_of(rt.alloc(), line)?;
     let mut folder = MemFolder::new(rt.alloc());
-    if let Some(domain) = words.get(1) {
-        put_word(rt, given, &mut folder, domain.as_str())?;
-        if let Some(problem) = words.get(2) {
-            put_word(rt, given, &mut folder, problem.as_str())?;
-        }
-    }
+    put_words(rt, given, &mut folder, words.as_slice())?;
     Ok(try_words(rt.alloc(), out, &mut folder, words.as_slice(), room)?)
+}
+
+fn put_words(
+    rt: &(impl Files + AllocGlobal),
+    given: &[Given],
+    folder: &mut MemFolder,
+    words: &[String],
+) -> io::Result<()>
+    requires { (w : Input) → is_begun folder.old w ≡ false }
+    ensures { (w : Input) → is_begun folder.new w ≡ false }
+{
+    if let Some(domain) = words.get(1) {
+        put_word(rt, given, folder, domain.as_str())?;
+    }
+    match words.get(2) {
+        Some(problem) => put_word(rt, given, folder, problem.as_str()),
+        None => Ok(()),
+    }
 }
 
 /// Puts into a folder, from which nothing is read yet, what was given last by that name, or the file of that name. What

@@ -1,6 +1,6 @@
 //! Canonical text reads back: what a text is read as, written and read again.
 
-use crate::long_texts::repeated;
+use crate::repeats::with_repeats;
 use crate::runs::trial::tell;
 use hp_print::{domain_text, problem_text};
 use hp_top::rereading::{RereadError, reread_domain, reread_problem};
@@ -49,7 +49,8 @@ pub fn try_all(alloc: Global, out: &mut Vec<u8>) -> Result<(), AllocError> {
     ] {
         tell_reread(out, problem_is_kept(alloc, text.as_bytes()))?;
     }
-    let deep = deep_domain(alloc)?;
+    // Its brackets nest too deep once each `imply` is written as an `or` of a `not`.
+    let deep = with_repeats(alloc, "(defdomain d ((:- (p) {40 (imply }(q){40  (q))})))")?;
     tell_reread(out, domain_is_kept(alloc, deep.as_bytes()))
 }
 
@@ -78,11 +79,4 @@ fn problem_is_kept(alloc: Global, text: &[u8]) -> Result<bool, RereadError> {
     let first = problem_text(alloc, &read.first)?;
     let second = problem_text(alloc, &read.second)?;
     Ok(first.as_slice() == second.as_slice())
-}
-
-/// Its brackets nest too deep once each `imply` is written as an `or` of a `not`.
-fn deep_domain(alloc: Global) -> Result<String, AllocError> {
-    let open = repeated(alloc, "(imply ", 40)?;
-    let close = repeated(alloc, " (q))", 40)?;
-    format!(in alloc; "(defdomain d ((:- (p) {open}(q){close})))")
 }

@@ -57,17 +57,3 @@ pub fn folder_of(alloc: Global, domain: &[u8], problem: &[u8]) -> Result<MemFold
     folder.put("p", problem)?;
     Ok(folder)
 }
-
-/// Runs a line over two files, `d` and `p`, and tells what was written and the status.
-pub fn try_texts(
-    alloc: Global,
-    out: &mut Vec<u8>,
-    domain: &[u8],
-    problem: &[u8],
-    line: &str,
-) -> Result<(), AllocError> {
-    tell(out, line)?;
-    let words = words_of(alloc, line)?;
-    let mut folder = folder_of(alloc, domain, problem)?;
-    try_words(alloc, out, &mut folder, words.as_slice(), ROOM)
-}

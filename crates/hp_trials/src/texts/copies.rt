@@ -1,123 +1,83 @@
 //! Copies of parts of domains.
 
 use crate::page::Page;
-use hp_syntax::{AtomPat, Name, NetPat, Pat, PatKind, SortKey, SortOrder, Span, Tail, TaskPat};
-use std::alloc::{AllocError, Global};
+use crate::texts::reading::domain_of;
+use hp_print::{atom_pat_text, pat_text, tasks_text};
+use hp_syntax::{
+    AtomPat, Branch, Method, Name, NetPat, Pat, PatKind, Pre, Rule, SortKey, SortOrder,
+};
+use std::alloc::Global;
 
-const OUTER: Span = Span { from: 3, to: 19 };
+/// A method whose head has a call and a tail, whose key has an order that there isn't, and whose tasks are one
+/// immediate task below an order, and below none.
+const SAMPLE: &str = "(defdomain d ((:method (go (call plus ?0) . ?1)
+  (:sort-by ?1 up (p ?1)) (:unordered (:ordered (:immediate go (call plus ?0) . ?1))))))";
 
-const INNER: Span = Span { from: 8, to: 12 };
-
-fn call(alloc: Global) -> Result<Pat, AllocError> {
-    let var = Pat {
-        span: INNER,
-        kind: PatKind::Var(4),
+/// The text of a copy, its place and those of its arguments.
+fn show_call(page: &mut Page, alloc: Global, pattern: &Pat, vars: &[Name]) {
+    let Ok(copy) = pattern.copy(alloc) else {
+        return page.title("no memory");
     };
-    Ok(Pat {
-        span: OUTER,
-        kind: PatKind::Call(Name::new(alloc, b"plus")?, vec![in alloc; var]?),
-    })
-}
-
-fn is_var(pattern: &Pat) -> bool {
-    pattern.span == INNER && matches!(pattern.kind, PatKind::Var(4))
-}
-
-fn is_call(pattern: &Pat) -> bool {
-    match &pattern.kind {
-        PatKind::Call(name, args) => {
-            let is_arg = matches!(args.as_slice(), [arg] if is_var(arg));
-            pattern.span == OUTER && name.bytes() == b"plus".as_slice() && is_arg
+    page.text(pat_text(alloc, &copy, vars));
+    page.line("a call", &copy.span);
+    if let PatKind::Call(_, args) = &copy.kind {
+        for arg in args {
+            page.line("an argument", &arg.span);
         }
-        _ => false,
     }
 }
 
-fn atom(alloc: Global) -> Result<AtomPat, AllocError> {
-    Ok(AtomPat {
-        span: OUTER,
-        name: Name::new(alloc, b"go")?,
-        args: vec![in alloc; call(alloc)?]?,
-        tail: Some(Tail {
-            span: INNER,
-            var: 7,
-        }),
-    })
+/// The text of a copy, its place and that of its tail.
+fn show_atom(page: &mut Page, alloc: Global, atom: &AtomPat, vars: &[Name]) {
+    let Ok(copy) = atom.copy(alloc) else {
+        return page.title("no memory");
+    };
+    page.text(atom_pat_text(alloc, &copy, vars));
+    page.line("an atom", &copy.span);
+    page.line("its tail", &copy.tail);
 }
 
-fn is_atom(atom: &AtomPat) -> bool {
-    let is_arg = matches!(atom.args.as_slice(), [arg] if is_call(arg));
-    let is_tail = matches!(&atom.tail, Some(tail) if tail.span == INNER && tail.var == 7);
-    atom.span == OUTER && atom.name.bytes() == b"go".as_slice() && is_arg && is_tail
-}
-
-fn key(alloc: Global) -> Result<SortKey, AllocError> {
-    Ok(SortKey {
-        span: INNER,
-        var: 4,
-        order: SortOrder::Unknown(Name::new(alloc, b"up")?, OUTER),
-    })
-}
-
-fn is_key(key: &SortKey) -> bool {
-    let is_up =
-        matches!(&key.order, SortOrder::Unknown(name, span) if name.bytes() == b"up".as_slice() && *span == OUTER);
-    key.span == INNER && key.var == 4 && is_up
-}
-
-/// An immediate task below an order, and below none.
-fn tasks(alloc: Global) -> Result<NetPat, AllocError> {
-    let task = NetPat::Task(TaskPat {
-        atom: atom(alloc)?,
-        immediate: true,
-    });
-    let inner = NetPat::Ordered(vec![in alloc; task]?);
-    Ok(NetPat::Unordered(vec![in alloc; inner]?))
-}
-
-fn is_immediate(tasks: &NetPat) -> bool {
-    matches!(tasks, NetPat::Task(task) if task.immediate && is_atom(&task.atom))
-}
-
-fn is_ordered(tasks: &NetPat) -> bool {
-    match tasks {
-        NetPat::Ordered(parts) => matches!(parts.as_slice(), [part] if is_immediate(part)),
-        _ => false,
+/// The number of a copy's variable, its place, and its order with the place of that.
+fn show_key(page: &mut Page, alloc: Global, key: &SortKey) {
+    let Ok(copy) = key.copy(alloc) else {
+        return page.title("no memory");
+    };
+    page.line("a key", &(copy.var, copy.span));
+    if let SortOrder::Unknown(name, span) = &copy.order {
+        page.row(name.bytes(), span);
     }
 }
 
-fn is_unordered(tasks: &NetPat) -> bool {
-    match tasks {
-        NetPat::Unordered(parts) => matches!(parts.as_slice(), [part] if is_ordered(part)),
-        _ => false,
+fn show_tasks(page: &mut Page, alloc: Global, tasks: &NetPat, vars: &[Name]) {
+    if let Ok(copy) = tasks.copy(alloc) {
+        page.text(tasks_text(alloc, &copy, vars));
     }
 }
 
-fn is_call_copied(alloc: Global) -> Result<bool, AllocError> {
-    let call = call(alloc)?;
-    Ok(is_call(&call.copy(alloc)?))
+fn show_branch(page: &mut Page, alloc: Global, branch: &Branch, vars: &[Name]) {
+    if let Pre::Sorted(key, _) = &branch.pre {
+        show_key(page, alloc, key);
+    }
+    show_tasks(page, alloc, &branch.tasks, vars);
 }
 
-fn is_atom_copied(alloc: Global) -> Result<bool, AllocError> {
-    let atom = atom(alloc)?;
-    Ok(is_atom(&atom.copy(alloc)?))
+fn show_method(page: &mut Page, alloc: Global, method: &Method) {
+    let vars = method.vars.as_slice();
+    if let [call] = method.head.args.as_slice() {
+        show_call(page, alloc, call, vars);
+    }
+    show_atom(page, alloc, &method.head, vars);
+    if let [branch] = method.branches.as_slice() {
+        show_branch(page, alloc, branch, vars);
+    }
 }
 
-fn is_key_copied(alloc: Global) -> Result<bool, AllocError> {
-    let key = key(alloc)?;
-    Ok(is_key(&key.copy(alloc)?))
-}
-
-fn are_tasks_copied(alloc: Global) -> Result<bool, AllocError> {
-    let tasks = tasks(alloc)?;
-    Ok(is_unordered(&tasks.copy(alloc)?))
-}
-
-/// Copies of terms, of a key and of tasks.
+/// Copies of a call, an atom, a key and tasks.
 pub fn show_copies(page: &mut Page, alloc: Global) {
-    page.title("Copies show the same");
-    page.line("a call", &is_call_copied(alloc));
-    page.line("an atom", &is_atom_copied(alloc));
-    page.line("a key", &is_key_copied(alloc));
-    page.line("tasks", &are_tasks_copied(alloc));
+    page.title("Copies show the same: each with its place in the text that it was read from");
+    if let Some(domain) = domain_of(alloc, SAMPLE)
+        && let [Rule::Method(method)] = domain.rules.as_slice()
+    {
+        show_method(page, alloc, method);
+    }
 }

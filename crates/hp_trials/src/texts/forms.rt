@@ -1,7 +1,7 @@
 //! How wide domains and problems may be, and what is left out. What the grammar refuses is shown by whole runs.
 
-use crate::long_texts::between;
 use crate::page::Page;
+use crate::repeats::with_repeats;
 use crate::texts::reading::{domain_of, is_domain, is_problem};
 use hp_syntax::{Domain, PatKind, Rule};
 use std::alloc::{AllocError, Global};
@@ -9,16 +9,15 @@ use std::alloc::{AllocError, Global};
 /// Lists may be as wide as a text is long: only nesting takes room on the stack.
 fn show_wide_domains(page: &mut Page, alloc: Global) -> Result<(), AllocError> {
     page.title("Wide lists of a domain are read and dropped");
-    for (front, part, count, end) in [
-        ("(defdomain d ((:- (p) (", "(q)", 300_000, "))))"),
-        ("(defdomain d ((:method (p)", " () ()", 60_000, ")))"),
-        ("(defdomain d ((:- (p", " ?x", 300_000, ") ())))"),
-        ("(defdomain d ((:- (p (a", " b", 300_000, ")) ())))"),
-        ("(defdomain d ((:- (p) (call +", " 1", 200_000, "))))"),
-        ("(defdomain d (", "(:- (p) ())", 60_000, "))"),
+    for text in [
+        "(defdomain d ((:- (p) ({300000 (q)}))))",
+        "(defdomain d ((:method (p){60000  () ()})))",
+        "(defdomain d ((:- (p{300000  ?x}) ())))",
+        "(defdomain d ((:- (p (a{300000  b})) ())))",
+        "(defdomain d ((:- (p) (call +{200000  1}))))",
+        "(defdomain d ({60000 (:- (p) ())}))",
     ] {
-        let text = between(alloc, front, (part, count), end)?;
-        page.line(front, &is_domain(alloc, text.as_str()));
+        page.line(text, &is_domain(alloc, with_repeats(alloc, text)?.as_str()));
     }
     Ok(())
 }
@@ -26,14 +25,16 @@ fn show_wide_domains(page: &mut Page, alloc: Global) -> Result<(), AllocError> {
 /// So may those of a problem.
 fn show_wide_problems(page: &mut Page, alloc: Global) -> Result<(), AllocError> {
     page.title("Wide lists of a problem are read and dropped");
-    for (front, part, count, end) in [
-        ("(defproblem p d (", "(q)", 60_000, ") ())"),
-        ("(defproblem p d () (", "(q)", 60_000, "))"),
-        ("(defproblem p d () (:unordered", " (q)", 60_000, "))"),
-        ("(defproblem p d () (:ordered (nil", " (q)", 60_000, ")))"),
+    for text in [
+        "(defproblem p d ({60000 (q)}) ())",
+        "(defproblem p d () ({60000 (q)}))",
+        "(defproblem p d () (:unordered{60000  (q)}))",
+        "(defproblem p d () (:ordered (nil{60000  (q)})))",
     ] {
-        let text = between(alloc, front, (part, count), end)?;
-        page.line(front, &is_problem(alloc, text.as_str()));
+        page.line(
+            text,
+            &is_problem(alloc, with_repeats(alloc, text)?.as_str()),
+        );
     }
     Ok(())
 }

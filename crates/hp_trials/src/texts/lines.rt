@@ -21,12 +21,14 @@ const ZERO_DIVISOR: RunFault = RunFault {
 };
 
 /// What a sink takes of the line of a refusal, and whether it takes all.
-fn show_refusal(page: &mut Page, sink: &mut MemSink, refusal: &Refusal) {
-    let is_taken = Pen::new(sink).refusal_line(refusal).is_ok();
-    page.row(sink.bytes(), &is_taken);
+fn show_refusal(page: &mut Page, sink: Result<MemSink, AllocError>, refusal: &Refusal) {
+    if let Ok(mut sink) = sink {
+        let is_taken = Pen::new(&mut sink).refusal_line(refusal).is_ok();
+        page.row(sink.bytes(), &is_taken);
+    }
 }
 
-fn show_refusals(page: &mut Page, alloc: Global) -> Result<(), AllocError> {
+fn show_refusals(page: &mut Page, alloc: Global) {
     page.title("Refusals have a line each");
     for refusal in [
         Refusal::Usage,
@@ -38,16 +40,17 @@ fn show_refusals(page: &mut Page, alloc: Global) -> Result<(), AllocError> {
         Refusal::Several(SPAN),
         Refusal::Check(UNKNOWN_ORDER),
     ] {
-        show_refusal(page, &mut MemSink::new(alloc, 100)?, &refusal);
+        show_refusal(page, MemSink::new(alloc, 100), &refusal);
     }
-    Ok(())
 }
 
 /// What a sink takes of an empty text and the line of a note, and whether it takes all.
-fn show_note(page: &mut Page, sink: &mut MemSink, note: &Note) {
-    let mut pen = Pen::new(sink);
-    let is_taken = pen.text(b"").is_ok() && pen.note_line(note).is_ok();
-    page.row(sink.bytes(), &is_taken);
+fn show_note(page: &mut Page, sink: Result<MemSink, AllocError>, note: &Note) {
+    if let Ok(mut sink) = sink {
+        let mut pen = Pen::new(&mut sink);
+        let is_taken = pen.text(b"").is_ok() && pen.note_line(note).is_ok();
+        page.row(sink.bytes(), &is_taken);
+    }
 }
 
 fn note_of(alloc: Global, in_problem: bool) -> Result<Note, AllocError> {
@@ -62,7 +65,7 @@ fn show_notes(page: &mut Page, alloc: Global) -> Result<(), AllocError> {
     page.title("Notes have a line each");
     for in_problem in [false, true] {
         let note = note_of(alloc, in_problem)?;
-        show_note(page, &mut MemSink::new(alloc, 100)?, &note);
+        show_note(page, MemSink::new(alloc, 100), &note);
     }
     Ok(())
 }
@@ -74,24 +77,26 @@ fn slow_sink(alloc: Global, room: usize) -> Result<MemSink, AllocError> {
     Ok(sink)
 }
 
-fn show_prefixes_of_a_refusal(page: &mut Page, alloc: Global) -> Result<(), AllocError> {
+fn show_prefixes_of_a_refusal(page: &mut Page, alloc: Global) {
     page.title("A line that fails leaves a prefix");
     for room in 0..37 {
-        show_refusal(
-            page,
-            &mut slow_sink(alloc, room)?,
-            &Refusal::Check(UNKNOWN_ORDER),
-        );
+        show_refusal(page, slow_sink(alloc, room), &Refusal::Check(UNKNOWN_ORDER));
     }
-    Ok(())
 }
 
 /// What a sink takes of the line of an ending, and whether it takes all.
-fn show_ending(page: &mut Page, sink: &mut MemSink, ending: &Ending, plans: u64, expansions: u64) {
-    let is_taken = Pen::new(sink)
-        .ending_line(ending, plans, expansions)
-        .is_ok();
-    page.row(sink.bytes(), &is_taken);
+fn show_ending(
+    page: &mut Page,
+    sink: Result<MemSink, AllocError>,
+    ending: &Ending,
+    plans: u64,
+    expansions: u64,
+) {
+    if let Ok(mut sink) = sink {
+        let mut pen = Pen::new(&mut sink);
+        let is_taken = pen.ending_line(ending, plans, expansions).is_ok();
+        page.row(sink.bytes(), &is_taken);
+    }
 }
 
 /// A sink whose second write fails.
@@ -101,7 +106,7 @@ fn sink_for_one_write(alloc: Global) -> Result<MemSink, AllocError> {
     Ok(sink)
 }
 
-fn show_endings(page: &mut Page, alloc: Global) -> Result<(), AllocError> {
+fn show_endings(page: &mut Page, alloc: Global) {
     page.title("Endings have a line each, in one piece or in many");
     for ending in [
         Ending::Stopped,
@@ -109,31 +114,30 @@ fn show_endings(page: &mut Page, alloc: Global) -> Result<(), AllocError> {
         Ending::Cut,
         Ending::Fault(ZERO_DIVISOR),
     ] {
-        show_ending(page, &mut sink_for_one_write(alloc)?, &ending, 2, 12);
-        show_ending(page, &mut slow_sink(alloc, 100)?, &ending, 2, 12);
+        show_ending(page, sink_for_one_write(alloc), &ending, 2, 12);
+        show_ending(page, slow_sink(alloc, 100), &ending, 2, 12);
     }
-    Ok(())
 }
 
-fn show_prefixes_of_an_ending(page: &mut Page, alloc: Global) -> Result<(), AllocError> {
+fn show_prefixes_of_an_ending(page: &mut Page, alloc: Global) {
     page.title("An ending that fails leaves a prefix");
     for room in 0..67 {
         show_ending(
             page,
-            &mut slow_sink(alloc, room)?,
+            slow_sink(alloc, room),
             &Ending::Fault(ZERO_DIVISOR),
             0,
             u64::MAX,
         );
     }
-    Ok(())
 }
 
 /// Refusals, notes and endings.
 pub fn show_lines(page: &mut Page, alloc: Global) -> Result<(), AllocError> {
-    show_refusals(page, alloc)?;
+    show_refusals(page, alloc);
     show_notes(page, alloc)?;
-    show_prefixes_of_a_refusal(page, alloc)?;
-    show_endings(page, alloc)?;
-    show_prefixes_of_an_ending(page, alloc)
+    show_prefixes_of_a_refusal(page, alloc);
+    show_endings(page, alloc);
+    show_prefixes_of_an_ending(page, alloc);
+    Ok(())
 }

@@ -24,7 +24,6 @@ fn show_made(page: &mut Page, made: &Made) {
 /// A problem of two packages, and its domain.
 pub fn show_makings(page: &mut Page, alloc: Global) -> Result<(), AllocError> {
     page.title("Both texts are made");
-    let made = make(alloc, 1, 2)?;
-    show_made(page, &made);
+    show_made(page, &make(alloc, 1, 2)?);
     Ok(())
 }

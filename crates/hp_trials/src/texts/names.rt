@@ -12,13 +12,18 @@ fn is_found(alloc: Global, name: Name, copy: &Name) -> Result<bool, AllocError> 
     Ok(names.contains(copy))
 }
 
+fn show_copy(page: &mut Page, copy: &Name, name: &Name, other: &Name) {
+    page.row(copy.bytes(), &(*copy == *name));
+    page.row(copy.bytes(), &(*copy != *other));
+}
+
 /// A name and its copy.
 pub fn show_names(page: &mut Page, alloc: Global) -> Result<(), AllocError> {
     page.title("A copy of a name is equal to it, not to another, and found in a set");
     let name = Name::new(alloc, b"kiwi")?;
     let copy = name.copy(alloc)?;
-    page.row(copy.bytes(), &(copy == name));
-    page.row(copy.bytes(), &(copy != Name::new(alloc, b"banjo")?));
+    let other = Name::new(alloc, b"banjo")?;
+    show_copy(page, &copy, &name, &other);
     page.row(copy.bytes(), &is_found(alloc, name, &copy));
     Ok(())
 }

@@ -16,12 +16,16 @@ fn nested(alloc: Global) -> Result<Ground, AllocError> {
     Ok(Ground::List(vec![in alloc; empty, Ground::Num(-7)]?))
 }
 
-fn show_grounds(page: &mut Page, alloc: Global) -> Result<(), AllocError> {
+fn text_of(alloc: Global, ground: Result<Ground, AllocError>) -> Result<Vec<u8>, AllocError> {
+    let ground = ground?;
+    ground_text(alloc, &ground)
+}
+
+fn show_grounds(page: &mut Page, alloc: Global) {
     page.title("Ground terms are written, and so many bytes");
-    page.text(ground_text(alloc, &pair(alloc)?));
-    page.text(ground_text(alloc, &nested(alloc)?));
-    page.text(ground_text(alloc, &Ground::Num(i64::MIN)));
-    Ok(())
+    page.text(text_of(alloc, pair(alloc)));
+    page.text(text_of(alloc, nested(alloc)));
+    page.text(text_of(alloc, Ok(Ground::Num(i64::MIN))));
 }
 
 /// Axioms whose heads have each kind of term, and a tail.
@@ -107,7 +111,7 @@ fn show_pairs(page: &mut Page, alloc: Global, problem: &mut Problem) -> Result<(
 
 /// Ground terms, terms, atoms, tasks, a domain and a problem.
 pub fn show_prints(page: &mut Page, alloc: Global) -> Result<(), AllocError> {
-    show_grounds(page, alloc)?;
+    show_grounds(page, alloc);
     show_domains(page, alloc);
     show_task_lists(page, alloc);
     if let Some(mut problem) = problem_of(alloc, ONE_PAIR) {
