@@ -1,6 +1,7 @@
 //! Calls that read, form, check, make and write texts.
 
 mod checks;
+mod codes;
 mod copies;
 pub mod folders;
 mod forests;
@@ -18,6 +19,7 @@ fn show_read(page: &mut Page, alloc: Global) -> Result<(), AllocError> {
     forests::show_forests(page, alloc)?;
     forms::show_forms(page, alloc)?;
     checks::show_checks(page, alloc);
+    codes::show_asked(page, alloc);
     copies::show_copies(page, alloc);
     names::show_names(page, alloc)
 }

@@ -1,7 +1,7 @@
 use Rattle.std.proofs.Common.{subst, sym, arith}
 use Rattle.hp_world.specs.Recorded.{Recorded, Knows}
-use Rattle.hp_look_up_trials.proofs.rounds.differing.Goals as goal
-use Rattle.hp_look_up_trials.proofs.rounds.differing.Goals.{then-round-eq3, else-round-eq3+in_ok-change, then-not-agrees, else-not-agrees}
+use Rattle.hp_trials.proofs.look_ups.rounds.differing.Goals as goal
+use Rattle.hp_trials.proofs.look_ups.rounds.differing.Goals.{then-round-eq3, else-round-eq3+in_ok-change, then-not-agrees, else-not-agrees}
 
 pub agrees-requires : goal.agrees-requires
 agrees-requires c = elim c.if-round-eq3.branch [

@@ -1,0 +1,36 @@
+//! A domain that is compiled, and what its goals ask for.
+
+use crate::page::Page;
+use hp_check::check_domain;
+use hp_code::{asked_parts, lower};
+use hp_forms::domain;
+use hp_text::read;
+use std::alloc::Global;
+
+/// The goal knows its name, its second argument and its third one.
+const ROADS: &str = "(defdomain roads ((:- (near ?x) ((road ?y b ?x ?z)))))";
+
+/// The parts of atoms that the goals of a domain ask for, if the text is one in which the checks find nothing.
+fn parts_of(alloc: Global, text: &str) -> Option<Vec<usize>> {
+    let Ok(forest) = read(alloc, text.as_bytes()) else {
+        return None;
+    };
+    let Ok(domain) = domain(alloc, &forest) else {
+        return None;
+    };
+    if check_domain(&domain).is_some() {
+        return None;
+    }
+    let code = lower(alloc, &domain).ok()?;
+    asked_parts(alloc, &code).ok()
+}
+
+/// The parts that goals ask for, one a line.
+pub fn show_asked(page: &mut Page, alloc: Global) {
+    page.title("Parts of atoms that the goals of a domain ask for");
+    if let Some(parts) = parts_of(alloc, ROADS) {
+        for part in parts.as_slice() {
+            page.line(ROADS, part);
+        }
+    }
+}
