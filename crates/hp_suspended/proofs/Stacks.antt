@@ -1,0 +1,28 @@
+-- A stack of suspended parts, one more and one less.
+use Rattle.std.proofs.Common.{◌≡◌, ℕ, List, [], ◌∷◌, ◌++◌, map, Option, Some, refl, ap, ◌∙◌}
+use Rattle.std.specs.Option.{option_to_list}
+use Rattle.hp_suspended.specs.declared.suspended.Part.{Part}
+use Rattle.hp_suspended.specs.declared.suspended.Suspended.{Suspended}
+use Rattle.hp_suspended.specs.declared.suspended.Suspended.TheViews.{roll-Part}
+use Rattle.hp_suspended.specs.Views.{Views, Bare, Above, onto, storey, view, views}
+use Rattle.hp_suspended.proofs.Shapes.{storey_is}
+
+onto_last : (vs : Views) (ps : List Part) (p : Part)
+    → onto vs (map storey (ps ++ p ∷ [])) ≡ Above (onto vs (map storey ps)) (storey p).next (storey p).top
+onto_last vs [] p = refl
+onto_last vs (q ∷ ps) p = onto_last (Above vs (storey q).next (storey q).top) ps p
+
+-- a part behind others stands upon them
+pub views_last : (ps : List Part) (p : Part) → views (ps ++ p ∷ []) ≡ Above (views ps) p.next (view p.part)
+views_last ps p = onto_last Bare ps p ∙ ap (λ s. Above (views ps) s.next s.top) (storey_is p)
+
+-- a part that is put upon others
+pub views_pushed : (ps qs : List Part) (k : ℕ) (s t : Suspended)
+    → qs ≡ ps ++ roll-Part (record { next = k; part = s }) ∷ [] → s ≡ t → views qs ≡ Above (views ps) k (view t)
+views_pushed ps qs k s t e q =
+    ap views e ∙ views_last ps (roll-Part (record { next = k; part = s })) ∙ ap (λ x. Above (views ps) k (view x)) q
+
+-- a part that is taken off others
+pub views_popped : (ps qs : List Part) (o : Option Part) (p : Part) → ps ≡ qs ++ option_to_list o → o ≡ Some p
+    → views ps ≡ Above (views qs) p.next (view p.part)
+views_popped ps qs o p e q = ap views (e ∙ ap (λ x. qs ++ option_to_list x) q) ∙ views_last qs p

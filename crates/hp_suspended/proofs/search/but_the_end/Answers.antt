@@ -1,0 +1,1 @@
+use Rattle.hp_suspended.proofs.OneSteps.{one_was}

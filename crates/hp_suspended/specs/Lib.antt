@@ -1,0 +1,11 @@
+pub mod Nodes
+pub mod Settings
+pub mod Views
+pub mod Left
+pub mod Fitting
+pub mod Answering
+pub mod SceneViews
+pub mod Turning
+pub mod Branching
+pub mod Beginning
+pub mod PlaceSteps

@@ -1,0 +1,12 @@
+//! Satisfiers of a code's expressions that are suspended after an event and go on.
+#![tactic(auto)]
+
+mod begins;
+mod known;
+mod places;
+mod scene;
+mod search;
+mod suspended;
+
+pub use scene::Scene;
+pub use suspended::Suspended;
