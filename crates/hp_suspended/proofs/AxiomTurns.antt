@@ -1,7 +1,7 @@
 -- Turns of an axiom that is looked at: the conclusions of its branches' events.
 use Rattle.std.proofs.Common.{◌≡◌, ℕ, ◌-◌, ◌≤◌, List, ◌∷◌, ◌++◌, length, Option, Some, None, Result, Ok, Err, arith, refl, sym, ap, ap₂, ◌∙◌}
 use Rattle.std.specs.Prelude.{IfOk, IfSome}
-use Rattle.hp_syntax.specs.Events.{Event, Sat, Cut, Fault, through}
+use Rattle.hp_syntax.specs.Events.{Event, Cut, through}
 use Rattle.hp_syntax.specs.Terms.{Term}
 use Rattle.hp_syntax.specs.Values.{Bindings}
 use Rattle.hp_code.specs.CodeViews.{CodeView}

@@ -1,7 +1,7 @@
 -- What leaves meet over terms that are added behind a call, and the head of an axiom's node.
 use Rattle.std.proofs.Common.{◌≡◌, inl, inr, suc, ℕ, ◌<◌, Bool, true, false, List, [], ◌∷◌, length, slice_get, Option, Some, None, is_some, Result, Ok, Err, option_and_then, arith, refl, sym, ◌∙◌, ap, ap₂, subst}
 use Rattle.std.proofs.lemmas.List.{drop_all}
-use Rattle.std.proofs.lemmas.Option.{slice_get_cases}
+use Rattle.std.proofs.lemmas.Option.{slice_get_cases, slice_get_within}
 use Rattle.hp_syntax.specs.declared.fault.RunFault.{RunFault}
 use Rattle.hp_syntax.specs.declared.pattern.AtomPat.{AtomPat}
 use Rattle.hp_syntax.specs.declared.pattern.Span.{Span}
@@ -15,7 +15,7 @@ use Rattle.hp_cells.specs.declared.keys.View.TheVariants.{Nil, Sym, Num, Cons}
 use Rattle.hp_cells.specs.Shows.{Shows}
 use Rattle.hp_code.specs.CodeViews.{CodeView}
 use Rattle.hp_nodes.specs.NodeViews.{operation_of}
-use Rattle.hp_nodes.specs.Trees.{AxiomOf, Laid, Node, Trees, first_tree, trees, trees_between}
+use Rattle.hp_nodes.specs.Trees.{AxiomOf, Holds, Laid, Node, Trees, first_tree, trees, trees_between}
 use Rattle.hp_nodes.specs.declared.node.Op.{Op}
 use Rattle.hp_nodes.specs.declared.node.Op.TheVariants as ops
 use Rattle.hp_code.proofs.NodeLemmas.{node_there}
@@ -28,8 +28,8 @@ use Rattle.hp_eval.specs.GoalViews.{GoalBelow, goal_of, term_at, term_or_nil}
 use Rattle.hp_eval.specs.Growth.{Gives, Grows}
 use Rattle.hp_eval.specs.Slotted.{Slotted, AreBelow, bindings_of}
 use Rattle.hp_eval.proofs.GrowthLemmas.{bindings_stay, grows_on, kept_agree}
-use Rattle.hp_suspended.specs.Fitting.{IsAxiomAt}
-use Rattle.hp_suspended.specs.Nodes.{head_at, head_read}
+use Rattle.hp_suspended.specs.Fitting.{IsAtomAt, IsAxiomAt}
+use Rattle.hp_suspended.specs.Nodes.{atom_at, atom_done, head_at, head_read}
 use Rattle.hp_suspended.specs.Settings.{head_concludes}
 use Rattle.hp_suspended.proofs.CountLemmas.{goal_agrees}
 
@@ -68,6 +68,36 @@ module _ (c : CodeView) (i : ℕ) (l : Laid) (there : slice_get c.nodes i ≡ So
           → is_some (head_read (Node (operation_of op) s ts)) ≡ true → ⊥
       by (ops.Axiom x) other s ts e = other x refl
       by _ other s ts e = cc
+
+-- ---- the atom of a node
+
+-- a node of an atom is one of the nodes
+pub atom_within : (c : CodeView) (i : ℕ) → IsAtomAt c i → i < length c.nodes
+unfolding atom_at
+atom_within c i is = by (slice_get c.nodes i) refl is
+  where
+    by : (o : Option Laid) → slice_get c.nodes i ≡ o
+        → is_some (option_and_then (λ (l : Laid). atom_done l.op) o) ≡ true → i < length c.nodes
+    by None e h = absurd cc
+    by (Some l) e h = slice_get_within c.nodes i l e
+
+-- the atom of a node is what it does
+pub atom_found : (c : CodeView) (i : ℕ) (l : Laid) → slice_get c.nodes i ≡ Some l → (a : Atom) → l.op ≡ Holds a
+    → atom_at c i ≡ Some a
+unfolding atom_at
+atom_found c i l there a is = ap (option_and_then (λ (k : Laid). atom_done k.op)) there ∙ ap atom_done is
+
+-- a node of another operation has none
+pub no_atom : (c : CodeView) (i : ℕ) (l : Laid) → slice_get c.nodes i ≡ Some l → (op : Op) → l.op ≡ operation_of op
+    → ((x : AtomPat) → op ≡ ops.Atom x → ⊥) → IsAtomAt c i → ⊥
+unfolding atom_at
+no_atom c i l there op same other is =
+    by op other
+    (sym (ap is_some (ap (option_and_then (λ (k : Laid). atom_done k.op)) there ∙ ap atom_done same)) ∙ is)
+  where
+    by : (op : Op) → ((x : AtomPat) → op ≡ ops.Atom x → ⊥) → is_some (atom_done (operation_of op)) ≡ true → ⊥
+    by (ops.Atom x) other e = other x refl
+    by _ other e = cc
 
 -- ---- leaves
 

@@ -1,6 +1,6 @@
 -- Turns of an axiom's branches, and what they keep.
-use Rattle.std.proofs.Common.{◌≡◌, ℕ, zero, suc, is_some, ◌-◌, ◌+◌, ◌<◌, ◌≤◌, List, [], ◌∷◌, length, slice_get, Option, Some, None, arith, refl, sym, ap, subst, ◌∙◌}
-use Rattle.hp_syntax.specs.Events.{Event, Sat, Cut, Fault}
+use Rattle.std.proofs.Common.{◌≡◌, ℕ, zero, suc, is_some, ◌-◌, ◌+◌, ◌<◌, ◌≤◌, List, [], ◌∷◌, length, slice_get, Some, arith, refl, sym, ap, subst, ◌∙◌}
+use Rattle.hp_syntax.specs.Events.{Sat, Cut}
 use Rattle.hp_syntax.specs.Terms.{Term}
 use Rattle.hp_code.specs.CodeViews.{CodeView, IsCode}
 use Rattle.hp_nodes.specs.Trees.{Laid, sizes}
@@ -11,7 +11,7 @@ use Rattle.hp_eval.specs.declared.event.Event.TheVariants as events
 use Rattle.hp_eval.specs.Growth.{Grows}
 use Rattle.hp_eval.specs.Slotted.{Slotted, undone, bindings_of}
 use Rattle.hp_suspended.specs.declared.scene.Scene.{Scene}
-use Rattle.hp_suspended.specs.Answering.{GivesOver, GoesOn, GoesOnOver, Keeps, MayGoOn, Moves}
+use Rattle.hp_suspended.specs.Answering.{GivesOver, GoesOnOver, Keeps, Moves}
 use Rattle.hp_suspended.specs.Branching.{IsNextBranch, KeepsAxiom, branch_left, under}
 use Rattle.hp_suspended.specs.Fitting.{AreClausesIn, RunningFits, base_of, level_weight, node_weight}
 use Rattle.hp_suspended.specs.Left.{left, stood}

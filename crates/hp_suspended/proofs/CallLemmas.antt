@@ -1,20 +1,19 @@
 -- Calls that add terms, and make and undo bindings.
-use Rattle.std.proofs.Common.{◌≡◌, ℕ, ◌<◌, ◌≤◌, List, length, length-take, take, arith, refl, sym, ◌∙◌, ap, subst}
+use Rattle.std.proofs.Common.{◌≡◌, ℕ, ◌<◌, ◌≤◌, List, length, length-take, arith, sym, ◌∙◌, ap, subst}
 use Rattle.std.proofs.Math.Seq.{take-length}
 use Rattle.std.proofs.lemmas.List.Elements.{All-weaker}
-use Rattle.std.specs.List.{All}
 use Rattle.hp_syntax.specs.Terms.{Term}
 use Rattle.hp_eval.specs.Growth.{Grows}
 use Rattle.hp_eval.specs.Slotted.{Slotted, AreBelow, Binds, undone}
 use Rattle.hp_eval.proofs.GrowthLemmas.{below_grows, grows_length, grows_on, grows_self}
-use Rattle.hp_eval.proofs.SlotLemmas.{binds_self, binds_through, undone_above, undone_twice, undone_none, below_undone}
+use Rattle.hp_eval.proofs.SlotLemmas.{binds_self, binds_through, undone_above, undone_none, below_undone}
 use Rattle.hp_world.specs.Recorded.{Knows}
 use Rattle.hp_world.specs.Stages.{AllBelow, live_atoms}
 use Rattle.hp_world.proofs.LearningLemmas.{all_known_where_agreed, known_are_cells}
 use Rattle.hp_suspended.specs.declared.scene.Scene.{Scene}
 use Rattle.hp_suspended.specs.Answering.{Moves}
 use Rattle.hp_suspended.specs.SceneViews.{IsReady}
-use Rattle.hp_suspended.proofs.MarkLemmas.{undone_earlier, binds_later}
+use Rattle.hp_suspended.proofs.MarkLemmas.{binds_later}
 
 -- ---- scenes
 

@@ -1,11 +1,15 @@
 -- What is left is the same over terms that agree below the count of cells that it fits.
 use Rattle.std.proofs.Common.{◌≡◌, ℕ, ◌-◌, ◌++◌, List, length, take, drop, Option, Some, None, arith, refl, sym, ◌∙◌, ap, ap₂}
-use Rattle.std.specs.Prelude.{flat_map}
-use Rattle.hp_syntax.specs.Syntax.{Clause, Expression, Expressions}
+use Rattle.std.proofs.Math.Path.{fun_ext}
+use Rattle.std.specs.Prelude.{◌&&◌, ◌<◌, IfSome, Result, Ok, Err, cond, flat_map}
+use Rattle.hp_syntax.specs.declared.fault.RunFault.{RunFault}
+use Rattle.hp_syntax.specs.Syntax.{Atom, Clause, Expression, Expressions}
 use Rattle.hp_syntax.specs.Terms.{Term}
 use Rattle.hp_syntax.specs.Values.{Bindings}
-use Rattle.hp_syntax.specs.Events.{State, axiom_events, chosen, chosen_events, events_of_all, events_of_any, sat, state_events, through}
+use Rattle.hp_syntax.specs.Events.{State, axiom_events, sat_if, chosen, chosen_events, events_of_all, events_of_any, sat, state_events, through}
 use Rattle.hp_syntax.specs.Goals as plain
+use Rattle.hp_syntax.specs.Goals.{fill_goal}
+use Rattle.hp_syntax.specs.Matching.{match_atom}
 use Rattle.hp_code.specs.CodeViews.{CodeView, rules_in}
 use Rattle.hp_laws.specs.RulesByName.{concluding}
 use Rattle.hp_world.specs.Stages.{AllBelow, live_atoms}
@@ -15,12 +19,16 @@ use Rattle.hp_eval.specs.SlotLaws.{bindings_agree}
 use Rattle.hp_eval.specs.Slotted.{Slotted, AreBelow, undone}
 use Rattle.hp_eval.proofs.GrowthLemmas.{kept_agree}
 use Rattle.hp_eval.proofs.SlotLemmas.{below_undone}
-use Rattle.hp_suspended.proofs.CountLemmas.{later_atoms_below, terms_agree, goal_agrees}
-use Rattle.hp_suspended.specs.Nodes.{head_at, expression_at, expressions_in, clauses_in}
+use Rattle.hp_world.specs.Parts.{part_of}
+use Rattle.hp_suspended.specs.declared.places.AtomFilter.{AtomFilter}
+use Rattle.hp_suspended.specs.declared.places.KnownPart.{KnownPart}
+use Rattle.hp_suspended.proofs.CountLemmas.{later_atoms_below, term_agrees, terms_agree, goal_agrees}
+use Rattle.hp_suspended.specs.Filtered.{FilterBelow, atom_left, by_axioms, has_known, is_same_part, match_passing, passes, sats_from}
+use Rattle.hp_suspended.specs.Nodes.{atom_at, head_at, expression_at, expressions_in, clauses_in}
 use Rattle.hp_suspended.specs.Fitting.{Fits, RunningFits, TowerFits, base_of}
 use Rattle.hp_suspended.specs.Left.{Tower, Floor, On, stood, one_event, left, running_left, tower, tower_left}
 use Rattle.hp_suspended.specs.Settings.{Setting, state_in, axioms_in, below_at, atoms_at, expression_events, all_events, any_events, clause_events, node_events, all_between, any_between, first_between, places_from, axioms_from, head_concludes, first_of}
-use Rattle.hp_suspended.specs.Views.{View, One, Fresh, Search, Conj, Disj, RunningView, Idle, Under, Views, Bare, Above}
+use Rattle.hp_suspended.specs.Views.{View, One, Fresh, Simple, Search, Conj, Disj, RunningView, Idle, Under, Views, Bare, Above}
 
 -- ---- settings that differ in their terms
 
@@ -79,6 +87,12 @@ module _ (w : Setting) (d : List Term) (same : state_in w ≡ state_in (over w d
       ap (λ (s : State). flat_map (λ x. axiom_events (below_at (axioms_in w) n s) x q b)
       (drop k (concluding q.name (rules_in w.code)))) same
 
+  -- where the state is the same the events of an atom that is filled, by axioms, are
+  pub by_axioms_agree : (a : Atom) (r : Result plain.Goal RunFault) (b : Bindings)
+      → by_axioms w n a r b ≡ by_axioms (over w d) n a r b
+  by_axioms_agree a (Ok q) b = axioms_agree 0 q b
+  by_axioms_agree a (Err f) b = refl
+
   -- where the state is the same what is left of parts of a conjunction is
   pub tower_left_agrees : (end : ℕ) (t : Tower) → tower_left w n end t ≡ tower_left (over w d) n end t
   tower_left_agrees end Floor = refl
@@ -98,6 +112,39 @@ module _ (w : Setting) (d : List Term) (cells : ℕ) (same : take cells w.terms 
       ap (λ (s : State). state_events s q b)
       (terms_agree cells w.terms d same (live_atoms (drop i w.places)) (later_atoms_below cells i w.places atoms))
 
+  -- the satisfiers that atoms of places give are the same over terms that agree below the atoms' count
+  pub sats_agree : (i : ℕ) (found : Term → Option Bindings) → sats_from w i found ≡ sats_from (over w d) i found
+  unfolding sats_from
+  sats_agree i found =
+      ap (flat_map (λ t. sat_if (found t)))
+      (terms_agree cells w.terms d same (live_atoms (drop i w.places)) (later_atoms_below cells i w.places atoms))
+
+  -- the same atoms pass a filter whose cells are below the count
+  known_agrees : (o : Option KnownPart) → IfSome o (λ p. p.cell < cells) → (t : Term)
+      → has_known w.terms o t ≡ has_known d o t
+  known_agrees None below t = refl
+  known_agrees (Some p) below t = ap (is_same_part (part_of p.number t)) (term_agrees cells w.terms d same p.cell below)
+
+  passes_agrees : (f : AtomFilter) → FilterBelow cells f → (t : Term) → passes w.terms f t ≡ passes d f t
+  passes_agrees f below t =
+      ap₂ (λ x k. is_same_part (part_of 0 t) x && k) (term_agrees cells w.terms d same f.name below.0)
+      (known_agrees f.known below.1 t)
+
+  -- so an atom matches the same of those that pass it
+  pub passing_agrees : (f : AtomFilter) → FilterBelow cells f → (a : Atom) (b : Bindings)
+      → ◌≡◌ {A = Term → Option Bindings} (λ t. match_passing w.terms f a t b) (λ t. match_passing d f a t b)
+  passing_agrees f below a b =
+      fun_ext (λ t. ap (λ p. cond p (match_atom a t b) None) (passes_agrees f below t))
+
+  -- and the same is left of an atom that isn't filled
+  pub atom_agrees : (n from : ℕ) (f : AtomFilter) → FilterBelow cells f → (o : Option Atom) (b : Bindings)
+      → atom_left w n from f o b ≡ atom_left (over w d) n from f o b
+  atom_agrees n from f below None b = refl
+  atom_agrees n from f below (Some a) b =
+      ap₂ ◌++◌ (sats_agree from (λ t. match_passing w.terms f a t b) ∙ ap (sats_from (over w d) from)
+      (passing_agrees f below a b))
+      (by_axioms_agree w d state_agrees n a (fill_goal a b) b)
+
   -- the bindings that stood at a mark are the same over terms that agree below the cells of the slots
   pub stood_over : (e : Slotted) (m : ℕ) → AreBelow cells e → stood w e m ≡ stood (over w d) e m
   stood_over e m below = bindings_agree cells w.terms d (undone m e) (below_undone cells m e below) same
@@ -111,6 +158,9 @@ module _ (w : Setting) (d : List Term) (cells : ℕ) (same : take cells w.terms 
       left_over bound (Fresh m n i) e fits below =
           node_agrees w d state_agrees n i (stood w e m)
           ∙ ap (node_events (over w d) n i) (stood_over e m below)
+      left_over bound (Simple a) e fits below =
+          atom_agrees a.nest a.from a.filter fits.2 (atom_at w.code a.node) (stood w e a.mark)
+          ∙ ap (atom_left (over w d) a.nest a.from a.filter (atom_at w.code a.node)) (stood_over e a.mark below)
       left_over bound (Search m n q at' k running) e fits below =
           let g = goal_agrees cells w.terms d same q fits.1 in
           let b = stood_over e m below in

@@ -1,6 +1,6 @@
 -- Cells below a count: they stay below a greater one, and among terms that agree below it they stand for the same.
 use Rattle.std.proofs.Common.{◌≡◌, ℕ, zero, suc, ◌<◌, ◌≤◌, List, [], ◌∷◌, take, drop, true, Option, Some, None, arith, refl, sym, ◌∙◌, ap, ap₂}
-use Rattle.std.specs.Prelude.{slice_get}
+use Rattle.std.specs.Prelude.{IfSome, slice_get}
 use Rattle.std.proofs.lemmas.List.Elements.{All-head, All-tail}
 use Rattle.hp_cells.proofs.PlaceLemmas.{stays}
 use Rattle.hp_syntax.specs.Terms.{Term}
@@ -11,6 +11,9 @@ use Rattle.hp_eval.specs.declared.goals.Goal.{Goal}
 use Rattle.hp_eval.specs.FillSteps.{AreFilledBelow}
 use Rattle.hp_eval.specs.GoalViews.{GoalBelow, fillings_of, goal_of, is_below, term_at, term_or_nil}
 use Rattle.hp_eval.specs.Slotted.{Slotted, AreBelow}
+use Rattle.hp_suspended.specs.declared.places.AtomFilter.{AtomFilter}
+use Rattle.hp_suspended.specs.declared.places.KnownPart.{KnownPart}
+use Rattle.hp_suspended.specs.Filtered.{FilterBelow}
 use Rattle.hp_eval.proofs.GoalViewLemmas as goals
 use Rattle.hp_eval.proofs.GoalViewLemmas.{all_below_grow}
 
@@ -21,6 +24,14 @@ goal_below_more m n q l h = all_below_grow m n q.args.items l h
 -- slots stay below a count that grows
 pub slots_below_more : (m n : ℕ) (s : Slotted) → m ≤ n → AreBelow m s → AreBelow n s
 slots_below_more m n s l h = λ v cell e. omega (arith, h v cell e)
+
+-- a filter stays below a count that grows
+pub filter_below_more : (m n : ℕ) (f : AtomFilter) → m ≤ n → FilterBelow m f → FilterBelow n f
+filter_below_more m n f l h = (omega (arith, h.0), by f.known h.1)
+  where
+    by : (o : Option KnownPart) → IfSome o (λ p. p.cell < m) → IfSome o (λ p. p.cell < n)
+    by None k = tt
+    by (Some p) k = omega (arith, k)
 
 -- live atoms of the places from one on are below a count where all are
 pub later_atoms_below : (n i : ℕ) (ps : List (Option ℕ)) → AllBelow n (live_atoms ps)

@@ -8,7 +8,7 @@ use Rattle.hp_eval.specs.declared.event.Event.TheVariants as events
 use Rattle.hp_eval.specs.Growth.{Grows}
 use Rattle.hp_eval.specs.Slotted.{Slotted, bindings_of}
 use Rattle.hp_suspended.specs.declared.scene.Scene.{Scene}
-use Rattle.hp_suspended.specs.Answering.{Gives, GivesOver, GoesOn, GoesOnOver, Keeps, Moves, SameOver}
+use Rattle.hp_suspended.specs.Answering.{Gives, GivesOver, GoesOnOver, Keeps, Moves, SameOver}
 use Rattle.hp_suspended.specs.Fitting.{Fits, base_of}
 use Rattle.hp_suspended.specs.Left.{left, stood}
 use Rattle.hp_suspended.specs.SceneViews.{code_in, setting_of}

@@ -2,8 +2,8 @@
 use Rattle.std.proofs.Common.{ℕ, ◌≤◌, length, arith}
 use Rattle.hp_code.specs.CodeViews.{CodeView}
 use Rattle.hp_suspended.specs.Fitting.{Fits, RunningFits, TowerFits, base_of}
-use Rattle.hp_suspended.specs.Views.{View, One, Fresh, Search, Conj, Disj, RunningView, Idle, Under, Views, Bare, Above}
-use Rattle.hp_suspended.proofs.CountLemmas.{goal_below_more, slots_below_more}
+use Rattle.hp_suspended.specs.Views.{View, One, Fresh, Simple, Search, Conj, Disj, RunningView, Idle, Under, Views, Bare, Above}
+use Rattle.hp_suspended.proofs.CountLemmas.{filter_below_more, goal_below_more, slots_below_more}
 
 module _ (c : CodeView) (cells : ℕ) where
   mutual
@@ -11,6 +11,7 @@ module _ (c : CodeView) (cells : ℕ) where
     pub rises : (bound : ℕ) (v : View) → Fits c cells bound v → base_of v ≤ bound
     rises bound (One m event) f = f
     rises bound (Fresh m n i) f = omega (arith, f.0)
+    rises bound (Simple a) f = f.0
     rises bound (Search m n q at' k running) f = f.0
     rises bound (Conj m n k end outer here) f =
         omega (arith, tower_rises end m (base_of here) outer f.1, rises bound here f.2)
@@ -28,6 +29,7 @@ module _ (c : CodeView) (cells more : ℕ) (grown : cells ≤ more) where
     pub fits_more : (bound : ℕ) (v : View) → Fits c cells bound v → Fits c more bound v
     fits_more bound (One m event) f = f
     fits_more bound (Fresh m n i) f = f
+    fits_more bound (Simple a) f = (f.0, f.1, filter_below_more cells more a.filter grown f.2)
     fits_more bound (Search m n q at' k running) f =
         (f.0, goal_below_more cells more q grown f.1, running_fits_more n running f.2)
     fits_more bound (Conj m n k end outer here) f =

@@ -1,5 +1,5 @@
 -- A call for the next event: what is suspended is begun, goes on by a step, and settles.
-use Rattle.std.proofs.Common.{◌≡◌, ℕ, ◌≤◌, List, length, refl, ap, sym, ◌∙◌, subst, arith}
+use Rattle.std.proofs.Common.{◌≡◌, ◌≤◌, List, length, ap, sym, ◌∙◌, subst, arith}
 use Rattle.hp_syntax.specs.Terms.{Term}
 use Rattle.hp_eval.specs.declared.event.Event.{Event}
 use Rattle.hp_eval.specs.declared.event.Event.TheVariants as events
@@ -8,10 +8,10 @@ use Rattle.hp_suspended.specs.declared.scene.Scene.{Scene}
 use Rattle.hp_suspended.specs.Answering.{EndsAt, GoesOn, Keeps, Moves}
 use Rattle.hp_suspended.specs.Beginning.{IsBegunAs}
 use Rattle.hp_suspended.specs.Branching.{Settles}
-use Rattle.hp_suspended.specs.Fitting.{Fits, base_of, weight}
+use Rattle.hp_suspended.specs.Fitting.{Fits, base_of}
 use Rattle.hp_suspended.specs.SceneViews.{code_in}
 use Rattle.hp_suspended.specs.Views.{One, View}
-use Rattle.hp_suspended.proofs.CallLemmas.{moved_above, moved_same, moves_on, moves_then_undone}
+use Rattle.hp_suspended.proofs.CallLemmas.{moved_above, moves_on, moves_then_undone}
 use Rattle.hp_suspended.proofs.Fitted.{rises}
 use Rattle.hp_suspended.proofs.OneSteps.{length-undone}
 

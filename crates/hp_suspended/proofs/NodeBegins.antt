@@ -1,5 +1,5 @@
 -- What the expression of a node begins as.
-use Rattle.std.proofs.Common.{◌≡◌, ℕ, ◌+◌, ◌<◌, ◌≤◌, ◌++◌, List, [], ◌∷◌, length, slice_get, Some, Result, Ok, Err, Vec, Box, Global, arith, refl, sym, ◌∙◌, ap, ap₂, subst}
+use Rattle.std.proofs.Common.{◌≡◌, is_some, ℕ, ◌+◌, ◌<◌, ◌≤◌, ◌++◌, List, [], ◌∷◌, length, slice_get, Some, Result, Ok, Err, Vec, Box, Global, arith, refl, sym, ◌∙◌, ap, ap₂, subst}
 use Rattle.std.proofs.lemmas.List.{append-nil}
 use Rattle.std.proofs.lemmas.Option.{same_Some}
 use Rattle.hp_syntax.specs.declared.fault.RunFault.{RunFault}
@@ -8,6 +8,7 @@ use Rattle.hp_syntax.specs.Syntax.{Atom}
 use Rattle.hp_syntax.specs.Terms.{Term}
 use Rattle.hp_syntax.specs.Goals as plain
 use Rattle.hp_syntax.specs.Goals.{fill_goal}
+use Rattle.hp_syntax.specs.Views.{atom_of}
 use Rattle.hp_syntax.specs.Events.{Sat}
 use Rattle.hp_code.specs.CodeViews.{CodeView, IsCode}
 use Rattle.hp_nodes.specs.NodeViews.{operation_of}
@@ -22,7 +23,7 @@ use Rattle.hp_eval.specs.GoalViews.{GoalBelow, goal_of}
 use Rattle.hp_eval.specs.Growth.{GivesBy, Grows}
 use Rattle.hp_eval.specs.Slotted.{Slotted, AreBelow, bindings_of}
 use Rattle.hp_eval.specs.SlotLaws.{undone_whole}
-use Rattle.hp_eval.proofs.GrowthLemmas.{kept_agree}
+use Rattle.hp_eval.proofs.GrowthLemmas.{below_grows, kept_agree}
 use Rattle.hp_suspended.specs.declared.scene.Scene.{Scene}
 use Rattle.hp_suspended.specs.declared.suspended.Part.{Part}
 use Rattle.hp_suspended.specs.declared.suspended.Suspended.{Suspended}
@@ -30,15 +31,20 @@ use Rattle.hp_suspended.specs.declared.suspended.Suspended.TheViews as made
 use Rattle.hp_suspended.specs.declared.suspended.Suspended.TheVariants as variants
 use Rattle.hp_suspended.specs.Beginning.{Begins, BeginsAt, BeginsFilled, DoesAt}
 use Rattle.hp_suspended.specs.Branching.{IsLasting}
-use Rattle.hp_suspended.specs.Fitting.{AreExpressionsIn, IsExpressionAt}
-use Rattle.hp_suspended.specs.Left.{stood}
+use Rattle.hp_suspended.specs.declared.places.AtomFilter.{AtomFilter}
+use Rattle.hp_suspended.specs.Filtered.{atom_left, by_axioms, match_passing, sats_from}
+use Rattle.hp_suspended.specs.Fitting.{AreExpressionsIn, IsAtomAt, IsExpressionAt}
+use Rattle.hp_suspended.specs.Left.{left, stood}
+use Rattle.hp_suspended.specs.Nodes.{atom_at}
 use Rattle.hp_suspended.specs.SceneViews.{code_in, setting_of}
 use Rattle.hp_suspended.specs.Settings.{axioms_from, node_events, places_from}
-use Rattle.hp_suspended.specs.Views.{View, One, Fresh, Search, Conj, Disj, Idle, Bare, view, views}
-use Rattle.hp_suspended.proofs.BeginSteps.{bindings_later}
+use Rattle.hp_suspended.specs.SimpleAtoms.{IsFilterOf}
+use Rattle.hp_suspended.specs.Views.{View, One, Fresh, Simple, Search, Conj, Disj, Idle, Bare, view, views}
+use Rattle.hp_suspended.proofs.BeginSteps.{atom_found, bindings_later}
 use Rattle.hp_suspended.proofs.CountLemmas.{goal_agrees}
 use Rattle.hp_suspended.proofs.NodeReadings.{IsOfExpression, and_met, and_parts, expression_within, holds_fault, holds_met, or_met, or_parts}
 use Rattle.hp_suspended.proofs.RangeLemmas.{all_ended, first_expression, range_ascends}
+use Rattle.hp_suspended.proofs.SimpleFillings.{filter_fills, filter_later, filter_sats, filter_within, goal_filled}
 use Rattle.hp_suspended.proofs.Shapes.{view_conj, view_disj, view_fresh, view_one}
 
 -- an operation of an expression that isn't decided at once is an atom, a conjunction or a disjunction
@@ -83,7 +89,7 @@ module _ (s : Scene) (code : IsCode (code_in s)) (m n i : ℕ) (is : IsExpressio
     pub begins_empty : l.to ≤ i + 1 → BeginsAt s m n i (One m events.Sat)
     begins_empty over = λ cells e long. record {
       start = refl;
-      begun = tt;
+      looked = tt;
       fits = omega arith;
       same =
           λ terms grows.
@@ -101,7 +107,7 @@ module _ (s : Scene) (code : IsCode (code_in s)) (m n i : ℕ) (is : IsExpressio
         let first = first_expression (setting_of s []) n (i + 1) l.to code all_parts less y at' in
         record {
           start = refl;
-          begun = tt;
+          looked = tt;
           fits = (first.others, refl, (refl, first.first));
           same =
               λ terms grows.
@@ -119,7 +125,7 @@ module _ (s : Scene) (code : IsCode (code_in s)) (m n i : ℕ) (is : IsExpressio
   pub begins_any : l.op ≡ Or → BeginsAt s m n i (Disj m n (i + 1) l.to (One m events.End))
   begins_any op = λ cells e long. record {
     start = refl;
-    begun = tt;
+    looked = tt;
     fits = (or_parts (setting_of s []) n i code is l there op, refl, omega arith);
     same =
         λ terms grows.
@@ -137,7 +143,7 @@ module _ (s : Scene) (code : IsCode (code_in s)) (m n i : ℕ) (is : IsExpressio
         → Begins s new e m n i (One m (events.Fault f))
     begins_fault f unfilled = record {
       start = refl;
-      begun = tt;
+      looked = tt;
       fits = omega arith;
       same =
           λ terms grows.
@@ -151,7 +157,7 @@ module _ (s : Scene) (code : IsCode (code_in s)) (m n i : ℕ) (is : IsExpressio
         → Begins s new e m n i (Search m n q 0 0 Idle)
     begins_search q q_below filled = record {
       start = refl;
-      begun = tt;
+      looked = tt;
       fits = (omega arith, q_below, tt);
       same =
           λ terms grows.
@@ -165,15 +171,49 @@ module _ (s : Scene) (code : IsCode (code_in s)) (m n i : ℕ) (is : IsExpressio
       lighter = omega (arith, within);
     }
 
+    -- one that is looked for by a filter begins at the first place
+    pub begins_simple : (p : AtomPat) → a ≡ atom_of p → (f : AtomFilter) → IsFilterOf new (bindings_of new e) p f
+        → Begins s new e m n i (Simple (record { mark = m; nest = n; node = i; from = 0; filter = f }))
+    begins_simple p is' f h = record {
+      start = refl;
+      looked = tt;
+      fits = (omega arith, atom_there, filter_within new (bindings_of new e) p f h);
+      same = simple_left p is' f h;
+      lighter = omega (arith, within);
+    }
+      where
+        atom_is : atom_at (code_in s) i ≡ Some a
+        atom_is = atom_found (code_in s) i l there a op
+
+        atom_there : IsAtomAt (code_in s) i
+        atom_there = ap is_some atom_is
+
+        simple_left : (p : AtomPat) → a ≡ atom_of p → (f : AtomFilter) → IsFilterOf new (bindings_of new e) p f
+            → (terms : List Term) → Grows new terms
+            → left (setting_of s terms) e (Simple (record { mark = m; nest = n; node = i; from = 0; filter = f }))
+            ≡ node_events (setting_of s terms) n i (bindings_of terms e)
+        simple_left p is' f h terms grows =
+            let w = setting_of s terms in
+            let b = bindings_of terms e in
+            let k = filter_later new terms grows e (below_grows old new g e below) p f h in
+            let filled : fill_goal a b ≡ Ok (goal_filled (atom_of p) b) =
+            ap (λ x. fill_goal x b) is' ∙ filter_fills terms b p f k in
+            ap₂ (λ o c. atom_left w n 0 f o c) atom_is (stood_here terms e long)
+            ∙ (ap (λ r. sats_from w 0 (λ t. match_passing terms f a t b) ++ by_axioms w n a r b) filled
+            ∙ (ap (λ x. sats_from w 0 (λ t. match_passing terms f x t b)
+            ++ axioms_from w n 0 (goal_filled (atom_of p) b) b) is'
+            ∙ (ap (λ xs. xs ++ axioms_from w n 0 (goal_filled (atom_of p) b) b) (filter_sats w b p f k)
+            ∙ sym (holds_met w n i code is l there a op b (goal_filled (atom_of p) b) filled))))
+
     -- an atom that is filled to this begins so
     filled_begins : (v : View) (r : Result plain.Goal RunFault) → fill_goal a (bindings_of old e) ≡ r
-        → BeginsFilled (length new) m n v (goal_of new) r → Begins s new e m n i v
+        → BeginsFilled (length new) m n 0 v (goal_of new) r → Begins s new e m n i v
     filled_begins v (Ok p) h (q, is', q_below, stands) =
         subst (Begins s new e m n i) (sym is') (begins_search q q_below (h ∙ ap Ok stands))
     filled_begins v (Err f) h is' = subst (Begins s new e m n i) (sym is') (begins_fault f h)
 
     -- so it begins as filling it makes it begin
-    pub begins_filled : (v : View) → BeginsFilled (length new) m n v (goal_of new) (fill_goal a (bindings_of old e))
+    pub begins_filled : (v : View) → BeginsFilled (length new) m n 0 v (goal_of new) (fill_goal a (bindings_of old e))
         → Begins s new e m n i v
     begins_filled v h = filled_begins v (fill_goal a (bindings_of old e)) refl h
 
@@ -184,18 +224,18 @@ pub does_there : (c : CodeView) (i : ℕ) (op : Operation) → DoesAt c i op →
     → l.op ≡ op
 does_there c i op (k, at', is) l there = subst (λ (x : Laid). x.op ≡ op) (same_Some k l (sym at' ∙ there)) is
 
-module _ (cells m n : ℕ) (v : View) (stands : Goal → plain.Goal) (r : Result plain.Goal RunFault) where
+module _ (cells m n from : ℕ) (v : View) (stands : Goal → plain.Goal) (r : Result plain.Goal RunFault) where
   -- where an atom is filled the search of its goal is what it begins as
-  pub search_made : (q : Goal) → v ≡ Search m n q 0 0 Idle → GoalBelow cells q → r ≡ Ok (stands q)
-      → BeginsFilled cells m n v stands r
-  search_made q is below filled = subst (BeginsFilled cells m n v stands) (sym filled) (q, is, below, refl)
+  pub search_made : (q : Goal) → v ≡ Search m n q from 0 Idle → GoalBelow cells q → r ≡ Ok (stands q)
+      → BeginsFilled cells m n from v stands r
+  search_made q is below filled = subst (BeginsFilled cells m n from v stands) (sym filled) (q, is, below, refl)
 
   -- where it isn't the fault is
   pub fault_made : (stop : EvalStop) (f : RunFault) → stop ≡ stops.Fault f → v ≡ One m (events.Fault f)
-      → GivesBy stands (Err stop) r → BeginsFilled cells m n v stands r
+      → GivesBy stands (Err stop) r → BeginsFilled cells m n from v stands r
   fault_made stop f same is gives =
       let faulty : r ≡ Err f = subst (λ x. GivesBy stands (Err x) r) same gives in
-      subst (BeginsFilled cells m n v stands) (sym faulty) is
+      subst (BeginsFilled cells m n from v stands) (sym faulty) is
 
 -- a conjunction that is made with no part below its first is seen as that
 pub conj_made : (m n k e i : ℕ) (o : Vec Part Global) (h : Box Suspended Global) → o.items ≡ []

@@ -1,28 +1,22 @@
 -- One event that is left, an expression that wasn't looked at, and what is left behind an end.
-use Rattle.std.proofs.Common.{◌≡◌, ℕ, ◌+◌, ◌*◌, ◌<◌, ◌≤◌, List, [], ◌∷◌, length, length-take, min, refl, ap, sym, ◌∙◌, subst, arith}
+use Rattle.std.proofs.Common.{◌≡◌, ℕ, ◌≤◌, List, [], length, length-take, refl, ap, sym, ◌∙◌, arith}
 use Rattle.hp_syntax.specs.Terms.{Term}
-use Rattle.hp_code.specs.CodeViews.{CodeView}
 use Rattle.hp_eval.specs.declared.event.Event.{Event}
 use Rattle.hp_eval.specs.declared.event.Event.TheVariants as events
-use Rattle.hp_eval.specs.Growth.{Grows}
-use Rattle.hp_eval.specs.Slotted.{Slotted, AreBelow, Binds, undone, bindings_of}
-use Rattle.hp_eval.proofs.SlotLemmas.{undone_twice}
+use Rattle.hp_eval.specs.Slotted.{Slotted, AreBelow, undone, bindings_of}
 use Rattle.hp_eval.specs.SlotLaws.{undone_whole}
 use Rattle.hp_suspended.specs.declared.scene.Scene.{Scene}
 use Rattle.hp_suspended.specs.declared.suspended.Suspended.{Suspended}
 use Rattle.hp_suspended.specs.declared.suspended.Suspended.TheVariants as variants
-use Rattle.hp_suspended.specs.Answering.{EndsAt, Gives, GivesOver, GoesOn, Keeps, LeavesOver, Moves}
-use Rattle.hp_suspended.specs.Beginning.{Begins}
-use Rattle.hp_suspended.specs.Branching.{Settles}
-use Rattle.hp_suspended.specs.Fitting.{Fits, IsExpressionAt, base_of, weight, node_weight}
+use Rattle.hp_suspended.specs.Answering.{Gives, GivesOver, GoesOn, Keeps, Moves}
+use Rattle.hp_suspended.specs.Fitting.{Fits, base_of}
 use Rattle.hp_suspended.specs.Left.{left, one_event}
-use Rattle.hp_suspended.specs.SceneViews.{IsReady, code_in, setting_of}
-use Rattle.hp_suspended.specs.Settings.{Setting, node_events}
-use Rattle.hp_suspended.specs.Views.{View, One, Fresh, view}
-use Rattle.hp_suspended.proofs.CallLemmas.{moved_above, moved_same, moves_on, moves_undone, moves_then_undone}
-use Rattle.hp_suspended.proofs.Fitted.{rises}
+use Rattle.hp_suspended.specs.SceneViews.{code_in, setting_of}
+use Rattle.hp_suspended.specs.Settings.{Setting}
+use Rattle.hp_suspended.specs.Views.{One, view}
+use Rattle.hp_suspended.proofs.CallLemmas.{moves_undone}
 use Rattle.hp_suspended.proofs.GoingOn.{goes_on}
-use Rattle.hp_suspended.proofs.Shapes.{view_one, view_fresh}
+use Rattle.hp_suspended.proofs.Shapes.{view_one}
 
 -- as many bindings are left as are undone to
 pub length-undone : (m : ℕ) (e : Slotted) → m ≤ length e.trail → length (undone m e).trail ≡ m

@@ -1,16 +1,17 @@
 -- The views of the variants of what is suspended, and of its parts.
-use Rattle.std.proofs.Common.{◌≡◌, ℕ, Vec, Box, Global, Option, Some, None, refl, ap, ◌∙◌}
+use Rattle.std.proofs.Common.{◌≡◌, ℕ, Vec, Box, Global, Option, Some, None, ap, ◌∙◌}
 use Rattle.hp_eval.specs.declared.event.Event as public_event
 use Rattle.hp_eval.specs.declared.goals.Goal.{Goal}
 use Rattle.hp_suspended.specs.declared.suspended.Part.{Part}
 use Rattle.hp_suspended.specs.declared.suspended.Running.{Running}
+use Rattle.hp_suspended.specs.declared.suspended.SimpleAtom.{SimpleAtom}
 use Rattle.hp_suspended.specs.declared.suspended.Suspended.{Suspended, out-Suspended}
 use Rattle.hp_suspended.specs.declared.suspended.Suspended.TheViews as made
-use Rattle.hp_suspended.specs.declared.suspended.Suspended.TheVariants.{outs-One, outs-Fresh, outs-Search, outs-Conj, outs-Disj}
+use Rattle.hp_suspended.specs.declared.suspended.Suspended.TheVariants.{outs-One, outs-Fresh, outs-Simple, outs-Search, outs-Conj, outs-Disj}
 use Rattle.hp_suspended.specs.declared.suspended.Suspended.TheVariants as variants
 use Rattle.hp_suspended.specs.declared.suspended.Suspended.TheFolds.{fold_out-Suspended, fold_out-Part, fold_out-Running, map-Suspended}
 use Rattle.hp_suspended.specs.declared.suspended.Suspended.TheOpen.{Suspended-F}
-use Rattle.hp_suspended.specs.Views.{View, Storey, Level, One, Fresh, Search, Conj, Disj, view, views, storey, level_of, level_at, running_view, view_layer, storey_layer, level_layer}
+use Rattle.hp_suspended.specs.Views.{View, Storey, Level, One, Fresh, Simple, Search, Conj, Disj, view, views, storey, level_of, level_at, running_view, view_layer, storey_layer, level_layer}
 
 -- the view of a variant, by the views of its parts
 layered : Suspended-F Suspended Part Running → View
@@ -29,6 +30,10 @@ view_one m e = by_layer (variants.One m e) _ (outs-One m e)
 pub view_fresh : (m n i : ℕ) → view (variants.Fresh m n i) ≡ Fresh m n i
 unfolding layered
 view_fresh m n i = by_layer (variants.Fresh m n i) _ (outs-Fresh m n i)
+
+pub view_simple : (a : SimpleAtom) → view (variants.Simple a) ≡ Simple a
+unfolding layered
+view_simple a = by_layer (variants.Simple a) _ (outs-Simple a)
 
 pub view_search : (m n : ℕ) (q : Goal) (i r : ℕ) (o : Option (Box Running Global))
     → view (made.Search m n q i r o) ≡ Search m n q i r (running_view o)

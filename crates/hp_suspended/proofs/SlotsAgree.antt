@@ -5,9 +5,11 @@ use Rattle.hp_syntax.specs.Events.{through}
 use Rattle.hp_eval.specs.GoalViews.{goal_of}
 use Rattle.hp_eval.specs.Slotted.{Slotted, undone, bindings_of}
 use Rattle.hp_suspended.specs.Fitting.{Fits, TowerFits, base_of}
+use Rattle.hp_suspended.specs.Filtered.{atom_left}
+use Rattle.hp_suspended.specs.Nodes.{atom_at}
 use Rattle.hp_suspended.specs.Left.{On, stood, one_event, left, running_left, tower, tower_left}
 use Rattle.hp_suspended.specs.Settings.{Setting, node_events, all_between, any_between, places_from, axioms_from}
-use Rattle.hp_suspended.specs.Views.{View, One, Fresh, Search, Conj, Disj, Views, Bare, Above}
+use Rattle.hp_suspended.specs.Views.{View, One, Fresh, Simple, Search, Conj, Disj, Views, Bare, Above}
 use Rattle.hp_suspended.proofs.Fitted.{rises}
 use Rattle.hp_suspended.proofs.MarkLemmas.{undone_earlier}
 
@@ -23,6 +25,8 @@ module _ (w : Setting) (e f : Slotted) (mark : ℕ) (in_e : mark ≤ length e.tr
       pub left_agrees : (hi : ℕ) (v : View) → Fits c cells hi v → hi ≤ mark → left w e v ≡ left w f v
       left_agrees hi (One m event) fits l = ap (one_event event) (stood_agrees m (omega (arith, fits)))
       left_agrees hi (Fresh m n i) fits l = ap (node_events w n i) (stood_agrees m (omega (arith, fits.0)))
+      left_agrees hi (Simple a) fits l =
+          ap (atom_left w a.nest a.from a.filter (atom_at w.code a.node)) (stood_agrees a.mark (omega (arith, fits.0)))
       left_agrees hi (Search m n q at' k running) fits l =
           let goal = goal_of w.terms q in
           ap (λ b. places_from w at' goal b ++ (running_left w n goal b running ++ axioms_from w n k goal b))

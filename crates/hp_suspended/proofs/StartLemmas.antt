@@ -1,28 +1,36 @@
 -- Each Sat that is left extends the bindings of the start.
 use Rattle.std.proofs.Common.{ℕ, zero, suc, ◌-◌, ◌≤◌, ◌++◌, List, [], Option, Some, None, length, drop, arith, subst}
 use Rattle.std.specs.List.{All}
+use Rattle.std.specs.Prelude.{Bool, true, false, Result, Ok, Err, ◌∷◌, ◌≡◌, cond, refl}
 use Rattle.std.proofs.lemmas.List.Elements.{All-nil, All-append}
 use Rattle.hp_syntax.specs.declared.pattern.Span.{Span}
 use Rattle.hp_syntax.specs.Syntax.{Atom, Axiom, Expression, Expressions}
 use Rattle.hp_syntax.specs.Syntax as syntax
-use Rattle.hp_syntax.specs.Values.{Bindings}
-use Rattle.hp_syntax.specs.Goals.{Goal}
-use Rattle.hp_syntax.specs.Events.{Event, EventExtends, State, events, events_of_all, events_of_any, is_fault, sat, through}
+use Rattle.hp_syntax.specs.Values.{Bindings, Extends}
+use Rattle.hp_syntax.specs.Goals.{Goal, fill_goal}
+use Rattle.hp_syntax.specs.Matching.{match_atom}
+use Rattle.hp_syntax.specs.Terms.{Term}
+use Rattle.hp_syntax.specs.declared.fault.RunFault.{RunFault}
+use Rattle.hp_syntax.specs.Events.{Event, EventExtends, Sat, State, sat_if, events, events_of_all, events_of_any, is_fault, sat, through}
 use Rattle.hp_syntax.specs.Preconditions.{heard}
 use Rattle.hp_code.specs.CodeViews.{CodeView, rules_in}
 use Rattle.hp_laws.specs.RulesByName.{concluding}
 use Rattle.hp_laws.proofs.ExtendLemmas.{sat_extends, goal_events_extend}
 use Rattle.hp_laws.proofs.HearingLemmas.{all_up_to}
+use Rattle.hp_laws.proofs.JoinLemmas.{all_from, all_one, all_join}
+use Rattle.hp_laws.proofs.MatchLemmas.{atom_least}
 use Rattle.hp_world.specs.Stages.{live_atoms, terms_at}
 use Rattle.hp_eval.specs.declared.event.Event as public_event
 use Rattle.hp_eval.specs.declared.event.Event.TheVariants as public_events
 use Rattle.hp_eval.specs.GoalViews.{goal_of}
 use Rattle.hp_eval.specs.Slotted.{Slotted}
-use Rattle.hp_suspended.specs.Nodes.{head_at, expression_at, expressions_in}
+use Rattle.hp_suspended.specs.declared.places.AtomFilter.{AtomFilter}
+use Rattle.hp_suspended.specs.Filtered.{atom_left, by_axioms, fault_by, match_passing, passes, sats_from}
+use Rattle.hp_suspended.specs.Nodes.{atom_at, head_at, expression_at, expressions_in}
 use Rattle.hp_suspended.specs.Fitting.{Fits, TowerFits, base_of}
 use Rattle.hp_suspended.specs.Left.{stood, one_event, left, running_left, tower, tower_left}
 use Rattle.hp_suspended.specs.Settings.{Setting, state_in, axioms_in, below_at, atoms_at, expression_events, all_events, any_events, node_events, all_between, any_between, first_between, places_from, axioms_from, head_concludes, first_of}
-use Rattle.hp_suspended.specs.Views.{View, One, Fresh, Search, Conj, Disj, RunningView, Idle, Under, Views, Bare, Above}
+use Rattle.hp_suspended.specs.Views.{View, One, Fresh, Simple, Search, Conj, Disj, RunningView, Idle, Under, Views, Bare, Above}
 use Rattle.hp_suspended.proofs.EventLists.{AllExtend, all_extend_earlier, sat_extends_itself, cut_extends, fault_extends, through_further, through_any, state_extends, concluded_extends}
 use Rattle.hp_suspended.proofs.Fitted.{rises, tower_rises}
 use Rattle.hp_suspended.proofs.MarkLemmas.{later_extends}
@@ -95,6 +103,42 @@ module _ (w : Setting) where
   unfolding places_from
   places_extend i q e = state_extends q e (terms_at w.terms (live_atoms (drop i w.places)))
 
+  -- the satisfiers that atoms of places give extend the bindings that what finds them extends
+  pub sats_extend : (i : ℕ) (found : Term → Option Bindings) (e : Bindings)
+      → ((t : Term) → AllExtend e (sat_if (found t))) → AllExtend e (sats_from w i found)
+  unfolding sats_from
+  sats_extend i found e h =
+      let ts = terms_at w.terms (live_atoms (drop i w.places)) in
+      all_join (λ t. sat_if (found t)) (EventExtends e) ts (all_from (λ t. AllExtend e (sat_if (found t))) h ts)
+
+  -- an atom that is matched extends the bindings
+  passing_extends : (f : AtomFilter) (a : Atom) (e : Bindings) (t : Term)
+      → AllExtend e (sat_if (match_passing w.terms f a t e))
+  passing_extends f a e t = by (passes w.terms f t) (match_atom a t e) (λ b h. ((atom_least a t e).sound b h).0)
+    where
+      by : (p : Bool) (o : Option Bindings) → ((b : Bindings) → o ≡ Some b → Extends e b)
+          → AllExtend e (sat_if (cond p o None))
+      by false o h = All-nil (EventExtends e)
+      by true None h = All-nil (EventExtends e)
+      by true (Some b) h = all_one (EventExtends e) (Sat b) (h b refl)
+
+  -- what is left of an atom that isn't filled extends the bindings
+  pub atom_extends : (n from : ℕ) (f : AtomFilter) (o : Option Atom) (e : Bindings)
+      → AllExtend e (atom_left w n from f o e)
+  atom_extends n from f None e = All-nil (EventExtends e)
+  atom_extends n from f (Some a) e =
+      All-append (EventExtends e) (sats_from w from (λ t. match_passing w.terms f a t e))
+      (by_axioms w n a (fill_goal a e) e) (sats_extend from (λ t. match_passing w.terms f a t e) e
+      (passing_extends f a e)) (by (fill_goal a e))
+    where
+      faulty : (is : List ℕ) (x : RunFault) → AllExtend e (fault_by is x)
+      faulty [] x = All-nil (EventExtends e)
+      faulty (i ∷ is) x = fault_extends e x
+
+      by : (r : Result Goal RunFault) → AllExtend e (by_axioms w n a r e)
+      by (Ok q) = axioms_extend n e 0 q
+      by (Err x) = faulty (w.code.axiom_rules a.name) x
+
   -- the conclusions of a head extend the goal's bindings
   pub head_extends : (o : Option Atom) (q : Goal) (e b : Bindings) → AllExtend e (head_concludes o q e b)
   head_extends None q e b = All-nil (EventExtends e)
@@ -144,6 +188,8 @@ module _ (w : Setting) where
             → AllExtend (stood w e (base_of v)) (left w e v)
         left_extends bound (One m event) fits l = one_extends event (stood w e m)
         left_extends bound (Fresh m n i) fits l = node_extends n (stood w e m) i
+        left_extends bound (Simple a) fits l =
+            atom_extends a.nest a.from a.filter (atom_at w.code a.node) (stood w e a.mark)
         left_extends bound (Search m n q at' k running) fits l =
             search_extends m n at' k (goal_of w.terms q) running
         left_extends bound (Conj m n k end outer here) fits l =

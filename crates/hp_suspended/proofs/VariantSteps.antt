@@ -1,5 +1,5 @@
 -- From a variant's parts to what is suspended, and back.
-use Rattle.std.proofs.Common.{◌≡◌, ℕ, ◌+◌, ◌<◌, ◌≤◌, List, length, max, refl, ap, sym, ◌∙◌, subst, Option, Vec, Box, Global, arith}
+use Rattle.std.proofs.Common.{◌≡◌, ℕ, ◌+◌, List, length, max, refl, ap, sym, ◌∙◌, subst, Option, Vec, Box, Global, arith}
 use Rattle.hp_syntax.specs.Terms.{Term}
 use Rattle.hp_eval.specs.declared.event.Event.{Event}
 use Rattle.hp_eval.specs.declared.goals.Goal.{Goal}
@@ -9,12 +9,12 @@ use Rattle.hp_suspended.specs.declared.suspended.Part.{Part}
 use Rattle.hp_suspended.specs.declared.suspended.Running.{Running}
 use Rattle.hp_suspended.specs.declared.suspended.Suspended.{Suspended}
 use Rattle.hp_suspended.specs.declared.suspended.Suspended.TheViews as made
-use Rattle.hp_suspended.specs.Answering.{GivesOver, GoesOn, Keeps, KeepsPair, Moves, PairFits, pair_left, pair_weight}
+use Rattle.hp_suspended.specs.Answering.{GivesOver, GoesOn, Keeps, KeepsPair, Moves, pair_left, pair_weight}
 use Rattle.hp_suspended.specs.Branching.{search_weight}
-use Rattle.hp_suspended.specs.Fitting.{Fits, base_of, weight, node_weight}
+use Rattle.hp_suspended.specs.Fitting.{base_of, weight, node_weight}
 use Rattle.hp_suspended.specs.Left.{left}
 use Rattle.hp_suspended.specs.SceneViews.{code_in}
-use Rattle.hp_suspended.specs.Views.{View, Conj, Disj, Search, running_view, view, views}
+use Rattle.hp_suspended.specs.Views.{Conj, Disj, Search, running_view, view, views}
 use Rattle.hp_suspended.proofs.GoingOn.{goes_through}
 use Rattle.hp_suspended.proofs.Shapes.{view_conj, view_disj, view_search}
 

@@ -8,7 +8,7 @@ use Rattle.hp_eval.specs.declared.event.Event.TheVariants as events
 use Rattle.hp_eval.specs.Events.{PlainEvent}
 use Rattle.hp_suspended.specs.Fitting.{Fits, AreExpressionsIn, TowerFits, base_of, weight, weights, node_weight}
 use Rattle.hp_suspended.specs.Settings.{Setting}
-use Rattle.hp_suspended.specs.Left.{Tower, On, left, tower, tower_left}
+use Rattle.hp_suspended.specs.Left.{On, left, tower, tower_left}
 use Rattle.hp_suspended.specs.Views.{View, Views}
 use Rattle.hp_suspended.specs.Views as views
 use Rattle.hp_syntax.specs.Terms.{Term}
@@ -101,9 +101,15 @@ pub record KeepsPair (c : CodeView) (cells n m end : ℕ) (new : Slotted) (k k' 
   pub fits : PairFits c cells m end k' (length new.trail) outer' here'
   pub lighter : pair_weight (length c.nodes) n k' outer' here' ≤ pair_weight (length c.nodes) n k outer here
 
--- what is suspended was begun
+-- what is suspended was looked at
+abbrev pub IsLookedAt : View → Type 0
+IsLookedAt (views.Fresh m n i) = ⊥
+IsLookedAt _ = Unit {0}
+
+-- it was begun: no places are left that are gone along without a goal
 abbrev pub IsBegun : View → Type 0
 IsBegun (views.Fresh m n i) = ⊥
+IsBegun (views.Simple a) = ⊥
 IsBegun _ = Unit {0}
 
 -- the bindings are those of the start at the end

@@ -1,5 +1,5 @@
 -- What is suspended as it begins, and what steps without a recursion answer.
-use Rattle.std.specs.Prelude.{◌≡◌, ℕ, zero, suc, ◌+◌, ◌<◌, ◌≤◌, ◌++◌, List, [], ◌∷◌, Option, Some, None, Result, Ok, Err, length, slice_get}
+use Rattle.std.specs.Prelude.{◌≡◌, ℕ, zero, suc, ◌+◌, ◌<◌, ◌≤◌, ◌++◌, List, Option, Some, None, Result, Ok, Err, length, slice_get}
 use Rattle.hp_syntax.specs.Terms.{Term}
 use Rattle.hp_syntax.specs.Values.{Bindings}
 use Rattle.hp_syntax.specs.declared.fault.RunFault.{RunFault}
@@ -14,7 +14,7 @@ use Rattle.hp_eval.specs.GoalViews.{GoalBelow, goal_of}
 use Rattle.hp_eval.specs.Growth.{Grows}
 use Rattle.hp_eval.specs.Slotted.{Slotted, bindings_of}
 use Rattle.hp_suspended.specs.declared.scene.Scene.{Scene}
-use Rattle.hp_suspended.specs.Answering.{Gives, IsBegun}
+use Rattle.hp_suspended.specs.Answering.{IsBegun, IsLookedAt}
 use Rattle.hp_suspended.specs.Fitting.{Fits, RunningFits, base_of, weight, running_weight, node_weight}
 use Rattle.hp_suspended.specs.Left.{left, one_event, running_left}
 use Rattle.hp_suspended.specs.SceneViews.{setting_of, code_in}
@@ -24,7 +24,7 @@ use Rattle.hp_suspended.specs.Views.{Idle, Level, One, RunningView, Search, View
 -- the expression of a node as it begins
 pub record Begins (s : Scene) (cells : List Term) (e : Slotted) (m n i : ℕ) (v : View) : Type 0 where
   pub start : base_of v ≡ m
-  pub begun : IsBegun v
+  pub looked : IsLookedAt v
   pub fits : Fits (code_in s) (length cells) m v
   pub same : (terms : List Term) → Grows cells terms
       → left (setting_of s terms) e v ≡ node_events (setting_of s terms) n i (bindings_of terms e)
@@ -38,10 +38,12 @@ BeginsAt s m n i v = (cells : List Term) (e : Slotted) → length e.trail ≡ m 
 abbrev pub DoesAt : CodeView → ℕ → Operation → Type 0
 DoesAt c i op = (l : Laid) × (slice_get c.nodes i ≡ Some l) × (l.op ≡ op)
 
--- an atom that is filled begins as the search of its goal, whose cells are below a count, and else as the fault
-abbrev pub BeginsFilled : ℕ → ℕ → ℕ → View → (Goal → plain.Goal) → Result plain.Goal RunFault → Type 0
-BeginsFilled cells m n v stands (Ok p) = (q : Goal) × (v ≡ Search m n q 0 0 Idle) × GoalBelow cells q × (p ≡ stands q)
-BeginsFilled cells m n v stands (Err f) = v ≡ One m (events.Fault f)
+-- an atom that is filled begins as the search of its goal, whose cells are below a count, from a place on, and else as
+-- the fault
+abbrev pub BeginsFilled : ℕ → ℕ → ℕ → ℕ → View → (Goal → plain.Goal) → Result plain.Goal RunFault → Type 0
+BeginsFilled cells m n from v stands (Ok p) =
+    (q : Goal) × (v ≡ Search m n q from 0 Idle) × GoalBelow cells q × (p ≡ stands q)
+BeginsFilled cells m n from v stands (Err f) = v ≡ One m (events.Fault f)
 
 -- over any terms that those at the end of a call begin, the event is all that is met
 abbrev pub GivesTerms : List Term → Slotted → Event → (List Term → List PlainEvent) → Type 0

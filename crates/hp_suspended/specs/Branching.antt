@@ -1,5 +1,5 @@
 -- An axiom that is looked at, and what it leaves; a negation that is decided event by event.
-use Rattle.std.specs.Prelude.{◌≡◌, ℕ, ◌+◌, ◌-◌, ◌*◌, ◌≤◌, Bool, cond, max, List, [], ◌∷◌, Option, Some, None, length, slice_get}
+use Rattle.std.specs.Prelude.{◌≡◌, ℕ, ◌+◌, ◌-◌, ◌*◌, ◌≤◌, Bool, cond, max, List, Option, Some, None, length, slice_get}
 use Rattle.hp_syntax.specs.Values.{Bindings}
 use Rattle.hp_syntax.specs.Goals.{Goal}
 use Rattle.hp_syntax.specs.Events as plain
@@ -14,7 +14,7 @@ use Rattle.hp_eval.specs.Growth.{Grows}
 use Rattle.hp_eval.specs.Slotted.{Slotted, undone}
 use Rattle.hp_suspended.specs.declared.scene.Scene.{Scene}
 use Rattle.hp_suspended.specs.Fitting.{RunningFits, running_weight, level_weight, base_of}
-use Rattle.hp_suspended.specs.Left.{left, stood, running_left}
+use Rattle.hp_suspended.specs.Left.{left, stood}
 use Rattle.hp_suspended.specs.Nodes.{head_at}
 use Rattle.hp_suspended.specs.SceneViews.{setting_of}
 use Rattle.hp_suspended.specs.Settings.{Setting, node_events, first_between, head_concludes, first_of}

@@ -4,8 +4,9 @@ use Rattle.hp_code.specs.CodeViews.{CodeView}
 use Rattle.hp_nodes.specs.Trees.{sizes, trees_between}
 use Rattle.hp_eval.specs.GoalViews.{GoalBelow}
 use Rattle.hp_eval.specs.Slotted.{AreBelow}
-use Rattle.hp_suspended.specs.Nodes.{expression_at, expressions_in, clauses_in, head_at}
-use Rattle.hp_suspended.specs.Views.{View, One, Fresh, Search, Conj, Disj, RunningView, Idle, Under, Views, Bare, Above}
+use Rattle.hp_suspended.specs.Filtered.{FilterBelow}
+use Rattle.hp_suspended.specs.Nodes.{atom_at, expression_at, expressions_in, clauses_in, head_at}
+use Rattle.hp_suspended.specs.Views.{View, One, Fresh, Simple, Search, Conj, Disj, RunningView, Idle, Under, Views, Bare, Above}
 
 -- the node is one of an expression
 abbrev pub IsExpressionAt : CodeView → ℕ → Type 0
@@ -31,10 +32,15 @@ pub record AreClausesIn (c : CodeView) (i to : ℕ) : Type 0 where
 abbrev pub IsAxiomAt : CodeView → ℕ → Type 0
 IsAxiomAt c i = is_some (head_at c i) ≡ true
 
+-- the node is an atom's
+abbrev pub IsAtomAt : CodeView → ℕ → Type 0
+IsAtomAt c i = is_some (atom_at c i) ≡ true
+
 -- how many bindings stood at the start
 abbrev pub base_of : View → ℕ
 base_of (One m event) = m
 base_of (Fresh m n i) = m
+base_of (Simple a) = a.mark
 base_of (Search m n q at' k running) = m
 base_of (Conj m n k end outer here) = m
 base_of (Disj m n k end here) = m
@@ -45,6 +51,7 @@ module _ (c : CodeView) (cells : ℕ) where
     pub Fits : ℕ → View → Type 0
     Fits bound (One m event) = m ≤ bound
     Fits bound (Fresh m n i) = (bound ≡ m) × IsExpressionAt c i
+    Fits bound (Simple a) = (a.mark ≤ bound) × IsAtomAt c a.node × FilterBelow cells a.filter
     Fits bound (Search m n q at' k running) = (m ≤ bound) × GoalBelow cells q × RunningFits n running
     Fits bound (Conj m n k end outer here) =
         AreExpressionsIn c k end × TowerFits end m (base_of here) outer × Fits bound here
@@ -78,6 +85,7 @@ module _ (nodes : ℕ) where
     pub weight : View → ℕ
     weight (One m event) = 0
     weight (Fresh m n i) = node_weight nodes n i
+    weight (Simple a) = 3 + level_weight nodes a.nest
     weight (Search m n q at' k running) = 2 + max (running_weight running) (level_weight nodes n)
     weight (Conj m n k end outer here) = 2 + max (max (weight here) (node_weight nodes n k)) (weights n outer)
     weight (Disj m n k end here) = 2 + max (weight here) (node_weight nodes n k)

@@ -1,5 +1,5 @@
 -- What is left of what is suspended, as a list of events.
-use Rattle.std.specs.Prelude.{ℕ, ◌-◌, ◌++◌, List, [], ◌∷◌, length}
+use Rattle.std.specs.Prelude.{ℕ, ◌-◌, ◌++◌, List, [], ◌∷◌}
 use Rattle.hp_syntax.specs.Values.{Bindings}
 use Rattle.hp_syntax.specs.Goals.{Goal}
 use Rattle.hp_syntax.specs.Events.{Event, Sat, Cut, Fault, through}
@@ -7,9 +7,10 @@ use Rattle.hp_eval.specs.declared.event.Event as public_event
 use Rattle.hp_eval.specs.declared.event.Event.TheVariants as events
 use Rattle.hp_eval.specs.GoalViews.{goal_of}
 use Rattle.hp_eval.specs.Slotted.{Slotted, undone, bindings_of}
-use Rattle.hp_suspended.specs.Nodes.{head_at}
+use Rattle.hp_suspended.specs.Filtered.{atom_left}
+use Rattle.hp_suspended.specs.Nodes.{atom_at, head_at}
 use Rattle.hp_suspended.specs.Settings.{Setting, node_events, all_between, any_between, first_between, places_from, axioms_from, head_concludes, first_of}
-use Rattle.hp_suspended.specs.Views.{View, One, Fresh, Search, Conj, Disj, RunningView, Idle, Under, Views, Bare, Above}
+use Rattle.hp_suspended.specs.Views.{View, One, Fresh, Simple, Search, Conj, Disj, RunningView, Idle, Under, Views, Bare, Above}
 
 -- an event under bindings, or none
 abbrev pub one_event : public_event.Event → Bindings → List Event
@@ -37,6 +38,7 @@ module _ (w : Setting) where
     pub left : Slotted → View → List Event
     left e (One m event) = one_event event (stood e m)
     left e (Fresh m n i) = node_events w n i (stood e m)
+    left e (Simple a) = atom_left w a.nest a.from a.filter (atom_at w.code a.node) (stood e a.mark)
     left e (Search m n q at' k running) =
         places_from w at' (goal_of w.terms q) (stood e m)
         ++ (running_left n (goal_of w.terms q) (stood e m) running

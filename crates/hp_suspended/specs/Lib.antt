@@ -1,5 +1,6 @@
 pub mod Nodes
 pub mod Settings
+pub mod Filtered
 pub mod Views
 pub mod Left
 pub mod Fitting
@@ -9,3 +10,4 @@ pub mod Turning
 pub mod Branching
 pub mod Beginning
 pub mod PlaceSteps
+pub mod SimpleAtoms

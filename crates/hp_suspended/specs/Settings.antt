@@ -1,14 +1,14 @@
 -- What is looked for, and where: a code, the terms that cells name, and the places of atoms; and what is met at nodes.
-use Rattle.std.specs.Prelude.{ℕ, zero, suc, ◌++◌, List, [], ◌∷◌, drop, Option, Some, None, flat_map}
+use Rattle.std.specs.Prelude.{ℕ, zero, suc, List, [], ◌∷◌, drop, Option, Some, None, flat_map}
 use Rattle.hp_syntax.specs.Syntax.{Atom, Axiom, Clause, Expression, Expressions}
 use Rattle.hp_syntax.specs.Terms.{Term}
 use Rattle.hp_syntax.specs.Values.{Bindings}
 use Rattle.hp_syntax.specs.Goals.{Goal}
-use Rattle.hp_syntax.specs.Events.{Event, State, Below, Sat, in_place, axioms_of, atom_events, axiom_events, chosen, chosen_events, concluded, events_of_all, events_of_any, sat, state_events, through}
+use Rattle.hp_syntax.specs.Events.{Event, State, Below, axioms_of, atom_events, axiom_events, chosen, chosen_events, concluded, events_of_all, events_of_any, sat, state_events}
 use Rattle.hp_code.specs.CodeViews.{CodeView, rules_in}
 use Rattle.hp_laws.specs.RulesByName.{concluding}
 use Rattle.hp_world.specs.Stages.{live_atoms, terms_at}
-use Rattle.hp_suspended.specs.Nodes.{expression_at, expressions_in, clauses_in, head_at}
+use Rattle.hp_suspended.specs.Nodes.{expression_at, expressions_in, clauses_in}
 
 pub record Setting : Type 0 where
   pub code : CodeView

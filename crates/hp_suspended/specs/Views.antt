@@ -6,6 +6,7 @@ use Rattle.hp_eval.specs.Slotted.{Slotted}
 use Rattle.hp_suspended.specs.declared.suspended.Suspended.{Suspended}
 use Rattle.hp_suspended.specs.declared.suspended.Part.{Part}
 use Rattle.hp_suspended.specs.declared.suspended.Running.{Running}
+use Rattle.hp_suspended.specs.declared.suspended.SimpleAtom.{SimpleAtom}
 use Rattle.hp_suspended.specs.declared.suspended.Suspended.TheOpen.{Suspended-F, Part-F, Running-F}
 use Rattle.hp_suspended.specs.declared.suspended.Suspended.TheOpen as layer
 use Rattle.hp_suspended.specs.declared.suspended.Suspended.TheFolds.{fold-Suspended, fold-Part, fold-Running}
@@ -16,6 +17,7 @@ mutual
   pub data View : Type 0 where
     One : (mark : ℕ) → (event : public_event.Event) → View
     Fresh : (mark nest node : ℕ) → View
+    Simple : (atom : SimpleAtom) → View
     Search : (mark nest : ℕ) → (goal : Goal) → (at' rule : ℕ) → (running : RunningView) → View
     Conj : (mark nest next end : ℕ) → (outer : Views) → (here : View) → View
     Disj : (mark nest next end : ℕ) → (here : View) → View
@@ -56,6 +58,7 @@ running_of (Some b) =
 abbrev pub view_layer : Suspended-F View Storey Level → View
 view_layer (layer.One m e) = One m e
 view_layer (layer.Fresh m n i) = Fresh m n i
+view_layer (layer.Simple a) = Simple a
 view_layer (layer.Search m n q i r running) = Search m n q i r (running_of running)
 view_layer (layer.Conj m n k end outer here) = Conj m n k end (onto Bare outer.items) here.value
 view_layer (layer.Disj m n k end here) = Disj m n k end here.value

@@ -19,7 +19,8 @@ ghost use Rattle.hp_syntax.specs.Values.{value};
 ghost use Rattle.hp_syntax.specs.Views.{pattern_of, atom_of};
 
 use crate::scene::{Scene, node_at};
-use crate::suspended::{Running, Suspended};
+use crate::simple::filter_of;
+use crate::suspended::{Running, SimpleAtom, Suspended};
 use hp_cells::{Cells, View};
 use hp_code::Op;
 use hp_eval::{EvalStop, Event, Goal, Slots, conclude, fill_goal, meet, start_goal, value};
@@ -208,17 +209,18 @@ pub(crate) fn rule_turn(
     Ok(None)
 }
 
-// An atom as it begins, or the fault of filling it.
-fn begun_atom(
+/// An atom that is filled, from a place on, or the fault of filling it.
+pub(crate) fn begun_atom(
     mark: usize,
     nest: u32,
+    from: usize,
     atom: &AtomPat,
     alloc: Global,
     cells: &mut Cells,
     slots: &Slots,
 ) -> Result<Suspended, AllocError>
     requires slots { AreBelow (length cells.old) slots.now }
-    ensures begins { IfOk result (λ s. BeginsFilled (length cells.new) mark nest (view s) (goal_of cells.new)
+    ensures begins { IfOk result (λ s. BeginsFilled (length cells.new) mark nest from (view s) (goal_of cells.new)
         (fill_goal (atom_of atom.now) (bindings_of cells.old slots.now))) }
     ensures cells { Grows cells.old cells.new }
 {
@@ -227,7 +229,7 @@ fn begun_atom(
             mark,
             nest,
             goal,
-            at: 0,
+            at: from,
             rule: 0,
             running: None,
         }),
@@ -319,7 +321,16 @@ pub(crate) fn begun(
     ensures cells { Grows cells.old cells.new }
 {
     match &node_at(node, scene).op {
-        Op::Atom(atom) => begun_atom(mark, nest, atom, alloc, cells, slots),
+        Op::Atom(atom) => match filter_of(atom, cells, slots) {
+            Some(filter) => Ok(Suspended::Simple(SimpleAtom {
+                mark,
+                nest,
+                node,
+                from: 0,
+                filter,
+            })),
+            None => begun_atom(mark, nest, 0, atom, alloc, cells, slots),
+        },
         Op::And => begun_all(mark, nest, node, alloc, scene),
         Op::Or => begun_any(mark, nest, node, alloc, scene),
         _ => Ok(Suspended::One {

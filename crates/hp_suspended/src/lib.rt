@@ -6,6 +6,7 @@ mod known;
 mod places;
 mod scene;
 mod search;
+mod simple;
 mod suspended;
 
 pub use scene::Scene;

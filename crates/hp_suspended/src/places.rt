@@ -16,11 +16,18 @@ use hp_cells::{Cell, Cells};
 use hp_eval::{Event, Goal, Slots, match_goal};
 use hp_world::World;
 
-// A part of a goal that is known by its cell; the arguments are the parts from 1 on.
+/// A part of an atom that is known by its cell; the arguments are the parts from 1 on.
 #[derive(Clone, Copy)]
-struct KnownPart {
-    number: usize,
-    cell: Cell,
+pub struct KnownPart {
+    pub(crate) number: usize,
+    pub(crate) cell: Cell,
+}
+
+/// What an atom has that may be matched: this name, and this part where there is one, by their cells.
+#[derive(Clone, Copy)]
+pub struct AtomFilter {
+    pub(crate) name: Cell,
+    pub(crate) known: Option<KnownPart>,
 }
 
 // The first argument of a goal that is known.

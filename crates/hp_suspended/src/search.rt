@@ -10,7 +10,7 @@ ghost use Rattle.hp_eval.specs.GoalViews.{goal_of, GoalBelow};
 ghost use Rattle.hp_eval.specs.Slotted.{bindings_of};
 ghost use Rattle.hp_suspended.specs.Answering.{EndsAt, EndsAtEnd, GivesOver, GoesOn, GoesOnOver, IsBegun, Keeps, KeepsPair, LeavesOver, MayGoOn, Moves, PairFits, ShorterOver, pair_left};
 ghost use Rattle.hp_suspended.specs.Beginning.{IsBegunAs};
-ghost use Rattle.hp_suspended.specs.Branching.{IsLastingAt, IsNextBranch, IsNoEnd, KeepsAxiom, Settles, axiom_left, branch_left, counters, search_turns, under};
+ghost use Rattle.hp_suspended.specs.Branching.{IsLastingAt, IsNextBranch, IsNoEnd, KeepsAxiom, axiom_left, branch_left, counters, search_turns, under};
 ghost use Rattle.hp_suspended.specs.Fitting.{Fits, IsExpressionAt, RunningFits, base_of};
 ghost use Rattle.hp_suspended.specs.Left.{left};
 ghost use Rattle.hp_suspended.specs.SceneViews.{IsReady, code_in};
@@ -31,14 +31,6 @@ use hp_code::Op;
 use hp_eval::{Event, Goal, Slots};
 use std::alloc::{AllocError, Global};
 use std::mem;
-
-// The bindings, the axiom levels and the node with which an expression begins.
-#[derive(Clone, Copy)]
-struct Start {
-    mark: usize,
-    nest: u32,
-    node: usize,
-}
 
 // Puts the part that has given a Sat upon the others, and looks at the next one.
 fn push_part(
@@ -143,7 +135,8 @@ impl Suspended {
         }
     }
 
-    // Begins an expression that wasn't looked at: its event or its end, where it gives one at most.
+    // Begins an expression that wasn't looked at: its event or its end, where it gives one at most. An atom that isn't
+    // filled has its events by places here.
     #[cycle(search)]
     fn begin(
         &mut self,
@@ -166,7 +159,7 @@ impl Suspended {
         ensures moves { Moves (base_of (view self.old)) cells.old cells.new slots.old slots.new }
     {
         let Some(start) = self.unbegun() else {
-            return Ok(None);
+            return self.scan(alloc, scene, cells, slots);
         };
         match once(
             start.mark, start.nest, start.node, alloc, scene, cells, slots,
@@ -179,7 +172,7 @@ impl Suspended {
                 *self = begun(
                     start.mark, start.nest, start.node, alloc, scene, cells, slots,
                 )?;
-                Ok(None)
+                self.scan(alloc, scene, cells, slots)
             }
         }
     }
@@ -214,6 +207,7 @@ impl Suspended {
                 nest: _,
                 node: _,
             } => unreachable!(),
+            Suspended::Simple(_) => unreachable!(),
             Suspended::Search {
                 mark,
                 nest,
@@ -249,106 +243,6 @@ impl Suspended {
             } => {
                 let event = disj_next(*mark, *nest, next, *end, here, alloc, scene, cells, slots)?;
                 Ok(event)
-            }
-        }
-    }
-
-    // Nothing is left behind this start.
-    pub fn end(&mut self, mark: usize)
-        ensures { view self.new ≡ names.One mark events.End }
-    {
-        *self = Suspended::One {
-            mark,
-            event: Event::End,
-        };
-    }
-
-    // What an expression begins with that wasn't looked at.
-    fn unbegun(&self) -> Option<Start>
-        ensures some { IfSome result (λ start. view self.now ≡ names.Fresh start.mark start.nest start.node) }
-        ensures none { IfNone result (IsBegun (view self.now)) }
-    {
-        match self {
-            Suspended::Fresh { mark, nest, node } => Some(Start {
-                mark: *mark,
-                nest: *nest,
-                node: *node,
-            }),
-            Suspended::One { mark: _, event: _ } => None,
-            Suspended::Search {
-                mark: _,
-                nest: _,
-                goal: _,
-                at: _,
-                rule: _,
-                running: _,
-            } => None,
-            Suspended::Conj {
-                mark: _,
-                nest: _,
-                next: _,
-                end: _,
-                outer: _,
-                here: _,
-            } => None,
-            Suspended::Disj {
-                mark: _,
-                nest: _,
-                next: _,
-                end: _,
-                here: _,
-            } => None,
-        }
-    }
-
-    // The number of bindings that stood at the start.
-    fn mark(&self) -> usize
-        ensures { result ≡ base_of (view self.now) }
-    {
-        match self {
-            Suspended::One { mark, event: _ } => *mark,
-            Suspended::Fresh {
-                mark,
-                nest: _,
-                node: _,
-            } => *mark,
-            Suspended::Search {
-                mark,
-                nest: _,
-                goal: _,
-                at: _,
-                rule: _,
-                running: _,
-            } => *mark,
-            Suspended::Conj {
-                mark,
-                nest: _,
-                next: _,
-                end: _,
-                outer: _,
-                here: _,
-            } => *mark,
-            Suspended::Disj {
-                mark,
-                nest: _,
-                next: _,
-                end: _,
-                here: _,
-            } => *mark,
-        }
-    }
-
-    // Behind a fault and at the end nothing is left, and nothing is bound above the start.
-    fn settle(&mut self, event: Event, slots: &mut Slots)
-        requires start { base_of (view self.old) ≤ length slots.old.trail }
-        ensures { Settles event (view self.old) (view self.new) slots.old slots.new }
-    {
-        match event {
-            Event::Sat | Event::Cut => {}
-            Event::Fault(_) | Event::End => {
-                let mark = self.mark();
-                slots.undo_to(mark);
-                self.end(mark);
             }
         }
     }

@@ -1,6 +1,13 @@
 //! Satisfiers that are suspended.
-ghost use Rattle.std.specs.Prelude.{◌≡◌};
+ghost use Rattle.std.specs.Prelude.{◌≡◌, ◌≤◌, IfSome, IfNone, length};
+ghost use Rattle.hp_eval.specs.declared.event.Event.TheVariants as events;
+ghost use Rattle.hp_suspended.specs.Answering.{IsBegun, IsLookedAt};
+ghost use Rattle.hp_suspended.specs.Branching.{Settles};
+ghost use Rattle.hp_suspended.specs.Fitting.{base_of};
+ghost use Rattle.hp_suspended.specs.Views as names;
+ghost use Rattle.hp_suspended.specs.Views.{view};
 
+use crate::places::AtomFilter;
 use crate::scene::Scene;
 use hp_eval::{Event, Goal, Slots};
 use std::alloc::{AllocError, Global};
@@ -19,6 +26,8 @@ pub enum Suspended {
         nest: u32,
         node: usize,
     },
+    /// Those of an atom that isn't filled: by the atoms of places, matched over the slots, and then by all axioms.
+    Simple(SimpleAtom),
     /// Those of an atom: by the atoms from a place on, by the axiom that is looked at, and by those from a number on.
     Search {
         mark: usize,
@@ -48,6 +57,17 @@ pub enum Suspended {
     },
 }
 
+/// An atom whose places are gone along: with what it began, its node, the place that comes next, and what the atoms have
+/// that it may match.
+#[derive(Clone, Copy)]
+pub struct SimpleAtom {
+    pub(crate) mark: usize,
+    pub(crate) nest: u32,
+    pub(crate) node: usize,
+    pub(crate) from: usize,
+    pub(crate) filter: AtomFilter,
+}
+
 /// A part of a conjunction that has given a Sat, and the node of the part behind it.
 #[cycle(events)]
 pub struct Part {
@@ -66,6 +86,14 @@ pub struct Running {
     pub(crate) here: Suspended,
 }
 
+/// The bindings, the axiom levels and the node with which an expression begins.
+#[derive(Clone, Copy)]
+pub struct Start {
+    pub(crate) mark: usize,
+    pub(crate) nest: u32,
+    pub(crate) node: usize,
+}
+
 impl Drop for Suspended {
     #[cycle(dropped)]
     fn drop(self) {
@@ -76,6 +104,7 @@ impl Drop for Suspended {
                 nest: _,
                 node: _,
             } => {}
+            Suspended::Simple(_) => {}
             Suspended::Search {
                 mark: _,
                 nest: _,
@@ -105,6 +134,149 @@ impl Drop for Suspended {
                 end: _,
                 here,
             } => drop(here),
+        }
+    }
+}
+
+impl Suspended {
+    /// Nothing is left behind this start.
+    pub fn end(&mut self, mark: usize)
+        ensures { view self.new ≡ names.One mark events.End }
+    {
+        *self = Suspended::One {
+            mark,
+            event: Event::End,
+        };
+    }
+
+    /// What an expression begins with that wasn't looked at.
+    pub(crate) fn unbegun(&self) -> Option<Start>
+        ensures some { IfSome result (λ start. view self.now ≡ names.Fresh start.mark start.nest start.node) }
+        ensures none { IfNone result (IsLookedAt (view self.now)) }
+    {
+        match self {
+            Suspended::Fresh { mark, nest, node } => Some(Start {
+                mark: *mark,
+                nest: *nest,
+                node: *node,
+            }),
+            Suspended::One { mark: _, event: _ } => None,
+            Suspended::Simple(_) => None,
+            Suspended::Search {
+                mark: _,
+                nest: _,
+                goal: _,
+                at: _,
+                rule: _,
+                running: _,
+            } => None,
+            Suspended::Conj {
+                mark: _,
+                nest: _,
+                next: _,
+                end: _,
+                outer: _,
+                here: _,
+            } => None,
+            Suspended::Disj {
+                mark: _,
+                nest: _,
+                next: _,
+                end: _,
+                here: _,
+            } => None,
+        }
+    }
+
+    /// The atom whose places are gone along.
+    pub(crate) fn simple(&self) -> Option<SimpleAtom>
+        ensures some { IfSome result (λ atom. view self.now ≡ names.Simple atom) }
+        ensures none { IfNone result (IsLookedAt (view self.now) → IsBegun (view self.now)) }
+    {
+        match self {
+            Suspended::Simple(atom) => Some(*atom),
+            Suspended::One { mark: _, event: _ } => None,
+            Suspended::Fresh {
+                mark: _,
+                nest: _,
+                node: _,
+            } => None,
+            Suspended::Search {
+                mark: _,
+                nest: _,
+                goal: _,
+                at: _,
+                rule: _,
+                running: _,
+            } => None,
+            Suspended::Conj {
+                mark: _,
+                nest: _,
+                next: _,
+                end: _,
+                outer: _,
+                here: _,
+            } => None,
+            Suspended::Disj {
+                mark: _,
+                nest: _,
+                next: _,
+                end: _,
+                here: _,
+            } => None,
+        }
+    }
+
+    // The number of bindings that stood at the start.
+    fn mark(&self) -> usize
+        ensures { result ≡ base_of (view self.now) }
+    {
+        match self {
+            Suspended::One { mark, event: _ } => *mark,
+            Suspended::Fresh {
+                mark,
+                nest: _,
+                node: _,
+            } => *mark,
+            Suspended::Simple(atom) => atom.mark,
+            Suspended::Search {
+                mark,
+                nest: _,
+                goal: _,
+                at: _,
+                rule: _,
+                running: _,
+            } => *mark,
+            Suspended::Conj {
+                mark,
+                nest: _,
+                next: _,
+                end: _,
+                outer: _,
+                here: _,
+            } => *mark,
+            Suspended::Disj {
+                mark,
+                nest: _,
+                next: _,
+                end: _,
+                here: _,
+            } => *mark,
+        }
+    }
+
+    /// Behind a fault and at the end nothing is left, and nothing is bound above the start.
+    pub(crate) fn settle(&mut self, event: Event, slots: &mut Slots)
+        requires start { base_of (view self.old) ≤ length slots.old.trail }
+        ensures { Settles event (view self.old) (view self.new) slots.old slots.new }
+    {
+        match event {
+            Event::Sat | Event::Cut => {}
+            Event::Fault(_) | Event::End => {
+                let mark = self.mark();
+                slots.undo_to(mark);
+                self.end(mark);
+            }
         }
     }
 }

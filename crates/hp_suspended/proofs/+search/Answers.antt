@@ -1,11 +1,11 @@
-use Rattle.std.proofs.Common.{ap, sym, ◌∙◌, arith, length, ◌*◌, ◌+◌, ◌<◌, ◌≤◌, ℕ, ◌-◌, refl, subst}
+use Rattle.std.proofs.Common.{ap, sym, ◌∙◌, arith, length, ◌+◌, ◌<◌, ℕ, ◌-◌, refl, subst}
 use Rattle.hp_eval.specs.declared.event.Event.TheVariants.{End}
 use Rattle.hp_suspended.specs.SceneViews.{code_in, setting_of}
 use Rattle.hp_suspended.specs.Views.{view, Disj, views, Level, RunningView, Search, level_at, level_of, running_view}
-use Rattle.hp_suspended.proofs.CallLemmas.{ready_moved, moves_on, atoms_grow, knows_grow, moves_none}
+use Rattle.hp_suspended.proofs.CallLemmas.{ready_grows, ready_moved, moves_on, atoms_grow, knows_grow, moves_none}
 use Rattle.hp_suspended.proofs.GoingOn.{goes_on, may_go_on}
 use Rattle.hp_suspended.proofs.NextSteps.{both_move, start_within, settled_ends, settled_moves, settled_keeps}
-use Rattle.hp_suspended.proofs.Shapes.{view_fresh, level_is}
+use Rattle.hp_suspended.proofs.Shapes.{view_fresh, view_simple, level_is}
 use Rattle.hp_suspended.proofs.OneSteps.{one_within, one_gives, one_keeps, one_start, one_moves}
 use Rattle.hp_suspended.proofs.VariantSteps.{conj_was, conj_weighs, conj_gives, conj_keeps, conj_start, conj_call_moves, disj_was, disj_weighs, disj_gives, disj_keeps, disj_start, disj_call_moves, search_was, search_weighs, search_gives, search_keeps, search_start, search_call_moves}
 use Rattle.hp_suspended.proofs.ConjTurns.{conj_moves, cut_gives, fault_gives, here_keeps, keeps_pair_on, pair_rises, popped_keeps, popped_same, pushed_keeps, pushed_same, pair_goes_on, sat_gives}
@@ -17,7 +17,7 @@ use Rattle.hp_suspended.proofs.TurnCounts.{turns_fall}
 use Rattle.hp_suspended.proofs.+search.Goals as goal
 use Rattle.hp_eval.specs.GoalViews.{goal_of}
 use Rattle.hp_eval.specs.Slotted.{bindings_of}
-use Rattle.hp_eval.proofs.GrowthLemmas.{grows_length, grows_on, grows_self}
+use Rattle.hp_eval.proofs.GrowthLemmas.{below_grows, grows_length, grows_on, grows_self}
 use Rattle.hp_suspended.specs.Branching.{axiom_left, branch_left, search_turns, search_weight, under, counters}
 use Rattle.hp_suspended.specs.Fitting.{RunningFits}
 use Rattle.hp_suspended.specs.Left.{left}
@@ -893,6 +893,12 @@ suspended::Suspended::step-unreachable-requires t c =
     let i = c.in-Fresh in
     rw (ap view i.is ∙ view_fresh i.mark i.nest i.node) at c.requires.begun
 
+pub suspended::Suspended::step-unreachable-requires-in-Simple :
+    goal.suspended::Suspended::step-unreachable-requires-in-Simple
+suspended::Suspended::step-unreachable-requires-in-Simple t c =
+    let i = c.in-Simple in
+    rw (ap view i.is ∙ view_simple i.field-0) at c.requires.begun
+
 pub suspended::Suspended::step-search_next-requires : goal.suspended::Suspended::step-search_next-requires
 suspended::Suspended::step-search_next-requires t c =
     let a = c.args in
@@ -1112,6 +1118,15 @@ suspended::Suspended::step-returns-in_ok-event-in-Disj-clause-moves t c =
     i.mark-is i.nest-is i.next-is i.end-is i.here-is c.deref_mut-in-Disj.result.now c.deref_mut-in-Disj.ensures.value
     a.scene.now c.in_ok-event-in-Disj.event c.disj_next.new.cells a.slots.now
     c.disj_next.new.slots c.disj_next.new.next i.here a.cells.now c.in_ok-event-in-Disj.ensures.moves
+
+pub suspended::Suspended::begin-scan-requires-in-None-clause-ready :
+    goal.suspended::Suspended::begin-scan-requires-in-None-clause-ready
+suspended::Suspended::begin-scan-requires-in-None-clause-ready t c =
+    let a = c.args in
+    let n = c.once.new in
+    ready_grows a.scene.now n.cells c.begun.new.cells c.begun.ensures.cells n.slots n.slots
+    (ready_moved a.scene.now _ a.cells.now n.cells a.slots.now n.slots c.requires.ready c.once.ensures.moves)
+    (below_grows n.cells c.begun.new.cells c.begun.ensures.cells n.slots c.once.ensures.moves.below)
 
 pub suspended::Suspended::begin-begun-requires-clause-ready :
     goal.suspended::Suspended::begin-begun-requires-clause-ready

@@ -1,16 +1,29 @@
-use Rattle.std.proofs.Common.{ap, subst}
+use Rattle.std.proofs.Common.{ap, refl, subst, sym}
 use Rattle.std.proofs.lemmas.Result.{IfOk-weaker}
 use Rattle.hp_nodes.specs.NodeViews.{laid_of, operation_of}
 use Rattle.hp_syntax.specs.Views.{atom_of}
+use Rattle.hp_eval.proofs.GrowthLemmas.{grows_self}
+use Rattle.hp_suspended.specs.Beginning.{Begins}
 use Rattle.hp_suspended.specs.Branching.{MayLast}
 use Rattle.hp_suspended.specs.SceneViews.{setting_of}
 use Rattle.hp_suspended.specs.Views.{view}
-use Rattle.hp_suspended.proofs.NodeBegins.{begins_filled, no_other}
+use Rattle.hp_suspended.proofs.NodeBegins.{begins_filled, begins_simple, no_other}
 use Rattle.hp_suspended.proofs.NodeReadings.{node_is_expression}
+use Rattle.hp_suspended.proofs.Shapes.{view_simple}
 use Rattle.hp_suspended.proofs.begins.begun.Goals as goal
 
-pub returns-in-Atom-clause-begins : goal.returns-in-Atom-clause-begins
-returns-in-Atom-clause-begins c =
+pub returns-in-Some-clause-begins : goal.returns-in-Some-clause-begins
+returns-in-Some-clause-begins c =
+    let s = c.args.scene.now in
+    let cells = c.args.cells.now in
+    subst (Begins s cells c.args.slots.now c.args.mark c.args.nest c.args.node) (sym (view_simple _))
+    (begins_simple s s.code.now.kept c.args.mark c.args.nest c.args.node c.requires.node
+    (laid_of c.node_at.result.now) c.node_at.ensures.is (atom_of c.in-Atom.atom) (ap operation_of c.in-Atom.is)
+    cells cells (grows_self cells) c.args.slots.now c.requires.ready.bindings c.requires.mark c.in-Atom.atom refl
+    c.in-Some.filter c.in-Some.ensures)
+
+pub returns-in-None-clause-begins : goal.returns-in-None-clause-begins
+returns-in-None-clause-begins c =
     let s = c.args.scene.now in
     IfOk-weaker c.begun_atom.result _ _
     (λ x h. begins_filled s s.code.now.kept c.args.mark c.args.nest c.args.node c.requires.node

@@ -1,1 +1,0 @@
-use Rattle.hp_suspended.proofs.OneSteps.{one_was}

@@ -1,4 +1,4 @@
-use Rattle.std.proofs.Common.{ap, sym, ◌∙◌}
+use Rattle.std.proofs.Common.{ap, ◌∙◌}
 use Rattle.hp_nodes.specs.NodeViews.{laid_of}
 use Rattle.hp_suspended.specs.SceneViews.{code_in}
 use Rattle.hp_suspended.specs.Views.{view}

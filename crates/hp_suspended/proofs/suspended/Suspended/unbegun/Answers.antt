@@ -1,25 +1,29 @@
 use Rattle.std.proofs.Common.{ap, sym, ◌∙◌, subst}
-use Rattle.hp_suspended.specs.Answering.{IsBegun}
+use Rattle.hp_suspended.specs.Answering.{IsLookedAt}
 use Rattle.hp_suspended.specs.Views.{view}
-use Rattle.hp_suspended.proofs.Shapes.{view_one, view_fresh, view_search, view_conj, view_disj}
+use Rattle.hp_suspended.proofs.Shapes.{view_one, view_fresh, view_simple, view_search, view_conj, view_disj}
 use Rattle.hp_suspended.proofs.suspended.Suspended.unbegun.Goals as goal
 
 pub returns-in-Fresh-clause-some : goal.returns-in-Fresh-clause-some
 returns-in-Fresh-clause-some c = let i = c.in-Fresh in ap view i.is ∙ view_fresh i.mark i.nest i.node
 
 pub returns-in-One-clause-none : goal.returns-in-One-clause-none
-returns-in-One-clause-none c = let i = c.in-One in subst IsBegun (sym (ap view i.is ∙ view_one i.mark i.event)) tt
+returns-in-One-clause-none c = let i = c.in-One in subst IsLookedAt (sym (ap view i.is ∙ view_one i.mark i.event)) tt
+
+pub returns-in-Simple-clause-none : goal.returns-in-Simple-clause-none
+returns-in-Simple-clause-none c =
+    let i = c.in-Simple in subst IsLookedAt (sym (ap view i.is ∙ view_simple i.field-0)) tt
 
 pub returns-in-Search-clause-none : goal.returns-in-Search-clause-none
 returns-in-Search-clause-none c =
     let i = c.in-Search in
-    subst IsBegun (sym (ap view i.is ∙ view_search i.mark i.nest i.goal i.at i.rule i.running)) tt
+    subst IsLookedAt (sym (ap view i.is ∙ view_search i.mark i.nest i.goal i.at i.rule i.running)) tt
 
 pub returns-in-Conj-clause-none : goal.returns-in-Conj-clause-none
 returns-in-Conj-clause-none c =
     let i = c.in-Conj in
-    subst IsBegun (sym (ap view i.is ∙ view_conj i.mark i.nest i.next i.end i.outer i.here)) tt
+    subst IsLookedAt (sym (ap view i.is ∙ view_conj i.mark i.nest i.next i.end i.outer i.here)) tt
 
 pub returns-in-Disj-clause-none : goal.returns-in-Disj-clause-none
 returns-in-Disj-clause-none c =
-    let i = c.in-Disj in subst IsBegun (sym (ap view i.is ∙ view_disj i.mark i.nest i.next i.end i.here)) tt
+    let i = c.in-Disj in subst IsLookedAt (sym (ap view i.is ∙ view_disj i.mark i.nest i.next i.end i.here)) tt
