@@ -18,15 +18,14 @@ pub mod AxiomNodes
 pub mod GroundLemmas
 pub mod MatchedLemmas
 pub mod NextPlaceLemmas
-pub mod PlaceLemmas
 pub mod SatPlaces
+pub mod PlaceLemmas
 pub mod FilterLemmas
 pub mod SimpleFillings
 pub mod SimpleCells
 pub mod BehindPlaces
 pub mod PassingTurns
 pub mod ScanSteps
-pub mod FirstScans
 pub mod PlaceTurns
 pub mod CallLemmas
 pub mod GoingOn

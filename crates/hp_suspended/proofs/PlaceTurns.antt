@@ -46,7 +46,7 @@ module _ (v w : Setting) (q : Goal) (grows : Grows v.terms w.terms) (same : w.pl
       split : places_from w at' (goal_of w.terms q) (bindings_of w.terms old) ≡ here ++ left
       split =
           stays at'
-          ∙ (places_next v (goal_of v.terms q) (bindings_of v.terms old) at' place (Some next.atom) next.later
+          ∙ (places_next v (goal_of v.terms q) (bindings_of v.terms old) at' place next.atom next.later
           next.passed next.stands
           ∙ ap (λ xs. here ++ xs) (sym (stays (place + 1))))
 
