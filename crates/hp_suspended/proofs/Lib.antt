@@ -15,6 +15,7 @@ pub mod NodeReadings
 pub mod NamedAxioms
 pub mod RuleNodes
 pub mod AxiomNodes
+pub mod BranchLemmas
 pub mod GroundLemmas
 pub mod MatchedLemmas
 pub mod NextPlaceLemmas

@@ -3,6 +3,7 @@
 
 mod begins;
 mod known;
+pub mod laws;
 mod places;
 mod scene;
 mod search;

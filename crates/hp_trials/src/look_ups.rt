@@ -1,14 +1,16 @@
-//! Look-ups: a world that is changed and undone at random, whose indexes are compared with a plain scan, and many
-//! changes of a large world.
+//! Look-ups: a world that is changed and undone at random, whose indexes are compared with a plain scan, and generators
+//! in it with the engine that copies; and many changes of a large world.
 
 mod draws;
-mod large;
-mod rounds;
+pub mod large;
+pub mod rounds;
+mod satisfiers;
 mod scans;
 
 use crate::look_ups::draws::Draws;
 use crate::look_ups::large::{found_by_argument, found_by_name};
 use crate::look_ups::rounds::{Table, differing, found, found_symbols, make_table};
+use crate::look_ups::satisfiers::compared_satisfiers;
 use crate::page::Page;
 use hp_cells::Cells;
 use hp_world::World;
@@ -44,7 +46,13 @@ fn show_rounds(page: &mut Page, alloc: Global, cells: &mut Cells) -> Result<(), 
     page.line("atoms that are found by their parts", &found(cells, &table));
     let number = cells.find_num(7);
     page.line("a number that stands nowhere is found", &number.is_some());
-    show_differing(page, alloc, cells, &table)
+    show_differing(page, alloc, cells, &table)?;
+    let compared = compared_satisfiers(alloc, &table, cells);
+    page.told(
+        "satisfiers by generators, and how many lists differ",
+        &compared,
+    );
+    Ok(())
 }
 
 fn show_large(page: &mut Page, alloc: Global, cells: &mut Cells) {

@@ -2,6 +2,7 @@
 //! look-ups, and of whole runs. What each call gives is printed, and the gate compares it with what is wanted.
 #![tactic(auto)]
 
+mod events;
 mod fixtures;
 mod laws;
 mod look_ups;
@@ -9,6 +10,7 @@ mod page;
 mod parts;
 mod repeats;
 mod runs;
+mod scenes;
 mod texts;
 
 use crate::page::Page;

@@ -4,6 +4,7 @@ ghost use Rattle.hp_eval.specs.Slotted.{no_bindings};
 
 mod answers;
 mod cells;
+mod generators;
 mod goals;
 mod matches;
 mod networks;
@@ -97,5 +98,6 @@ pub fn show_all(page: &mut Page, alloc: Global) -> Result<(), AllocError> {
     page.title("== parts");
     cells::show_cells(page, alloc)?;
     show_parts(page, alloc, &mut Cells::new(alloc)?)?;
+    generators::show_generators(page, alloc, &mut Cells::new(alloc)?)?;
     prunes::show_prunes(page, alloc)
 }

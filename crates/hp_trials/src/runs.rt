@@ -2,6 +2,7 @@
 //! told otherwise than by what a command writes.
 
 mod cases;
+mod generated;
 mod made;
 mod rereads;
 mod statuses;
@@ -18,7 +19,8 @@ fn try_made(alloc: Global, out: &mut Vec<u8>) -> Result<(), AllocError> {
     statuses::try_all(alloc, out)?;
     made::try_all(alloc, out)?;
     rereads::try_all(alloc, out)?;
-    wide::try_all(alloc, out)
+    wide::try_all(alloc, out)?;
+    generated::try_all(alloc, out)
 }
 
 /// Prints what the runs write.

@@ -73,8 +73,8 @@ fn add(cells: &Cells, world: &mut World, atom: Cell) -> Result<(), AllocError>
     Ok(())
 }
 
-// Atoms are added, one after another.
-fn add_each(cells: &Cells, world: &mut World, atoms: &[Cell]) -> Result<(), AllocError>
+/// Atoms are added, one after another.
+pub fn add_each(cells: &Cells, world: &mut World, atoms: &[Cell]) -> Result<(), AllocError>
     requires knows { Knows cells.now world.old }
     requires below { StageBelow (length cells.now) world.old.now }
     ensures knows { Knows cells.now world.new }

@@ -180,6 +180,25 @@ fn undo(world: &mut World, draws: &mut Draws)
     }
 }
 
+/// An atom is deleted and another is added, or, in each fourth round, some of the last changes are undone.
+pub fn change_or_undo(
+    cells: &Cells,
+    table: &Table,
+    world: &mut World,
+    draws: &mut Draws,
+    round: usize,
+) -> Result<(), AllocError>
+    requires { Knows cells.now world.old }
+    ensures { Knows cells.now world.new }
+{
+    if round % 4 == 3 {
+        undo(world, draws);
+        Ok(())
+    } else {
+        change(cells, table, world, draws)
+    }
+}
+
 // Whether look-ups by a name, and by a name and a part, give what a scan gives.
 fn agrees(cells: &Cells, table: &Table, world: &World, draws: &mut Draws) -> bool
     requires { Knows cells.now world.now }
@@ -215,11 +234,7 @@ pub fn differing(
 {
     let mut differ = 0;
     for round in 0..rounds {
-        if round % 4 == 3 {
-            undo(world, draws);
-        } else {
-            change(cells, table, world, draws)?;
-        }
+        change_or_undo(cells, table, world, draws, round)?;
         if !agrees(cells, table, world, draws) {
             differ += 1;
         }

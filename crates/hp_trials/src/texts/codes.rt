@@ -1,10 +1,8 @@
 //! A domain that is compiled, and what its goals ask for.
 
 use crate::page::Page;
-use hp_check::check_domain;
-use hp_code::{asked_parts, lower};
-use hp_forms::domain;
-use hp_text::read;
+use crate::texts::reading::code_of;
+use hp_code::asked_parts;
 use std::alloc::Global;
 
 /// The goal knows its name, its second argument and its third one.
@@ -12,16 +10,7 @@ const ROADS: &str = "(defdomain roads ((:- (near ?x) ((road ?y b ?x ?z)))))";
 
 /// The parts of atoms that the goals of a domain ask for, if the text is one in which the checks find nothing.
 fn parts_of(alloc: Global, text: &str) -> Option<Vec<usize>> {
-    let Ok(forest) = read(alloc, text.as_bytes()) else {
-        return None;
-    };
-    let Ok(domain) = domain(alloc, &forest) else {
-        return None;
-    };
-    if check_domain(&domain).is_some() {
-        return None;
-    }
-    let code = lower(alloc, &domain).ok()?;
+    let code = code_of(alloc, text)?;
     asked_parts(alloc, &code).ok()
 }
 
