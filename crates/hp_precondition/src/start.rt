@@ -1,0 +1,72 @@
+//! How the satisfiers of a precondition begin.
+ghost use Rattle.std.specs.Prelude.{◌≡◌, ◌<◌, ◌+◌, ◌^◌, ◌≤◌, Some, IfOk, length, slice_get, true};
+ghost use Rattle.hp_syntax.specs.Preconditions.{precondition_events};
+ghost use Rattle.hp_syntax.specs.Syntax.{Precondition};
+ghost use Rattle.hp_eval.specs.Slotted.{bindings_of};
+ghost use Rattle.hp_nodes.specs.NodeViews.{laid_of};
+ghost use Rattle.hp_suspended.specs.SceneViews.{IsReady, code_in, setting_of};
+ghost use Rattle.hp_suspended.specs.Settings.{axioms_in, state_in};
+ghost use Rattle.hp_precondition.specs.PreconditionNodes.{IsPreconditionAt, precondition_at};
+
+use crate::picked::Picked;
+use hp_cells::Cells;
+use hp_code::{CodeNode, Op};
+use hp_eval::{Sats, Slots};
+use hp_gen::{Gen, Scene};
+use hp_pick::{First, Sorted};
+use std::alloc::{AllocError, Global};
+
+// The node of an index.
+fn node_at<'s>(node: usize, scene: &'s Scene<'_>) -> &'s CodeNode
+    requires { node < length (code_in scene.now).nodes }
+    ensures is { slice_get (code_in scene.now).nodes node ≡ Some (laid_of result.now) }
+    ensures small { node + 1 < 2 ^ 64 }
+{
+    let nodes = scene.code.nodes();
+    let _ = nodes.len();
+    &nodes[node]
+}
+
+/// The satisfiers of a precondition, by its node, under the bindings of the slots, with so many axiom levels: at most
+/// 128. The slots are those of the node's rule.
+pub fn satisfiers<'a>(
+    alloc: Global,
+    scene: &Scene<'a>,
+    cells: &Cells,
+    node: usize,
+    nest: u32,
+    slots: &Slots,
+) -> Result<Picked<Gen>, AllocError>
+    requires ready { IsReady scene.now cells.now slots.now }
+    requires node { IsPreconditionAt (code_in scene.now) node }
+    requires levels { nest ≤ 128 }
+    ensures rest { IfOk result (λ s. (p : Precondition) → precondition_at (code_in scene.now) node ≡ Some p
+        → ⟦<Picked<Gen> as Sats<Scene<'a>>>⟧.rest s scene.now cells.now slots.now
+        ≡ precondition_events (axioms_in (setting_of scene.now cells.now)) nest
+        (state_in (setting_of scene.now cells.now)) p (bindings_of cells.now slots.now)) }
+    ensures suits { IfOk result (λ s. ⟦<Picked<Gen> as Sats<Scene<'a>>>⟧.suits s scene.now cells.now) }
+    ensures fits { IfOk result (λ s. ⟦<Picked<Gen> as Sats<Scene<'a>>>⟧.fits s slots.now) }
+    ensures start { IfOk result (λ s. ⟦<Picked<Gen> as Sats<Scene<'a>>>⟧.start s ≡ length slots.now.trail) }
+    ensures kept { IfOk result (λ s. ⟦<Picked<Gen> as Sats<Scene<'a>>>⟧.kept s ≡ length cells.now) }
+    ensures live { IfOk result (λ s. ⟦<Picked<Gen> as Sats<Scene<'a>>>⟧.is_live s ≡ true) }
+    ensures open { IfOk result (λ s. ⟦<Picked<Gen> as Sats<Scene<'a>>>⟧.is_open s ≡ true) }
+{
+    let op = &node_at(node, scene).op;
+    let below = node + 1;
+    match op {
+        Op::Plain => {
+            let inner = Gen::start(alloc, scene, cells, below, nest, slots)?;
+            Ok(Picked::All(inner))
+        }
+        Op::First => {
+            let inner = Gen::start(alloc, scene, cells, below, nest, slots)?;
+            Ok(Picked::First(First::new::<Scene<'a>>(inner)))
+        }
+        Op::Sort(key) => {
+            let key = key.copy(alloc)?;
+            let inner = Gen::start(alloc, scene, cells, below, nest, slots)?;
+            Ok(Picked::Sorted(Sorted::new::<Scene<'a>>(alloc, inner, key, slots)))
+        }
+        _ => unreachable!(),
+    }
+}
