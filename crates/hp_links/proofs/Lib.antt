@@ -1,0 +1,6 @@
+pub mod ChangeLemmas
+pub mod FrontLemmas
+pub mod LeadLemmas
+pub mod MeaningLemmas
+pub mod NumberLemmas
+pub mod PlaceLemmas
