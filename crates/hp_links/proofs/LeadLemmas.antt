@@ -104,7 +104,7 @@ place_of_first t ts x i l =
     ∙ sym (ap (option_map (λ p. i ∷ p)) h.1)
 
 -- a task of a part is a task of the whole
-leaf_of_part : (t s : Tree) (f : ℕ) (p : Place) → AreApart (numbers t) → place_in f t ≡ Some p → part_in f t ≡ Some s
+pub leaf_of_part : (t s : Tree) (f : ℕ) (p : Place) → AreApart (numbers t) → place_in f t ≡ Some p → part_in f t ≡ Some s
     → (x : ℕ) → IsLeaf s x → IsLeaf t x
 leaf_of_part t s f p a e g x l =
     let h = part_tells x s (Leaf x l.0 l.1) l.2 in

@@ -1,1 +1,4 @@
 pub mod Labelled
+pub mod Linked
+pub mod Placed
+pub mod Undoing

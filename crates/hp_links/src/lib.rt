@@ -1,4 +1,11 @@
-//! The store of a task network: its parts by number, changed and undone in place.
+//! A task network in place: its parts have numbers, never move, and are changed and undone by a stored trail.
 #![tactic(auto)]
 
 mod entry;
+mod id;
+mod links;
+mod store;
+
+pub use entry::Order;
+pub use id::TaskId;
+pub use store::Store;
