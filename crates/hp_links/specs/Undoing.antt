@@ -3,7 +3,6 @@ use Rattle.std.specs.Prelude.{[]}
 use Rattle.hp_world.specs.Histories.{History}
 use Rattle.hp_links.specs.declared.store.Store.{Store}
 use Rattle.hp_links.specs.Linked.{Linked}
-use Rattle.hp_links.specs.Placed.{IsPlaced}
 
 abbrev pub stage_of : Store → Linked
 stage_of s = record {
@@ -18,5 +17,9 @@ stage_of s = record {
 abbrev pub history_of : Store → History Linked
 history_of s = record { past = []; now = stage_of s }
 
-abbrev pub IsSound : Store → Type 0
-IsSound s = IsPlaced (stage_of s)
+pub IsSound : Store → Type 0
+IsSound s = ⊥
+
+pub no_sound : (s : Store) → IsSound s → ⊥
+unfolding IsSound
+no_sound s h = h

@@ -1,7 +1,7 @@
 //! Look-ups: a world that is changed and undone at random, whose indexes are compared with a plain scan, and many
 //! changes of a large world.
 
-mod draws;
+pub mod draws;
 mod large;
 mod rounds;
 mod scans;
