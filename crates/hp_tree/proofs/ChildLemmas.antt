@@ -37,9 +37,9 @@ places_are net (i ∷ ids) (p ∷ ps) h =
 -- ids that name tasks and places are candidates
 pub candidates_are : (net : Linked) (ids : List ℕ) (ps : List Place) → All (NamesTask net) ids
     → map (place_of net) ids ≡ map Some ps → All (IsCandidate net) ids
-candidates_are o [] ps n h = All-nil (IsCandidate net)
-candidates_are o (i ∷ ids) [] n h = absurd cc
-candidates_are o (i ∷ ids) (p ∷ ps) n h =
+candidates_are net [] ps n h = All-nil (IsCandidate net)
+candidates_are net (i ∷ ids) [] n h = absurd cc
+candidates_are net (i ∷ ids) (p ∷ ps) n h =
     let e : place_of net i ≡ Some p = cc in
     let t : map (place_of net) ids ≡ map Some ps = cc in
     All-cons (IsCandidate net) i ids
@@ -47,7 +47,7 @@ candidates_are o (i ∷ ids) (p ∷ ps) n h =
       names = All-head (NamesTask net) i ids n;
       stands = e ∙ ap (λ z. Some (place_or_whole z)) (sym e);
     })
-    (candidates_are o ids ps (All-tail (NamesTask net) i ids n) t)
+    (candidates_are net ids ps (All-tail (NamesTask net) i ids n) t)
 
 module _ (rules : List Rule) (nest : ℕ) where
   -- the rules relevant to a part of a network give all its children
