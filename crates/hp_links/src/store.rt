@@ -28,7 +28,15 @@ pub struct Store {
 
 impl Drop for Store {
     fn drop(self) {
-        let Store { parts, owners, rows, root: _, focus: _, front: _, alloc: _ } = self;
+        let Store {
+            parts,
+            owners,
+            rows,
+            root: _,
+            focus: _,
+            front: _,
+            alloc: _,
+        } = self;
         drop(parts);
         drop(owners);
         drop(rows);
@@ -132,6 +140,5 @@ impl Store {
         requires mark { mark ≤ mark_of (history_of self.old) }
         ensures sound { IsSound self.new }
         ensures back { history_of self.new ≡ undone_to mark (history_of self.old) }
-    {
-    }
+    {}
 }
