@@ -1,0 +1,13 @@
+pub mod ChangeLemmas
+pub mod FrontLemmas
+pub mod HangLemmas
+pub mod JoinLemmas
+pub mod ListSteps
+pub mod NumberLemmas
+pub mod ParentLemmas
+pub mod PlaceLemmas
+pub mod PushedLemmas
+pub mod ShortenLemmas
+pub mod TrailSteps
+pub mod TreeLemmas
+pub mod TurnLemmas

@@ -1,0 +1,82 @@
+-- The histories of networks in place, and trails that can be undone.
+use Rattle.std.specs.Prelude.{◌≡◌, ℕ, suc, ◌+◌, ◌<◌, ◌≤◌, List, ◌∷◌, ◌++◌, length, take, drop, Option, Some, None, IfSome, Contains, slice_set, slice_index_or, vec_len}
+use Rattle.hp_world.specs.Histories.{History, history, undone_to}
+use Rattle.hp_world.specs.Trails.{IsUndoable}
+use Rattle.hp_links.specs.declared.undo.Was.{Was}
+use Rattle.hp_links.specs.declared.undo.Turn.{Turn}
+use Rattle.hp_links.specs.declared.undo.Change.{Change}
+use Rattle.hp_links.specs.declared.store.Store.{Store}
+use Rattle.hp_links.specs.Frames.{frame_of, IsWhole}
+use Rattle.hp_links.specs.Labelled.{IsNormal, AreApart, numbers, front_of}
+use Rattle.hp_links.specs.Linked.{Linked, whole}
+use Rattle.hp_links.specs.Turning.{turned_left}
+
+abbrev pub turned_back : Option Turn → List ℕ → List ℕ
+turned_back None rows = rows
+turned_back (Some t) rows = turned_left t.start t.end rows
+
+-- with what stood at a place
+abbrev pub put_back : {A : Type 0} → Option (Was A) → List A → List A
+put_back None xs = xs
+put_back (Some w) xs = slice_set xs w.at w.was
+
+-- the network before a change
+abbrev pub undone : Change → Linked → Linked
+undone t s = record {
+  parts = put_back t.part (take t.parts s.parts);
+  owners = put_back t.owner (take t.parts s.owners);
+  rows = turned_back t.turn (put_back t.place (take t.rows s.rows));
+  root = t.root;
+  focus = t.focus;
+  front = t.front;
+}
+
+abbrev pub IsWithin : {A : Type 0} → ℕ → Option (Was A) → Type 0
+IsWithin n None = Unit {0}
+IsWithin n (Some w) = w.at < n
+
+abbrev pub TurnsWithin : ℕ → Option Turn → Type 0
+TurnsWithin n None = Unit {0}
+TurnsWithin n (Some t) = (t.start ≤ t.end) × (t.end < n)
+
+-- the change can be undone
+pub record Fits (t : Change) (s : Linked) : Type 0 where
+  pub part : IsWithin (length (take t.parts s.parts)) t.part
+  pub owner : IsWithin (length (take t.parts s.owners)) t.owner
+  pub place : IsWithin (length (take t.rows s.rows)) t.place
+  pub turn : TurnsWithin (length (take t.rows s.rows)) t.turn
+
+-- the network stands in its parts, in normal form and each number once; the focus is on a part of it, and the front is
+-- the part below which all first tasks stand
+pub record IsStage (s : Linked) : Type 0 where
+  pub owners : length s.owners ≡ length s.parts
+  pub stands : IsWhole (frame_of s) s.root (whole s)
+  pub normal : IsNormal (whole s)
+  pub apart : AreApart (numbers (whole s))
+  pub focus : IfSome s.focus (λ f. Contains (numbers (whole s)) f)
+  pub front : s.front ≡ front_of (whole s)
+
+-- the network in a store
+abbrev pub stage_of : Store → Linked
+stage_of s = record {
+  parts = s.links.parts.items;
+  owners = s.links.owners.items;
+  rows = s.links.rows.items;
+  root = s.root;
+  focus = s.focus;
+  front = s.front;
+}
+
+-- the history of a store
+abbrev pub history_of : Store → History Linked
+history_of s = history undone s.trail.items (stage_of s)
+
+-- each change on the trail can be undone where it is, and each past is sound
+abbrev pub IsSound : Store → Type 0
+IsSound s = IsUndoable undone Fits IsStage s.trail.items (stage_of s)
+
+-- the last change was undone
+pub record Undoes (old new : Store) : Type 0 where
+  pub sound : IsSound new
+  pub fewer : vec_len new.trail + 1 ≡ vec_len old.trail
+  pub back : (m : ℕ) → m < vec_len old.trail → undone_to m (history_of new) ≡ undone_to m (history_of old)

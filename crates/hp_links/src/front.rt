@@ -1,0 +1,1 @@
+//! The part below which all first tasks stand.

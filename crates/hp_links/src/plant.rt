@@ -1,0 +1,1 @@
+//! Networks in reading order become numbered parts.

@@ -1,0 +1,1 @@
+//! The walk to the tasks that may be done first.
