@@ -1,6 +1,7 @@
 pub mod ChangeLemmas
 pub mod FrontLemmas
 pub mod HangLemmas
+pub mod HeldLemmas
 pub mod JoinLemmas
 pub mod ListSteps
 pub mod NumberLemmas
@@ -8,6 +9,8 @@ pub mod ParentLemmas
 pub mod PlaceLemmas
 pub mod PushedLemmas
 pub mod ShortenLemmas
+pub mod StageLemmas
 pub mod TrailSteps
 pub mod TreeLemmas
 pub mod TurnLemmas
+pub mod WalkLemmas

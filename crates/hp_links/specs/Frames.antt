@@ -4,8 +4,8 @@ use Rattle.hp_links.specs.declared.links.Links.{Links}
 use Rattle.hp_links.specs.declared.links.Part.{Part}
 use Rattle.hp_links.specs.declared.links.Part.TheVariants.{Task, Row}
 use Rattle.hp_links.specs.declared.entry.Order.{Order}
-use Rattle.hp_links.specs.Labelled.{Tree, Trees, Gone, Leaf, Branch, NoTree, With, count, number_of}
-use Rattle.hp_links.specs.Linked.{Linked}
+use Rattle.hp_links.specs.Labelled.{Tree, Trees, Gone, Leaf, Branch, NoTree, With, count, number_of, IsFull}
+use Rattle.hp_links.specs.Linked.{Linked, tree_of}
 
 -- the parts by number, the list that each is a part of, and the rows of the lists
 pub record Frame : Type 0 where
@@ -60,3 +60,16 @@ StandsAlone f (Branch k order ts) = Stands f None (Branch k order ts)
 pub record IsWhole (f : Frame) (root : Option ℕ) (t : Tree) : Type 0 where
   pub is : root ≡ number_of t
   pub stands : StandsAlone f t
+
+-- the tree of the part of a number
+unfoldable pub tree_at : Frame → ℕ → Tree
+tree_at f k =
+    tree_of
+    (record { parts = f.parts; owners = f.owners; rows = f.rows; root = None; focus = None; front = None }) k
+
+-- the tree of the part of this number stands in the frame, and each list in it has two parts or more
+pub record IsHeld (f : Frame) (k : ℕ) : Type 0 where
+  pub list : Option ℕ
+  pub stands : Stands f list (tree_at f k)
+  pub full : IsFull (tree_at f k)
+  pub top : top (tree_at f k) ≡ k

@@ -1,8 +1,11 @@
 pub mod Changing
 pub mod Entries
 pub mod Frames
+pub mod Fronts
 pub mod Labelled
 pub mod Linked
+pub mod Placed
 pub mod Pushed
 pub mod Turning
 pub mod Undoing
+pub mod Walked

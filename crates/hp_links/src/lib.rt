@@ -3,6 +3,7 @@
 
 mod entry;
 mod front;
+mod id;
 mod links;
 mod plant;
 mod push;
@@ -11,4 +12,5 @@ mod undo;
 mod walk;
 
 pub use entry::Order;
+pub use id::TaskId;
 pub use store::Store;

@@ -43,6 +43,14 @@ impl Drop for Links {
 }
 
 impl Links {
+    /// The part of a number.
+    pub(crate) fn part(&self, number: usize) -> Part
+        requires { number < length self.now.parts.items }
+        ensures { slice_get self.now.parts.items number ≡ Some result }
+    {
+        self.parts[number]
+    }
+
     /// The list that a part belongs to.
     pub(crate) fn owner(&self, part: usize) -> Option<usize>
         requires { part < length self.now.owners.items }
