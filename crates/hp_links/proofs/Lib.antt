@@ -2,6 +2,7 @@ pub mod ChangeLemmas
 pub mod FrontLemmas
 pub mod HangLemmas
 pub mod HeldLemmas
+pub mod HungLemmas
 pub mod JoinLemmas
 pub mod ListSteps
 pub mod NumberLemmas

@@ -74,3 +74,8 @@ shortened list span place f = record {
   owners = f.owners;
   rows = turned_right span.start place f.rows;
 }
+
+-- the number of the whole, once a part is hung: in no row, it is the whole
+abbrev pub root_after : Option ℕ → ℕ → Option ℕ → Option ℕ
+root_after None x root = Some x
+root_after (Some place) x root = root

@@ -7,7 +7,7 @@ use Rattle.hp_links.specs.declared.undo.Turn.{Turn}
 use Rattle.hp_links.specs.declared.undo.Change.{Change}
 use Rattle.hp_links.specs.declared.store.Store.{Store}
 use Rattle.hp_links.specs.Frames.{frame_of, IsWhole}
-use Rattle.hp_links.specs.Labelled.{IsNormal, AreApart, numbers, front_of}
+use Rattle.hp_links.specs.Labelled.{Tree, IsNormal, AreApart, numbers, front_of}
 use Rattle.hp_links.specs.Linked.{Linked, whole}
 use Rattle.hp_links.specs.Turning.{turned_left}
 
@@ -80,3 +80,13 @@ pub record Undoes (old new : Store) : Type 0 where
   pub sound : IsSound new
   pub fewer : vec_len new.trail + 1 ≡ vec_len old.trail
   pub back : (m : ℕ) → m < vec_len old.trail → undone_to m (history_of new) ≡ undone_to m (history_of old)
+
+-- one change was made, but isn't on the trail yet: undoing takes it back, and the network is sound and this one, without
+-- a focus or with it on a part
+pub record Steps (t : Change) (tree : Tree) (f : Option ℕ) (old new : Store) : Type 0 where
+  pub back : undone t (stage_of new) ≡ stage_of old
+  pub fits : Fits t (stage_of new)
+  pub stage : IsStage (stage_of new)
+  pub whole : whole (stage_of new) ≡ tree
+  pub focus : new.focus ≡ f
+  pub trail : new.trail ≡ old.trail
