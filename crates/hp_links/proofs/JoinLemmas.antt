@@ -46,7 +46,7 @@ module _ (f : Frame) (list : ℕ) (js : List ℕ) (r : HasRow f list js) (x cell
     (task : slice_get f.parts x ≡ Some (Task cell immediate)) (owned : slice_get f.owners x ≡ Some (Some list))
     (s : Tree) (alone : Stands f (Some list) s) where
   -- the number of a task is no list
-  no_list : (k c start many : ℕ) (i : Bool) (order : Order) → slice_get f.parts k ≡ Some (Task c i)
+  pub no_list : (k c start many : ℕ) (i : Bool) (order : Order) → slice_get f.parts k ≡ Some (Task c i)
       → slice_get f.parts k ≡ Some (Row order start many) → ⊥
   no_list k c start many i order g h =
       let e : Task c i ≡ Row order start many = same_part f k _ _ g h in absurd cc
@@ -130,7 +130,7 @@ module _ (f : Frame) (list : ℕ) (js : List ℕ) (r : HasRow f list js) (x cell
   module _ (two : length js ≡ 2) (there : (i : ℕ) × (slice_get js i ≡ Some x))
       (rest : (i : ℕ) × (slice_get js i ≡ Some (top s))) (other : top s ≡ x → ⊥) where
     -- the list itself without the task is its other part
-    own_joined : (p : Option ℕ) (k : ℕ) (order : Order) (ts : Trees) → Stands f p (Branch k order ts) → AreFull ts
+    pub own_joined : (p : Option ℕ) (k : ℕ) (order : Order) (ts : Trees) → Stands f p (Branch k order ts) → AreFull ts
         → k ≡ list → as_branch k order (without_among x ts) ≡ s
     own_joined p k order ts h full e =
         let same : js ≡ tops ts = (same_tops f list js r x there.0 cell immediate there.1 task k h.0 order ts e h.1.part h.2).0 in

@@ -1,4 +1,5 @@
 pub mod ChangeLemmas
+pub mod FinishLemmas
 pub mod FrontLemmas
 pub mod HangLemmas
 pub mod HeldLemmas

@@ -171,7 +171,7 @@ mutual
       (Contains-append_cases (numbers t) (numbers_of_all ts) x c)
 
 -- the row of the list of a part
-pub parent_row : (f : Frame) (t : Tree) (x : ℕ) → (r : Parent f t x)
+abbrev pub parent_row : (f : Frame) (t : Tree) (x : ℕ) → (r : Parent f t x)
     → HasRow f r.list (tops r.parts) × (slice_get f.owners x ≡ Some (Some r.list))
 parent_row f t x r = (
   record {
