@@ -60,7 +60,7 @@ replaced_top y s (Branch k order ts) f p h e =
     ap (λ b. cond b s (Branch k order (replaced_among y s ts))) (eq-eqb k y e)
 
 -- a number stands where its slot is
-slot_read : (f : Frame) (p : Option ℕ) (y q : ℕ) → IsSlotOf f p y (Some q) → slice_get f.rows q ≡ Some y
+pub slot_read : (f : Frame) (p : Option ℕ) (y q : ℕ) → IsSlotOf f p y (Some q) → slice_get f.rows q ≡ Some y
 slot_read f None y q u = absurd cc
 slot_read f (Some list) y q u = ap (slice_get f.rows) (same_Some q u.0 u.1) ∙ u.2.2.there
 
@@ -112,7 +112,7 @@ renamed_row rows start q x y js h once first = record {
         ∙ sym (ap (option_map (renamed x y)) is ∙ ap Some (kept_name x y j other))
 
 -- what is greater than a list is above what that is above
-above_more : (o : Option ℕ) (k j : ℕ) → IsAbove o k → k < j → IsAbove o j
+pub above_more : (o : Option ℕ) (k j : ℕ) → IsAbove o k → k < j → IsAbove o j
 above_more None k j a l = tt
 above_more (Some list) k j a l = let b : list < k = a in omega arith
 

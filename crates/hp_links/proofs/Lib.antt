@@ -12,6 +12,7 @@ pub mod PlaceLemmas
 pub mod PushedLemmas
 pub mod ShortenLemmas
 pub mod StageLemmas
+pub mod StepLemmas
 pub mod TrailSteps
 pub mod TreeLemmas
 pub mod TurnLemmas

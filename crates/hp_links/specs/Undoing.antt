@@ -1,12 +1,14 @@
 -- The histories of networks in place, and trails that can be undone.
-use Rattle.std.specs.Prelude.{◌≡◌, ℕ, suc, ◌+◌, ◌<◌, ◌≤◌, List, ◌∷◌, ◌++◌, length, take, drop, Option, Some, None, IfSome, Contains, slice_set, slice_index_or, vec_len}
+use Rattle.std.specs.Prelude.{◌≡◌, ℕ, suc, ◌+◌, ◌<◌, ◌≤◌, List, ◌∷◌, ◌++◌, length, take, drop, Option, Some, None, IfSome, Contains, slice_get, slice_set, vec_len}
 use Rattle.hp_world.specs.Histories.{History, history, undone_to}
 use Rattle.hp_world.specs.Trails.{IsUndoable}
 use Rattle.hp_links.specs.declared.undo.Was.{Was}
 use Rattle.hp_links.specs.declared.undo.Turn.{Turn}
 use Rattle.hp_links.specs.declared.undo.Change.{Change}
 use Rattle.hp_links.specs.declared.store.Store.{Store}
-use Rattle.hp_links.specs.Frames.{frame_of, IsWhole}
+use Rattle.hp_links.specs.Changing.{IsSpan, IsFirstFrom, IsSlotOf, other_of, put_at, root_after}
+use Rattle.hp_links.specs.declared.links.Span.{Span}
+use Rattle.hp_links.specs.Frames.{Frame, frame_of, IsWhole}
 use Rattle.hp_links.specs.Labelled.{Tree, IsNormal, AreApart, numbers, front_of}
 use Rattle.hp_links.specs.Linked.{Linked, whole}
 use Rattle.hp_links.specs.Turning.{turned_left}
@@ -81,12 +83,67 @@ pub record Undoes (old new : Store) : Type 0 where
   pub fewer : vec_len new.trail + 1 ≡ vec_len old.trail
   pub back : (m : ℕ) → m < vec_len old.trail → undone_to m (history_of new) ≡ undone_to m (history_of old)
 
--- one change was made, but isn't on the trail yet: undoing takes it back, and the network is sound and this one, without
--- a focus or with it on a part
-pub record Steps (t : Change) (tree : Tree) (f : Option ℕ) (old new : Store) : Type 0 where
-  pub back : undone t (stage_of new) ≡ stage_of old
-  pub fits : Fits t (stage_of new)
-  pub stage : IsStage (stage_of new)
-  pub whole : whole (stage_of new) ≡ tree
+-- a change that wrote over nothing yet
+abbrev pub saved : Linked → Change
+saved s = record {
+  parts = length s.parts;
+  rows = length s.rows;
+  root = s.root;
+  focus = s.focus;
+  front = s.front;
+  part = None;
+  owner = None;
+  place = None;
+  turn = None;
+}
+
+-- one change was made: undoing takes it back, and the network is sound and this one, with this focus
+pub record Steps (t : Change) (tree : Tree) (f : Option ℕ) (old new : Linked) : Type 0 where
+  pub back : undone t new ≡ old
+  pub fits : Fits t new
+  pub stage : IsStage new
+  pub whole : whole new ≡ tree
   pub focus : new.focus ≡ f
-  pub trail : new.trail ≡ old.trail
+
+-- ---- parts in other places
+
+-- a part in the place of another one
+abbrev pub put_to : ℕ → Option ℕ → Option ℕ → Linked → Linked
+put_to x o slot s = record {
+  parts = s.parts;
+  owners = slice_set s.owners x o;
+  rows = put_at slot x s.rows;
+  root = root_after slot x s.root;
+  focus = s.focus;
+  front = s.front;
+}
+
+-- what stood at a place
+abbrev pub was_at : ℕ → Option ℕ → Option (Was ℕ)
+was_at y None = None
+was_at y (Some place) = Some (record { at = place; was = y })
+
+-- a part was put in the place of another, which stood there
+pub record Puts (x y : ℕ) (was : Option (Was ℕ)) (old new : Linked) : Type 0 where
+  pub owner : Option ℕ
+  pub slot : Option ℕ
+  pub own : slice_get old.owners y ≡ Some owner
+  pub at : IsSlotOf (frame_of old) owner y slot
+  pub is : new ≡ put_to x owner slot old
+  pub wrote : was ≡ was_at y slot
+
+-- a list has two parts, of which one is the task, and the other one is this
+pub record LeavesOne (f : Frame) (x list rest : ℕ) : Type 0 where
+  pub span : Span
+  pub is : IsSpan f list span
+  pub two : span.many ≡ 2
+  pub place : ℕ
+  pub first : IsFirstFrom f.rows span.start x place
+  pub read : slice_get f.rows (other_of span.start place) ≡ Some rest
+
+-- the whole network went, and what it was is told
+pub record IsCleared (t : Change) (old new : Linked) : Type 0 where
+  pub change : t ≡ saved old
+  pub is : new ≡ record {
+    parts = old.parts; owners = old.owners; rows = old.rows; root = None; focus = None; front = None
+  }

@@ -1,11 +1,12 @@
 //! Numbered parts, the lists that they are parts of, and the rows of the lists.
-ghost use Rattle.std.specs.Prelude.{◌≡◌, ℕ, ◌+◌, ◌-◌, ◌<◌, ◌≤◌, Some, None, IfSome, length, slice_get, slice_set, vec_len};
+ghost use Rattle.std.specs.Prelude.{◌≡◌, ℕ, ◌+◌, ◌-◌, ◌<◌, ◌≤◌, Bool, Some, None, IfOk, IfSome, length, slice_get, slice_set, vec_len};
 ghost use Rattle.hp_links.specs.Changing.{HasSpan, IsSpan, IsFirstFrom, IsSlotOf, IsListed, put_at, other_of};
 ghost use Rattle.hp_links.specs.Frames.{frame_in};
 ghost use Rattle.hp_links.specs.Turning.{turned_right};
 
 use crate::entry::Order;
 use hp_cells::Cell;
+use std::alloc::{AllocError, Global};
 
 /// A task by its cell, immediate or not, or a list: its parts' numbers stand in the rows from a place on, so many.
 #[derive(Clone, Copy, Debug)]
@@ -43,6 +44,28 @@ impl Drop for Links {
 }
 
 impl Links {
+    /// Equal parts, owners and rows.
+    pub(crate) fn copy(&self, alloc: Global) -> Result<Links, AllocError>
+        ensures { IfOk result (λ l. frame_in l ≡ frame_in self.now) }
+    {
+        Ok(Links {
+            parts: Vec::from_slice(alloc, &self.parts)?,
+            owners: Vec::from_slice(alloc, &self.owners)?,
+            rows: Vec::from_slice(alloc, &self.rows)?,
+        })
+    }
+
+    /// The cell of a task.
+    pub(crate) fn cell(&self, task: usize) -> Cell
+        requires { (cell : ℕ) × (immediate : Bool) × (slice_get self.now.parts.items task ≡ Some (Part.Task cell immediate)) }
+        ensures { (immediate : Bool) × (slice_get self.now.parts.items task ≡ Some (Part.Task result immediate)) }
+    {
+        match self.part(task) {
+            Part::Task(cell, _) => cell,
+            Part::Row(_, _, _) => unreachable!(),
+        }
+    }
+
     /// The part of a number.
     pub(crate) fn part(&self, number: usize) -> Part
         requires { number < length self.now.parts.items }

@@ -1,10 +1,21 @@
 //! A network in place, and the trail of its changes.
-ghost use Rattle.std.specs.Prelude.{◌≡◌, ◌<◌, ◌≤◌, vec_len};
-ghost use Rattle.hp_world.specs.Histories.{mark_of, undone_to};
-ghost use Rattle.hp_links.specs.Undoing.{IsSound, Undoes, history_of, stage_of};
+ghost use Rattle.std.specs.Prelude.{◌≡◌, ◌≢◌, ◌<◌, ◌≤◌, ℕ, Bool, List, Option, [], None, Some, IfOk, OnOk, OnErr, ◌∷◌, ◌++◌, length, slice_get, vec_capacity, vec_len};
+ghost use Rattle.std.specs.List.{All};
+ghost use Rattle.hp_syntax.specs.Terms.{Term};
+ghost use Rattle.hp_syntax.specs.Networks as plain;
+ghost use Rattle.hp_world.specs.Histories.{mark_of, undone_to, KeepsPasts};
+ghost use Rattle.hp_links.specs.Changing.{IsSpan, IsFirstFrom, IsListed};
+ghost use Rattle.hp_links.specs.Frames.{frame_of};
+ghost use Rattle.hp_links.specs.Labelled.{network, part_in, without, Leaf};
+ghost use Rattle.hp_links.specs.Linked.{whole, NamesTask, PartBelow};
+ghost use Rattle.hp_links.specs.Placed.{candidates_in, Finishes};
+ghost use Rattle.hp_links.specs.Undoing.{IsSound, IsStage, IsCleared, LeavesOne, Puts, Steps, Undoes, history_of, saved, stage_of};
 
-use crate::links::Links;
-use crate::undo::Change;
+use crate::id::TaskId;
+use crate::links::{Links, Part, Span};
+use crate::undo::{Change, Turn, Was};
+use crate::walk::keep_immediate;
+use hp_cells::Cell;
 use std::alloc::{AllocError, Global};
 
 /// A network in place with its focus, and the trail of its changes.
@@ -33,6 +44,219 @@ impl Drop for Store {
 }
 
 impl Store {
+    /// An equal network with the same focus, without a past.
+    pub fn copy(&self) -> Result<Store, AllocError>
+        requires { IsSound self.now }
+        ensures sound { IfOk result (λ s. IsSound s) }
+        ensures same { IfOk result (λ s. history_of s ≡ record { past = []; now = stage_of self.now }) }
+    {
+        Ok(Store {
+            links: self.links.copy(self.alloc)?,
+            root: self.root,
+            focus: self.focus,
+            front: self.front,
+            trail: Vec::new(self.alloc),
+            alloc: self.alloc,
+        })
+    }
+
+    /// Whether nothing is left to do.
+    pub fn is_empty(&self) -> bool
+        requires { IsSound self.now }
+        ensures { (terms : List Term) → result ≡ plain.is_empty (network terms (whole (stage_of self.now))) }
+    {
+        self.root.is_none()
+    }
+
+    /// The task that an id names.
+    pub fn task(&self, id: TaskId) -> Cell
+        requires sound { IsSound self.now }
+        requires names { NamesTask (stage_of self.now) id }
+        ensures task { (immediate : Bool)
+            × (part_in id (whole (stage_of self.now)) ≡ Some (Leaf id result immediate)) }
+        ensures below { (k : ℕ) → All (PartBelow k) (stage_of self.now).parts → result < k }
+    {
+        self.links.cell(id.number())
+    }
+
+    /// The tasks that may be done next, from left to right: the first ones of the subtasks that have the focus, or of
+    /// the whole network where there is no focus; where one of them is immediate, the immediate ones alone.
+    pub fn candidates(&self, alloc: Global) -> Result<Vec<TaskId>, AllocError>
+        requires { IsSound self.now }
+        ensures { IfOk result (λ v. v.items ≡ candidates_in (stage_of self.now)) }
+    {
+        let mut found = match self.focus.or(self.front) {
+            None => Vec::new(alloc),
+            Some(start) => self.links.first_tasks(alloc, start)?,
+        };
+        keep_immediate(&self.links.parts, &mut found);
+        Ok(found)
+    }
+
+    /// Takes a task out, and the focus away. An error leaves the network as it was.
+    pub fn finish(&mut self, id: TaskId) -> Result<(), AllocError>
+        requires sound { IsSound self.old }
+        requires names { NamesTask (stage_of self.old) id }
+        ensures sound { IsSound self.new }
+        ensures net { OnOk result (Finishes (stage_of self.old) (stage_of self.new) id) }
+        ensures past { OnOk result (KeepsPasts (history_of self.old) (history_of self.new)) }
+        ensures below { (k : ℕ) → All (PartBelow k) (stage_of self.old).parts
+            → All (PartBelow k) (stage_of self.new).parts }
+        ensures err { OnErr result (history_of self.new ≡ history_of self.old) }
+    {
+        self.trail.reserve(1)?;
+        let change = self.take_out(id.number());
+        self.note(change);
+        Ok(())
+    }
+
+    // Puts a change on the trail.
+    fn note(&mut self, change: Change)
+        requires { vec_len self.old.trail < vec_capacity self.old.trail }
+        ensures trail { self.new.trail.items ≡ self.old.trail.items ++ change ∷ [] }
+        ensures stage { stage_of self.new ≡ stage_of self.old }
+    {
+        self.trail.push_reserved(change);
+    }
+
+    // A task is done.
+    fn take_out(&mut self, id: usize) -> Change
+        requires stage { IsStage (stage_of self.old) }
+        requires names { NamesTask (stage_of self.old) id }
+        ensures steps { Steps result (without id (whole (stage_of self.old))) None (stage_of self.old)
+            (stage_of self.new) }
+        ensures below { (k : ℕ) → All (PartBelow k) (stage_of self.old).parts
+            → All (PartBelow k) (stage_of self.new).parts }
+        ensures trail { self.new.trail ≡ self.old.trail }
+    {
+        match self.links.owner(id) {
+            None => self.clear(),
+            Some(list) => self.take_from(id, list),
+        }
+    }
+
+    // The only task is done.
+    fn clear(&mut self) -> Change
+        ensures cleared { IsCleared result (stage_of self.old) (stage_of self.new) }
+        ensures trail { self.new.trail ≡ self.old.trail }
+    {
+        let change = self.saved();
+        self.root = None;
+        self.focus = None;
+        self.front = None;
+        change
+    }
+
+    // A task of a list is done.
+    fn take_from(&mut self, id: usize, list: usize) -> Change
+        requires stage { IsStage (stage_of self.old) }
+        requires names { NamesTask (stage_of self.old) id }
+        requires list { slice_get (stage_of self.old).owners id ≡ Some (Some list) }
+        ensures steps { Steps result (without id (whole (stage_of self.old))) None (stage_of self.old)
+            (stage_of self.new) }
+        ensures below { (k : ℕ) → All (PartBelow k) (stage_of self.old).parts
+            → All (PartBelow k) (stage_of self.new).parts }
+        ensures trail { self.new.trail ≡ self.old.trail }
+    {
+        let span = self.links.span(list);
+        let place = self.links.place_in(span.start, id);
+        if span.many == 2 {
+            let rest = self.links.other(span.start, place);
+            self.join(id, list, rest)
+        } else {
+            self.shorten(id, list, span, place)
+        }
+    }
+
+    // One part is left of the list of a task that is done, and takes the place of the list.
+    fn join(&mut self, id: usize, list: usize, rest: usize) -> Change
+        requires stage { IsStage (stage_of self.old) }
+        requires names { NamesTask (stage_of self.old) id }
+        requires list { slice_get (stage_of self.old).owners id ≡ Some (Some list) }
+        requires one { LeavesOne (frame_of (stage_of self.old)) id list rest }
+        ensures steps { Steps result (without id (whole (stage_of self.old))) None (stage_of self.old)
+            (stage_of self.new) }
+        ensures parts { self.new.links.parts ≡ self.old.links.parts }
+        ensures trail { self.new.trail ≡ self.old.trail }
+    {
+        let mut change = self.saved();
+        change.owner = Some(Was {
+            at: rest,
+            was: Some(list),
+        });
+        change.place = self.put(rest, list);
+        self.focus = None;
+        self.front = self.links.settled(self.front, id, list, rest);
+        change
+    }
+
+    // Two parts or more are left of the list of a task that is done.
+    fn shorten(&mut self, id: usize, list: usize, span: Span, place: usize) -> Change
+        requires stage { IsStage (stage_of self.old) }
+        requires names { NamesTask (stage_of self.old) id }
+        requires list { slice_get (stage_of self.old).owners id ≡ Some (Some list) }
+        requires span { IsSpan (frame_of (stage_of self.old)) list span }
+        requires more { span.many ≢ 2 }
+        requires place { IsFirstFrom (stage_of self.old).rows span.start id place }
+        ensures steps { Steps result (without id (whole (stage_of self.old))) None (stage_of self.old)
+            (stage_of self.new) }
+        ensures below { (k : ℕ) → All (PartBelow k) (stage_of self.old).parts
+            → All (PartBelow k) (stage_of self.new).parts }
+        ensures trail { self.new.trail ≡ self.old.trail }
+    {
+        let mut change = self.saved();
+        change.part = Some(Was {
+            at: list,
+            was: Part::Row(span.order, span.start, span.many),
+        });
+        change.turn = Some(Turn {
+            start: span.start,
+            end: place,
+        });
+        self.links.shorten(list, span, place);
+        self.focus = None;
+        self.front = self.links.settled(self.front, id, list, list);
+        change
+    }
+
+    // Puts a part in the place of another. What is told stood there.
+    fn put(&mut self, part: usize, of: usize) -> Option<Was<usize>>
+        requires part { part < length (stage_of self.old).owners }
+        requires of { of < length (stage_of self.old).owners }
+        requires listed { (o : Option ℕ) → slice_get (stage_of self.old).owners of ≡ Some o
+            → IsListed (frame_of (stage_of self.old)) o of }
+        ensures puts { Puts part of result (stage_of self.old) (stage_of self.new) }
+        ensures trail { self.new.trail ≡ self.old.trail }
+    {
+        let owner = self.links.owner(of);
+        let slot = self.links.slot_of(owner, of);
+        self.links.hang(part, slot, owner);
+        match slot {
+            None => {
+                self.root = Some(part);
+                None
+            }
+            Some(place) => Some(Was { at: place, was: of }),
+        }
+    }
+
+    // What a change writes over, before it does.
+    fn saved(&self) -> Change
+        ensures { result ≡ saved (stage_of self.now) }
+    {
+        Change {
+            parts: self.links.parts.len(),
+            rows: self.links.rows.len(),
+            root: self.root,
+            focus: self.focus,
+            front: self.front,
+            part: None,
+            owner: None,
+            place: None,
+            turn: None,
+        }
+    }
+
     /// The number of changes that can be undone.
     pub fn mark(&self) -> usize
         ensures { result ≡ mark_of (history_of self.now) }
