@@ -9,22 +9,25 @@ use Rattle.hp_links.specs.declared.links.Part.{Part}
 use Rattle.hp_links.specs.declared.links.Part.TheVariants.{Task, Row}
 use Rattle.hp_links.specs.declared.links.Span.{Span}
 use Rattle.hp_links.specs.declared.undo.Change.{Change}
+use Rattle.hp_links.specs.declared.undo.Turn.{Turn}
+use Rattle.hp_links.proofs.ListSteps.{read_set, some_read}
 use Rattle.hp_links.specs.declared.entry.Order.{Order}
-use Rattle.hp_links.specs.Changing.{IsSpan, IsFirstFrom, IsSlotOf, other_of, put_at, hung, root_after, shortened}
+use Rattle.hp_links.specs.Changing.{IsSpan, HasSpan, IsFirstFrom, IsSlotOf, other_of, put_at, hung, root_after, shortened}
 use Rattle.hp_links.specs.Fronts.{settled}
-use Rattle.hp_links.specs.Frames.{Frame, frame_of, top, Stands, IsWhole, tree_at, IsHeld}
+use Rattle.hp_links.specs.Frames.{Frame, frame_of, top, tops, Stands, IsWhole, tree_at, IsHeld}
 use Rattle.hp_links.specs.Labelled.{Tree, Gone, Branch, count, numbers, numbers_of_all, IsFull, front_of, replaced, without}
 use Rattle.hp_links.specs.Linked.{Linked, NamesTask, whole}
 use Rattle.hp_links.specs.Turning.{turned_right, turned_left}
-use Rattle.hp_links.specs.Undoing.{IsStage, IsCleared, IsWithin, LeavesOne, Steps, put_back, was_at}
+use Rattle.hp_links.specs.Undoing.{IsStage, IsCleared, IsWithin, LeavesOne, Steps, lengthened, longer, put_back, was_at}
 use Rattle.hp_links.proofs.ChangeLemmas.{left_full, without_apart, without_normal}
 use Rattle.hp_links.proofs.FinishLemmas.{task_alone, task_parent, joins, shortens, front_left}
 use Rattle.hp_links.proofs.HangLemmas.{above_more, same_part, slot_read, stands_hung, tops_owned, top_owned}
 use Rattle.hp_links.proofs.HeldLemmas.{held, tree_at-top}
 use Rattle.hp_links.proofs.HungLemmas.{Placed, hung_whole, listed_above}
-use Rattle.hp_links.proofs.ParentLemmas.{tops_there}
+use Rattle.hp_links.proofs.ParentLemmas.{Parent, tops_there}
 use Rattle.hp_links.proofs.PlaceLemmas.{part_tells}
 use Rattle.hp_links.proofs.StageLemmas.{staged, stage_stands}
+use Rattle.hp_links.proofs.TreeLemmas.{length-tops}
 use Rattle.hp_links.proofs.TurnLemmas.{turned_both}
 
 -- networks in place with equal parts are equal
@@ -62,7 +65,7 @@ cleared_steps s r t x h n own c =
       back =
           same_linked _ s.parts _ s.owners _ s.rows _ s.root _ s.focus _ s.front (taken s.parts (length s.parts) refl)
           (taken s.owners (length s.parts) (sym h.owners)) (taken s.rows (length s.rows) refl) refl refl refl;
-      fits = record { part = tt; owner = tt; place = tt; turn = tt };
+      fits = record { owner = tt; place = tt; turn = tt };
       stage = stage.0;
       whole = stage.1 ∙ sym gone;
       focus = refl;
@@ -107,6 +110,10 @@ left_one s x list rest h n own l =
       there = (part_tells r.list (whole s) (Branch r.list r.order r.parts) r.is).2;
     })
 
+-- the part that is left belongs to the list
+pub part_owned : (s : Linked) (x list rest : ℕ) → LeftOne s x list rest → slice_get s.owners rest ≡ Some (Some list)
+part_owned s x list rest l = ap (slice_get s.owners) l.top ∙ top_owned (frame_of s) (Some list) l.tree l.stands
+
 -- the place of a list in the network
 pub list_placed : (s : Linked) (y : ℕ) (o : Option ℕ) → IsStage s → Contains (numbers (whole s)) y
     → slice_get s.owners y ≡ Some o → Placed (frame_of s) (whole s) y o
@@ -115,16 +122,12 @@ list_placed s y o h c own =
 
 module _ (s : Linked) (x list rest : ℕ) (h : IsStage s) (l : LeftOne s x list rest) (o slot : Option ℕ)
     (own : slice_get s.owners list ≡ Some o) (at : IsSlotOf (frame_of s) o list slot) where
-  -- the part that is left belongs to the list
-  rest_owned : slice_get s.owners rest ≡ Some (Some list)
-  rest_owned = ap (slice_get s.owners) l.top ∙ top_owned (frame_of s) (Some list) l.tree l.stands
-
   -- the part that is left stands in the list's place
   pub rest_stands : Stands (hung rest o slot (frame_of s)) o l.tree
   rest_stands =
       let place = list_placed s list o h l.there own in
       stands_hung (frame_of s) rest list o slot own place.listed at (Some list) l.tree l.stands l.top
-      (slice_get_within s.owners rest (Some list) rest_owned) (above_more o list rest place.above l.later)
+      (slice_get_within s.owners rest (Some list) (part_owned s x list rest l)) (above_more o list rest place.above l.later)
 
   pub rest_held : IsHeld (hung rest o slot (frame_of s)) rest
   rest_held = held (hung rest o slot (frame_of s)) o l.tree rest rest_stands l.full (sym l.top)
@@ -145,8 +148,7 @@ module _ (s : Linked) (x list rest : ℕ) (h : IsStage s) (l : LeftOne s x list 
         root = s.root;
         focus = s.focus;
         front = s.front;
-        part = None;
-        owner = Some (record { at = rest; was = Some list });
+        owner = Some (rest, Some list);
         place = was_at list slot;
         turn = None;
       }
@@ -158,11 +160,11 @@ module _ (s : Linked) (x list rest : ℕ) (h : IsStage s) (l : LeftOne s x list 
       let w = stage_stands s list h l.there in
       let whole_is =
       hung_whole f s.root (whole s) l.tree rest list o slot (Some list) h.stands w.0 own place at
-      (slice_get_within s.owners rest (Some list) rest_owned) (above_more o list rest place.above l.later) l.stands
-      l.top (λ k n e. n (same_Some _ _ (same_Some _ _ (sym e ∙ rest_owned))))
+      (slice_get_within s.owners rest (Some list) (part_owned s x list rest l)) (above_more o list rest place.above l.later) l.stands
+      l.top (λ k n e. n (same_Some _ _ (same_Some _ _ (sym e ∙ (part_owned s x list rest l)))))
       (λ e.
       let no : None ≡ Some list =
-      same_Some None (Some list) (sym (top_owned f None (whole s) w.0) ∙ ap (slice_get s.owners) e ∙ rest_owned) in
+      same_Some None (Some list) (sym (top_owned f None (whole s) w.0) ∙ ap (slice_get s.owners) e ∙ (part_owned s x list rest l)) in
       cc) in
       let tree : tree_at g rest ≡ l.tree = ap (tree_at g) l.top ∙ tree_at-top g o l.tree rest_stands in
       let new : Linked = record {
@@ -184,11 +186,10 @@ module _ (s : Linked) (x list rest : ℕ) (h : IsStage s) (l : LeftOne s x list 
         back =
             same_linked _ s.parts _ s.owners _ s.rows _ s.root _ s.focus _ s.front
             (taken s.parts (length s.parts) refl)
-            (set_back s.owners rest (length s.parts) o (Some list) rest_owned (sym h.owners))
+            (set_back s.owners rest (length s.parts) o (Some list) (part_owned s x list rest l) (sym h.owners))
             (rows_back slot at) refl refl refl;
         fits = record {
-          part = tt;
-          owner = within_set s.owners rest (length s.parts) o (slice_get_within s.owners rest (Some list) rest_owned) (sym h.owners);
+          owner = within_set s.owners rest (length s.parts) o (slice_get_within s.owners rest (Some list) (part_owned s x list rest l)) (sym h.owners);
           place = place_within slot at;
           turn = tt;
         };
@@ -285,10 +286,9 @@ module _ (s : Linked) (x list place : ℕ) (span : Span) (h : IsStage s) (is_lis
         root = s.root;
         focus = s.focus;
         front = s.front;
-        part = Some (record { at = list; was = Row span.order span.start span.many });
         owner = None;
         place = None;
-        turn = Some (record { start = span.start; end = place });
+        turn = Some (record { list = list; start = span.start; many = span.many; end = place });
       }
       → Steps t (without x (whole s)) None s r
   shortened_steps r t is change =
@@ -313,6 +313,17 @@ module _ (s : Linked) (x list place : ℕ) (span : Span) (h : IsStage s) (is_lis
       (h.owners ∙ sym (length-set s.parts list (Row span.order (span.start + 1) (span.many - 1))))
       (without_normal x (whole s) h.normal) (without_apart x (whole s) h.apart) tt
       (ap (λ (q : Tree). settled x list (front_of q) s.front) tree ∙ l.front) in
+      let long_parts = length-set s.parts list (Row span.order (span.start + 1) (span.many - 1)) in
+      let turn : Turn = record { list = list; start = span.start; many = span.many; end = place } in
+      let parts_kept : take (length s.parts) new.parts ≡ new.parts =
+      taken new.parts (length s.parts) (omega (arith, long_parts)) in
+      let parts_back : lengthened (Some turn) (take (length s.parts) new.parts) ≡ s.parts =
+      ap (lengthened (Some turn)) parts_kept
+      ∙ ap (λ (o : Option Part). longer turn o new.parts)
+      (read_set s.parts list (Row span.order (span.start + 1) (span.many - 1)) within)
+      ∙ set-set s.parts list (Row span.order (span.start + 1) (span.many - 1)) (Row span.order span.start span.many)
+      ∙ ap (set s.parts list) (sym (get_or_from_slice_get s.parts list _ (Row span.order span.start span.many) is_list))
+      ∙ set-get_or s.parts list (Row span.order span.start span.many) in
       let kept : take (length s.rows) (turned_right span.start place s.rows) ≡ turned_right span.start place s.rows
       = take_all (length s.rows) (turned_right span.start place s.rows) (omega arith) in
       subst (λ (q : Linked). Steps t (without x (whole s)) None s q) (sym is)
@@ -320,21 +331,177 @@ module _ (s : Linked) (x list place : ℕ) (span : Span) (h : IsStage s) (is_lis
       (record {
         back =
             same_linked _ s.parts _ s.owners _ s.rows _ s.root _ s.focus _ s.front
-            (set_back s.parts list (length s.parts) (Row span.order (span.start + 1) (span.many - 1)) _ is_list refl)
+            parts_back
             (taken s.owners (length s.parts) (sym h.owners))
             (ap (turned_left span.start place) kept ∙ turned_both s.rows span.start place later end) refl refl refl;
         fits = record {
-          part =
-              (let k = ap length
-                  (take_all (length s.parts)
-                  (set s.parts list (Row span.order (span.start + 1) (span.many - 1)))
-                  (omega (arith, length-set s.parts list (Row span.order (span.start + 1) (span.many - 1))))) in
-                  omega (arith, k, length-set s.parts list (Row span.order (span.start + 1) (span.many - 1))));
           owner = tt;
           place = tt;
-          turn = (later, (let k = ap length kept in omega arith));
+          turn = (
+            (let k = ap length (taken new.parts (length s.parts) (omega (arith, long_parts))) in
+                omega (arith, k, long_parts)),
+            later,
+            (let k = ap length kept in omega arith),
+          );
         };
         stage = stage.0;
         whole = stage.1;
         focus = refl;
       }))
+
+-- ---- what the functions tell
+
+-- the network once a part was put, and the front settled
+pub stage_is : (q r : Linked) (x list rest : ℕ) (front : Option ℕ) → q ≡ r
+    → front ≡ settled x list (front_of (tree_at (frame_of q) rest)) q.front
+    → (λ (s : Linked). s) (record {
+      parts = q.parts; owners = q.owners; rows = q.rows; root = q.root; focus = None; front = front
+    })
+    ≡ record {
+      parts = r.parts;
+      owners = r.owners;
+      rows = r.rows;
+      root = r.root;
+      focus = None;
+      front = settled x list (front_of (tree_at (frame_of r) rest)) r.front;
+    }
+stage_is q r x list rest front e f =
+    let left : Linked → Option ℕ → Linked = λ s o. record {
+      parts = s.parts; owners = s.owners; rows = s.rows; root = s.root; focus = None; front = o
+    } in
+    ap (left q) f ∙ ap (λ (s : Linked). left s (settled x list (front_of (tree_at (frame_of s) rest)) s.front)) e
+
+-- the change once a part was put
+pub change_is : (u v : Change) (rest list : ℕ) (p q : Option (ℕ × ℕ)) → u ≡ v → p ≡ q
+    → (λ (t : Change). t) (record {
+      parts = u.parts;
+      rows = u.rows;
+      root = u.root;
+      focus = u.focus;
+      front = u.front;
+      owner = Some (rest, Some list);
+      place = p;
+      turn = u.turn;
+    })
+    ≡ record {
+      parts = v.parts;
+      rows = v.rows;
+      root = v.root;
+      focus = v.focus;
+      front = v.front;
+      owner = Some (rest, Some list);
+      place = q;
+      turn = v.turn;
+    }
+change_is u v rest list p q e f =
+    let wrote : Change → Option (ℕ × ℕ) → Change = λ t o. record {
+      parts = t.parts;
+      rows = t.rows;
+      root = t.root;
+      focus = t.focus;
+      front = t.front;
+      owner = Some (rest, Some list);
+      place = o;
+      turn = t.turn;
+    } in
+    ap₂ wrote e f
+
+-- frames of equal parts are equal
+pub same_frame : (a b : List Part) (c d : List (Option ℕ)) (e f : List ℕ) → a ≡ b → c ≡ d → e ≡ f
+    → (λ (s : Frame). s) (record { parts = a; owners = c; rows = e }) ≡ record { parts = b; owners = d; rows = f }
+same_frame a b c d e f p q r = cc
+
+-- the network once a row is shorter, and the front settled
+pub shorter_is : (s : Linked) (g h : Frame) (x list : ℕ) (front : Option ℕ) → g ≡ h
+    → front ≡ settled x list (front_of (tree_at g list)) s.front
+    → (λ (s : Linked). s) (record {
+      parts = g.parts; owners = g.owners; rows = g.rows; root = s.root; focus = None; front = front
+    })
+    ≡ record {
+      parts = h.parts;
+      owners = h.owners;
+      rows = h.rows;
+      root = s.root;
+      focus = None;
+      front = settled x list (front_of (tree_at h list)) s.front;
+    }
+shorter_is s g h x list front e f =
+    let left : Frame → Option ℕ → Linked = λ q o. record {
+      parts = q.parts; owners = q.owners; rows = q.rows; root = s.root; focus = None; front = o
+    } in
+    ap (left g) f ∙ ap (λ (q : Frame). left q (settled x list (front_of (tree_at q list)) s.front)) e
+
+-- the change once a row is shorter
+pub turn_is : (u v : Change) (t : Turn) → u ≡ v
+    → (λ (c : Change). c) (record {
+      parts = u.parts;
+      rows = u.rows;
+      root = u.root;
+      focus = u.focus;
+      front = u.front;
+      owner = u.owner;
+      place = u.place;
+      turn = Some t;
+    })
+    ≡ record {
+      parts = v.parts;
+      rows = v.rows;
+      root = v.root;
+      focus = v.focus;
+      front = v.front;
+      owner = v.owner;
+      place = v.place;
+      turn = Some t;
+    }
+turn_is u v t e =
+    ap
+    (λ (c : Change).
+    (λ (b : Change). b) (record {
+      parts = c.parts;
+      rows = c.rows;
+      root = c.root;
+      focus = c.focus;
+      front = c.front;
+      owner = c.owner;
+      place = c.place;
+      turn = Some t;
+    })) e
+
+module _ (s : Linked) (x list : ℕ) (h : IsStage s) (n : NamesTask s x) (own : slice_get s.owners x ≡ Some (Some list)) where
+  -- the list of a task has a row
+  pub has_span : HasSpan (frame_of s) list
+  has_span =
+      let tp = task_parent s x list h n own in
+      let r = tp.0 in
+      subst (λ (q : ℕ). HasSpan (frame_of s) q) tp.1
+      (record { order = r.order; start = r.stands.0; many = count r.parts }, r.stands.1.part)
+
+  module _ (span : Span) (is : IsSpan (frame_of s) list span) where
+    spanned : (r : Parent (frame_of s) (whole s) x) → r.list ≡ list
+        → (span.start ≡ r.stands.0) × (span.many ≡ count r.parts)
+    spanned r e =
+        let at : slice_get s.parts r.list ≡ Some (Row span.order span.start span.many)
+        = ap (slice_get s.parts) e ∙ is in
+        let same : Row span.order span.start span.many ≡ Row r.order r.stands.0 (count r.parts) =
+        same_part (frame_of s) r.list _ _ at r.stands.1.part in
+        (cc, cc)
+
+    -- a task stands in the row of its list
+    pub stands_later : (i : ℕ) × (span.start ≤ i) × (slice_get s.rows i ≡ Some x)
+    stands_later =
+        let tp = task_parent s x list h n own in
+        let r = tp.0 in
+        let e = (spanned r tp.1).0 in
+        let within : r.place < length (tops r.parts) = slice_get_within (tops r.parts) r.place x r.at in
+        (r.stands.0 + r.place, omega (arith, e), r.stands.2.at r.place within ∙ r.at)
+
+    -- the second of two parts stands in the row
+    pub second_within : span.many ≡ 2 → span.start + 1 < length s.rows
+    second_within two =
+        let tp = task_parent s x list h n own in
+        let r = tp.0 in
+        let e = spanned r tp.1 in
+        let l : 1 < length (tops r.parts) = omega (arith, length-tops r.parts, e.1) in
+        let at = some_read (tops r.parts) 1 l in
+        let w = slice_get_within s.rows (r.stands.0 + 1) at.0 (r.stands.2.at 1 l ∙ at.1) in
+        omega (arith, e.0)

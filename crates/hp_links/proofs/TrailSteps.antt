@@ -1,5 +1,5 @@
 -- One change of a store, noted or undone.
-use Rattle.std.proofs.Common.{◌≡◌, ℕ, ◌+◌, ◌<◌, ◌≤◌, List, [], ◌∷◌, ◌++◌, length, sym, ap, ◌∙◌, subst, arith, vec_len}
+use Rattle.std.proofs.Common.{◌≡◌, ℕ, ◌+◌, ◌<◌, ◌≤◌, List, [], ◌∷◌, ◌++◌, Option, length, sym, ap, ◌∙◌, subst, arith, vec_len}
 use Rattle.std.proofs.lemmas.List.{length_push}
 use Rattle.hp_world.specs.Histories.{history, undone_to, KeepsPasts}
 use Rattle.hp_world.specs.Trails.{IsUndoable}
@@ -7,8 +7,9 @@ use Rattle.hp_world.proofs.HistoryLemmas.{undone_pushed}
 use Rattle.hp_world.proofs.TrailLemmas.{keeps_pushed, undoable_pushed, undoable_popped}
 use Rattle.hp_links.specs.declared.undo.Change.{Change}
 use Rattle.hp_links.specs.declared.store.Store.{Store}
-use Rattle.hp_links.specs.Linked.{Linked}
-use Rattle.hp_links.specs.Undoing.{undone, Fits, IsStage, stage_of, history_of, IsSound, Undoes}
+use Rattle.hp_links.specs.Labelled.{Tree}
+use Rattle.hp_links.specs.Linked.{Linked, whole}
+use Rattle.hp_links.specs.Undoing.{undone, Fits, IsStage, stage_of, history_of, IsSound, Steps, Undoes}
 
 -- the last change on a sound trail fits
 pub last_fits : (ts rest : List Change) (t : Change) (s : Linked) → IsUndoable undone Fits IsStage ts s
@@ -53,3 +54,17 @@ noted old new t sound trail back fits stage =
           (stage_of new)))
           back keeps),
     )
+
+-- the present of a sound trail is sound
+pub stage_now : (ts : List Change) (s : Linked) → IsUndoable undone Fits IsStage ts s → IsStage s
+stage_now [] s h = h
+stage_now (t ∷ ts) s h = stage_now ts s h.2
+
+-- a step that is noted keeps what stood before, and the network is the step's
+pub noted_step : (old new : Store) (mid : Linked) (t : Change) (tree : Tree) (f : Option ℕ) → IsSound old
+    → new.trail.items ≡ old.trail.items ++ t ∷ [] → Steps t tree f (stage_of old) mid → stage_of new ≡ mid
+    → IsSound new × KeepsPasts (history_of old) (history_of new) × (whole (stage_of new) ≡ tree) × (new.focus ≡ f)
+noted_step old new mid t tree f sound trail step is =
+    let r = noted old new t sound trail (ap (undone t) is ∙ step.back) (subst (Fits t) (sym is) step.fits)
+    (subst IsStage (sym is) step.stage) in
+    (r.0, r.1, ap whole is ∙ step.whole, ap (λ (s : Linked). s.focus) is ∙ step.focus)

@@ -2,7 +2,8 @@
 use Rattle.std.specs.Prelude.{◌≡◌, ℕ, suc, ◌+◌, ◌<◌, ◌≤◌, List, ◌∷◌, ◌++◌, length, take, drop, Option, Some, None, IfSome, Contains, slice_get, slice_set, vec_len}
 use Rattle.hp_world.specs.Histories.{History, history, undone_to}
 use Rattle.hp_world.specs.Trails.{IsUndoable}
-use Rattle.hp_links.specs.declared.undo.Was.{Was}
+use Rattle.hp_links.specs.declared.links.Part.{Part}
+use Rattle.hp_links.specs.declared.links.Part.TheVariants.{Task, Row}
 use Rattle.hp_links.specs.declared.undo.Turn.{Turn}
 use Rattle.hp_links.specs.declared.undo.Change.{Change}
 use Rattle.hp_links.specs.declared.store.Store.{Store}
@@ -18,14 +19,24 @@ turned_back None rows = rows
 turned_back (Some t) rows = turned_left t.start t.end rows
 
 -- with what stood at a place
-abbrev pub put_back : {A : Type 0} → Option (Was A) → List A → List A
+abbrev pub put_back : {A : Type 0} → Option (ℕ × A) → List A → List A
 put_back None xs = xs
-put_back (Some w) xs = slice_set xs w.at w.was
+put_back (Some w) xs = slice_set xs w.0 w.1
+
+-- parts with the row of a list as it was
+abbrev pub longer : Turn → Option Part → List Part → List Part
+longer t None ps = ps
+longer t (Some (Task cell immediate)) ps = ps
+longer t (Some (Row order start many)) ps = slice_set ps t.list (Row order t.start t.many)
+
+abbrev pub lengthened : Option Turn → List Part → List Part
+lengthened None ps = ps
+lengthened (Some t) ps = longer t (slice_get ps t.list) ps
 
 -- the network before a change
 abbrev pub undone : Change → Linked → Linked
 undone t s = record {
-  parts = put_back t.part (take t.parts s.parts);
+  parts = lengthened t.turn (take t.parts s.parts);
   owners = put_back t.owner (take t.parts s.owners);
   rows = turned_back t.turn (put_back t.place (take t.rows s.rows));
   root = t.root;
@@ -33,20 +44,19 @@ undone t s = record {
   front = t.front;
 }
 
-abbrev pub IsWithin : {A : Type 0} → ℕ → Option (Was A) → Type 0
+abbrev pub IsWithin : {A : Type 0} → ℕ → Option (ℕ × A) → Type 0
 IsWithin n None = Unit {0}
-IsWithin n (Some w) = w.at < n
+IsWithin n (Some w) = w.0 < n
 
-abbrev pub TurnsWithin : ℕ → Option Turn → Type 0
-TurnsWithin n None = Unit {0}
-TurnsWithin n (Some t) = (t.start ≤ t.end) × (t.end < n)
+abbrev pub TurnsWithin : ℕ → ℕ → Option Turn → Type 0
+TurnsWithin parts rows None = Unit {0}
+TurnsWithin parts rows (Some t) = (t.list < parts) × (t.start ≤ t.end) × (t.end < rows)
 
 -- the change can be undone
 pub record Fits (t : Change) (s : Linked) : Type 0 where
-  pub part : IsWithin (length (take t.parts s.parts)) t.part
   pub owner : IsWithin (length (take t.parts s.owners)) t.owner
   pub place : IsWithin (length (take t.rows s.rows)) t.place
-  pub turn : TurnsWithin (length (take t.rows s.rows)) t.turn
+  pub turn : TurnsWithin (length (take t.parts s.parts)) (length (take t.rows s.rows)) t.turn
 
 -- the network stands in its parts, in normal form and each number once; the focus is on a part of it, and the front is
 -- the part below which all first tasks stand
@@ -91,7 +101,6 @@ saved s = record {
   root = s.root;
   focus = s.focus;
   front = s.front;
-  part = None;
   owner = None;
   place = None;
   turn = None;
@@ -119,12 +128,12 @@ put_to x o slot s = record {
 }
 
 -- what stood at a place
-abbrev pub was_at : ℕ → Option ℕ → Option (Was ℕ)
+abbrev pub was_at : ℕ → Option ℕ → Option (ℕ × ℕ)
 was_at y None = None
-was_at y (Some place) = Some (record { at = place; was = y })
+was_at y (Some place) = Some (place, y)
 
 -- a part was put in the place of another, which stood there
-pub record Puts (x y : ℕ) (was : Option (Was ℕ)) (old new : Linked) : Type 0 where
+pub record Puts (x y : ℕ) (was : Option (ℕ × ℕ)) (old new : Linked) : Type 0 where
   pub owner : Option ℕ
   pub slot : Option ℕ
   pub own : slice_get old.owners y ≡ Some owner

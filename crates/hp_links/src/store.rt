@@ -6,14 +6,14 @@ ghost use Rattle.hp_syntax.specs.Networks as plain;
 ghost use Rattle.hp_world.specs.Histories.{mark_of, undone_to, KeepsPasts};
 ghost use Rattle.hp_links.specs.Changing.{IsSpan, IsFirstFrom, IsListed};
 ghost use Rattle.hp_links.specs.Frames.{frame_of};
-ghost use Rattle.hp_links.specs.Labelled.{network, part_in, without, Leaf};
+ghost use Rattle.hp_links.specs.Labelled.{leads, network, part_in, without, Leaf};
 ghost use Rattle.hp_links.specs.Linked.{whole, NamesTask, PartBelow};
-ghost use Rattle.hp_links.specs.Placed.{candidates_in, Finishes};
+ghost use Rattle.hp_links.specs.Placed.{candidates_in, scope_of, Finishes};
 ghost use Rattle.hp_links.specs.Undoing.{IsSound, IsStage, IsCleared, LeavesOne, Puts, Steps, Undoes, history_of, saved, stage_of};
 
 use crate::id::TaskId;
-use crate::links::{Links, Part, Span};
-use crate::undo::{Change, Turn, Was};
+use crate::links::{Links, Span};
+use crate::undo::{Change, Turn};
 use crate::walk::keep_immediate;
 use hp_cells::Cell;
 use std::alloc::{AllocError, Global};
@@ -85,12 +85,20 @@ impl Store {
         requires { IsSound self.now }
         ensures { IfOk result (λ v. v.items ≡ candidates_in (stage_of self.now)) }
     {
-        let mut found = match self.focus.or(self.front) {
-            None => Vec::new(alloc),
-            Some(start) => self.links.first_tasks(alloc, start)?,
-        };
+        let mut found = self.first_ones(alloc)?;
         keep_immediate(&self.links.parts, &mut found);
         Ok(found)
+    }
+
+    // The first tasks of the part with the focus, or of the whole network.
+    fn first_ones(&self, alloc: Global) -> Result<Vec<TaskId>, AllocError>
+        requires { IsSound self.now }
+        ensures { IfOk result (λ v. v.items ≡ leads (scope_of (stage_of self.now) self.now.focus)) }
+    {
+        match self.focus.or(self.front) {
+            None => Ok(Vec::new(alloc)),
+            Some(start) => self.links.first_tasks(alloc, start),
+        }
     }
 
     /// Takes a task out, and the focus away. An error leaves the network as it was.
@@ -176,14 +184,11 @@ impl Store {
         requires one { LeavesOne (frame_of (stage_of self.old)) id list rest }
         ensures steps { Steps result (without id (whole (stage_of self.old))) None (stage_of self.old)
             (stage_of self.new) }
-        ensures parts { self.new.links.parts ≡ self.old.links.parts }
+        ensures parts { (stage_of self.new).parts ≡ (stage_of self.old).parts }
         ensures trail { self.new.trail ≡ self.old.trail }
     {
         let mut change = self.saved();
-        change.owner = Some(Was {
-            at: rest,
-            was: Some(list),
-        });
+        change.owner = Some((rest, Some(list)));
         change.place = self.put(rest, list);
         self.focus = None;
         self.front = self.links.settled(self.front, id, list, rest);
@@ -205,12 +210,10 @@ impl Store {
         ensures trail { self.new.trail ≡ self.old.trail }
     {
         let mut change = self.saved();
-        change.part = Some(Was {
-            at: list,
-            was: Part::Row(span.order, span.start, span.many),
-        });
         change.turn = Some(Turn {
+            list,
             start: span.start,
+            many: span.many,
             end: place,
         });
         self.links.shorten(list, span, place);
@@ -220,7 +223,7 @@ impl Store {
     }
 
     // Puts a part in the place of another. What is told stood there.
-    fn put(&mut self, part: usize, of: usize) -> Option<Was<usize>>
+    fn put(&mut self, part: usize, of: usize) -> Option<(usize, usize)>
         requires part { part < length (stage_of self.old).owners }
         requires of { of < length (stage_of self.old).owners }
         requires listed { (o : Option ℕ) → slice_get (stage_of self.old).owners of ≡ Some o
@@ -236,7 +239,7 @@ impl Store {
                 self.root = Some(part);
                 None
             }
-            Some(place) => Some(Was { at: place, was: of }),
+            Some(place) => Some((place, of)),
         }
     }
 
@@ -250,7 +253,6 @@ impl Store {
             root: self.root,
             focus: self.focus,
             front: self.front,
-            part: None,
             owner: None,
             place: None,
             turn: None,

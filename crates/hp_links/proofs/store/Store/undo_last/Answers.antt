@@ -8,7 +8,7 @@ put_back-requires c =
     let s = c.args.self.now in
     let fits =
     last_fits s.trail.items _ c.take_last-change.result (stage_of s) c.requires.sound c.take_last-change.ensures.items in
-    record { part = fits.part; owner = fits.owner; place = fits.place; turn = fits.turn }
+    record { owner = fits.owner; place = fits.place; turn = fits.turn }
 
 pub returns : goal.returns
 returns c =
