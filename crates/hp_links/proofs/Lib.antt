@@ -9,7 +9,9 @@ pub mod ListSteps
 pub mod NumberLemmas
 pub mod ParentLemmas
 pub mod PlaceLemmas
+pub mod PlantLemmas
 pub mod PushedLemmas
+pub mod ScopeLemmas
 pub mod ShortenLemmas
 pub mod StageLemmas
 pub mod StepLemmas

@@ -505,3 +505,11 @@ module _ (s : Linked) (x list : ℕ) (h : IsStage s) (n : NamesTask s x) (own : 
         let at = some_read (tops r.parts) 1 l in
         let w = slice_get_within s.rows (r.stands.0 + 1) at.0 (r.stands.2.at 1 l ∙ at.1) in
         omega (arith, e.0)
+
+    -- a task's list has a part
+    pub span_some : 0 < span.many
+    span_some =
+        let tp = task_parent s x list h n own in
+        let e = (spanned tp.0 tp.1).1 in
+        let two = tp.0.full.0 in
+        omega arith

@@ -1,1 +1,74 @@
 //! Networks in reading order become numbered parts.
+ghost use Rattle.std.specs.Prelude.{◌≡◌, ◌+◌, ◌-◌, ◌<◌, ◌≤◌, ◌++◌, Some, None, OnOk, OnErr, length, map, take, drop, replicate, reverse, slice_set, vec_len};
+ghost use Rattle.std.specs.List.{All};
+ghost use Rattle.hp_links.specs.Frames.{frame_in};
+ghost use Rattle.hp_links.specs.Planted.{KeepsFirst, own_all, part_of};
+
+use crate::entry::{Entry, Order};
+use crate::links::{Links, Part};
+use crate::walk::push_reversed;
+use std::alloc::{AllocError, Global};
+
+impl Links {
+    // Puts the part of each entry behind the others, without its parts and without an owner.
+    fn push_entries(&mut self, entries: &[Entry]) -> Result<(), AllocError>
+        ensures keeps { KeepsFirst (frame_in self.old) (frame_in self.new) }
+        ensures parts { OnOk result (self.new.parts.items ≡ self.old.parts.items ++ map part_of entries.now) }
+        ensures owners { OnOk result (self.new.owners.items
+            ≡ self.old.owners.items ++ replicate (length entries.now) None) }
+        ensures rows { self.new.rows ≡ self.old.rows }
+    {
+        for entry in entries {
+            self.parts.push(part_of(*entry))?;
+            self.owners.push(None)?;
+        }
+        Ok(())
+    }
+
+    fn link_list(
+        &mut self,
+        number: usize,
+        order: Order,
+        many: usize,
+        roots: &mut Vec<usize>,
+    ) -> Result<(), AllocError>
+        requires number { number < vec_len self.old.parts }
+        requires many { many ≤ vec_len roots.old }
+        requires owned { All (λ j. j < length self.old.owners.items) roots.old.items }
+        ensures parts { OnOk result (self.new.parts.items
+            ≡ slice_set self.old.parts.items number (Part.Row order (length self.old.rows.items) many)) }
+        ensures owners { OnOk result (self.new.owners.items
+            ≡ own_all (Some number) (drop (length roots.old.items - many) roots.old.items) self.old.owners.items) }
+        ensures rows { OnOk result (self.new.rows.items
+            ≡ self.old.rows.items ++ reverse (drop (length roots.old.items - many) roots.old.items)) }
+        ensures roots { OnOk result (roots.new.items ≡ take (length roots.old.items - many) roots.old.items) }
+        ensures err { OnErr result (frame_in self.new ≡ frame_in self.old) }
+    {
+        let from = roots.len() - many;
+        let start = self.rows.len();
+        push_reversed(&mut self.rows, &roots[from..])?;
+        own(&mut self.owners, &roots[from..], number);
+        self.parts[number] = Part::Row(order, start, many);
+        roots.truncate(from);
+        Ok(())
+    }
+}
+
+fn part_of(entry: Entry) -> Part
+    ensures { result ≡ part_of entry }
+{
+    match entry {
+        Entry::Task(cell, immediate) => Part::Task(cell, immediate),
+        Entry::List(order, _) => Part::Row(order, 0, 0),
+    }
+}
+
+// Makes a list the owner of some parts.
+fn own(owners: &mut [Option<usize>], parts: &[usize], list: usize)
+    requires { All (λ j. j < length owners.old) parts.now }
+    ensures { owners.new ≡ own_all (Some list) parts.now owners.old }
+{
+    for part in parts {
+        owners[*part] = Some(list);
+    }
+}

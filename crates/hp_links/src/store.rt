@@ -6,7 +6,7 @@ ghost use Rattle.hp_syntax.specs.Networks as plain;
 ghost use Rattle.hp_world.specs.Histories.{mark_of, undone_to, KeepsPasts};
 ghost use Rattle.hp_links.specs.Changing.{IsSpan, IsFirstFrom, IsListed};
 ghost use Rattle.hp_links.specs.Frames.{frame_of};
-ghost use Rattle.hp_links.specs.Labelled.{leads, network, part_in, without, Leaf};
+ghost use Rattle.hp_links.specs.Labelled.{leads, network, or_else, part_in, without, Leaf};
 ghost use Rattle.hp_links.specs.Linked.{whole, NamesTask, PartBelow};
 ghost use Rattle.hp_links.specs.Placed.{candidates_in, scope_of, Finishes};
 ghost use Rattle.hp_links.specs.Undoing.{IsSound, IsStage, IsCleared, LeavesOne, Puts, Steps, Undoes, history_of, saved, stage_of};
@@ -65,7 +65,10 @@ impl Store {
         requires { IsSound self.now }
         ensures { (terms : List Term) → result ≡ plain.is_empty (network terms (whole (stage_of self.now))) }
     {
-        self.root.is_none()
+        match self.root {
+            None => true,
+            Some(_) => false,
+        }
     }
 
     /// The task that an id names.
@@ -90,12 +93,22 @@ impl Store {
         Ok(found)
     }
 
+    // Where the walk to the first tasks begins: at the focus, or else at the front.
+    fn scope(&self) -> Option<usize>
+        ensures { result ≡ or_else self.now.focus self.now.front }
+    {
+        match self.focus {
+            None => self.front,
+            Some(number) => Some(number),
+        }
+    }
+
     // The first tasks of the part with the focus, or of the whole network.
     fn first_ones(&self, alloc: Global) -> Result<Vec<TaskId>, AllocError>
         requires { IsSound self.now }
         ensures { IfOk result (λ v. v.items ≡ leads (scope_of (stage_of self.now) self.now.focus)) }
     {
-        match self.focus.or(self.front) {
+        match self.scope() {
             None => Ok(Vec::new(alloc)),
             Some(start) => self.links.first_tasks(alloc, start),
         }

@@ -1,5 +1,5 @@
 //! The walk to the tasks that may be done first.
-ghost use Rattle.std.specs.Prelude.{◌≡◌, ◌++◌, IfOk, OnOk, length, slice_get, take, drop, reverse};
+ghost use Rattle.std.specs.Prelude.{◌≡◌, ◌++◌, IfOk, OnOk, OnErr, length, slice_get, take, drop, reverse};
 ghost use Rattle.hp_links.specs.Frames.{IsHeld, frame_in, tree_at};
 ghost use Rattle.hp_links.specs.Labelled.{leads};
 ghost use Rattle.hp_links.specs.Placed.{immediate_first, is_immediate};
@@ -54,9 +54,10 @@ impl Links {
     }
 }
 
-// Puts numbers behind others, the first of them last.
-fn push_reversed(stack: &mut Vec<usize>, numbers: &[usize]) -> Result<(), AllocError>
-    ensures { OnOk result (stack.new.items ≡ stack.old.items ++ reverse numbers.now) }
+/// Puts numbers behind others, the first of them last.
+pub(crate) fn push_reversed(stack: &mut Vec<usize>, numbers: &[usize]) -> Result<(), AllocError>
+    ensures ok { OnOk result (stack.new.items ≡ stack.old.items ++ reverse numbers.now) }
+    ensures err { OnErr result (stack.new.items ≡ stack.old.items) }
 {
     let before = stack.len();
     stack.extend_from_slice(numbers)?;

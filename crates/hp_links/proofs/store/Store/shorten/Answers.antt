@@ -2,11 +2,17 @@ use Rattle.std.proofs.Common.{ap, subst, sym, arith, ◌<◌, length}
 use Rattle.std.proofs.lemmas.Option.{slice_get_within}
 use Rattle.hp_links.specs.Frames.{Frame, IsHeld}
 use Rattle.hp_links.specs.Undoing.{stage_of}
-use Rattle.hp_links.proofs.StepLemmas.{left_more, list_held, shortened_steps, same_frame, shorter_is, turn_is, second_within}
+use Rattle.hp_links.proofs.StepLemmas.{left_more, list_held, shortened_steps, same_frame, shorter_is, turn_is, span_some}
 use Rattle.hp_links.proofs.store.Store.shorten.Goals as goal
 
 pub shorten-requires-clause-place : goal.shorten-requires-clause-place
-shorten-requires-clause-place c = ?
+shorten-requires-clause-place c =
+    let s = stage_of c.args.self.now in
+    let within = slice_get_within s.rows c.args.place c.args.id c.requires.place.there in (
+      c.requires.place.later,
+      omega (arith, within, c.args.self.now.links.rows.ok.0),
+      span_some s c.args.id c.args.list c.requires.stage c.requires.names c.requires.list c.args.span c.requires.span,
+    )
 
 pub settled-self-requires : goal.settled-self-requires
 settled-self-requires c =

@@ -13,4 +13,7 @@ place_in-place-requires c =
     c.span-span.result c.span-span.ensures
 
 pub other-rest-requires : goal.other-rest-requires
-other-rest-requires c = ?
+other-rest-requires c =
+    let within = second_within (stage_of c.args.self.now) c.args.id c.args.list c.requires.stage c.requires.names
+    c.requires.list c.span-span.result c.span-span.ensures c.if-span-eq2.true in
+    omega (arith, within, c.args.self.now.links.rows.ok.0)

@@ -1,0 +1,112 @@
+-- Networks in reading order become numbered parts.
+use Rattle.std.proofs.Common.{◌≡◌, ℕ, zero, suc, ◌+◌, ◌-◌, ◌<◌, ◌≤◌, ◌⊎◌, ⊎_elim, inl, inr, Bool, List, [], ◌∷◌, ◌++◌, length, get_or, set, take, drop, map, Option, Some, None, refl, sym, ap, ap₂, subst, ◌∙◌, arith, append_assoc}
+use Rattle.std.specs.Prelude.{slice_get, reverse, option_map}
+use Rattle.std.specs.List.{All, Contains}
+use Rattle.std.proofs.lemmas.Bool.{cases_eq}
+use Rattle.std.proofs.lemmas.List.{take-append-drop, length-set}
+use Rattle.std.proofs.lemmas.List.Elements.{Contains-append_left, Contains-append_right}
+use Rattle.std.proofs.lemmas.Option.{same_Some, slice_get_within}
+use Rattle.hp_syntax.specs.Terms.{Term}
+use Rattle.hp_eval.specs.GoalViews.{as_networks}
+use Rattle.hp_links.specs.declared.entry.Entry.{Entry}
+use Rattle.hp_links.specs.declared.entry.Entry.TheVariants as entries
+use Rattle.hp_links.specs.declared.entry.Order.{Order}
+use Rattle.hp_links.specs.declared.links.Part.{Part}
+use Rattle.hp_links.specs.declared.links.Part.TheVariants.{Task, Row}
+use Rattle.hp_links.specs.Entries.{forest, AreClosed}
+use Rattle.hp_links.specs.Frames.{Frame, top, tops, HasPart, StandFrom, Stands, AllStand}
+use Rattle.hp_links.specs.Labelled.{Tree, Trees, Gone, Leaf, Branch, NoTree, With, count, numbers, numbers_of_all, AreApart, IsFull, AreFull, network, networks, listed}
+use Rattle.hp_links.specs.Linked.{as_trees}
+use Rattle.hp_links.specs.Planted.{trees_at, AllAlone, own_all}
+use Rattle.hp_links.proofs.HangLemmas.{top_owned, tops_owned}
+use Rattle.hp_links.proofs.ListSteps.{read_set, read_other, some_read}
+use Rattle.hp_links.proofs.ParentLemmas.{top_there}
+use Rattle.hp_links.proofs.NumberLemmas.{contains_nothing, contains_first, contains_later, contains_cases, apart_left, apart_right, apart_disjoint}
+
+-- ---- owners of many
+
+-- the owners of other numbers stay
+pub own_others : (o : Option ℕ) (js : List ℕ) (os : List (Option ℕ)) (x : ℕ) → (Contains js x → ⊥)
+    → slice_get (own_all o js os) x ≡ slice_get os x
+own_others o [] os x n = refl
+own_others o (j ∷ js) os x n =
+    own_others o js (set os j o) x (λ c. n (contains_later j x js c))
+    ∙ read_other os j x o (λ e. n (subst (Contains (j ∷ js)) (sym e) (contains_first j js)))
+
+-- there are as many owners
+pub length-own_all : (o : Option ℕ) (js : List ℕ) (os : List (Option ℕ)) → length (own_all o js os) ≡ length os
+length-own_all o [] os = refl
+length-own_all o (j ∷ js) os = length-own_all o js (set os j o) ∙ length-set os j o
+
+-- an owner that was given stays
+own_again : (o : Option ℕ) (js : List ℕ) (os : List (Option ℕ)) (x : ℕ) → slice_get os x ≡ Some o
+    → slice_get (own_all o js os) x ≡ Some o
+own_again o [] os x e = e
+own_again o (j ∷ js) os x e = own_again o js (set os j o) x (by_case (cases_eq x j))
+  where
+    by_case : (x ≡ j) ⊎ (x ≡ j → ⊥) → slice_get (set os j o) x ≡ Some o
+    by_case (inl f) = ap (slice_get (set os j o)) f ∙ read_set os j o (slice_get_within os j o (ap (slice_get os) (sym f) ∙ e))
+    by_case (inr n) = read_other os j x o n ∙ e
+
+-- each of the numbers has the owner
+pub own_each : (o : Option ℕ) (js : List ℕ) (os : List (Option ℕ)) (x : ℕ) → Contains js x → x < length os
+    → slice_get (own_all o js os) x ≡ Some o
+own_each o [] os x c l = absurd (contains_nothing x c)
+own_each o (j ∷ js) os x c l =
+    ⊎_elim
+    (λ e. own_again o js (set os j o) x (ap (slice_get (set os j o)) (sym e) ∙ read_set os j o (omega arith)))
+    (λ d. own_each o js (set os j o) x d (omega (arith, length-set os j o)))
+    (contains_cases j x js c)
+
+-- ---- trees that stand in another frame too
+
+-- a frame has what another one has of some numbers, but for the owner of the first
+pub record Carries (f g : Frame) (ns : List ℕ) (first : ℕ) : Type 0 where
+  pub parts : (x : ℕ) → Contains ns x → slice_get g.parts x ≡ slice_get f.parts x
+  pub owners : (x : ℕ) → Contains ns x → first < x → slice_get g.owners x ≡ slice_get f.owners x
+  pub rows : (i j : ℕ) → slice_get f.rows i ≡ Some j → slice_get g.rows i ≡ Some j
+
+row_carried : (f g : Frame) (start : ℕ) (js : List ℕ)
+    → ((i j : ℕ) → slice_get f.rows i ≡ Some j → slice_get g.rows i ≡ Some j) → StandFrom f.rows start js
+    → StandFrom g.rows start js
+row_carried f g start js rows h = record {
+  at = λ i l. let r = some_read js i l in rows (start + i) r.0 (h.at i l ∙ r.1) ∙ sym r.1;
+}
+
+-- a tree stands in a frame that has what it has
+mutual
+  pub carried : (f g : Frame) (p q : Option ℕ) (t : Tree) → Stands f p t → Carries f g (numbers t) (top t)
+      → slice_get g.owners (top t) ≡ Some q → Stands g q t
+  carried f g p q Gone h c own = absurd h
+  carried f g p q (Leaf k cell immediate) h c own =
+      record { part = c.parts k (contains_first k []) ∙ h.part; owner = own }
+  carried f g p q (Branch k order ts) h c own = (
+    h.0,
+    record { part = c.parts k (contains_first k (numbers_of_all ts)) ∙ h.1.part; owner = own },
+    row_carried f g h.0 (tops ts) c.rows h.2,
+    all_carried f g k ts h.3
+        (λ x d. c.parts x (contains_later k x (numbers_of_all ts) d))
+        (λ x d l. c.owners x (contains_later k x (numbers_of_all ts) d) l) c.rows,
+  )
+
+  -- the same holds of the parts of a list
+  all_carried : (f g : Frame) (k : ℕ) (ts : Trees) → AllStand f k ts
+      → ((x : ℕ) → Contains (numbers_of_all ts) x → slice_get g.parts x ≡ slice_get f.parts x)
+      → ((x : ℕ) → Contains (numbers_of_all ts) x → k < x → slice_get g.owners x ≡ slice_get f.owners x)
+      → ((i j : ℕ) → slice_get f.rows i ≡ Some j → slice_get g.rows i ≡ Some j) → AllStand g k ts
+  all_carried f g k NoTree h parts owners rows = tt
+  all_carried f g k (With t ts) h parts owners rows =
+      let l : k < top t = h.0 in (
+        h.0,
+        carried f g (Some k) (Some k) t h.1
+            (record {
+              parts = λ x c. parts x (Contains-append_left (numbers t) (numbers_of_all ts) x c);
+              owners = λ x c m. owners x (Contains-append_left (numbers t) (numbers_of_all ts) x c) (omega arith);
+              rows = rows;
+            })
+            (owners (top t) (Contains-append_left (numbers t) (numbers_of_all ts) (top t) (top_there f (Some k) t h.1)) l
+            ∙ top_owned f (Some k) t h.1),
+        all_carried f g k ts h.2
+            (λ x c. parts x (Contains-append_right (numbers t) (numbers_of_all ts) x c))
+            (λ x c m. owners x (Contains-append_right (numbers t) (numbers_of_all ts) x c) m) rows,
+      )
