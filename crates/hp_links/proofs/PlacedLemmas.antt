@@ -1,11 +1,10 @@
--- (a stand-in)
+-- What the crate above needs of a sound store.
 use Rattle.hp_links.specs.declared.store.Store.{Store}
 use Rattle.hp_links.specs.Placed.{IsPlaced}
-use Rattle.hp_links.specs.Undoing.{IsSound, no_sound, stage_of}
+use Rattle.hp_links.specs.Undoing.{IsSound, stage_of}
+use Rattle.hp_links.proofs.StageLemmas.{placed}
+use Rattle.hp_links.proofs.TrailSteps.{stage_now}
 
-pub nothing_sound : (s : Store) → IsSound s → ⊥
-nothing_sound s h = no_sound s h
-
--- a sound network is in normal form, with each number once
+-- a sound network is in normal form, with each number once, and its tasks are the parts of their numbers
 pub placed_from_sound : (s : Store) → IsSound s → IsPlaced (stage_of s)
-placed_from_sound s h = absurd (no_sound s h)
+placed_from_sound s h = placed (stage_of s) (stage_now s.trail.items (stage_of s) h)

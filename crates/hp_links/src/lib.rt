@@ -2,9 +2,14 @@
 #![tactic(auto)]
 
 mod entry;
+mod front;
 mod id;
 mod links;
+mod plant;
+mod push;
 mod store;
+mod undo;
+mod walk;
 
 pub use entry::Order;
 pub use id::TaskId;

@@ -1,51 +1,51 @@
-//! (a stand-in)
-ghost use Rattle.std.specs.Prelude.{◌≡◌, ◌≤◌, ◌<◌, ℕ, Bool, List, [], None, Some, IfOk, OnOk, OnErr};
+//! A network in place, and the trail of its changes.
+ghost use Rattle.std.specs.Prelude.{◌≡◌, ◌≢◌, ◌<◌, ◌≤◌, ℕ, Bool, List, Option, [], None, Some, IfOk, OnOk, OnErr, ◌∷◌, ◌++◌, length, slice_get, vec_capacity, vec_len};
 ghost use Rattle.std.specs.List.{All};
 ghost use Rattle.hp_syntax.specs.Terms.{Term};
 ghost use Rattle.hp_syntax.specs.Networks as plain;
-ghost use Rattle.hp_eval.specs.GoalViews.{network_of, TreeBelow};
 ghost use Rattle.hp_world.specs.Histories.{mark_of, undone_to, KeepsPasts};
-ghost use Rattle.hp_links.specs.Labelled.{network, part_in, Leaf};
+ghost use Rattle.hp_links.specs.Changing.{IsSpan, IsFirstFrom, IsListed};
+ghost use Rattle.hp_links.specs.Frames.{frame_of};
+ghost use Rattle.hp_links.specs.Labelled.{leads, network, or_else, part_in, without, Leaf};
 ghost use Rattle.hp_links.specs.Linked.{whole, NamesTask, PartBelow};
-ghost use Rattle.hp_links.specs.Placed.{candidates_in, Finishes, Expands};
+ghost use Rattle.hp_links.specs.Placed.{candidates_in, scope_of, Expands, Finishes};
+ghost use Rattle.hp_eval.specs.GoalViews.{network_of, TreeBelow};
+ghost use Rattle.hp_links.specs.Undoing.{IsSound, IsStage, Decomposes, IsCleared, LeavesOne, Puts, Steps, Undoes, history_of, saved, stage_of};
 
 use crate::id::TaskId;
-use crate::links::Part;
+use crate::links::{Links, Span};
+use crate::undo::{Change, Turn};
+use crate::walk::keep_immediate;
 use hp_cells::Cell;
 use hp_eval::TaskTree;
 use std::alloc::{AllocError, Global};
 
-/// A stand-in: there is none.
+/// A network in place with its focus, and the trail of its changes.
 pub struct Store {
-    parts: Vec<Part>,
-    owners: Vec<Option<usize>>,
-    rows: Vec<usize>,
+    links: Links,
     root: Option<usize>,
     focus: Option<usize>,
     front: Option<usize>,
+    trail: Vec<Change>,
     alloc: Global,
 }
 
 impl Drop for Store {
     fn drop(self) {
         let Store {
-            parts,
-            owners,
-            rows,
+            links,
             root: _,
             focus: _,
             front: _,
+            trail,
             alloc: _,
         } = self;
-        drop(parts);
-        drop(owners);
-        drop(rows);
+        drop(links);
+        drop(trail);
     }
 }
 
 impl Store {
-    ghost use Rattle.hp_links.specs.Undoing.{history_of, stage_of, IsSound};
-
     /// The normal form of a tree, without a focus.
     pub fn new(alloc: Global, tree: &TaskTree) -> Result<Store, AllocError>
         ensures sound { IfOk result (λ s. IsSound s) }
@@ -55,29 +55,51 @@ impl Store {
         ensures past { IfOk result (λ s. (history_of s).past ≡ []) }
         ensures below { IfOk result (λ s. (k : ℕ) → TreeBelow k tree.now → All (PartBelow k) (stage_of s).parts) }
     {
-        Err(AllocError)
+        let mut links = Links {
+            parts: Vec::new(alloc),
+            owners: Vec::new(alloc),
+            rows: Vec::new(alloc),
+        };
+        let root = links.plant(alloc, tree)?;
+        let front = links.front_of(root);
+        Ok(Store {
+            links,
+            root,
+            focus: None,
+            front,
+            trail: Vec::new(alloc),
+            alloc,
+        })
+    }
+
+    /// An equal network with the same focus, without a past.
+    pub fn copy(&self) -> Result<Store, AllocError>
+        requires { IsSound self.now }
+        ensures sound { IfOk result (λ s. IsSound s) }
+        ensures same { IfOk result (λ s. history_of s ≡ record { past = []; now = stage_of self.now }) }
+    {
+        Ok(Store {
+            links: self.links.copy(self.alloc)?,
+            root: self.root,
+            focus: self.focus,
+            front: self.front,
+            trail: Vec::new(self.alloc),
+            alloc: self.alloc,
+        })
     }
 
     /// Whether nothing is left to do.
-    #[tactic(auto, using(crate::proofs::PlacedLemmas::nothing_sound))]
     pub fn is_empty(&self) -> bool
         requires { IsSound self.now }
         ensures { (terms : List Term) → result ≡ plain.is_empty (network terms (whole (stage_of self.now))) }
     {
-        self.root.is_none()
-    }
-
-    /// The tasks that may be done next.
-    pub fn candidates(&self, alloc: Global) -> Result<Vec<TaskId>, AllocError>
-        requires { IsSound self.now }
-        ensures { IfOk result (λ v. v.items ≡ candidates_in (stage_of self.now)) }
-    {
-        let _alloc = alloc;
-        Err(AllocError)
+        match self.root {
+            None => true,
+            Some(_) => false,
+        }
     }
 
     /// The task that an id names.
-    #[tactic(auto, using(crate::proofs::PlacedLemmas::nothing_sound))]
     pub fn task(&self, id: TaskId) -> Cell
         requires sound { IsSound self.now }
         requires names { NamesTask (stage_of self.now) id }
@@ -85,11 +107,42 @@ impl Store {
             × (part_in id (whole (stage_of self.now)) ≡ Some (Leaf id result immediate)) }
         ensures below { (k : ℕ) → All (PartBelow k) (stage_of self.now).parts → result < k }
     {
-        let _none = &self.parts;
-        unreachable!()
+        self.links.cell(id.number())
     }
 
-    /// Takes a task out, and the focus away.
+    /// The tasks that may be done next, from left to right: the first ones of the subtasks that have the focus, or of
+    /// the whole network where there is no focus; where one of them is immediate, the immediate ones alone.
+    pub fn candidates(&self, alloc: Global) -> Result<Vec<TaskId>, AllocError>
+        requires { IsSound self.now }
+        ensures { IfOk result (λ v. v.items ≡ candidates_in (stage_of self.now)) }
+    {
+        let mut found = self.first_ones(alloc)?;
+        keep_immediate(&self.links.parts, &mut found);
+        Ok(found)
+    }
+
+    // Where the walk to the first tasks begins: at the focus, or else at the front.
+    fn scope(&self) -> Option<usize>
+        ensures { result ≡ or_else self.now.focus self.now.front }
+    {
+        match self.focus {
+            None => self.front,
+            Some(number) => Some(number),
+        }
+    }
+
+    // The first tasks of the part with the focus, or of the whole network.
+    fn first_ones(&self, alloc: Global) -> Result<Vec<TaskId>, AllocError>
+        requires { IsSound self.now }
+        ensures { IfOk result (λ v. v.items ≡ leads (scope_of (stage_of self.now) self.now.focus)) }
+    {
+        match self.scope() {
+            None => Ok(Vec::new(alloc)),
+            Some(start) => self.links.first_tasks(alloc, start),
+        }
+    }
+
+    /// Takes a task out, and the focus away. An error leaves the network as it was.
     pub fn finish(&mut self, id: TaskId) -> Result<(), AllocError>
         requires sound { IsSound self.old }
         requires names { NamesTask (stage_of self.old) id }
@@ -100,10 +153,14 @@ impl Store {
             → All (PartBelow k) (stage_of self.new).parts }
         ensures err { OnErr result (history_of self.new ≡ history_of self.old) }
     {
-        Err(AllocError)
+        self.trail.reserve(1)?;
+        let change = self.take_out(id.number());
+        self.note(change);
+        Ok(())
     }
 
-    /// Puts subtasks in the place of a task, with the focus on them.
+    /// Puts subtasks in the place of a task, with the focus on them; without subtasks the task is done. An error leaves
+    /// the network as it was.
     pub fn expand(&mut self, id: TaskId, tree: &TaskTree) -> Result<(), AllocError>
         requires sound { IsSound self.old }
         requires names { NamesTask (stage_of self.old) id }
@@ -114,31 +171,203 @@ impl Store {
             → All (PartBelow k) (stage_of self.new).parts }
         ensures err { OnErr result (history_of self.new ≡ history_of self.old) }
     {
-        Err(AllocError)
+        self.trail.reserve(1)?;
+        let change = self.decompose(id.number(), tree)?;
+        self.note(change);
+        Ok(())
     }
 
-    /// An equal network with the same focus, without a past.
-    pub fn copy(&self) -> Result<Store, AllocError>
-        requires { IsSound self.now }
-        ensures sound { IfOk result (λ s. IsSound s) }
-        ensures same { IfOk result (λ s. history_of s ≡ record { past = []; now = stage_of self.now }) }
+    // A task is decomposed. All memory is taken first.
+    fn decompose(&mut self, id: usize, tree: &TaskTree) -> Result<Change, AllocError>
+        requires stage { IsStage (stage_of self.old) }
+        requires names { NamesTask (stage_of self.old) id }
+        ensures steps { IfOk result (λ t. Decomposes t (stage_of self.old) (stage_of self.new) id tree.now) }
+        ensures below { OnOk result ((k : ℕ) → All (PartBelow k) (stage_of self.old).parts → TreeBelow k tree.now
+            → All (PartBelow k) (stage_of self.new).parts) }
+        ensures trail { self.new.trail ≡ self.old.trail }
+        ensures err { OnErr result (stage_of self.new ≡ stage_of self.old) }
     {
-        Err(AllocError)
+        let mut change = self.saved();
+        match self.links.plant(self.alloc, tree)? {
+            None => Ok(self.take_out(id)),
+            Some(root) => {
+                change.place = self.put(root, id);
+                self.focus = Some(root);
+                self.front = self.links.settled(self.front, id, id, root);
+                Ok(change)
+            }
+        }
+    }
+
+    // Puts a change on the trail.
+    fn note(&mut self, change: Change)
+        requires { vec_len self.old.trail < vec_capacity self.old.trail }
+        ensures trail { self.new.trail.items ≡ self.old.trail.items ++ change ∷ [] }
+        ensures stage { stage_of self.new ≡ stage_of self.old }
+    {
+        self.trail.push_reserved(change);
+    }
+
+    // A task is done.
+    fn take_out(&mut self, id: usize) -> Change
+        requires stage { IsStage (stage_of self.old) }
+        requires names { NamesTask (stage_of self.old) id }
+        ensures steps { Steps result (without id (whole (stage_of self.old))) None (stage_of self.old)
+            (stage_of self.new) }
+        ensures below { (k : ℕ) → All (PartBelow k) (stage_of self.old).parts
+            → All (PartBelow k) (stage_of self.new).parts }
+        ensures trail { self.new.trail ≡ self.old.trail }
+    {
+        match self.links.owner(id) {
+            None => self.clear(),
+            Some(list) => self.take_from(id, list),
+        }
+    }
+
+    // The only task is done.
+    fn clear(&mut self) -> Change
+        ensures cleared { IsCleared result (stage_of self.old) (stage_of self.new) }
+        ensures trail { self.new.trail ≡ self.old.trail }
+    {
+        let change = self.saved();
+        self.root = None;
+        self.focus = None;
+        self.front = None;
+        change
+    }
+
+    // A task of a list is done.
+    fn take_from(&mut self, id: usize, list: usize) -> Change
+        requires stage { IsStage (stage_of self.old) }
+        requires names { NamesTask (stage_of self.old) id }
+        requires list { slice_get (stage_of self.old).owners id ≡ Some (Some list) }
+        ensures steps { Steps result (without id (whole (stage_of self.old))) None (stage_of self.old)
+            (stage_of self.new) }
+        ensures below { (k : ℕ) → All (PartBelow k) (stage_of self.old).parts
+            → All (PartBelow k) (stage_of self.new).parts }
+        ensures trail { self.new.trail ≡ self.old.trail }
+    {
+        let span = self.links.span(list);
+        let place = self.links.place_in(span.start, id);
+        if span.many == 2 {
+            let rest = self.links.other(span.start, place);
+            self.join(id, list, rest)
+        } else {
+            self.shorten(id, list, span, place)
+        }
+    }
+
+    // One part is left of the list of a task that is done, and takes the place of the list.
+    fn join(&mut self, id: usize, list: usize, rest: usize) -> Change
+        requires stage { IsStage (stage_of self.old) }
+        requires names { NamesTask (stage_of self.old) id }
+        requires list { slice_get (stage_of self.old).owners id ≡ Some (Some list) }
+        requires one { LeavesOne (frame_of (stage_of self.old)) id list rest }
+        ensures steps { Steps result (without id (whole (stage_of self.old))) None (stage_of self.old)
+            (stage_of self.new) }
+        ensures parts { (stage_of self.new).parts ≡ (stage_of self.old).parts }
+        ensures trail { self.new.trail ≡ self.old.trail }
+    {
+        let mut change = self.saved();
+        change.owner = Some((rest, Some(list)));
+        change.place = self.put(rest, list);
+        self.focus = None;
+        self.front = self.links.settled(self.front, id, list, rest);
+        change
+    }
+
+    // Two parts or more are left of the list of a task that is done.
+    fn shorten(&mut self, id: usize, list: usize, span: Span, place: usize) -> Change
+        requires stage { IsStage (stage_of self.old) }
+        requires names { NamesTask (stage_of self.old) id }
+        requires list { slice_get (stage_of self.old).owners id ≡ Some (Some list) }
+        requires span { IsSpan (frame_of (stage_of self.old)) list span }
+        requires more { span.many ≢ 2 }
+        requires place { IsFirstFrom (stage_of self.old).rows span.start id place }
+        ensures steps { Steps result (without id (whole (stage_of self.old))) None (stage_of self.old)
+            (stage_of self.new) }
+        ensures below { (k : ℕ) → All (PartBelow k) (stage_of self.old).parts
+            → All (PartBelow k) (stage_of self.new).parts }
+        ensures trail { self.new.trail ≡ self.old.trail }
+    {
+        let mut change = self.saved();
+        change.turn = Some(Turn {
+            list,
+            start: span.start,
+            many: span.many,
+            end: place,
+        });
+        self.links.shorten(list, span, place);
+        self.focus = None;
+        self.front = self.links.settled(self.front, id, list, list);
+        change
+    }
+
+    // Puts a part in the place of another. What is told stood there.
+    fn put(&mut self, part: usize, of: usize) -> Option<(usize, usize)>
+        requires part { part < length (stage_of self.old).owners }
+        requires of { of < length (stage_of self.old).owners }
+        requires listed { (o : Option ℕ) → slice_get (stage_of self.old).owners of ≡ Some o
+            → IsListed (frame_of (stage_of self.old)) o of }
+        ensures puts { Puts part of result (stage_of self.old) (stage_of self.new) }
+        ensures trail { self.new.trail ≡ self.old.trail }
+    {
+        let owner = self.links.owner(of);
+        let slot = self.links.slot_of(owner, of);
+        self.links.hang(part, slot, owner);
+        match slot {
+            None => {
+                self.root = Some(part);
+                None
+            }
+            Some(place) => Some((place, of)),
+        }
+    }
+
+    // What a change writes over, before it does.
+    fn saved(&self) -> Change
+        ensures { result ≡ saved (stage_of self.now) }
+    {
+        Change {
+            parts: self.links.parts.len(),
+            rows: self.links.rows.len(),
+            root: self.root,
+            focus: self.focus,
+            front: self.front,
+            owner: None,
+            place: None,
+            turn: None,
+        }
     }
 
     /// The number of changes that can be undone.
     pub fn mark(&self) -> usize
         ensures { result ≡ mark_of (history_of self.now) }
     {
-        0
+        self.trail.len()
     }
 
-    #[tactic(auto, using(crate::proofs::PlacedLemmas::nothing_sound))]
     /// Makes the past at a mark the present. It takes no memory.
     pub fn undo_to(&mut self, mark: usize)
         requires sound { IsSound self.old }
         requires mark { mark ≤ mark_of (history_of self.old) }
         ensures sound { IsSound self.new }
         ensures back { history_of self.new ≡ undone_to mark (history_of self.old) }
-    {}
+    {
+        while self.trail.len() > mark {
+            self.undo_last();
+        }
+    }
+
+    fn undo_last(&mut self)
+        requires sound { IsSound self.old }
+        requires some { 0 < vec_len self.old.trail }
+        ensures { Undoes self.old self.new }
+    {
+        let change = self.trail.take_last();
+        self.links.put_back(&change);
+        self.root = change.root;
+        self.focus = change.focus;
+        self.front = change.front;
+    }
 }
