@@ -1,5 +1,5 @@
 -- Networks in reading order become trees of numbered parts.
-use Rattle.std.specs.Prelude.{◌≡◌, ℕ, suc, ◌+◌, ◌<◌, List, [], ◌∷◌, ◌++◌, length, map, take, drop, reverse, Option, Some, None, option_map, slice_get, slice_set}
+use Rattle.std.specs.Prelude.{◌≡◌, ℕ, suc, ◌+◌, ◌-◌, ◌<◌, ◌≤◌, List, [], ◌∷◌, ◌++◌, length, map, take, drop, reverse, Option, Some, None, option_map, slice_get, slice_set}
 use Rattle.hp_links.specs.declared.entry.Entry.{Entry}
 use Rattle.hp_links.specs.declared.entry.Entry.TheVariants.{Task, List as Parts}
 use Rattle.hp_links.specs.declared.links.Part.{Part}
@@ -36,13 +36,32 @@ pub record KeepsFirst (old new : Frame) : Type 0 where
   pub owners : take (length old.owners) new.owners ≡ old.owners
   pub rows : take (length old.rows) new.rows ≡ old.rows
 
--- the entries from one on are planted behind the frame: their trees stand in it, and the numbers of these are kept, the
--- first last
-pub record Planting (es : List Entry) (at : ℕ) (roots : List ℕ) (old new : Frame) : Type 0 where
+-- the frame once the part of an entry has its parts, the last roots
+abbrev pub linked : ℕ → Entry → List ℕ → Frame → Frame
+linked k (Task cell immediate) js f = f
+linked k (Parts order n) js f = record {
+  parts = slice_set f.parts k (part.Row order (length f.rows) n);
+  owners = own_all (Some k) (drop (length js - n) js) f.owners;
+  rows = f.rows ++ reverse (drop (length js - n) js);
+}
+
+-- the roots that are left then, with that of the entry
+abbrev pub roots_left : ℕ → Entry → List ℕ → List ℕ
+roots_left k (Task cell immediate) js = js ++ k ∷ []
+roots_left k (Parts order n) js = take (length js - n) js ++ k ∷ []
+
+-- there are roots for the parts of an entry
+abbrev pub HasRoots : Entry → List ℕ → Type 0
+HasRoots (Task cell immediate) js = Unit {0}
+HasRoots (Parts order n) js = (0 < n) × (n ≤ length js)
+
+-- the entries from one on are planted behind the frame: their trees stand in it, and these are their numbers, the first
+-- last
+pub record Planting (es : List Entry) (n : ℕ) (js : List ℕ) (old new : Frame) : Type 0 where
   pub keeps : KeepsFirst old new
   pub parts : length new.parts ≡ length old.parts + length es
   pub owners : length new.owners ≡ length new.parts
-  pub read : (i : ℕ) → i < at → slice_get new.parts (length old.parts + i) ≡ option_map part_of (slice_get es i)
-  pub free : (i : ℕ) → i < at → slice_get new.owners (length old.parts + i) ≡ Some None
-  pub roots : roots ≡ reverse (map top (trees_at (length old.parts + at) (drop at es)))
-  pub stand : AllAlone new (trees_at (length old.parts + at) (drop at es))
+  pub read : (i : ℕ) → i < n → slice_get new.parts (length old.parts + i) ≡ option_map part_of (slice_get es i)
+  pub free : (i : ℕ) → i < n → slice_get new.owners (length old.parts + i) ≡ Some None
+  pub roots : js ≡ reverse (map top (trees_at (length old.parts + n) (drop n es)))
+  pub stand : AllAlone new (trees_at (length old.parts + n) (drop n es))

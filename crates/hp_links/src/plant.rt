@@ -1,8 +1,8 @@
 //! Networks in reading order become numbered parts.
-ghost use Rattle.std.specs.Prelude.{◌≡◌, ◌+◌, ◌-◌, ◌<◌, ◌≤◌, ◌++◌, Some, None, OnOk, OnErr, length, map, take, drop, replicate, reverse, slice_set, vec_len};
+ghost use Rattle.std.specs.Prelude.{◌≡◌, ◌+◌, ◌-◌, ◌<◌, ◌≤◌, ◌++◌, ℕ, Some, None, OnOk, OnErr, length, map, take, drop, replicate, reverse, slice_set, vec_len};
 ghost use Rattle.std.specs.List.{All};
 ghost use Rattle.hp_links.specs.Frames.{frame_in};
-ghost use Rattle.hp_links.specs.Planted.{KeepsFirst, own_all, part_of};
+ghost use Rattle.hp_links.specs.Planted.{HasRoots, KeepsFirst, linked, own_all, part_of, roots_left};
 
 use crate::entry::{Entry, Order};
 use crate::links::{Links, Part};
@@ -25,6 +25,29 @@ impl Links {
         Ok(())
     }
 
+    // Gives the part of an entry its parts: the last roots, of which the first in order is the last.
+    fn link(
+        &mut self,
+        number: usize,
+        entry: Entry,
+        roots: &mut Vec<usize>,
+    ) -> Result<(), AllocError>
+        requires number { number < vec_len self.old.parts }
+        requires roots { HasRoots entry roots.old.items }
+        requires owned { All (λ j. j < length self.old.owners.items) roots.old.items }
+        ensures linked { OnOk result (frame_in self.new ≡ linked number entry roots.old.items (frame_in self.old)) }
+        ensures roots { OnOk result (roots.new.items ≡ roots_left number entry roots.old.items) }
+        ensures err { OnErr result (frame_in self.new ≡ frame_in self.old) }
+    {
+        match entry {
+            Entry::Task(_, _) => {
+                roots.push(number)?;
+                Ok(())
+            }
+            Entry::List(order, many) => self.link_list(number, order, many, roots),
+        }
+    }
+
     fn link_list(
         &mut self,
         number: usize,
@@ -33,15 +56,11 @@ impl Links {
         roots: &mut Vec<usize>,
     ) -> Result<(), AllocError>
         requires number { number < vec_len self.old.parts }
-        requires many { many ≤ vec_len roots.old }
+        requires many { (0 < many) × (many ≤ length roots.old.items) }
         requires owned { All (λ j. j < length self.old.owners.items) roots.old.items }
-        ensures parts { OnOk result (self.new.parts.items
-            ≡ slice_set self.old.parts.items number (Part.Row order (length self.old.rows.items) many)) }
-        ensures owners { OnOk result (self.new.owners.items
-            ≡ own_all (Some number) (drop (length roots.old.items - many) roots.old.items) self.old.owners.items) }
-        ensures rows { OnOk result (self.new.rows.items
-            ≡ self.old.rows.items ++ reverse (drop (length roots.old.items - many) roots.old.items)) }
-        ensures roots { OnOk result (roots.new.items ≡ take (length roots.old.items - many) roots.old.items) }
+        ensures linked { OnOk result (frame_in self.new
+            ≡ linked number (Entry.List order many) roots.old.items (frame_in self.old)) }
+        ensures roots { OnOk result (roots.new.items ≡ roots_left number (Entry.List order many) roots.old.items) }
         ensures err { OnErr result (frame_in self.new ≡ frame_in self.old) }
     {
         let from = roots.len() - many;
@@ -50,6 +69,7 @@ impl Links {
         own(&mut self.owners, &roots[from..], number);
         self.parts[number] = Part::Row(order, start, many);
         roots.truncate(from);
+        roots.push_reserved(number);
         Ok(())
     }
 }
