@@ -10,6 +10,7 @@ pub mod NumberLemmas
 pub mod ParentLemmas
 pub mod PlaceLemmas
 pub mod PlantLemmas
+pub mod PlantSteps
 pub mod PushedLemmas
 pub mod ScopeLemmas
 pub mod ShortenLemmas

@@ -129,7 +129,7 @@ abbrev pub IsRange : ℕ → List ℕ → Type 0
 IsRange k [] = Unit {0}
 IsRange k (n ∷ ns) = (n ≡ k) × IsRange (suc k) ns
 
-numbers_in-append : (ts us : List Tree) → numbers_in (ts ++ us) ≡ numbers_in ts ++ numbers_in us
+pub numbers_in-append : (ts us : List Tree) → numbers_in (ts ++ us) ≡ numbers_in ts ++ numbers_in us
 numbers_in-append [] us = refl
 numbers_in-append (t ∷ ts) us =
     ap (λ ns. numbers t ++ ns) (numbers_in-append ts us)
@@ -182,12 +182,12 @@ range_apart k (n ∷ ns) h =
 
 -- ---- a list gets its parts
 
-first_alone : (f : Frame) (n : ℕ) (ts : List Tree) → AllAlone f ts → AllAlone f (take n ts)
+pub first_alone : (f : Frame) (n : ℕ) (ts : List Tree) → AllAlone f ts → AllAlone f (take n ts)
 first_alone f zero ts h = tt
 first_alone f (suc n) [] h = tt
 first_alone f (suc n) (t ∷ ts) h = (h.0, first_alone f n ts h.1)
 
-last_alone : (f : Frame) (n : ℕ) (ts : List Tree) → AllAlone f ts → AllAlone f (drop n ts)
+pub last_alone : (f : Frame) (n : ℕ) (ts : List Tree) → AllAlone f ts → AllAlone f (drop n ts)
 last_alone f zero ts h = h
 last_alone f (suc n) [] h = tt
 last_alone f (suc n) (t ∷ ts) h = last_alone f n ts h.1
@@ -212,7 +212,7 @@ alone_carried f g (t ∷ ts) h parts owners rows = (
 )
 
 -- the numbers of trees' tops are among theirs
-tops_in : (f : Frame) (ts : List Tree) (x : ℕ) → AllAlone f ts → Contains (map top ts) x → Contains (numbers_in ts) x
+pub tops_in : (f : Frame) (ts : List Tree) (x : ℕ) → AllAlone f ts → Contains (map top ts) x → Contains (numbers_in ts) x
 tops_in f [] x h c = absurd (contains_nothing x c)
 tops_in f (t ∷ ts) x h c =
     ⊎_elim

@@ -1,8 +1,9 @@
 //! Networks in reading order become numbered parts.
-ghost use Rattle.std.specs.Prelude.{◌≡◌, ◌+◌, ◌-◌, ◌<◌, ◌≤◌, ◌++◌, ℕ, Some, None, OnOk, OnErr, length, map, take, drop, replicate, reverse, slice_set, vec_len};
+ghost use Rattle.std.specs.Prelude.{◌≡◌, ◌+◌, ◌-◌, ◌<◌, ◌≤◌, ◌++◌, ℕ, List, Some, None, OnOk, OnErr, length, map, take, drop, replicate, reverse, slice_set, vec_len};
 ghost use Rattle.std.specs.List.{All};
-ghost use Rattle.hp_links.specs.Frames.{frame_in};
-ghost use Rattle.hp_links.specs.Planted.{HasRoots, KeepsFirst, linked, own_all, part_of, roots_left};
+ghost use Rattle.hp_links.specs.Entries.{AreClosed};
+ghost use Rattle.hp_links.specs.Frames.{frame_in, top};
+ghost use Rattle.hp_links.specs.Planted.{HasRoots, KeepsFirst, Planting, linked, own_all, part_of, roots_left, trees_at};
 
 use crate::entry::{Entry, Order};
 use crate::links::{Links, Part};
@@ -10,6 +11,26 @@ use crate::walk::push_reversed;
 use std::alloc::{AllocError, Global};
 
 impl Links {
+    /// Plants networks in reading order behind the other parts, which stay, also where memory is wanting.
+    pub(crate) fn plant(&mut self, alloc: Global, entries: &[Entry]) -> Result<(), AllocError>
+        requires closed { AreClosed entries.now }
+        requires owners { length self.old.owners.items ≡ length self.old.parts.items }
+        ensures keeps { KeepsFirst (frame_in self.old) (frame_in self.new) }
+        ensures planted { OnOk result ((js : List ℕ) → js
+            ≡ reverse (map top (trees_at (length self.old.parts.items) entries.now))
+            → Planting entries.now 0 js (frame_in self.old) (frame_in self.new)) }
+    {
+        let base = self.parts.len();
+        self.push_entries(entries)?;
+        let mut roots = Vec::new(alloc);
+        let mut at = entries.len();
+        while at > 0 {
+            at -= 1;
+            self.link(base + at, entries[at], &mut roots)?;
+        }
+        Ok(())
+    }
+
     // Puts the part of each entry behind the others, without its parts and without an owner.
     fn push_entries(&mut self, entries: &[Entry]) -> Result<(), AllocError>
         ensures keeps { KeepsFirst (frame_in self.old) (frame_in self.new) }
