@@ -1,4 +1,5 @@
 pub mod ChangeLemmas
+pub mod EntryLemmas
 pub mod FinishLemmas
 pub mod FrontLemmas
 pub mod HangLemmas

@@ -1,18 +1,20 @@
 -- One entry more is planted.
-use Rattle.std.proofs.Common.{◌≡◌, ℕ, zero, suc, ◌+◌, ◌-◌, ◌<◌, ◌≤◌, ◌⊎◌, ⊎_elim, inl, inr, Bool, List, [], ◌∷◌, ◌++◌, length, set, take, drop, map, Option, Some, None, refl, sym, ap, ap₂, subst, ◌∙◌, arith}
-use Rattle.std.specs.Prelude.{slice_get, reverse, option_map}
+use Rattle.std.proofs.Common.{◌≡◌, ℕ, zero, suc, ◌+◌, ◌-◌, ◌<◌, ◌≤◌, ◌⊎◌, ⊎_elim, inl, inr, Bool, List, [], ◌∷◌, ◌++◌, length, get_or, set, take, drop, map, Option, Some, None, refl, sym, ap, ap₂, subst, ◌∙◌, arith}
+use Rattle.std.specs.Prelude.{slice_get, reverse, replicate, option_map}
 use Rattle.std.specs.List.{All, Contains}
-use Rattle.std.proofs.lemmas.List.{take-append-drop, take-append-le, take_at, drop_at, take-set-le, take-map, length-set, length-map, length-reverse, length-drop, length-take, length-take-le, length-append, drop-map, reverse-append, reverse-reverse}
-use Rattle.std.proofs.lemmas.List.Elements.{Contains-append_left, Contains-append_right, Contains-append_cases}
+use Rattle.std.proofs.lemmas.Bool.{cases_lt}
+use Rattle.std.proofs.lemmas.List.{take-append-drop, take-append-le, take_at, drop_at, take-set-le, take-map, length-set, length-map, length-reverse, length-drop, length-take, length-take-le, length-append, length-replicate, drop_all, drop-map, reverse-append, reverse-reverse}
+use Rattle.std.proofs.lemmas.List.Elements.{Contains-append_left, Contains-append_right, Contains-get_or, All-append, All-map, All-set, All-weaker}
 use Rattle.std.proofs.lemmas.Option.{same_Some, slice_get_within, slice_get-map}
 use Rattle.hp_links.specs.declared.entry.Entry.{Entry}
 use Rattle.hp_links.specs.declared.entry.Entry.TheVariants as entries
 use Rattle.hp_links.specs.declared.entry.Order.{Order}
 use Rattle.hp_links.specs.declared.links.Part.{Part}
 use Rattle.hp_links.specs.declared.links.Part.TheVariants.{Task, Row}
+use Rattle.hp_links.specs.Entries.{forest, AreClosed, EntryBelow}
 use Rattle.hp_links.specs.Frames.{Frame, top, tops, StandFrom, Stands}
 use Rattle.hp_links.specs.Labelled.{Tree, Leaf, Branch, count, numbers, numbers_of_all, AreApart}
-use Rattle.hp_links.specs.Linked.{as_trees}
+use Rattle.hp_links.specs.Linked.{as_trees, PartBelow}
 use Rattle.hp_links.specs.Planted.{trees_at, part_of, AllAlone, own_all, KeepsFirst, Planting, linked, roots_left, HasRoots}
 use Rattle.hp_links.proofs.ListSteps.{read_set, read_other, some_read}
 use Rattle.hp_links.proofs.NumberLemmas.{contains_nothing, contains_first, contains_later, contains_cases, apart_left, apart_disjoint}
@@ -213,3 +215,131 @@ module _ (es : List Entry) (n : ℕ) (js : List ℕ) (old f : Frame) (p : Planti
                   (tops_in f (take m ts) x first (to_top x d)) c)) rows,
             );
       }
+
+-- ---- the first and the last step
+
+free_read : (n i : ℕ) → i < n → ◌≡◌ {A = Option (Option ℕ)} (slice_get (replicate n None) i) (Some None)
+free_read zero i l = absurd (omega arith)
+free_read (suc n) zero l = refl
+free_read (suc n) (suc i) l = free_read n i (omega arith)
+
+-- entries that are behind a frame without their parts are yet to be planted
+pub planting_first : (es : List Entry) (js : List ℕ) (old f : Frame) → js ≡ [] → KeepsFirst old f
+    → f.parts ≡ old.parts ++ map part_of es → f.owners ≡ old.owners ++ replicate (length es) None
+    → length old.owners ≡ length old.parts → Planting es (length es) js old f
+planting_first es js old f none keeps parts owners level =
+    let m = length es in
+    let gone : drop m es ≡ [] = drop_all m es (omega arith) in
+    let empty : length {A = Option ℕ} (replicate m None) ≡ m = length-replicate m None in
+    record {
+      keeps = keeps;
+      parts =
+          ap length parts ∙ length-append old.parts (map part_of es)
+          ∙ ap (λ n. length old.parts + n) (length-map es part_of);
+      owners =
+          omega (
+            arith,
+            ap length parts,
+            length-append old.parts (map part_of es),
+            length-map es part_of,
+            ap length owners,
+            length-append old.owners (replicate m None),
+            empty,
+            level,
+          );
+      read = λ i l.
+          ap (λ (ps : List Part). slice_get ps (length old.parts + i)) parts
+          ∙ read_behind old.parts (map part_of es) i ∙ slice_get-map part_of es i;
+      free = λ i l.
+          ap (λ (os : List (Option ℕ)). slice_get os (length old.parts + i)) owners
+          ∙ ap (λ q. slice_get (old.owners ++ replicate m None) (q + i)) (sym level)
+          ∙ read_behind old.owners (replicate m None) i ∙ free_read m i l;
+      roots = none ∙ sym (ap (λ xs. reverse (map top (trees_at (length old.parts + m) xs))) gone);
+      stand = subst (λ xs. AllAlone f (trees_at (length old.parts + m) xs)) (sym gone) tt;
+    }
+
+-- there are as many trees as networks
+trees_forest : (k : ℕ) (es : List Entry) → length (trees_at k es) ≡ length (forest [] es)
+trees_forest k [] = refl
+trees_forest k (entries.Task cell immediate ∷ es) = ap suc (trees_forest (suc k) es)
+trees_forest k (entries.List order m ∷ es) =
+    ap suc
+    (length-drop m (trees_at (suc k) es) ∙ ap (λ q. q - m) (trees_forest (suc k) es)
+    ∙ sym (length-drop m (forest [] es)))
+
+-- a list of closed entries has two parts or more behind it
+closed_at : (es : List Entry) (n m : ℕ) (order : Order) → AreClosed es → slice_get es n ≡ Some (entries.List order m)
+    → (2 ≤ m) × (m ≤ length (forest [] (drop (suc n) es)))
+closed_at [] n m order h e = absurd cc
+closed_at (entries.Task cell immediate ∷ es) zero m order h e = absurd cc
+closed_at (entries.Task cell immediate ∷ es) (suc n) m order h e = closed_at es n m order h e
+closed_at (entries.List o q ∷ es) zero m order h e =
+    let same : q ≡ m = cc in
+    subst (λ r. (2 ≤ r) × (r ≤ length (forest [] es))) same (h.0, h.1)
+closed_at (entries.List o q ∷ es) (suc n) m order h e = closed_at es n m order h.2 e
+
+module _ (es : List Entry) (n : ℕ) (js : List ℕ) (old f : Frame) (p : Planting es (suc n) js old f)
+    (closed : AreClosed es) where
+  -- a list that is planted has roots
+  pub has_roots : (e : Entry) → slice_get es n ≡ Some e → HasRoots e js
+  has_roots (entries.Task cell immediate) read = tt
+  has_roots (entries.List order m) read =
+      let h = closed_at es n m order closed read in
+      let two = h.0 in
+      let ts = trees_at (length old.parts + suc n) (drop (suc n) es) in
+      let many = trees_forest (length old.parts + suc n) (drop (suc n) es) in
+      let most = h.1 in (
+        omega arith,
+        omega (arith, ap length p.roots, length-reverse (map top ts), length-map ts top),
+      )
+
+  -- roots have owners
+  pub roots_within : All (λ j. j < length f.owners) js
+  roots_within = λ i d l.
+      let k = length old.parts + suc n in
+      let ts = trees_at k (drop (suc n) es) in
+      let c : Contains (numbers_in ts) (get_or js i d) =
+      tops_in f ts (get_or js i d) p.stand
+      (from_reverse (map top ts) (get_or js i d)
+      (subst (λ (ks : List ℕ). Contains ks (get_or js i d)) p.roots (Contains-get_or js i d l))) in
+      let below = range_below k (numbers_in ts) (get_or js i d) (trees_range k (drop (suc n) es)) c in
+      let some : n < length es = n_within i d l in
+      omega (arith, trees_many k (drop (suc n) es), length-drop (suc n) es, p.parts, p.owners)
+    where
+      n_within : (i d : ℕ) → i < length js → n < length es
+      n_within i d l =
+          ⊎_elim (λ h. h)
+          (λ h.
+          let gone : drop (suc n) es ≡ [] = drop_all (suc n) es (omega arith) in
+          let none : length js ≡ 0 =
+          ap length (p.roots ∙ ap (λ xs. reverse (map top (trees_at (length old.parts + suc n) xs))) gone) in
+          absurd (omega arith)) (cases_lt n (length es))
+
+  -- an entry is planted
+  pub planted_step : (e : Entry) (k : ℕ) → slice_get es n ≡ Some e → length old.owners ≡ length old.parts
+      → k ≡ length old.parts + n → Planting es n (roots_left k e js) old (linked k e js f)
+  planted_step (entries.Task cell immediate) k read level is =
+      subst (λ q. Planting es n (js ++ q ∷ []) old f) (sym is) (task_planted es n js old f p cell immediate read)
+  planted_step (entries.List order m) k read level is =
+      let h = has_roots (entries.List order m) read in
+      subst
+      (λ q. Planting es n (roots_left q (entries.List order m) js) old (linked q (entries.List order m) js f)) (sym is)
+      (list_planted es n js old f p order m read h.0 h.1 level)
+
+-- each cell stays below a count where a list gets its parts
+pub linked_below : (k n : ℕ) (e : Entry) (js : List ℕ) (f : Frame) → All (PartBelow k) f.parts
+    → All (PartBelow k) (linked n e js f).parts
+linked_below k n (entries.Task cell immediate) js f h = h
+linked_below k n (entries.List order m) js f h = All-set (PartBelow k) f.parts n _ tt h
+
+part_below : (k : ℕ) (e : Entry) → EntryBelow k e → PartBelow k (part_of e)
+part_below k (entries.Task cell immediate) h = h
+part_below k (entries.List order m) h = tt
+
+-- each cell is below a count behind others
+pub entries_below : (k : ℕ) (es : List Entry) (ps : List Part) → All (EntryBelow k) es → All (PartBelow k) ps
+    → All (PartBelow k) (ps ++ map part_of es)
+entries_below k es ps h g =
+    All-append (PartBelow k) ps (map part_of es) g
+    (All-map (PartBelow k) part_of es
+    (All-weaker (EntryBelow k) (λ e. PartBelow k (part_of e)) (λ e b. part_below k e b) es h))

@@ -1,8 +1,9 @@
 //! Networks in reading order become numbered parts.
 ghost use Rattle.std.specs.Prelude.{◌≡◌, ◌+◌, ◌-◌, ◌<◌, ◌≤◌, ◌++◌, ℕ, List, Some, None, OnOk, OnErr, length, map, take, drop, replicate, reverse, slice_set, vec_len};
 ghost use Rattle.std.specs.List.{All};
-ghost use Rattle.hp_links.specs.Entries.{AreClosed};
+ghost use Rattle.hp_links.specs.Entries.{AreClosed, EntryBelow};
 ghost use Rattle.hp_links.specs.Frames.{frame_in, top};
+ghost use Rattle.hp_links.specs.Linked.{PartBelow};
 ghost use Rattle.hp_links.specs.Planted.{HasRoots, KeepsFirst, Planting, linked, own_all, part_of, roots_left, trees_at};
 
 use crate::entry::{Entry, Order};
@@ -19,6 +20,8 @@ impl Links {
         ensures planted { OnOk result ((js : List ℕ) → js
             ≡ reverse (map top (trees_at (length self.old.parts.items) entries.now))
             → Planting entries.now 0 js (frame_in self.old) (frame_in self.new)) }
+        ensures below { OnOk result ((k : ℕ) → All (EntryBelow k) entries.now → All (PartBelow k) self.old.parts.items
+            → All (PartBelow k) self.new.parts.items) }
     {
         let base = self.parts.len();
         self.push_entries(entries)?;
