@@ -92,7 +92,7 @@ task_alone s x h n own =
     (parent_of f None (whole s) x w.0 w.1 h.apart n.among)
 
 -- the front after a task of a list is done is looked for where the task or the list was the front
-settle_is : (w left new : Tree) (x q f : ℕ) → front_of w ≡ Some f
+pub settle_is : (w left new : Tree) (x q f : ℕ) → front_of w ≡ Some f
     → (front_of w ≡ Some x → front_of left ≡ front_of new) × (front_of w ≡ Some q → front_of left ≡ front_of new)
     × ((front_of w ≡ Some x → ⊥) → (front_of w ≡ Some q → ⊥) → front_of left ≡ front_of w)
     → settled x q (front_of new) (front_of w) ≡ front_of left

@@ -2,6 +2,7 @@ pub mod ChangeLemmas
 pub mod EntryLemmas
 pub mod FinishLemmas
 pub mod FrontLemmas
+pub mod GraftLemmas
 pub mod HangLemmas
 pub mod HeldLemmas
 pub mod HungLemmas

@@ -31,7 +31,7 @@ use Rattle.hp_links.proofs.TreeLemmas.{length-tops}
 use Rattle.hp_links.proofs.TurnLemmas.{turned_both}
 
 -- networks in place with equal parts are equal
-same_linked : (a b : List Part) (c d : List (Option ℕ)) (e f : List ℕ) (g h i j k l : Option ℕ) → a ≡ b → c ≡ d
+pub same_linked : (a b : List Part) (c d : List (Option ℕ)) (e f : List ℕ) (g h i j k l : Option ℕ) → a ≡ b → c ≡ d
     → e ≡ f → g ≡ h → i ≡ j → k ≡ l
     → (λ (s : Linked). s) (record { parts = a; owners = c; rows = e; root = g; focus = i; front = k })
     ≡ record { parts = b; owners = d; rows = f; root = h; focus = j; front = l }

@@ -1,5 +1,5 @@
 -- The histories of networks in place, and trails that can be undone.
-use Rattle.std.specs.Prelude.{◌≡◌, ℕ, suc, ◌+◌, ◌<◌, ◌≤◌, List, ◌∷◌, ◌++◌, length, take, drop, Option, Some, None, IfSome, Contains, slice_get, slice_set, vec_len}
+use Rattle.std.specs.Prelude.{◌≡◌, ℕ, suc, ◌+◌, ◌<◌, ◌≤◌, List, [], ◌∷◌, ◌++◌, length, take, drop, Option, Some, None, IfSome, Contains, slice_get, slice_set, vec_len}
 use Rattle.hp_world.specs.Histories.{History, history, undone_to}
 use Rattle.hp_world.specs.Trails.{IsUndoable}
 use Rattle.hp_links.specs.declared.links.Part.{Part}
@@ -10,7 +10,9 @@ use Rattle.hp_links.specs.declared.store.Store.{Store}
 use Rattle.hp_links.specs.Changing.{IsSpan, IsFirstFrom, IsSlotOf, other_of, put_at, root_after}
 use Rattle.hp_links.specs.declared.links.Span.{Span}
 use Rattle.hp_links.specs.Frames.{Frame, frame_of, IsWhole}
-use Rattle.hp_links.specs.Labelled.{Tree, IsNormal, AreApart, numbers, front_of}
+use Rattle.hp_links.specs.Labelled.{Tree, IsNormal, AreApart, numbers, number_of, front_of, replaced}
+use Rattle.hp_links.specs.declared.entry.Entry.{Entry}
+use Rattle.hp_links.specs.Planted.{trees_at}
 use Rattle.hp_links.specs.Linked.{Linked, whole}
 use Rattle.hp_links.specs.Turning.{turned_left}
 
@@ -156,3 +158,12 @@ pub record IsCleared (t : Change) (old new : Linked) : Type 0 where
   pub is : new ≡ record {
     parts = old.parts; owners = old.owners; rows = old.rows; root = None; focus = None; front = None
   }
+
+-- the tree of some entries stands in the place of a task, behind all other parts, and has the focus
+pub record Grafts (es : List Entry) (x : ℕ) (t : Change) (old new : Linked) : Type 0 where
+  pub tree : Tree
+  pub is : trees_at (length old.parts) es ≡ tree ∷ []
+  pub normal : IsNormal tree
+  pub number : number_of tree ≡ Some (length old.parts)
+  pub fresh : (y : ℕ) → Contains (numbers (whole old)) y → Contains (numbers tree) y → ⊥
+  pub steps : Steps t (replaced x tree (whole old)) (Some (length old.parts)) old new

@@ -5,17 +5,22 @@ ghost use Rattle.hp_syntax.specs.Terms.{Term};
 ghost use Rattle.hp_syntax.specs.Networks as plain;
 ghost use Rattle.hp_world.specs.Histories.{mark_of, undone_to, KeepsPasts};
 ghost use Rattle.hp_links.specs.Changing.{IsSpan, IsFirstFrom, IsListed};
+ghost use Rattle.hp_eval.specs.GoalViews.{TreeBelow};
+ghost use Rattle.hp_links.specs.Entries.{forest, AreClosed, EntryBelow};
 ghost use Rattle.hp_links.specs.Frames.{frame_of};
 ghost use Rattle.hp_links.specs.Labelled.{leads, network, or_else, part_in, without, Leaf};
 ghost use Rattle.hp_links.specs.Linked.{whole, NamesTask, PartBelow};
-ghost use Rattle.hp_links.specs.Placed.{candidates_in, scope_of, Finishes};
-ghost use Rattle.hp_links.specs.Undoing.{IsSound, IsStage, IsCleared, LeavesOne, Puts, Steps, Undoes, history_of, saved, stage_of};
+ghost use Rattle.hp_links.specs.Placed.{candidates_in, scope_of, Expands, Finishes};
+ghost use Rattle.hp_links.specs.Undoing.{Grafts, IsSound, IsStage, IsCleared, LeavesOne, Puts, Steps, Undoes, history_of, saved, stage_of};
 
+use crate::entry::Entry;
 use crate::id::TaskId;
 use crate::links::{Links, Span};
+use crate::push::push_tree;
 use crate::undo::{Change, Turn};
 use crate::walk::keep_immediate;
 use hp_cells::Cell;
+use hp_eval::TaskTree;
 use std::alloc::{AllocError, Global};
 
 /// A network in place with its focus, and the trail of its changes.
@@ -129,6 +134,56 @@ impl Store {
         let change = self.take_out(id.number());
         self.note(change);
         Ok(())
+    }
+
+    /// Puts subtasks in the place of a task, with the focus on them; without subtasks the task is done. An error leaves
+    /// the network as it was.
+    pub fn expand(&mut self, id: TaskId, tree: &TaskTree) -> Result<(), AllocError>
+        requires sound { IsSound self.old }
+        requires names { NamesTask (stage_of self.old) id }
+        ensures sound { IsSound self.new }
+        ensures net { OnOk result (Expands (stage_of self.old) (stage_of self.new) id tree.now) }
+        ensures past { OnOk result (KeepsPasts (history_of self.old) (history_of self.new)) }
+        ensures below { (k : ℕ) → All (PartBelow k) (stage_of self.old).parts → TreeBelow k tree.now
+            → All (PartBelow k) (stage_of self.new).parts }
+        ensures err { OnErr result (history_of self.new ≡ history_of self.old) }
+    {
+        let mut entries = Vec::new(self.alloc);
+        let many = push_tree(&mut entries, tree)?;
+        if many == 0 {
+            return self.finish(id);
+        }
+        self.trail.reserve(1)?;
+        let change = self.graft(id.number(), entries.as_slice())?;
+        self.note(change);
+        Ok(())
+    }
+
+    // Plants entries that are one network, and puts it in the place of a task.
+    fn graft(&mut self, id: usize, entries: &[Entry]) -> Result<Change, AllocError>
+        requires stage { IsStage (stage_of self.old) }
+        requires names { NamesTask (stage_of self.old) id }
+        requires closed { AreClosed entries.now }
+        requires one { length (forest [] entries.now) ≡ 1 }
+        ensures grafts { IfOk result (λ t. Grafts entries.now id t (stage_of self.old) (stage_of self.new)) }
+        ensures below { (k : ℕ) → All (PartBelow k) (stage_of self.old).parts → All (EntryBelow k) entries.now
+            → All (PartBelow k) (stage_of self.new).parts }
+        ensures trail { self.new.trail ≡ self.old.trail }
+        ensures err { OnErr result (stage_of self.new ≡ stage_of self.old) }
+    {
+        let mut change = self.saved();
+        match self.links.plant(self.alloc, entries) {
+            Err(error) => {
+                self.links.cut(change.parts, change.rows);
+                Err(error)
+            }
+            Ok(()) => {
+                change.place = self.put(change.parts, id);
+                self.focus = Some(change.parts);
+                self.front = self.links.settled(self.front, id, id, change.parts);
+                Ok(change)
+            }
+        }
     }
 
     // Puts a change on the trail.
