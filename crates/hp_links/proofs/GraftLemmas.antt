@@ -49,7 +49,7 @@ set_back_taken (suc n) zero (y ∷ xs) b x l e = ap (λ z. z ∷ take n xs) (sym
 set_back_taken (suc n) (suc q) (y ∷ xs) b x l e = ap (λ zs. y ∷ zs) (set_back_taken n q xs b x (omega arith) e)
 
 -- the first number of a tree is its top
-first_number : (f : Frame) (p : Option ℕ) (t : Tree) (k : ℕ) → Stands f p t → IsRange k (numbers t) → top t ≡ k
+pub first_number : (f : Frame) (p : Option ℕ) (t : Tree) (k : ℕ) → Stands f p t → IsRange k (numbers t) → top t ≡ k
 first_number f p Gone k h r = absurd h
 first_number f p (Leaf j cell immediate) k h r = r.0
 first_number f p (Branch j order ts) k h r = r.0

@@ -17,6 +17,7 @@ pub mod PushedLemmas
 pub mod ScopeLemmas
 pub mod ShortenLemmas
 pub mod StageLemmas
+pub mod StartLemmas
 pub mod StepLemmas
 pub mod TrailSteps
 pub mod TreeLemmas

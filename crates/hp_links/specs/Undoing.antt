@@ -10,7 +10,7 @@ use Rattle.hp_links.specs.declared.store.Store.{Store}
 use Rattle.hp_links.specs.Changing.{IsSpan, IsFirstFrom, IsSlotOf, other_of, put_at, root_after}
 use Rattle.hp_links.specs.declared.links.Span.{Span}
 use Rattle.hp_links.specs.Frames.{Frame, frame_of, IsWhole}
-use Rattle.hp_links.specs.Labelled.{Tree, IsNormal, AreApart, numbers, number_of, front_of, replaced}
+use Rattle.hp_links.specs.Labelled.{Tree, Gone, IsNormal, AreApart, numbers, number_of, front_of, replaced}
 use Rattle.hp_links.specs.declared.entry.Entry.{Entry}
 use Rattle.hp_links.specs.Planted.{trees_at}
 use Rattle.hp_links.specs.Linked.{Linked, whole}
@@ -167,3 +167,15 @@ pub record Grafts (es : List Entry) (x : ℕ) (t : Change) (old new : Linked) : 
   pub number : number_of tree ≡ Some (length old.parts)
   pub fresh : (y : ℕ) → Contains (numbers (whole old)) y → Contains (numbers tree) y → ⊥
   pub steps : Steps t (replaced x tree (whole old)) (Some (length old.parts)) old new
+
+-- the number of the first entry, if there is one
+abbrev pub first_of_entries : List Entry → Option ℕ
+first_of_entries [] = None
+first_of_entries (e ∷ es) = Some 0
+
+-- the network is that of entries, in which nothing was done yet
+pub record Starts (es : List Entry) (s : Linked) : Type 0 where
+  pub stage : IsStage s
+  pub none : es ≡ [] → whole s ≡ Gone
+  pub one : (t : Tree) → trees_at 0 es ≡ t ∷ [] → whole s ≡ t
+  pub focus : s.focus ≡ None

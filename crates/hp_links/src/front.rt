@@ -1,7 +1,7 @@
 //! The part below which all first tasks stand.
-ghost use Rattle.std.specs.Prelude.{◌≡◌, ◌↔◌, Option, Some, IsTrue};
+ghost use Rattle.std.specs.Prelude.{◌≡◌, ◌↔◌, Option, Some, IfSome, IsTrue};
 ghost use Rattle.hp_links.specs.Frames.{IsHeld, frame_in, tree_at};
-ghost use Rattle.hp_links.specs.Fronts.{first_of, is_number, settled};
+ghost use Rattle.hp_links.specs.Fronts.{first_of, front_at, is_number, settled};
 ghost use Rattle.hp_links.specs.Labelled.{front_of};
 
 use crate::entry::Order;
@@ -32,6 +32,17 @@ impl Links {
             front = next;
         }
         front
+    }
+
+    /// The part below which all first tasks of a part stand, if there is one.
+    pub(crate) fn front_of(&self, root: Option<usize>) -> Option<usize>
+        requires { IfSome root (λ k. IsHeld (frame_in self.now) k) }
+        ensures { result ≡ front_at (frame_in self.now) root }
+    {
+        match root {
+            None => None,
+            Some(part) => Some(self.front_below(part)),
+        }
     }
 
     /// The front once a part of a list is changed: it is looked for below a part where it was the part or the list.

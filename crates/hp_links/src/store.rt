@@ -5,13 +5,13 @@ ghost use Rattle.hp_syntax.specs.Terms.{Term};
 ghost use Rattle.hp_syntax.specs.Networks as plain;
 ghost use Rattle.hp_world.specs.Histories.{mark_of, undone_to, KeepsPasts};
 ghost use Rattle.hp_links.specs.Changing.{IsSpan, IsFirstFrom, IsListed};
-ghost use Rattle.hp_eval.specs.GoalViews.{TreeBelow};
+ghost use Rattle.hp_eval.specs.GoalViews.{network_of, TreeBelow};
 ghost use Rattle.hp_links.specs.Entries.{forest, AreClosed, EntryBelow};
 ghost use Rattle.hp_links.specs.Frames.{frame_of};
 ghost use Rattle.hp_links.specs.Labelled.{leads, network, or_else, part_in, without, Leaf};
 ghost use Rattle.hp_links.specs.Linked.{whole, NamesTask, PartBelow};
 ghost use Rattle.hp_links.specs.Placed.{candidates_in, scope_of, Expands, Finishes};
-ghost use Rattle.hp_links.specs.Undoing.{Grafts, IsSound, IsStage, IsCleared, LeavesOne, Puts, Steps, Undoes, history_of, saved, stage_of};
+ghost use Rattle.hp_links.specs.Undoing.{Grafts, Starts, first_of_entries, IsSound, IsStage, IsCleared, LeavesOne, Puts, Steps, Undoes, history_of, saved, stage_of};
 
 use crate::entry::Entry;
 use crate::id::TaskId;
@@ -49,6 +49,43 @@ impl Drop for Store {
 }
 
 impl Store {
+    /// The normal form of a tree, without a focus.
+    pub fn new(alloc: Global, tree: &TaskTree) -> Result<Store, AllocError>
+        ensures sound { IfOk result (λ s. IsSound s) }
+        ensures net { IfOk result (λ s. (terms : List Term)
+            → network terms (whole (stage_of s)) ≡ plain.normal (network_of terms tree.now)) }
+        ensures focus { IfOk result (λ s. (stage_of s).focus ≡ None) }
+        ensures past { IfOk result (λ s. (history_of s).past ≡ []) }
+        ensures below { IfOk result (λ s. (k : ℕ) → TreeBelow k tree.now → All (PartBelow k) (stage_of s).parts) }
+    {
+        let mut entries = Vec::new(alloc);
+        push_tree(&mut entries, tree)?;
+        Store::from_entries(alloc, entries.as_slice())
+    }
+
+    // The network of entries, which are one or none.
+    fn from_entries(alloc: Global, entries: &[Entry]) -> Result<Store, AllocError>
+        requires closed { AreClosed entries.now }
+        requires one { length (forest [] entries.now) ≤ 1 }
+        ensures starts { IfOk result (λ s. Starts entries.now (stage_of s)) }
+        ensures past { IfOk result (λ s. s.trail.items ≡ []) }
+        ensures below { IfOk result (λ s. (k : ℕ) → All (EntryBelow k) entries.now
+            → All (PartBelow k) (stage_of s).parts) }
+    {
+        let mut links = Links::new(alloc);
+        links.plant(alloc, entries)?;
+        let root = first_number(entries);
+        let front = links.front_of(root);
+        Ok(Store {
+            links,
+            root,
+            focus: None,
+            front,
+            trail: Vec::new(alloc),
+            alloc,
+        })
+    }
+
     /// An equal network with the same focus, without a past.
     pub fn copy(&self) -> Result<Store, AllocError>
         requires { IsSound self.now }
@@ -356,5 +393,16 @@ impl Store {
         self.root = change.root;
         self.focus = change.focus;
         self.front = change.front;
+    }
+}
+
+// The number of the first entry, in a network of its own.
+fn first_number(entries: &[Entry]) -> Option<usize>
+    ensures { result ≡ first_of_entries entries.now }
+{
+    if entries.is_empty() {
+        None
+    } else {
+        Some(0)
     }
 }
