@@ -11,6 +11,7 @@ pub mod ListSteps
 pub mod NumberLemmas
 pub mod ParentLemmas
 pub mod PlaceLemmas
+pub mod PlacedLemmas
 pub mod PlantLemmas
 pub mod PlantSteps
 pub mod PushedLemmas

@@ -3,21 +3,27 @@ use Rattle.std.proofs.Common.{◌≡◌, ℕ, zero, suc, ◌+◌, ◌<◌, ◌�
 use Rattle.std.specs.Prelude.{slice_get, IfSome}
 use Rattle.std.proofs.lemmas.List.{append-nil}
 use Rattle.std.proofs.lemmas.Option.{same_Some}
+use Rattle.hp_syntax.specs.Networks as plain
+use Rattle.hp_syntax.specs.Terms.{Term}
+use Rattle.hp_eval.specs.declared.tasks.TaskTree.{TaskTree}
+use Rattle.hp_eval.specs.GoalViews.{network_of}
 use Rattle.hp_links.specs.declared.entry.Entry.{Entry}
 use Rattle.hp_links.specs.declared.entry.Entry.TheVariants as entries
 use Rattle.hp_links.specs.Entries.{forest, AreClosed}
 use Rattle.hp_links.specs.Fronts.{front_at}
 use Rattle.hp_links.specs.Frames.{Frame, frame_of, top, Stands, IsWhole, tree_at, IsHeld}
-use Rattle.hp_links.specs.Labelled.{Tree, Gone, numbers, number_of, IsFull, front_of}
+use Rattle.hp_links.specs.Labelled.{Tree, Gone, numbers, number_of, IsFull, front_of, network}
 use Rattle.hp_links.specs.Linked.{Linked, whole}
 use Rattle.hp_links.specs.Planted.{trees_at, AllAlone, Planting}
+use Rattle.hp_links.specs.Pushed.{kept, Adds}
 use Rattle.hp_links.specs.Undoing.{IsStage, Starts, first_of_entries}
 use Rattle.hp_links.proofs.ChangeLemmas.{normal_from_full}
-use Rattle.hp_links.proofs.EntryLemmas.{one_tree_at, trees_full, AllFull}
+use Rattle.hp_links.proofs.EntryLemmas.{kept_many, kept_none, kept_one, one_tree_at, trees_full, AllFull}
 use Rattle.hp_links.proofs.GraftLemmas.{first_number}
 use Rattle.hp_links.proofs.HeldLemmas.{held, tree_at-top}
 use Rattle.hp_links.proofs.HungLemmas.{alone, number_top}
 use Rattle.hp_links.proofs.PlantLemmas.{IsRange, numbers_in, range_apart, trees_range}
+use Rattle.hp_links.proofs.PushedLemmas.{one_or_none}
 use Rattle.hp_links.proofs.StageLemmas.{staged}
 
 -- the tree of the first entry, where the entries are one network
@@ -89,3 +95,21 @@ starts (e ∷ es) js old f root front empty p closed most is at =
           stage.1 ∙ (let same : t.tree ∷ [] ≡ u ∷ [] = sym t.is ∙ g in cc);
       focus = refl;
     }
+
+-- where there is no network there is no entry
+none_entries : (es : List Entry) → length (forest [] es) ≡ 0 → es ≡ []
+none_entries [] e = refl
+none_entries (entries.Task cell immediate ∷ es) e = absurd (omega arith)
+none_entries (entries.List order n ∷ es) e = absurd (omega arith)
+
+-- the network of a tree's entries is its normal form
+pub start_net : (tree : TaskTree) (many : ℕ) (es : List Entry) → Adds (kept tree) many [] es → (s : Linked)
+    → Starts es s → (terms : List Term) → network terms (whole s) ≡ plain.normal (network_of terms tree)
+start_net tree zero es a s h terms =
+    ap (network terms) (h.none (none_entries es (kept_many tree zero es a [])))
+    ∙ sym (kept_none tree zero es a refl terms)
+start_net tree (suc zero) es a s h terms =
+    let t = one_tree_at 0 es (kept_many tree 1 es a []) in
+    ap (network terms) (h.one t.0 t.1) ∙ kept_one tree 1 es a 0 t.0 t.1 terms
+start_net tree (suc (suc m)) es a s h terms =
+    let few = one_or_none tree (suc (suc m)) [] es a in absurd (omega arith)
