@@ -1,6 +1,6 @@
 -- The trees of entries, and the networks that they are.
-use Rattle.std.proofs.Common.{◌≡◌, ℕ, zero, suc, ◌+◌, ◌-◌, ◌<◌, ◌≤◌, true, false, cond, List, [], ◌∷◌, ◌++◌, length, take, drop, map, refl, sym, ap, ap₂, subst, ◌∙◌, arith}
-use Rattle.std.proofs.lemmas.List.{append-nil, take-map, drop-map, length-drop, length-take-le, length-map}
+use Rattle.std.proofs.Common.{◌≡◌, ℕ, zero, suc, List, [], ◌∷◌, length, take, drop, map, refl, sym, ap, ap₂, subst, ◌∙◌, arith}
+use Rattle.std.proofs.lemmas.List.{append-nil, take-map, drop-map, length-take-le, length-map}
 use Rattle.hp_syntax.specs.Networks as plain
 use Rattle.hp_syntax.specs.Terms.{Term}
 use Rattle.hp_eval.specs.declared.tasks.TaskTree.{TaskTree}
@@ -8,7 +8,7 @@ use Rattle.hp_eval.specs.GoalViews.{as_networks, network_of}
 use Rattle.hp_links.specs.declared.entry.Entry.{Entry}
 use Rattle.hp_links.specs.declared.entry.Entry.TheVariants as entries
 use Rattle.hp_links.specs.Entries.{forest, AreClosed}
-use Rattle.hp_links.specs.Labelled.{Tree, Trees, Leaf, Branch, NoTree, With, count, IsFull, AreFull, listed, network, networks}
+use Rattle.hp_links.specs.Labelled.{Tree, Leaf, count, IsFull, AreFull, listed, network, networks}
 use Rattle.hp_links.specs.Linked.{as_trees}
 use Rattle.hp_links.specs.Planted.{trees_at}
 use Rattle.hp_links.specs.Pushed.{shown, kept, Adds}

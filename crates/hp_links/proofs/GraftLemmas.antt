@@ -1,23 +1,21 @@
 -- Subtasks are planted and put in the place of a task.
-use Rattle.std.proofs.Common.{◌≡◌, ℕ, zero, suc, ◌+◌, ◌-◌, ◌<◌, ◌≤◌, ◌⊎◌, ⊎_elim, inl, inr, Bool, List, [], ◌∷◌, ◌++◌, length, set, take, drop, Option, Some, None, refl, sym, ap, ap₂, subst, ◌∙◌, arith}
-use Rattle.std.specs.Prelude.{slice_get, IfSome}
+use Rattle.std.proofs.Common.{◌≡◌, ℕ, zero, suc, ◌+◌, ◌<◌, ◌≤◌, List, [], ◌∷◌, length, set, take, Option, Some, None, refl, sym, ap, ap₂, subst, ◌∙◌, arith}
+use Rattle.std.specs.Prelude.{slice_get}
 use Rattle.std.specs.List.{Contains}
-use Rattle.std.proofs.lemmas.List.{append-nil, take-set, length-set, length-take, length-take-le}
+use Rattle.std.proofs.lemmas.List.{append-nil, take-set, length-set, length-take}
 use Rattle.std.proofs.lemmas.Option.{same_Some, slice_get_within}
 use Rattle.hp_links.specs.declared.entry.Entry.{Entry}
-use Rattle.hp_links.specs.declared.links.Part.{Part}
-use Rattle.hp_links.specs.declared.links.Part.TheVariants.{Row}
 use Rattle.hp_links.specs.declared.links.Span.{Span}
 use Rattle.hp_links.specs.declared.undo.Change.{Change}
-use Rattle.hp_links.specs.Changing.{IsSpan, IsFirstFrom, IsListed, IsSlotOf, IsAbove, put_at, hung, root_after}
+use Rattle.hp_links.specs.Changing.{IsSpan, IsSlotOf, IsAbove, put_at, hung, root_after}
 use Rattle.hp_links.specs.Entries.{AreClosed}
 use Rattle.hp_links.specs.Fronts.{settled}
-use Rattle.hp_links.specs.Frames.{Frame, frame_of, top, Stands, StandsAlone, IsWhole, tree_at, IsHeld}
-use Rattle.hp_links.specs.Labelled.{Tree, Gone, Leaf, Branch, numbers, numbers_of_all, number_of, AreApart, IsFull, IsNormal, front_of, part_in, replaced}
+use Rattle.hp_links.specs.Frames.{Frame, frame_of, top, Stands, tree_at, IsHeld}
+use Rattle.hp_links.specs.Labelled.{Tree, Gone, Leaf, Branch, numbers, number_of, IsFull, front_of, replaced}
 use Rattle.hp_links.specs.Linked.{Linked, NamesTask, whole}
-use Rattle.hp_links.specs.Planted.{trees_at, AllAlone, KeepsFirst, Planting}
+use Rattle.hp_links.specs.Planted.{trees_at, AllAlone, Planting}
 use Rattle.hp_links.specs.Undoing.{IsStage, IsWithin, Steps, put_back, was_at}
-use Rattle.hp_links.proofs.ChangeLemmas.{normal_from_full, replaced_normal, replaced_apart, replaced_part}
+use Rattle.hp_links.proofs.ChangeLemmas.{replaced_normal, replaced_apart, replaced_part}
 use Rattle.hp_links.proofs.EntryLemmas.{trees_full, AllFull}
 use Rattle.hp_links.proofs.FinishLemmas.{settle_is}
 use Rattle.hp_links.proofs.FrontLemmas.{front_expanded, front_full}
@@ -254,7 +252,12 @@ module _ (s : Linked) (x : ℕ) (h : IsStage s) (n : NamesTask s x) (es : List E
 pub grafted_is : (q r : Linked) (x y base : ℕ) (front : Option ℕ) → q ≡ r → y ≡ base
     → front ≡ settled x x (front_of (tree_at (frame_of q) y)) q.front
     → (λ (s : Linked). s) (record {
-      parts = q.parts; owners = q.owners; rows = q.rows; root = q.root; focus = Some y; front = front
+      parts = q.parts;
+      owners = q.owners;
+      rows = q.rows;
+      root = q.root;
+      focus = Some y;
+      front = front;
     })
     ≡ record {
       parts = r.parts;
@@ -266,7 +269,12 @@ pub grafted_is : (q r : Linked) (x y base : ℕ) (front : Option ℕ) → q ≡ 
     }
 grafted_is q r x y base front e g h =
     let new : Linked → ℕ → Option ℕ → Linked = λ s k o. record {
-      parts = s.parts; owners = s.owners; rows = s.rows; root = s.root; focus = Some k; front = o
+      parts = s.parts;
+      owners = s.owners;
+      rows = s.rows;
+      root = s.root;
+      focus = Some k;
+      front = o;
     } in
     ap (new q y) h
     ∙ ap₂ (λ (s : Linked) (k : ℕ). new s k (settled x x (front_of (tree_at (frame_of s) k)) s.front)) e g

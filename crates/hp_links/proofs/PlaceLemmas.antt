@@ -301,3 +301,47 @@ pub place_of_number : (x : ℕ) (t : Tree) → number_of t ≡ Some x → place_
 place_of_number x Gone e = absurd cc
 place_of_number x (Leaf k cell immediate) e = let f : k ≡ x = cc in at_number k x _ _ f
 place_of_number x (Branch k order ts) e = let f : k ≡ x = cc in at_number k x _ _ f
+
+-- ---- numbers with one place
+
+-- no two numbers have the same place in a tree
+mutual
+  pub places_apart : (x y : ℕ) (t : Tree) (p : Place) → place_in x t ≡ Some p → place_in y t ≡ Some p → x ≡ y
+  places_apart x y Gone p e f = absurd cc
+  places_apart x y (Leaf k cell immediate) p e f =
+      ⊎_elim
+      (λ n.
+      ⊎_elim (λ m. sym n ∙ m)
+      (λ m. absurd (let g : None ≡ Some p = sym (off_number k y (Some []) None m) ∙ f in cc)) (cases_eq k y))
+      (λ n. absurd (let g : None ≡ Some p = sym (off_number k x (Some []) None n) ∙ e in cc)) (cases_eq k x)
+  places_apart x y (Branch k order ts) p e f =
+      ⊎_elim
+      (λ n.
+      let g : Some [] ≡ Some p = sym (at_number k x (Some []) (place_among x 0 ts) n) ∙ e in
+      ⊎_elim (λ m. sym n ∙ m)
+      (λ m.
+      let b = place_among_parts y 0 ts p (sym (off_number k y (Some []) (place_among y 0 ts) m) ∙ f) in
+      let h : [] ≡ (0 + b.0) ∷ b.1 = let i : [] ≡ p = cc in i ∙ b.3 in
+      absurd cc) (cases_eq k y))
+      (λ n.
+      let a = place_among_parts x 0 ts p (sym (off_number k x (Some []) (place_among x 0 ts) n) ∙ e) in
+      ⊎_elim
+      (λ m.
+      let g : Some [] ≡ Some p = sym (at_number k y (Some []) (place_among y 0 ts) m) ∙ f in
+      let h : [] ≡ (0 + a.0) ∷ a.1 = let i : [] ≡ p = cc in i ∙ a.3 in
+      absurd cc)
+      (λ m.
+      let b = place_among_parts y 0 ts p (sym (off_number k y (Some []) (place_among y 0 ts) m) ∙ f) in
+      let h : (0 + b.0) ∷ b.1 ≡ (0 + a.0) ∷ a.1 = sym b.3 ∙ a.3 in
+      let i : 0 + b.0 ≡ 0 + a.0 = cc in
+      let j : b.0 ≡ a.0 = omega arith in
+      let l : b.1 ≡ a.1 = cc in
+      at_apart x y ts a.0 a.1 a.2 b.2 a.4
+      (subst (λ q. IsAt y ts a.0 q b.2) l (subst (λ o. IsAt y ts o b.1 b.2) j b.4)))
+      (cases_eq k y)) (cases_eq k x)
+
+  -- nor among trees
+  at_apart : (x y : ℕ) (ts : Trees) (j : ℕ) (p : Place) (s u : Tree) → IsAt x ts j p s → IsAt y ts j p u → x ≡ y
+  at_apart x y NoTree j p s u e f = absurd e
+  at_apart x y (With t ts) zero p s u e f = places_apart x y t p e.0 f.0
+  at_apart x y (With t ts) (suc j) p s u e f = at_apart x y ts j p s u e.1 f.1

@@ -1,27 +1,21 @@
 -- Networks in reading order become numbered parts.
-use Rattle.std.proofs.Common.{◌≡◌, ℕ, zero, suc, ◌+◌, ◌-◌, ◌<◌, ◌≤◌, ◌⊎◌, ⊎_elim, inl, inr, Bool, List, [], ◌∷◌, ◌++◌, length, get_or, set, take, drop, map, Option, Some, None, refl, sym, ap, ap₂, subst, ◌∙◌, arith, append_assoc}
-use Rattle.std.specs.Prelude.{slice_get, reverse, option_map}
-use Rattle.std.specs.List.{All, Contains}
+use Rattle.std.proofs.Common.{◌≡◌, ℕ, zero, suc, ◌+◌, ◌<◌, ◌≤◌, ◌⊎◌, ⊎_elim, inl, inr, List, [], ◌∷◌, ◌++◌, length, set, take, drop, map, Option, Some, None, refl, sym, ap, subst, ◌∙◌, arith, append_assoc}
+use Rattle.std.specs.Prelude.{slice_get}
+use Rattle.std.specs.List.{Contains}
 use Rattle.std.proofs.lemmas.Bool.{cases_eq}
 use Rattle.std.proofs.lemmas.List.{take-append-drop, length-set}
 use Rattle.std.proofs.lemmas.List.Elements.{Contains-append_left, Contains-append_right}
-use Rattle.std.proofs.lemmas.Option.{same_Some, slice_get_within}
-use Rattle.hp_syntax.specs.Terms.{Term}
-use Rattle.hp_eval.specs.GoalViews.{as_networks}
+use Rattle.std.proofs.lemmas.Option.{slice_get_within}
 use Rattle.hp_links.specs.declared.entry.Entry.{Entry}
 use Rattle.hp_links.specs.declared.entry.Entry.TheVariants as entries
-use Rattle.hp_links.specs.declared.entry.Order.{Order}
-use Rattle.hp_links.specs.declared.links.Part.{Part}
-use Rattle.hp_links.specs.declared.links.Part.TheVariants.{Task, Row}
-use Rattle.hp_links.specs.Entries.{forest, AreClosed}
-use Rattle.hp_links.specs.Frames.{Frame, top, tops, HasPart, StandFrom, Stands, AllStand}
-use Rattle.hp_links.specs.Labelled.{Tree, Trees, Gone, Leaf, Branch, NoTree, With, count, numbers, numbers_of_all, AreApart, IsFull, AreFull, network, networks, listed}
+use Rattle.hp_links.specs.Frames.{Frame, top, tops, StandFrom, Stands, AllStand}
+use Rattle.hp_links.specs.Labelled.{Tree, Trees, Gone, Leaf, Branch, NoTree, With, numbers, numbers_of_all, AreApart}
 use Rattle.hp_links.specs.Linked.{as_trees}
 use Rattle.hp_links.specs.Planted.{trees_at, AllAlone, own_all}
-use Rattle.hp_links.proofs.HangLemmas.{top_owned, tops_owned}
+use Rattle.hp_links.proofs.HangLemmas.{top_owned}
 use Rattle.hp_links.proofs.ListSteps.{read_set, read_other, some_read}
 use Rattle.hp_links.proofs.ParentLemmas.{top_there}
-use Rattle.hp_links.proofs.NumberLemmas.{contains_nothing, contains_first, contains_later, contains_cases, apart_left, apart_right, apart_disjoint}
+use Rattle.hp_links.proofs.NumberLemmas.{contains_nothing, contains_first, contains_later, contains_cases, apart_right, apart_disjoint}
 
 -- ---- owners of many
 

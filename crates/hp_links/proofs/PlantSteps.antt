@@ -1,5 +1,5 @@
 -- One entry more is planted.
-use Rattle.std.proofs.Common.{◌≡◌, ℕ, zero, suc, ◌+◌, ◌-◌, ◌<◌, ◌≤◌, ◌⊎◌, ⊎_elim, inl, inr, Bool, List, [], ◌∷◌, ◌++◌, length, get_or, set, take, drop, map, Option, Some, None, refl, sym, ap, ap₂, subst, ◌∙◌, arith}
+use Rattle.std.proofs.Common.{◌≡◌, ℕ, zero, suc, ◌+◌, ◌-◌, ◌<◌, ◌≤◌, ⊎_elim, Bool, List, [], ◌∷◌, ◌++◌, length, get_or, set, take, drop, map, Option, Some, None, refl, sym, ap, subst, ◌∙◌, arith}
 use Rattle.std.specs.Prelude.{slice_get, reverse, replicate, option_map}
 use Rattle.std.specs.List.{All, Contains}
 use Rattle.std.proofs.lemmas.Bool.{cases_lt}
@@ -10,15 +10,15 @@ use Rattle.hp_links.specs.declared.entry.Entry.{Entry}
 use Rattle.hp_links.specs.declared.entry.Entry.TheVariants as entries
 use Rattle.hp_links.specs.declared.entry.Order.{Order}
 use Rattle.hp_links.specs.declared.links.Part.{Part}
-use Rattle.hp_links.specs.declared.links.Part.TheVariants.{Task, Row}
+use Rattle.hp_links.specs.declared.links.Part.TheVariants.{Row}
 use Rattle.hp_links.specs.Entries.{forest, AreClosed, EntryBelow}
-use Rattle.hp_links.specs.Frames.{Frame, top, tops, StandFrom, Stands}
-use Rattle.hp_links.specs.Labelled.{Tree, Leaf, Branch, count, numbers, numbers_of_all, AreApart}
+use Rattle.hp_links.specs.Frames.{Frame, top, tops}
+use Rattle.hp_links.specs.Labelled.{Tree, Leaf, Branch, count, AreApart}
 use Rattle.hp_links.specs.Linked.{as_trees, PartBelow}
 use Rattle.hp_links.specs.Planted.{trees_at, part_of, AllAlone, own_all, KeepsFirst, Planting, linked, roots_left, HasRoots}
-use Rattle.hp_links.proofs.ListSteps.{read_set, read_other, some_read}
+use Rattle.hp_links.proofs.ListSteps.{read_set, read_other}
 use Rattle.hp_links.proofs.NumberLemmas.{contains_nothing, contains_first, contains_later, contains_cases, apart_left, apart_disjoint}
-use Rattle.hp_links.proofs.PlantLemmas.{own_others, own_each, length-own_all, numbers_in, IsRange, trees_range, trees_many, range_above, range_below, range_apart, first_alone, last_alone, alone_carried, owned_carried, tops_in, numbers_in-append}
+use Rattle.hp_links.proofs.PlantLemmas.{own_others, own_each, length-own_all, numbers_in, trees_range, trees_many, range_above, range_below, range_apart, first_alone, last_alone, alone_carried, owned_carried, tops_in, numbers_in-append}
 use Rattle.hp_links.proofs.TreeLemmas.{length-tops}
 
 -- behind a place stands what is read there, and the rest
@@ -106,8 +106,7 @@ module _ (es : List Entry) (n : ℕ) (js : List ℕ) (old f : Frame) (p : Planti
             ∙ sym (reverse-append (k ∷ []) (map top (trees_at (length old.parts + suc n) rest)))
             ∙ sym (ap (λ ts. reverse (map top ts)) all);
         stand =
-            subst (AllAlone f) (sym all)
-            (
+            subst (AllAlone f) (sym all) (
               record { part = p.read n (omega arith) ∙ ap (option_map part_of) e; owner = p.free n (omega arith) },
               p.stand,
             );
@@ -141,7 +140,7 @@ module _ (es : List Entry) (n : ℕ) (js : List ℕ) (old f : Frame) (p : Planti
       let above = λ (x : ℕ) (c : Contains (numbers_in ts) x). range_above (suc k) (numbers_in ts) x range c in
       let below : (x : ℕ) → Contains (numbers_in ts) x → x < length f.owners = λ x c.
       (let l = range_below (suc k) (numbers_in ts) x range c in
-          omega (arith, trees_many (suc k) rest, length-drop (suc n) es, p.parts, p.owners)) in
+      omega (arith, trees_many (suc k) rest, length-drop (suc n) es, p.parts, p.owners)) in
       let left = λ (x : ℕ) (c : Contains (numbers_in (take m ts)) x).
       subst (λ (ns : List ℕ). Contains ns x) split (Contains-append_left (numbers_in (take m ts)) (numbers_in (drop m ts)) x c) in
       let right = λ (x : ℕ) (c : Contains (numbers_in (drop m ts)) x).
@@ -186,8 +185,7 @@ module _ (es : List Entry) (n : ℕ) (js : List ℕ) (old f : Frame) (p : Planti
             ∙ sym (reverse-append (k ∷ []) (map top (drop m ts)))
             ∙ sym (ap (λ us. reverse (map top us)) all);
         stand =
-            subst (AllAlone g) (sym all)
-            (
+            subst (AllAlone g) (sym all) (
               (
                 length f.rows,
                 record {

@@ -1,19 +1,17 @@
 -- A task is taken out of the row of its list.
-use Rattle.std.proofs.Common.{◌≡◌, ℕ, zero, suc, ◌+◌, ◌-◌, ◌<◌, ◌≤◌, ◌==◌, ◌⊎◌, ⊎_elim, inl, inr, Bool, cond, not, List, [], ◌∷◌, length, set, Option, Some, None, refl, sym, ap, ap₂, subst, ◌∙◌, arith, eq-eqb}
+use Rattle.std.proofs.Common.{◌≡◌, ℕ, zero, suc, ◌+◌, ◌-◌, ◌<◌, ◌≤◌, ◌⊎◌, ⊎_elim, inl, inr, Bool, cond, not, List, [], ◌∷◌, length, Option, Some, refl, sym, ap, ap₂, subst, ◌∙◌, arith, eq-eqb}
 use Rattle.std.specs.Prelude.{slice_get}
 use Rattle.std.specs.List.{remove}
 use Rattle.std.proofs.lemmas.Bool.{cases_eq, cases_lt, ne_eqb}
 use Rattle.std.proofs.lemmas.List.Edits.{length-remove}
 use Rattle.std.proofs.lemmas.Option.{same_Some, slice_get_within}
-use Rattle.hp_links.specs.declared.links.Part.{Part}
 use Rattle.hp_links.specs.declared.links.Part.TheVariants.{Task, Row}
-use Rattle.hp_links.specs.declared.links.Span.{Span}
 use Rattle.hp_links.specs.declared.entry.Order.{Order}
-use Rattle.hp_links.specs.Changing.{IsSpan, HasRow, but, shortened}
-use Rattle.hp_links.specs.Frames.{Frame, top, tops, HasPart, StandFrom, Stands, AllStand, StandsAlone, IsWhole}
+use Rattle.hp_links.specs.Changing.{HasRow, but, shortened}
+use Rattle.hp_links.specs.Frames.{Frame, top, tops, StandFrom, Stands, AllStand}
 use Rattle.hp_links.specs.Labelled.{Tree, Trees, Gone, Leaf, Branch, NoTree, With, count, IsFull, AreFull, unless_gone, as_branch, without, without_among}
 use Rattle.hp_links.specs.Turning.{turned_right}
-use Rattle.hp_links.proofs.HangLemmas.{top_owned, tops_owned, same_row, same_part}
+use Rattle.hp_links.proofs.HangLemmas.{tops_owned, same_row, same_part}
 use Rattle.hp_links.proofs.ListSteps.{read_set, read_other, some_read, read_removed_below, read_removed_above, turned_below, turned_within, turned_above}
 use Rattle.hp_links.proofs.TreeLemmas.{length-tops}
 
@@ -170,8 +168,7 @@ module _ (f : Frame) (list : ℕ) (js : List ℕ) (r : HasRow f list js) (x n ce
       let w = below o in
       subst
       (λ (vs : Trees). AllStand (shortened list r.span (r.span.start + n) f) k vs × (tops vs ≡ but x (top t ∷ tops ts)))
-      (sym (unless_standing (shortened list r.span (r.span.start + n) f) (Some k) (without x t) us w.0))
-      (
+      (sym (unless_standing (shortened list r.span (r.span.start + n) f) (Some k) (without x t) us w.0)) (
         ((let e = w.1 in omega arith), w.0, all),
         ap₂ ◌∷◌ w.1 behind
             ∙ sym (ap (λ b. cond (not b) (top t ∷ but x (tops ts)) (but x (tops ts))) (ne_eqb (top t) x o)),
@@ -194,8 +191,7 @@ module _ (f : Frame) (list : ℕ) (js : List ℕ) (r : HasRow f list js) (x n ce
             o (same_Some _ _ (same_Some _ _ (sym (tops_owned f k ts h.3 i x e) ∙ r.owned n x there))) in
             let same : tops us ≡ tops ts = is ∙ but_none x (tops ts) none in
             let many : count us ≡ count ts = sym (length-tops us) ∙ ap length same ∙ length-tops ts in
-            subst (λ (t : Tree). Stands (shortened list r.span (r.span.start + n) f) p t × (top t ≡ k)) (sym (many_as_branch k order us (omega arith)))
-            (
+            subst (λ (t : Tree). Stands (shortened list r.span (r.span.start + n) f) p t × (top t ≡ k)) (sym (many_as_branch k order us (omega arith))) (
               (
                 h.0,
                 record {
@@ -225,8 +221,7 @@ module _ (f : Frame) (list : ℕ) (js : List ℕ) (r : HasRow f list js) (x n ce
             ∙ read_set f.parts list _ (slice_get_within f.parts list _ r.is) in
             let less : r.span.many - 1 ≡ count us = omega (arith, t.3, many) in
             subst (λ (w : Tree). Stands (shortened list r.span (r.span.start + n) f) p w × (top w ≡ k))
-            (sym (many_as_branch k order us (omega (arith, many, ap length t.0, length-tops ts))))
-            (
+            (sym (many_as_branch k order us (omega (arith, many, ap length t.0, length-tops ts)))) (
               (
                 r.span.start + 1,
                 record {

@@ -1,8 +1,7 @@
 -- A network in which nothing was done yet.
-use Rattle.std.proofs.Common.{◌≡◌, ℕ, zero, suc, ◌+◌, ◌<◌, ◌≤◌, List, [], ◌∷◌, ◌++◌, length, Option, Some, None, refl, sym, ap, subst, ◌∙◌, arith}
-use Rattle.std.specs.Prelude.{slice_get, IfSome}
+use Rattle.std.proofs.Common.{◌≡◌, ℕ, zero, suc, ◌+◌, ◌≤◌, List, [], ◌∷◌, length, Option, Some, None, refl, sym, ap, subst, ◌∙◌, arith}
+use Rattle.std.specs.Prelude.{IfSome}
 use Rattle.std.proofs.lemmas.List.{append-nil}
-use Rattle.std.proofs.lemmas.Option.{same_Some}
 use Rattle.hp_syntax.specs.Networks as plain
 use Rattle.hp_syntax.specs.Terms.{Term}
 use Rattle.hp_eval.specs.declared.tasks.TaskTree.{TaskTree}
@@ -11,12 +10,12 @@ use Rattle.hp_links.specs.declared.entry.Entry.{Entry}
 use Rattle.hp_links.specs.declared.entry.Entry.TheVariants as entries
 use Rattle.hp_links.specs.Entries.{forest, AreClosed}
 use Rattle.hp_links.specs.Fronts.{front_at}
-use Rattle.hp_links.specs.Frames.{Frame, frame_of, top, Stands, IsWhole, tree_at, IsHeld}
-use Rattle.hp_links.specs.Labelled.{Tree, Gone, numbers, number_of, IsFull, front_of, network}
+use Rattle.hp_links.specs.Frames.{Frame, top, Stands, tree_at, IsHeld}
+use Rattle.hp_links.specs.Labelled.{Tree, Gone, numbers, IsFull, front_of, network}
 use Rattle.hp_links.specs.Linked.{Linked, whole}
 use Rattle.hp_links.specs.Planted.{trees_at, AllAlone, Planting}
 use Rattle.hp_links.specs.Pushed.{kept, Adds}
-use Rattle.hp_links.specs.Undoing.{IsStage, Starts, first_of_entries}
+use Rattle.hp_links.specs.Undoing.{Starts, first_of_entries}
 use Rattle.hp_links.proofs.ChangeLemmas.{normal_from_full}
 use Rattle.hp_links.proofs.EntryLemmas.{kept_many, kept_none, kept_one, one_tree_at, trees_full, AllFull}
 use Rattle.hp_links.proofs.GraftLemmas.{first_number}
@@ -71,20 +70,31 @@ pub starts : (es : List Entry) (js : List ℕ) (old f : Frame) (root front : Opt
     → Starts es (record { parts = f.parts; owners = f.owners; rows = f.rows; root = root; focus = None; front = front })
 starts [] js old f root front empty p closed most is at =
     let s : Linked = record {
-      parts = f.parts; owners = f.owners; rows = f.rows; root = root; focus = None; front = front
+      parts = f.parts;
+      owners = f.owners;
+      rows = f.rows;
+      root = root;
+      focus = None;
+      front = front;
     } in
     let stage = staged s Gone (record { is = is; stands = tt }) p.owners tt tt tt (at ∙ ap (front_at f) is) in
     record { stage = stage.0; none = λ e. stage.1; one = λ t e. absurd cc; focus = refl }
 starts (e ∷ es) js old f root front empty p closed most is at =
     let s : Linked = record {
-      parts = f.parts; owners = f.owners; rows = f.rows; root = root; focus = None; front = front
+      parts = f.parts;
+      owners = f.owners;
+      rows = f.rows;
+      root = root;
+      focus = None;
+      front = front;
     } in
     let t = first_tree (e ∷ es) js old f empty p closed (one_forest e es most) in
     let tree : tree_at f 0 ≡ t.tree = ap (tree_at f) (sym t.top) ∙ tree_at-top f None t.tree t.stands in
     let stage =
     staged s t.tree
     (record {
-      is = is ∙ ap Some (sym t.top) ∙ sym (number_top f None t.tree t.stands); stands = alone f t.tree t.stands
+      is = is ∙ ap Some (sym t.top) ∙ sym (number_top f None t.tree t.stands);
+      stands = alone f t.tree t.stands;
     }) p.owners
     (normal_from_full t.tree t.full) (range_apart 0 (numbers t.tree) t.range) tt
     (at ∙ ap (front_at f) is ∙ ap front_of tree) in

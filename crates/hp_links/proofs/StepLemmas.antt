@@ -1,12 +1,12 @@
 -- One change of a network in place, and how it is taken back.
-use Rattle.std.proofs.Common.{◌≡◌, ℕ, zero, suc, ◌+◌, ◌-◌, ◌<◌, ◌≤◌, List, [], ◌∷◌, length, get_or, set, take, Option, Some, None, refl, sym, ap, ap₂, subst, ◌∙◌, arith}
+use Rattle.std.proofs.Common.{◌≡◌, ℕ, ◌+◌, ◌-◌, ◌<◌, ◌≤◌, List, length, get_or, set, take, Option, Some, None, refl, sym, ap, ap₂, subst, ◌∙◌, arith}
 use Rattle.std.specs.Prelude.{slice_get}
 use Rattle.std.specs.List.{Contains, remove}
 use Rattle.std.proofs.lemmas.List.{take_all, set-set, set-get_or, length-set}
 use Rattle.std.proofs.lemmas.List.Edits.{length-remove, length-insert}
 use Rattle.std.proofs.lemmas.Option.{same_Some, slice_get_within, get_or_from_slice_get}
 use Rattle.hp_links.specs.declared.links.Part.{Part}
-use Rattle.hp_links.specs.declared.links.Part.TheVariants.{Task, Row}
+use Rattle.hp_links.specs.declared.links.Part.TheVariants.{Row}
 use Rattle.hp_links.specs.declared.links.Span.{Span}
 use Rattle.hp_links.specs.declared.undo.Change.{Change}
 use Rattle.hp_links.specs.declared.undo.Turn.{Turn}
@@ -15,13 +15,13 @@ use Rattle.hp_links.specs.declared.entry.Order.{Order}
 use Rattle.hp_links.specs.Changing.{IsSpan, HasSpan, IsFirstFrom, IsSlotOf, other_of, put_at, hung, root_after, shortened}
 use Rattle.hp_links.specs.Fronts.{settled}
 use Rattle.hp_links.specs.Frames.{Frame, frame_of, top, tops, Stands, IsWhole, tree_at, IsHeld}
-use Rattle.hp_links.specs.Labelled.{Tree, Gone, Branch, count, numbers, numbers_of_all, IsFull, front_of, replaced, without}
+use Rattle.hp_links.specs.Labelled.{Tree, Gone, Branch, count, numbers, IsFull, front_of, replaced, without}
 use Rattle.hp_links.specs.Linked.{Linked, NamesTask, whole}
 use Rattle.hp_links.specs.Turning.{turned_right, turned_left}
 use Rattle.hp_links.specs.Undoing.{IsStage, IsCleared, IsWithin, LeavesOne, Steps, lengthened, longer, put_back, was_at}
 use Rattle.hp_links.proofs.ChangeLemmas.{left_full, without_apart, without_normal}
 use Rattle.hp_links.proofs.FinishLemmas.{task_alone, task_parent, joins, shortens, front_left}
-use Rattle.hp_links.proofs.HangLemmas.{above_more, same_part, slot_read, stands_hung, tops_owned, top_owned}
+use Rattle.hp_links.proofs.HangLemmas.{above_more, same_part, slot_read, stands_hung, top_owned}
 use Rattle.hp_links.proofs.HeldLemmas.{held, tree_at-top}
 use Rattle.hp_links.proofs.HungLemmas.{Placed, hung_whole, listed_above}
 use Rattle.hp_links.proofs.ParentLemmas.{Parent, tops_there}
@@ -56,7 +56,12 @@ pub cleared_steps : (s r : Linked) (t : Change) (x : ℕ) → IsStage s → Name
 cleared_steps s r t x h n own c =
     let gone = task_alone s x h n own in
     let new : Linked = record {
-      parts = s.parts; owners = s.owners; rows = s.rows; root = None; focus = None; front = None
+      parts = s.parts;
+      owners = s.owners;
+      rows = s.rows;
+      root = None;
+      focus = None;
+      front = None;
     } in
     let stage = staged new Gone (record { is = refl; stands = tt }) h.owners tt tt tt refl in
     subst (λ (q : Linked). Steps t (without x (whole s)) None s q) (sym c.is)
@@ -355,7 +360,12 @@ module _ (s : Linked) (x list place : ℕ) (span : Span) (h : IsStage s) (is_lis
 pub stage_is : (q r : Linked) (x list rest : ℕ) (front : Option ℕ) → q ≡ r
     → front ≡ settled x list (front_of (tree_at (frame_of q) rest)) q.front
     → (λ (s : Linked). s) (record {
-      parts = q.parts; owners = q.owners; rows = q.rows; root = q.root; focus = None; front = front
+      parts = q.parts;
+      owners = q.owners;
+      rows = q.rows;
+      root = q.root;
+      focus = None;
+      front = front;
     })
     ≡ record {
       parts = r.parts;
@@ -367,7 +377,12 @@ pub stage_is : (q r : Linked) (x list rest : ℕ) (front : Option ℕ) → q ≡
     }
 stage_is q r x list rest front e f =
     let left : Linked → Option ℕ → Linked = λ s o. record {
-      parts = s.parts; owners = s.owners; rows = s.rows; root = s.root; focus = None; front = o
+      parts = s.parts;
+      owners = s.owners;
+      rows = s.rows;
+      root = s.root;
+      focus = None;
+      front = o;
     } in
     ap (left q) f ∙ ap (λ (s : Linked). left s (settled x list (front_of (tree_at (frame_of s) rest)) s.front)) e
 
@@ -415,7 +430,12 @@ same_frame a b c d e f p q r = cc
 pub shorter_is : (s : Linked) (g h : Frame) (x list : ℕ) (front : Option ℕ) → g ≡ h
     → front ≡ settled x list (front_of (tree_at g list)) s.front
     → (λ (s : Linked). s) (record {
-      parts = g.parts; owners = g.owners; rows = g.rows; root = s.root; focus = None; front = front
+      parts = g.parts;
+      owners = g.owners;
+      rows = g.rows;
+      root = s.root;
+      focus = None;
+      front = front;
     })
     ≡ record {
       parts = h.parts;
@@ -427,7 +447,12 @@ pub shorter_is : (s : Linked) (g h : Frame) (x list : ℕ) (front : Option ℕ) 
     }
 shorter_is s g h x list front e f =
     let left : Frame → Option ℕ → Linked = λ q o. record {
-      parts = q.parts; owners = q.owners; rows = q.rows; root = s.root; focus = None; front = o
+      parts = q.parts;
+      owners = q.owners;
+      rows = q.rows;
+      root = s.root;
+      focus = None;
+      front = o;
     } in
     ap (left g) f ∙ ap (λ (q : Frame). left q (settled x list (front_of (tree_at q list)) s.front)) e
 

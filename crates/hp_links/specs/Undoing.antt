@@ -1,5 +1,5 @@
 -- The histories of networks in place, and trails that can be undone.
-use Rattle.std.specs.Prelude.{◌≡◌, ℕ, suc, ◌+◌, ◌<◌, ◌≤◌, List, [], ◌∷◌, ◌++◌, length, take, drop, Option, Some, None, IfSome, Contains, slice_get, slice_set, vec_len}
+use Rattle.std.specs.Prelude.{◌≡◌, ℕ, ◌+◌, ◌<◌, ◌≤◌, List, [], ◌∷◌, length, take, Option, Some, None, IfSome, Contains, slice_get, slice_set, vec_len}
 use Rattle.hp_world.specs.Histories.{History, history, undone_to}
 use Rattle.hp_world.specs.Trails.{IsUndoable}
 use Rattle.hp_links.specs.declared.links.Part.{Part}
@@ -156,7 +156,12 @@ pub record LeavesOne (f : Frame) (x list rest : ℕ) : Type 0 where
 pub record IsCleared (t : Change) (old new : Linked) : Type 0 where
   pub change : t ≡ saved old
   pub is : new ≡ record {
-    parts = old.parts; owners = old.owners; rows = old.rows; root = None; focus = None; front = None
+    parts = old.parts;
+    owners = old.owners;
+    rows = old.rows;
+    root = None;
+    focus = None;
+    front = None;
   }
 
 -- the tree of some entries stands in the place of a task, behind all other parts, and has the focus

@@ -400,9 +400,5 @@ impl Store {
 fn first_number(entries: &[Entry]) -> Option<usize>
     ensures { result ≡ first_of_entries entries.now }
 {
-    if entries.is_empty() {
-        None
-    } else {
-        Some(0)
-    }
+    if entries.is_empty() { None } else { Some(0) }
 }

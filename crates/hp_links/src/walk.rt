@@ -12,11 +12,7 @@ use std::alloc::{AllocError, Global};
 
 impl Links {
     /// The first tasks of the tree of a number, from left to right.
-    pub(crate) fn first_tasks(
-        &self,
-        alloc: Global,
-        start: usize,
-    ) -> Result<Vec<TaskId>, AllocError>
+    pub(crate) fn first_tasks(&self, alloc: Global, start: usize) -> Result<Vec<TaskId>, AllocError>
         requires { IsHeld (frame_in self.now) start }
         ensures { IfOk result (λ v. v.items ≡ leads (tree_at (frame_in self.now) start)) }
     {

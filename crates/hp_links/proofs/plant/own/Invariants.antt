@@ -1,4 +1,4 @@
-use Rattle.std.proofs.Common.{◌≡◌, length, take, Some}
+use Rattle.std.proofs.Common.{◌≡◌, take, Some}
 use Rattle.hp_links.specs.Planted.{own_all}
 use Rattle.hp_links.proofs.plant.own.Given as goal
 

@@ -1,10 +1,9 @@
-use Rattle.std.proofs.Common.{◌≡◌, ◌+◌, ◌-◌, ◌<◌, ℕ, List, Some, suc, length, refl, ap, sym, subst, ◌∙◌, arith}
-use Rattle.std.specs.Prelude.{slice_get}
+use Rattle.std.proofs.Common.{◌≡◌, ◌+◌, ◌-◌, ◌<◌, ℕ, List, suc, length, refl, sym, subst, arith}
 use Rattle.std.specs.List.{All}
 use Rattle.hp_links.specs.Linked.{PartBelow}
 use Rattle.std.proofs.lemmas.Option.{slice_get_read}
 use Rattle.hp_links.specs.Frames.{Frame, frame_in}
-use Rattle.hp_links.specs.Planted.{Planting, linked, roots_left}
+use Rattle.hp_links.specs.Planted.{Planting, roots_left}
 use Rattle.hp_links.proofs.PlantSteps.{planting_first, has_roots, roots_within, planted_step, linked_below, entries_below}
 use Rattle.hp_links.proofs.links.Links.plant.Goals as goal
 

@@ -1,4 +1,4 @@
-use Rattle.std.proofs.Common.{[], List, ap, sym, subst, ◌∙◌}
+use Rattle.std.proofs.Common.{List, ap, sym, subst}
 use Rattle.hp_world.specs.Trails.{IsUndoable}
 use Rattle.hp_links.specs.declared.undo.Change.{Change}
 use Rattle.hp_links.specs.Frames.{Frame, frame_in}
@@ -11,7 +11,12 @@ pub returns-clause-sound : goal.returns-clause-sound
 returns-clause-sound c =
     let s = c.args.self.now in
     let with_frame : Frame → Linked = λ f. record {
-      parts = f.parts; owners = f.owners; rows = f.rows; root = s.root; focus = s.focus; front = s.front
+      parts = f.parts;
+      owners = f.owners;
+      rows = f.rows;
+      root = s.root;
+      focus = s.focus;
+      front = s.front;
     } in
     let stage = stage_now s.trail.items (stage_of s) c.requires in
     let same = ap with_frame c.in_ok-copy.ensures in

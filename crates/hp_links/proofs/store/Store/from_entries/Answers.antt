@@ -1,4 +1,4 @@
-use Rattle.std.proofs.Common.{◌≡◌, ℕ, Option, List, [], length, map, refl, sym, ap, subst}
+use Rattle.std.proofs.Common.{ℕ, Option, List, length, map, refl, sym, ap, subst}
 use Rattle.std.specs.Prelude.{reverse, IfSome}
 use Rattle.std.specs.List.{All}
 use Rattle.std.proofs.lemmas.List.Elements.{All-nil}

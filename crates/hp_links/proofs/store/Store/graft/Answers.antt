@@ -1,16 +1,15 @@
-use Rattle.std.proofs.Common.{◌≡◌, ◌<◌, ℕ, List, Some, length, map, refl, sym, ap, subst, ◌∙◌, arith}
-use Rattle.std.specs.Prelude.{slice_get, reverse}
+use Rattle.std.proofs.Common.{ℕ, List, length, map, refl, sym, ap, subst, ◌∙◌, arith}
+use Rattle.std.specs.Prelude.{reverse}
 use Rattle.std.specs.List.{All}
-use Rattle.std.proofs.lemmas.Option.{slice_get_within}
 use Rattle.hp_links.specs.declared.undo.Change.{Change}
-use Rattle.hp_links.specs.Changing.{IsListed, hung}
+use Rattle.hp_links.specs.Changing.{hung}
 use Rattle.hp_links.specs.Frames.{frame_in, frame_of, IsHeld, top}
 use Rattle.hp_links.specs.Linked.{Linked, PartBelow}
 use Rattle.hp_links.specs.Planted.{trees_at}
 use Rattle.hp_links.specs.Undoing.{put_to, stage_of}
 use Rattle.hp_links.proofs.ChangeLemmas.{normal_from_full}
 use Rattle.hp_links.proofs.EntryLemmas.{one_tree_at}
-use Rattle.hp_links.proofs.GraftLemmas.{base_within, graft_held, graft_is, graft_steps, grafted_is, named_owner, named_placed, planted_fresh, planted_full, planted_number}
+use Rattle.hp_links.proofs.GraftLemmas.{base_within, graft_held, graft_is, graft_steps, grafted_is, named_placed, planted_fresh, planted_full, planted_number}
 use Rattle.hp_links.proofs.ParentLemmas.{numbers_within}
 use Rattle.hp_links.proofs.StageLemmas.{stage_stands}
 use Rattle.hp_links.proofs.store.Store.graft.Goals as goal
@@ -76,7 +75,12 @@ returns-in-Ok-clause-grafts c =
     let base = ap (λ (u : Change). u.parts) c.saved-change.ensures in
     let puts = c.put-change.ensures.puts in
     let planted : Linked = record {
-      parts = f.parts; owners = f.owners; rows = f.rows; root = s.root; focus = s.focus; front = s.front
+      parts = f.parts;
+      owners = f.owners;
+      rows = f.rows;
+      root = s.root;
+      focus = s.focus;
+      front = s.front;
     } in
     record {
       tree = t.0;
