@@ -92,12 +92,13 @@ impl Store {
         ensures sound { IfOk result (λ s. IsSound s) }
         ensures same { IfOk result (λ s. history_of s ≡ record { past = []; now = stage_of self.now }) }
     {
+        let trail = Vec::new(self.alloc);
         Ok(Store {
             links: self.links.copy(self.alloc)?,
             root: self.root,
             focus: self.focus,
             front: self.front,
-            trail: Vec::new(self.alloc),
+            trail,
             alloc: self.alloc,
         })
     }
