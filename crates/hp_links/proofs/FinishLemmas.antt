@@ -1,27 +1,22 @@
 -- What is left of a network where a task is done.
-use Rattle.std.proofs.Common.{◌≡◌, ℕ, zero, suc, ◌+◌, ◌-◌, ◌<◌, ◌≤◌, ◌==◌, ◌⊎◌, ⊎_elim, inl, inr, Bool, cond, ◌||◌, List, [], ◌∷◌, length, Option, Some, None, refl, sym, ap, subst, ◌∙◌, arith, eq-eqb}
+use Rattle.std.proofs.Common.{◌≡◌, ℕ, zero, suc, ◌+◌, ◌-◌, ◌<◌, ◌≤◌, ◌==◌, ⊎_elim, inl, inr, Bool, cond, ◌||◌, List, length, Option, Some, None, refl, sym, ap, subst, ◌∙◌, arith, eq-eqb}
 use Rattle.std.specs.Prelude.{slice_get}
-use Rattle.std.specs.List.{Contains}
 use Rattle.std.proofs.lemmas.Bool.{ne_eqb, cases_eq}
 use Rattle.std.proofs.lemmas.Option.{same_Some, slice_get_within}
-use Rattle.hp_links.specs.declared.links.Part.{Part}
 use Rattle.hp_links.specs.declared.links.Part.TheVariants.{Task, Row}
-use Rattle.hp_links.specs.declared.links.Span.{Span}
-use Rattle.hp_links.specs.Changing.{IsSpan, IsFirstFrom, HasRow, other_of, shortened}
+use Rattle.hp_links.specs.Changing.{IsFirstFrom, HasRow, other_of, shortened}
 use Rattle.hp_links.specs.Fronts.{settled}
-use Rattle.hp_links.specs.Frames.{Frame, frame_of, top, tops, StandFrom, Stands, AllStand, StandsAlone, IsWhole}
-use Rattle.hp_links.specs.Labelled.{Tree, Trees, Gone, Leaf, Branch, NoTree, With, count, numbers, numbers_of_all, number_of, AreApart, IsFull, AreFull, IsNormal, front_of, part_in, replaced, without, without_among, as_branch}
+use Rattle.hp_links.specs.Frames.{Frame, frame_of, top, tops, StandFrom, Stands, AllStand, IsWhole}
+use Rattle.hp_links.specs.Labelled.{Tree, Trees, Gone, Branch, NoTree, With, count, IsFull, front_of, replaced, without, without_among, as_branch}
 use Rattle.hp_links.specs.Linked.{Linked, NamesTask, whole}
 use Rattle.hp_links.specs.Undoing.{IsStage}
 use Rattle.hp_links.proofs.FrontLemmas.{HasLeaf, front_finished, front_full}
 use Rattle.hp_links.proofs.HangLemmas.{top_owned, same_part}
 use Rattle.hp_links.proofs.HungLemmas.{nth_part, number_top, alone}
-use Rattle.hp_links.proofs.JoinLemmas.{joined, own_joined, no_list}
-use Rattle.hp_links.proofs.ListSteps.{some_read}
+use Rattle.hp_links.proofs.JoinLemmas.{joined, own_joined}
 use Rattle.hp_links.proofs.ParentLemmas.{Parent, parent_of, parent_row}
-use Rattle.hp_links.proofs.PlaceLemmas.{part_tells}
 use Rattle.hp_links.proofs.ShortenLemmas.{is_leaf, leaf_out, stands_shortened}
-use Rattle.hp_links.proofs.StageLemmas.{stage_stands, named_part}
+use Rattle.hp_links.proofs.StageLemmas.{stage_stands}
 use Rattle.hp_links.proofs.TreeLemmas.{length-tops}
 
 -- the first place of a part of a list is that in its row
@@ -92,7 +87,7 @@ task_alone s x h n own =
     (parent_of f None (whole s) x w.0 w.1 h.apart n.among)
 
 -- the front after a task of a list is done is looked for where the task or the list was the front
-settle_is : (w left new : Tree) (x q f : ℕ) → front_of w ≡ Some f
+pub settle_is : (w left new : Tree) (x q f : ℕ) → front_of w ≡ Some f
     → (front_of w ≡ Some x → front_of left ≡ front_of new) × (front_of w ≡ Some q → front_of left ≡ front_of new)
     × ((front_of w ≡ Some x → ⊥) → (front_of w ≡ Some q → ⊥) → front_of left ≡ front_of w)
     → settled x q (front_of new) (front_of w) ≡ front_of left

@@ -1,16 +1,16 @@
 -- A part is hung in the place of another.
-use Rattle.std.proofs.Common.{◌≡◌, ℕ, ◌+◌, ◌-◌, ◌<◌, ◌≤◌, ◌==◌, ◌⊎◌, ⊎_elim, inl, inr, Bool, cond, zero, suc, List, [], ◌∷◌, length, set, take, drop, map, Option, Some, None, refl, sym, ap, ap₂, subst, ◌∙◌, arith, eq-eqb}
+use Rattle.std.proofs.Common.{◌≡◌, ℕ, ◌+◌, ◌-◌, ◌<◌, ◌≤◌, ⊎_elim, cond, zero, suc, List, [], ◌∷◌, length, set, take, drop, map, Option, Some, None, refl, sym, ap, ap₂, subst, ◌∙◌, arith, eq-eqb}
 use Rattle.std.specs.Prelude.{slice_get, option_map}
 use Rattle.std.proofs.lemmas.Bool.{cases_eq, ne_eqb}
 use Rattle.std.proofs.lemmas.List.{length-map}
 use Rattle.std.proofs.lemmas.Option.{same_Some, slice_get-map, slice_get_within}
 use Rattle.hp_links.specs.declared.links.Part.{Part}
-use Rattle.hp_links.specs.declared.links.Part.TheVariants.{Task, Row}
+use Rattle.hp_links.specs.declared.links.Part.TheVariants.{Row}
 use Rattle.hp_links.specs.declared.links.Span.{Span}
 use Rattle.hp_links.specs.declared.entry.Order.{Order}
-use Rattle.hp_links.specs.Changing.{IsSpan, IsFirstFrom, HasRow, IsListed, IsSlotOf, put_at, hung, renamed, IsAbove}
-use Rattle.hp_links.specs.Frames.{Frame, top, tops, HasPart, StandFrom, Stands, AllStand, StandsAlone, IsWhole}
-use Rattle.hp_links.specs.Labelled.{Tree, Trees, Gone, Leaf, Branch, NoTree, With, count, number_of, numbers, replaced, replaced_among}
+use Rattle.hp_links.specs.Changing.{IsFirstFrom, HasRow, IsListed, IsSlotOf, put_at, hung, renamed, IsAbove}
+use Rattle.hp_links.specs.Frames.{Frame, top, tops, StandFrom, Stands, AllStand}
+use Rattle.hp_links.specs.Labelled.{Tree, Trees, Gone, Leaf, Branch, NoTree, With, count, replaced, replaced_among}
 use Rattle.hp_links.proofs.ListSteps.{read_set, read_other, some_read}
 use Rattle.hp_links.proofs.TreeLemmas.{row_read, length-tops}
 

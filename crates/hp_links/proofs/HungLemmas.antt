@@ -1,14 +1,14 @@
 -- The whole network once a part is hung in the place of another.
-use Rattle.std.proofs.Common.{◌≡◌, ℕ, zero, suc, ◌+◌, ◌<◌, ◌≤◌, ◌⊎◌, ⊎_elim, inl, inr, List, [], ◌∷◌, length, Option, Some, None, refl, sym, ap, subst, ◌∙◌, arith}
+use Rattle.std.proofs.Common.{◌≡◌, ℕ, zero, suc, ◌<◌, ◌⊎◌, ⊎_elim, inl, inr, length, Option, Some, None, refl, sym, ap, subst, ◌∙◌, arith}
 use Rattle.std.specs.Prelude.{slice_get}
 use Rattle.std.specs.List.{Contains}
 use Rattle.std.proofs.lemmas.Bool.{cases_eq}
 use Rattle.std.proofs.lemmas.Option.{same_Some}
-use Rattle.hp_links.specs.Changing.{HasRow, IsListed, IsSlotOf, IsAbove, hung, root_after}
+use Rattle.hp_links.specs.Changing.{IsListed, IsSlotOf, IsAbove, hung, root_after}
 use Rattle.hp_links.specs.Frames.{Frame, top, tops, Stands, AllStand, StandsAlone, IsWhole}
 use Rattle.hp_links.specs.Labelled.{Tree, Trees, Gone, Leaf, Branch, NoTree, With, numbers, number_of, AreApart, IsFull, AreFull, replaced}
 use Rattle.hp_links.proofs.HangLemmas.{top_owned, stands_hung, stands_replaced, replaced_top}
-use Rattle.hp_links.proofs.ParentLemmas.{Parent, parent_of, parent_row}
+use Rattle.hp_links.proofs.ParentLemmas.{parent_of, parent_row}
 
 -- a tree that stands has its number
 pub number_top : (f : Frame) (p : Option ℕ) (t : Tree) → Stands f p t → number_of t ≡ Some (top t)

@@ -1,5 +1,5 @@
 -- A list that is left with one part gives its place to that part.
-use Rattle.std.proofs.Common.{◌≡◌, ℕ, zero, suc, ◌+◌, ◌<◌, ◌≤◌, ◌==◌, ◌⊎◌, ⊎_elim, inl, inr, Bool, cond, List, [], ◌∷◌, length, Option, Some, None, refl, sym, ap, ap₂, subst, ◌∙◌, arith, eq-eqb}
+use Rattle.std.proofs.Common.{◌≡◌, ℕ, zero, suc, ◌<◌, ◌==◌, ⊎_elim, Bool, cond, List, [], ◌∷◌, length, Option, Some, None, refl, sym, ap, ap₂, subst, ◌∙◌, arith, eq-eqb}
 use Rattle.std.specs.Prelude.{slice_get}
 use Rattle.std.proofs.lemmas.Bool.{cases_eq, cond_both, ne_eqb}
 use Rattle.std.proofs.lemmas.Option.{same_Some}
@@ -9,7 +9,7 @@ use Rattle.hp_links.specs.Changing.{HasRow}
 use Rattle.hp_links.specs.Frames.{Frame, top, tops, Stands, AllStand}
 use Rattle.hp_links.specs.Labelled.{Tree, Trees, Gone, Leaf, Branch, NoTree, With, count, IsFull, AreFull, unless_gone, as_branch, without, without_among, replaced, replaced_among}
 use Rattle.hp_links.specs.Linked.{Linked, tree_of}
-use Rattle.hp_links.proofs.HangLemmas.{top_owned, tops_owned, same_part}
+use Rattle.hp_links.proofs.HangLemmas.{top_owned, same_part}
 use Rattle.hp_links.proofs.ShortenLemmas.{unless_standing, many_as_branch, leaf_out, same_tops}
 use Rattle.hp_links.proofs.TreeLemmas.{tree_of-top, length-tops}
 

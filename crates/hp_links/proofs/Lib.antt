@@ -1,14 +1,13 @@
 pub mod BelowLemmas
 pub mod ChangeLemmas
+pub mod EntryLemmas
 pub mod FinishLemmas
 pub mod FrontLemmas
-pub mod GatherSteps
 pub mod GraftLemmas
 pub mod HangLemmas
 pub mod HeldLemmas
 pub mod HungLemmas
 pub mod JoinLemmas
-pub mod LaySteps
 pub mod LeadLemmas
 pub mod ListSteps
 pub mod MeaningLemmas
@@ -22,6 +21,7 @@ pub mod PushedLemmas
 pub mod ScopeLemmas
 pub mod ShortenLemmas
 pub mod StageLemmas
+pub mod StartLemmas
 pub mod StepLemmas
 pub mod TrailSteps
 pub mod TreeLemmas

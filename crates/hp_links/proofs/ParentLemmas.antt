@@ -1,5 +1,5 @@
 -- The list that a part belongs to.
-use Rattle.std.proofs.Common.{◌≡◌, ℕ, zero, suc, ◌+◌, ◌<◌, ◌≤◌, ◌⊎◌, ⊎_elim, inl, inr, List, [], ◌∷◌, ◌++◌, length, Option, Some, None, refl, sym, ap, subst, ◌∙◌, arith}
+use Rattle.std.proofs.Common.{◌≡◌, ℕ, zero, suc, ◌<◌, ◌⊎◌, ⊎_elim, inl, inr, [], ◌∷◌, ◌++◌, length, Option, Some, None, refl, sym, ap, subst, ◌∙◌, arith}
 use Rattle.std.specs.Prelude.{slice_get}
 use Rattle.std.specs.List.{Contains}
 use Rattle.std.proofs.lemmas.Bool.{cases_eq}
@@ -11,9 +11,9 @@ use Rattle.hp_links.specs.Changing.{HasRow}
 use Rattle.hp_links.specs.Frames.{Frame, frame_of, top, tops, Stands, AllStand}
 use Rattle.hp_links.specs.Labelled.{Tree, Trees, Gone, Leaf, Branch, NoTree, With, count, numbers, numbers_of_all, AreApart, IsFull, AreFull, or_else, part_in, part_among}
 use Rattle.hp_links.specs.Linked.{Linked, tree_of}
-use Rattle.hp_links.proofs.HangLemmas.{top_owned, tops_owned}
+use Rattle.hp_links.proofs.HangLemmas.{tops_owned}
 use Rattle.hp_links.proofs.NumberLemmas.{contains_nothing, contains_first, contains_cases, apart_left, apart_right, apart_disjoint}
-use Rattle.hp_links.proofs.PlaceLemmas.{at_number, off_number, part_tells, part_among_tells, number_tells, absent_tells, is_number}
+use Rattle.hp_links.proofs.PlaceLemmas.{at_number, off_number, part_among_tells, number_tells, absent_tells, is_number}
 use Rattle.hp_links.proofs.TreeLemmas.{tree_of-top, length-tops}
 
 -- the number of a tree that stands is among its numbers

@@ -1,137 +1,127 @@
--- What stands in numbered parts while entries are planted.
-use Rattle.std.proofs.Common.{◌≡◌, ℕ, ◌+◌, ◌-◌, ◌<◌, ◌≤◌, zero, suc, List, [], ◌∷◌, ◌++◌, length, set, take, drop, map, Option, Some, None, refl, sym, ap, ap₂, ◌∙◌, subst, arith, ◌⊎◌, inl, inr, ⊎_elim, length-append}
-use Rattle.std.specs.Prelude.{slice_get, replicate}
-use Rattle.std.specs.List.{Contains, range_with_len}
+-- Networks in reading order become numbered parts.
+use Rattle.std.proofs.Common.{◌≡◌, ℕ, zero, suc, ◌+◌, ◌<◌, ◌≤◌, ◌⊎◌, ⊎_elim, inl, inr, List, [], ◌∷◌, ◌++◌, length, set, take, drop, map, Option, Some, None, refl, sym, ap, subst, ◌∙◌, arith, append_assoc}
+use Rattle.std.specs.Prelude.{slice_get}
+use Rattle.std.specs.List.{Contains}
 use Rattle.std.proofs.lemmas.Bool.{cases_eq}
-use Rattle.std.proofs.lemmas.List.{length-set, map-append, append_assoc, take-append-drop, length-map, take-map, drop-map}
+use Rattle.std.proofs.lemmas.List.{take-append-drop, length-set}
 use Rattle.std.proofs.lemmas.List.Elements.{Contains-append_left, Contains-append_right}
-use Rattle.hp_syntax.specs.Networks as plain
-use Rattle.hp_syntax.specs.Networks.{Network}
-use Rattle.hp_syntax.specs.Terms.{Term}
-use Rattle.hp_eval.specs.GoalViews.{term_at, as_networks}
-use Rattle.hp_links.specs.declared.links.Part.{Part}
-use Rattle.hp_links.specs.declared.links.Part.TheVariants.{Task, Row}
-use Rattle.hp_links.specs.declared.entry.Order.{Order}
+use Rattle.std.proofs.lemmas.Option.{slice_get_within}
 use Rattle.hp_links.specs.declared.entry.Entry.{Entry}
 use Rattle.hp_links.specs.declared.entry.Entry.TheVariants as entries
-use Rattle.hp_links.specs.Entries.{forest, AreClosed}
-use Rattle.hp_links.specs.Frames.{Frame, top, tops, HasPart, StandFrom, Stands, AllStand}
-use Rattle.hp_links.specs.Labelled.{Tree, Trees, Gone, Leaf, Branch, NoTree, With, count, listed, network, networks, numbers, numbers_of_all, AreApart, IsFull, AreFull}
+use Rattle.hp_links.specs.Frames.{Frame, top, tops, StandFrom, Stands, AllStand}
+use Rattle.hp_links.specs.Labelled.{Tree, Trees, Gone, Leaf, Branch, NoTree, With, numbers, numbers_of_all, AreApart}
 use Rattle.hp_links.specs.Linked.{as_trees}
-use Rattle.hp_links.specs.Planting.{owned_by, numbers_in, AllAlone, AllFull}
-use Rattle.hp_links.proofs.ListSteps.{read_set, read_other}
-use Rattle.hp_links.proofs.NumberLemmas.{contains_nothing, contains_first, contains_later, contains_cases, apart_left, apart_right, apart_disjoint}
+use Rattle.hp_links.specs.Planted.{trees_at, AllAlone, own_all}
+use Rattle.hp_links.proofs.HangLemmas.{top_owned}
+use Rattle.hp_links.proofs.ListSteps.{read_set, read_other, some_read}
+use Rattle.hp_links.proofs.ParentLemmas.{top_there}
+use Rattle.hp_links.proofs.NumberLemmas.{contains_nothing, contains_first, contains_later, contains_cases, apart_right, apart_disjoint}
 
--- ---- trees in frames that agree
+-- ---- owners of many
 
--- two frames agree on these numbers, and all that is in rows stays
-pub record AgreeOn (ns : List ℕ) (f g : Frame) : Type 0 where
-  pub parts : (y : ℕ) → Contains ns y → slice_get g.parts y ≡ slice_get f.parts y
-  pub owners : (y : ℕ) → Contains ns y → slice_get g.owners y ≡ slice_get f.owners y
-  pub rows : (i x : ℕ) → slice_get f.rows i ≡ Some x → slice_get g.rows i ≡ Some x
+-- the owners of other numbers stay
+pub own_others : (o : Option ℕ) (js : List ℕ) (os : List (Option ℕ)) (x : ℕ) → (Contains js x → ⊥)
+    → slice_get (own_all o js os) x ≡ slice_get os x
+own_others o [] os x n = refl
+own_others o (j ∷ js) os x n =
+    own_others o js (set os j o) x (λ c. n (contains_later j x js c))
+    ∙ read_other os j x o (λ e. n (subst (Contains (j ∷ js)) (sym e) (contains_first j js)))
 
--- within a list something is read
-read_some : (xs : List ℕ) (i : ℕ) → i < length xs → (x : ℕ) × (slice_get xs i ≡ Some x)
-read_some [] i l = absurd (omega arith)
-read_some (x ∷ xs) zero l = (x, refl)
-read_some (x ∷ xs) (suc i) l = read_some xs i (omega arith)
+-- there are as many owners
+pub length-own_all : (o : Option ℕ) (js : List ℕ) (os : List (Option ℕ)) → length (own_all o js os) ≡ length os
+length-own_all o [] os = refl
+length-own_all o (j ∷ js) os = length-own_all o js (set os j o) ∙ length-set os j o
 
--- a row stays where rows grow
-row_grows : (f g : Frame) (start : ℕ) (js : List ℕ)
-    → ((i x : ℕ) → slice_get f.rows i ≡ Some x → slice_get g.rows i ≡ Some x) → StandFrom f.rows start js
+-- an owner that was given stays
+own_again : (o : Option ℕ) (js : List ℕ) (os : List (Option ℕ)) (x : ℕ) → slice_get os x ≡ Some o
+    → slice_get (own_all o js os) x ≡ Some o
+own_again o [] os x e = e
+own_again o (j ∷ js) os x e = own_again o js (set os j o) x (by_case (cases_eq x j))
+  where
+    by_case : (x ≡ j) ⊎ (x ≡ j → ⊥) → slice_get (set os j o) x ≡ Some o
+    by_case (inl f) = ap (slice_get (set os j o)) f ∙ read_set os j o (slice_get_within os j o (ap (slice_get os) (sym f) ∙ e))
+    by_case (inr n) = read_other os j x o n ∙ e
+
+-- each of the numbers has the owner
+pub own_each : (o : Option ℕ) (js : List ℕ) (os : List (Option ℕ)) (x : ℕ) → Contains js x → x < length os
+    → slice_get (own_all o js os) x ≡ Some o
+own_each o [] os x c l = absurd (contains_nothing x c)
+own_each o (j ∷ js) os x c l =
+    ⊎_elim
+    (λ e. own_again o js (set os j o) x (ap (slice_get (set os j o)) (sym e) ∙ read_set os j o (omega arith)))
+    (λ d. own_each o js (set os j o) x d (omega (arith, length-set os j o)))
+    (contains_cases j x js c)
+
+-- ---- trees that stand in another frame too
+
+-- a frame has what another one has of some numbers, but for the owner of the first
+pub record Carries (f g : Frame) (ns : List ℕ) (first : ℕ) : Type 0 where
+  pub parts : (x : ℕ) → Contains ns x → slice_get g.parts x ≡ slice_get f.parts x
+  pub owners : (x : ℕ) → Contains ns x → first < x → slice_get g.owners x ≡ slice_get f.owners x
+  pub rows : (i j : ℕ) → slice_get f.rows i ≡ Some j → slice_get g.rows i ≡ Some j
+
+row_carried : (f g : Frame) (start : ℕ) (js : List ℕ)
+    → ((i j : ℕ) → slice_get f.rows i ≡ Some j → slice_get g.rows i ≡ Some j) → StandFrom f.rows start js
     → StandFrom g.rows start js
-row_grows f g start js grow h = record {
-  at = λ i l. let x = read_some js i l in grow (start + i) x.0 (h.at i l ∙ x.1) ∙ sym x.1;
+row_carried f g start js rows h = record {
+  at = λ i l. let r = some_read js i l in rows (start + i) r.0 (h.at i l ∙ r.1) ∙ sym r.1;
 }
 
--- the agreement on fewer numbers
-fewer : (ns ms : List ℕ) (f g : Frame) → ((y : ℕ) → Contains ms y → Contains ns y) → AgreeOn ns f g → AgreeOn ms f g
-fewer ns ms f g h a = record {
-  parts = λ y c. a.parts y (h y c);
-  owners = λ y c. a.owners y (h y c);
-  rows = a.rows;
-}
-
--- a tree stands in frames that agree on its numbers
+-- a tree stands in a frame that has what it has
 mutual
-  pub stands_on : (f g : Frame) (o : Option ℕ) (t : Tree) → AgreeOn (numbers t) f g → Stands f o t → Stands g o t
-  stands_on f g o Gone a h = h
-  stands_on f g o (Leaf k cell immediate) a h = record {
-    part = a.parts k (contains_first k []) ∙ h.part;
-    owner = a.owners k (contains_first k []) ∙ h.owner;
-  }
-  stands_on f g o (Branch k order ts) a h = (
+  pub carried : (f g : Frame) (p q : Option ℕ) (t : Tree) → Stands f p t → Carries f g (numbers t) (top t)
+      → slice_get g.owners (top t) ≡ Some q → Stands g q t
+  carried f g p q Gone h c own = absurd h
+  carried f g p q (Leaf k cell immediate) h c own =
+      record { part = c.parts k (contains_first k []) ∙ h.part; owner = own }
+  carried f g p q (Branch k order ts) h c own = (
     h.0,
-    record {
-      part = a.parts k (contains_first k (numbers_of_all ts)) ∙ h.1.part;
-      owner = a.owners k (contains_first k (numbers_of_all ts)) ∙ h.1.owner;
-    },
-    row_grows f g h.0 (tops ts) a.rows h.2,
-    all_stand_on f g k ts
-        (fewer (k ∷ numbers_of_all ts) (numbers_of_all ts) f g (λ y c. contains_later k y (numbers_of_all ts) c) a)
-        h.3,
+    record { part = c.parts k (contains_first k (numbers_of_all ts)) ∙ h.1.part; owner = own },
+    row_carried f g h.0 (tops ts) c.rows h.2,
+    all_carried f g k ts h.3
+        (λ x d. c.parts x (contains_later k x (numbers_of_all ts) d))
+        (λ x d l. c.owners x (contains_later k x (numbers_of_all ts) d) l) c.rows,
   )
 
-  pub all_stand_on : (f g : Frame) (k : ℕ) (ts : Trees) → AgreeOn (numbers_of_all ts) f g → AllStand f k ts
-      → AllStand g k ts
-  all_stand_on f g k NoTree a h = tt
-  all_stand_on f g k (With t ts) a h = (
-    h.0,
-    stands_on f g (Some k) t
-        (fewer (numbers t ++ numbers_of_all ts) (numbers t) f g
-        (λ y c. Contains-append_left (numbers t) (numbers_of_all ts) y c) a) h.1,
-    all_stand_on f g k ts
-        (fewer (numbers t ++ numbers_of_all ts) (numbers_of_all ts) f g
-        (λ y c. Contains-append_right (numbers t) (numbers_of_all ts) y c) a) h.2,
-  )
+  -- the same holds of the parts of a list
+  all_carried : (f g : Frame) (k : ℕ) (ts : Trees) → AllStand f k ts
+      → ((x : ℕ) → Contains (numbers_of_all ts) x → slice_get g.parts x ≡ slice_get f.parts x)
+      → ((x : ℕ) → Contains (numbers_of_all ts) x → k < x → slice_get g.owners x ≡ slice_get f.owners x)
+      → ((i j : ℕ) → slice_get f.rows i ≡ Some j → slice_get g.rows i ≡ Some j) → AllStand g k ts
+  all_carried f g k NoTree h parts owners rows = tt
+  all_carried f g k (With t ts) h parts owners rows =
+      let l : k < top t = h.0 in (
+        h.0,
+        carried f g (Some k) (Some k) t h.1
+            (record {
+              parts = λ x c. parts x (Contains-append_left (numbers t) (numbers_of_all ts) x c);
+              owners = λ x c m. owners x (Contains-append_left (numbers t) (numbers_of_all ts) x c) (omega arith);
+              rows = rows;
+            })
+            (owners (top t) (Contains-append_left (numbers t) (numbers_of_all ts) (top t) (top_there f (Some k) t h.1)) l
+            ∙ top_owned f (Some k) t h.1),
+        all_carried f g k ts h.2
+            (λ x c. parts x (Contains-append_right (numbers t) (numbers_of_all ts) x c))
+            (λ x c m. owners x (Contains-append_right (numbers t) (numbers_of_all ts) x c) m) rows,
+      )
 
--- a tree stands as a part of another list where only that is changed
-pub stands_in_list : (f g : Frame) (o p : Option ℕ) (t : Tree) → AreApart (numbers t)
-    → ((y : ℕ) → Contains (numbers t) y → slice_get g.parts y ≡ slice_get f.parts y)
-    → ((y : ℕ) → Contains (numbers t) y → (top t ≡ y → ⊥) → slice_get g.owners y ≡ slice_get f.owners y)
-    → ((i x : ℕ) → slice_get f.rows i ≡ Some x → slice_get g.rows i ≡ Some x)
-    → slice_get g.owners (top t) ≡ Some p → Stands f o t → Stands g p t
-stands_in_list f g o p Gone a parts owners rows own h = h
-stands_in_list f g o p (Leaf k cell immediate) a parts owners rows own h = record {
-  part = parts k (contains_first k []) ∙ h.part;
-  owner = own;
-}
-stands_in_list f g o p (Branch k order ts) a parts owners rows own h = (
-  h.0,
-  record { part = parts k (contains_first k (numbers_of_all ts)) ∙ h.1.part; owner = own },
-  row_grows f g h.0 (tops ts) rows h.2,
-  all_stand_on f g k ts
-      (record {
-        parts = λ y c. parts y (contains_later k y (numbers_of_all ts) c);
-        owners = λ y c.
-            owners y (contains_later k y (numbers_of_all ts) c)
-            (λ e. a.0 (subst (Contains (numbers_of_all ts)) (sym e) c));
-        rows = rows;
-      }) h.3,
-)
+-- one more number has the owner
+pub own_all-push : (o : Option ℕ) (js : List ℕ) (j : ℕ) (os : List (Option ℕ))
+    → own_all o (js ++ j ∷ []) os ≡ set (own_all o js os) j o
+own_all-push o [] j os = refl
+own_all-push o (i ∷ js) j os = own_all-push o js j (set os i o)
 
--- ---- trees in a list
+-- ---- the numbers of trees of entries
 
-pub numbers-as_trees : (ts : List Tree) → numbers_of_all (as_trees ts) ≡ numbers_in ts
-numbers-as_trees [] = refl
-numbers-as_trees (t ∷ ts) = ap (λ ns. numbers t ++ ns) (numbers-as_trees ts)
+-- the numbers of all trees
+abbrev pub numbers_in : List Tree → List ℕ
+numbers_in [] = []
+numbers_in (t ∷ ts) = numbers t ++ numbers_in ts
 
-pub tops-as_trees : (ts : List Tree) → tops (as_trees ts) ≡ map top ts
-tops-as_trees [] = refl
-tops-as_trees (t ∷ ts) = ap (λ ns. top t ∷ ns) (tops-as_trees ts)
-
-pub count-as_trees : (ts : List Tree) → count (as_trees ts) ≡ length ts
-count-as_trees [] = refl
-count-as_trees (t ∷ ts) = ap suc (count-as_trees ts)
-
-pub full-as_trees : (ts : List Tree) → AllFull ts → AreFull (as_trees ts)
-full-as_trees [] f = tt
-full-as_trees (t ∷ ts) f = (f.0, full-as_trees ts f.1)
-
-pub networks-as_trees : (terms : List Term) (ts : List Tree)
-    → networks terms (as_trees ts) ≡ as_networks (map (network terms) ts)
-networks-as_trees terms [] = refl
-networks-as_trees terms (t ∷ ts) = ap (plain.And (network terms t)) (networks-as_trees terms ts)
+-- the numbers from one on
+abbrev pub IsRange : ℕ → List ℕ → Type 0
+IsRange k [] = Unit {0}
+IsRange k (n ∷ ns) = (n ≡ k) × IsRange (suc k) ns
 
 pub numbers_in-append : (ts us : List Tree) → numbers_in (ts ++ us) ≡ numbers_in ts ++ numbers_in us
 numbers_in-append [] us = refl
@@ -139,74 +129,123 @@ numbers_in-append (t ∷ ts) us =
     ap (λ ns. numbers t ++ ns) (numbers_in-append ts us)
     ∙ sym (append_assoc (numbers t) (numbers_in ts) (numbers_in us))
 
-pub alone_take : (f : Frame) (n : ℕ) (ts : List Tree) → AllAlone f ts → AllAlone f (take n ts)
-alone_take f zero ts h = tt
-alone_take f (suc n) [] h = tt
-alone_take f (suc n) (t ∷ ts) h = (h.0, alone_take f n ts h.1)
+numbers-as_trees : (ts : List Tree) → numbers_of_all (as_trees ts) ≡ numbers_in ts
+numbers-as_trees [] = refl
+numbers-as_trees (t ∷ ts) = ap (λ ns. numbers t ++ ns) (numbers-as_trees ts)
 
-pub alone_drop : (f : Frame) (n : ℕ) (ts : List Tree) → AllAlone f ts → AllAlone f (drop n ts)
-alone_drop f zero ts h = h
-alone_drop f (suc n) [] h = tt
-alone_drop f (suc n) (t ∷ ts) h = alone_drop f n ts h.1
+-- the numbers of some of the trees as a list's parts, and of the others, are those of all
+numbers_split : (n : ℕ) (ts : List Tree) → numbers_of_all (as_trees (take n ts)) ++ numbers_in (drop n ts) ≡ numbers_in ts
+numbers_split n ts =
+    ap (λ ns. ns ++ numbers_in (drop n ts)) (numbers-as_trees (take n ts))
+    ∙ sym (numbers_in-append (take n ts) (drop n ts)) ∙ ap numbers_in (take-append-drop n ts)
 
-pub full_take : (n : ℕ) (ts : List Tree) → AllFull ts → AllFull (take n ts)
-full_take zero ts h = tt
-full_take (suc n) [] h = tt
-full_take (suc n) (t ∷ ts) h = (h.0, full_take n ts h.1)
+-- the trees of entries have the numbers from the first on
+pub trees_range : (k : ℕ) (es : List Entry) → IsRange k (numbers_in (trees_at k es))
+trees_range k [] = tt
+trees_range k (entries.Task cell immediate ∷ es) = (refl, trees_range (suc k) es)
+trees_range k (entries.List order n ∷ es) =
+    (refl, subst (IsRange (suc k)) (sym (numbers_split n (trees_at (suc k) es))) (trees_range (suc k) es))
 
-pub full_drop : (n : ℕ) (ts : List Tree) → AllFull ts → AllFull (drop n ts)
-full_drop zero ts h = h
-full_drop (suc n) [] h = tt
-full_drop (suc n) (t ∷ ts) h = full_drop n ts h.1
+-- they are as many as the entries
+pub trees_many : (k : ℕ) (es : List Entry) → length (numbers_in (trees_at k es)) ≡ length es
+trees_many k [] = refl
+trees_many k (entries.Task cell immediate ∷ es) = ap suc (trees_many (suc k) es)
+trees_many k (entries.List order n ∷ es) =
+    ap suc (ap length (numbers_split n (trees_at (suc k) es)) ∙ trees_many (suc k) es)
 
--- the number of a full tree is one of its numbers
-pub top_there : (t : Tree) → IsFull t → Contains (numbers t) (top t)
-top_there Gone f = absurd f
-top_there (Leaf k cell immediate) f = contains_first k []
-top_there (Branch k order ts) f = contains_first k (numbers_of_all ts)
+-- numbers from one on are not below it
+pub range_above : (k : ℕ) (ns : List ℕ) (x : ℕ) → IsRange k ns → Contains ns x → k ≤ x
+range_above k [] x h c = absurd (contains_nothing x c)
+range_above k (n ∷ ns) x h c =
+    let e = h.0 in
+    ⊎_elim (λ g. omega arith) (λ d. let l = range_above (suc k) ns x h.1 d in omega arith) (contains_cases n x ns c)
 
--- the numbers of full trees are among theirs
-pub tops_there : (ts : List Tree) (y : ℕ) → AllFull ts → Contains (map top ts) y → Contains (numbers_in ts) y
-tops_there [] y f c = absurd (contains_nothing y c)
-tops_there (t ∷ ts) y f c =
-    ⊎_elim
-    (λ e. Contains-append_left (numbers t) (numbers_in ts) y (subst (Contains (numbers t)) e (top_there t f.0)))
-    (λ d. Contains-append_right (numbers t) (numbers_in ts) y (tops_there ts y f.1 d))
-    (contains_cases (top t) y (map top ts) c)
+-- they are below the one behind them
+pub range_below : (k : ℕ) (ns : List ℕ) (x : ℕ) → IsRange k ns → Contains ns x → x < k + length ns
+range_below k [] x h c = absurd (contains_nothing x c)
+range_below k (n ∷ ns) x h c =
+    let e = h.0 in
+    ⊎_elim (λ g. omega arith) (λ d. let l = range_below (suc k) ns x h.1 d in omega arith) (contains_cases n x ns c)
 
--- ---- owners
+-- they are apart
+pub range_apart : (k : ℕ) (ns : List ℕ) → IsRange k ns → AreApart ns
+range_apart k [] h = tt
+range_apart k (n ∷ ns) h =
+    let e = h.0 in
+    (λ c. let l = range_above (suc k) ns n h.1 c in omega arith, range_apart (suc k) ns h.1)
 
--- a number that isn't one of these keeps its list
-pub owned_other : (list : ℕ) (js : List ℕ) (os : List (Option ℕ)) (y : ℕ) → (Contains js y → ⊥)
-    → slice_get (owned_by list js os) y ≡ slice_get os y
-owned_other list [] os y n = refl
-owned_other list (j ∷ js) os y n =
-    owned_other list js (set os j (Some list)) y (λ c. n (contains_later j y js c))
-    ∙ read_other os j y (Some list) (λ e. n (subst (Contains (j ∷ js)) (sym e) (contains_first j js)))
+-- ---- a list gets its parts
 
--- there are as many owners
-pub length-owned_by : (list : ℕ) (js : List ℕ) (os : List (Option ℕ)) → length (owned_by list js os) ≡ length os
-length-owned_by list [] os = refl
-length-owned_by list (j ∷ js) os = length-owned_by list js (set os j (Some list)) ∙ length-set os j (Some list)
+pub first_alone : (f : Frame) (n : ℕ) (ts : List Tree) → AllAlone f ts → AllAlone f (take n ts)
+first_alone f zero ts h = tt
+first_alone f (suc n) [] h = tt
+first_alone f (suc n) (t ∷ ts) h = (h.0, first_alone f n ts h.1)
 
--- one that keeps the list that it is in is in it still
-owned_still : (list : ℕ) (js : List ℕ) (os : List (Option ℕ)) (y : ℕ) → y < length os
-    → slice_get os y ≡ Some (Some list) → slice_get (owned_by list js os) y ≡ Some (Some list)
-owned_still list [] os y l e = e
-owned_still list (j ∷ js) os y l e =
-    let n = length-set os j (Some list) in
-    owned_still list js (set os j (Some list)) y (omega arith)
-    (⊎_elim (λ (m : y ≡ j). ap (slice_get (set os j (Some list))) m ∙ read_set os j (Some list) (subst (λ i. i < length os) m l))
-    (λ m. read_other os j y (Some list) m ∙ e) (cases_eq y j))
+pub last_alone : (f : Frame) (n : ℕ) (ts : List Tree) → AllAlone f ts → AllAlone f (drop n ts)
+last_alone f zero ts h = h
+last_alone f (suc n) [] h = tt
+last_alone f (suc n) (t ∷ ts) h = last_alone f n ts h.1
 
--- one of these numbers is in the list
-pub owned_there : (list : ℕ) (js : List ℕ) (os : List (Option ℕ)) (y : ℕ) → y < length os → Contains js y
-    → slice_get (owned_by list js os) y ≡ Some (Some list)
-owned_there list [] os y l c = absurd (contains_nothing y c)
-owned_there list (j ∷ js) os y l c =
-    let n = length-set os j (Some list) in
+-- trees that a frame keeps stand in it
+pub alone_carried : (f g : Frame) (ts : List Tree) → AllAlone f ts
+    → ((x : ℕ) → Contains (numbers_in ts) x → slice_get g.parts x ≡ slice_get f.parts x)
+    → ((x : ℕ) → Contains (numbers_in ts) x → slice_get g.owners x ≡ slice_get f.owners x)
+    → ((i j : ℕ) → slice_get f.rows i ≡ Some j → slice_get g.rows i ≡ Some j) → AllAlone g ts
+alone_carried f g [] h parts owners rows = tt
+alone_carried f g (t ∷ ts) h parts owners rows = (
+  carried f g None None t h.0
+      (record {
+        parts = λ x c. parts x (Contains-append_left (numbers t) (numbers_in ts) x c);
+        owners = λ x c l. owners x (Contains-append_left (numbers t) (numbers_in ts) x c);
+        rows = rows;
+      })
+      (owners (top t) (Contains-append_left (numbers t) (numbers_in ts) (top t) (top_there f None t h.0))
+      ∙ top_owned f None t h.0),
+  alone_carried f g ts h.1 (λ x c. parts x (Contains-append_right (numbers t) (numbers_in ts) x c))
+      (λ x c. owners x (Contains-append_right (numbers t) (numbers_in ts) x c)) rows,
+)
+
+-- the numbers of trees' tops are among theirs
+pub tops_in : (f : Frame) (ts : List Tree) (x : ℕ) → AllAlone f ts → Contains (map top ts) x → Contains (numbers_in ts) x
+tops_in f [] x h c = absurd (contains_nothing x c)
+tops_in f (t ∷ ts) x h c =
     ⊎_elim
     (λ e.
-    owned_still list js (set os j (Some list)) y (omega arith)
-    (ap (slice_get (set os j (Some list))) (sym e) ∙ read_set os j (Some list) (subst (λ i. i < length os) (sym e) l)))
-    (λ d. owned_there list js (set os j (Some list)) y (omega arith) d) (contains_cases j y js c)
+    Contains-append_left (numbers t) (numbers_in ts) x
+    (subst (Contains (numbers t)) e (top_there f None t h.0)))
+    (λ d. Contains-append_right (numbers t) (numbers_in ts) x (tops_in f ts x h.1 d))
+    (contains_cases (top t) x (map top ts) c)
+
+-- trees whose tops get an owner stand as parts of it
+pub owned_carried : (f g : Frame) (k : ℕ) (js : List ℕ) (ts : List Tree) → AllAlone f ts → AreApart (numbers_in ts)
+    → ((x : ℕ) → Contains (numbers_in ts) x → k < x)
+    → ((x : ℕ) → Contains (numbers_in ts) x → slice_get g.parts x ≡ slice_get f.parts x)
+    → ((x : ℕ) → (Contains js x → ⊥) → slice_get g.owners x ≡ slice_get f.owners x)
+    → ((x : ℕ) → Contains (map top ts) x → slice_get g.owners x ≡ Some (Some k))
+    → ((x : ℕ) → Contains (numbers_in ts) x → Contains js x → Contains (map top ts) x)
+    → ((i j : ℕ) → slice_get f.rows i ≡ Some j → slice_get g.rows i ≡ Some j) → AllStand g k (as_trees ts)
+owned_carried f g k js [] h a above parts others owned there rows = tt
+owned_carried f g k js (t ∷ ts) h a above parts others owned there rows =
+    let in_first = λ (x : ℕ) (c : Contains (numbers t) x). Contains-append_left (numbers t) (numbers_in ts) x c in
+    let in_rest = λ (x : ℕ) (c : Contains (numbers_in ts) x). Contains-append_right (numbers t) (numbers_in ts) x c in
+    let apart = apart_disjoint (numbers t) (numbers_in ts) a in (
+      above (top t) (in_first (top t) (top_there f None t h.0)),
+      carried f g None (Some k) t h.0
+          (record {
+            parts = λ x c. parts x (in_first x c);
+            owners = λ x c l.
+                others x
+                (λ d.
+                ⊎_elim (λ e. omega arith) (λ m. apart x c (tops_in f ts x h.1 m))
+                (contains_cases (top t) x (map top ts) (there x (in_first x c) d)));
+            rows = rows;
+          })
+          (owned (top t) (contains_first (top t) (map top ts))),
+      owned_carried f g k js ts h.1 (apart_right (numbers t) (numbers_in ts) a) (λ x c. above x (in_rest x c))
+          (λ x c. parts x (in_rest x c)) others (λ x c. owned x (contains_later (top t) x (map top ts) c))
+          (λ x c d.
+          ⊎_elim
+          (λ e. absurd (apart x (subst (Contains (numbers t)) e (top_there f None t h.0)) c)) (λ m. m)
+          (contains_cases (top t) x (map top ts) (there x (in_rest x c) d)))
+          rows,
+    )

@@ -1,14 +1,13 @@
 -- The part with the focus, and where its first tasks are found.
-use Rattle.std.proofs.Common.{◌≡◌, ℕ, ◌⊎◌, ⊎_elim, Bool, List, [], Option, Some, None, refl, sym, ap, subst, ◌∙◌}
+use Rattle.std.proofs.Common.{◌≡◌, ℕ, ⊎_elim, List, [], Option, Some, None, refl, sym, ap, subst, ◌∙◌}
 use Rattle.std.specs.Prelude.{IfSome, is_none}
 use Rattle.std.specs.List.{Contains}
 use Rattle.std.proofs.lemmas.Option.{same_Some}
 use Rattle.hp_syntax.specs.Networks as plain
 use Rattle.hp_syntax.specs.Terms.{Term}
-use Rattle.hp_links.specs.declared.entry.Order.{Order}
 use Rattle.hp_links.specs.declared.entry.Order.TheVariants.{Ordered, Unordered}
 use Rattle.hp_links.specs.Frames.{frame_of, tree_at, IsHeld}
-use Rattle.hp_links.specs.Labelled.{Tree, Trees, Gone, Leaf, Branch, network, networks, number_of, numbers, leads, front_of, or_else}
+use Rattle.hp_links.specs.Labelled.{Tree, Gone, Leaf, Branch, network, number_of, numbers, leads, front_of, or_else}
 use Rattle.hp_links.specs.Linked.{Linked, tree_of, whole}
 use Rattle.hp_links.specs.Placed.{scope_of}
 use Rattle.hp_links.specs.Undoing.{IsStage}

@@ -1,19 +1,17 @@
 -- A task is taken out of the row of its list.
-use Rattle.std.proofs.Common.{◌≡◌, ℕ, zero, suc, ◌+◌, ◌-◌, ◌<◌, ◌≤◌, ◌==◌, ◌⊎◌, ⊎_elim, inl, inr, Bool, cond, not, List, [], ◌∷◌, length, set, Option, Some, None, refl, sym, ap, ap₂, subst, ◌∙◌, arith, eq-eqb}
+use Rattle.std.proofs.Common.{◌≡◌, ℕ, zero, suc, ◌+◌, ◌-◌, ◌<◌, ◌≤◌, ◌⊎◌, ⊎_elim, inl, inr, Bool, cond, not, List, [], ◌∷◌, length, Option, Some, refl, sym, ap, ap₂, subst, ◌∙◌, arith, eq-eqb}
 use Rattle.std.specs.Prelude.{slice_get}
 use Rattle.std.specs.List.{remove}
 use Rattle.std.proofs.lemmas.Bool.{cases_eq, cases_lt, ne_eqb}
 use Rattle.std.proofs.lemmas.List.Edits.{length-remove}
 use Rattle.std.proofs.lemmas.Option.{same_Some, slice_get_within}
-use Rattle.hp_links.specs.declared.links.Part.{Part}
 use Rattle.hp_links.specs.declared.links.Part.TheVariants.{Task, Row}
-use Rattle.hp_links.specs.declared.links.Span.{Span}
 use Rattle.hp_links.specs.declared.entry.Order.{Order}
-use Rattle.hp_links.specs.Changing.{IsSpan, HasRow, but, shortened}
-use Rattle.hp_links.specs.Frames.{Frame, top, tops, HasPart, StandFrom, Stands, AllStand, StandsAlone, IsWhole}
+use Rattle.hp_links.specs.Changing.{HasRow, but, shortened}
+use Rattle.hp_links.specs.Frames.{Frame, top, tops, StandFrom, Stands, AllStand}
 use Rattle.hp_links.specs.Labelled.{Tree, Trees, Gone, Leaf, Branch, NoTree, With, count, IsFull, AreFull, unless_gone, as_branch, without, without_among}
 use Rattle.hp_links.specs.Turning.{turned_right}
-use Rattle.hp_links.proofs.HangLemmas.{top_owned, tops_owned, same_row, same_part}
+use Rattle.hp_links.proofs.HangLemmas.{tops_owned, same_row, same_part}
 use Rattle.hp_links.proofs.ListSteps.{read_set, read_other, some_read, read_removed_below, read_removed_above, turned_below, turned_within, turned_above}
 use Rattle.hp_links.proofs.TreeLemmas.{length-tops}
 

@@ -1,19 +1,17 @@
 -- Stages of networks in place: what stands where in a sound one, and sound ones after a change.
-use Rattle.std.proofs.Common.{◌≡◌, ℕ, zero, suc, ◌+◌, ◌-◌, ◌<◌, ◌≤◌, ◌⊎◌, ⊎_elim, inl, inr, Bool, List, [], ◌∷◌, length, Option, Some, None, refl, sym, ap, subst, ◌∙◌, arith}
+use Rattle.std.proofs.Common.{◌≡◌, ℕ, ⊎_elim, Bool, length, Option, Some, None, refl, sym, ap, subst, ◌∙◌}
 use Rattle.std.specs.Prelude.{slice_get, IfSome}
 use Rattle.std.specs.List.{Contains}
-use Rattle.std.proofs.lemmas.Option.{same_Some, slice_get_within}
-use Rattle.hp_links.specs.declared.links.Part.TheVariants.{Task, Row}
-use Rattle.hp_links.specs.Changing.{IsSpan, IsFirstFrom, HasRow, IsListed, IsSlotOf, IsAbove, hung}
-use Rattle.hp_links.specs.Frames.{Frame, frame_of, top, tops, Stands, AllStand, StandsAlone, IsWhole}
-use Rattle.hp_links.specs.Labelled.{Tree, Trees, Gone, Leaf, Branch, NoTree, With, count, numbers, number_of, AreApart, IsFull, AreFull, IsNormal, front_of, part_in, replaced, without}
+use Rattle.std.proofs.lemmas.Option.{same_Some}
+use Rattle.hp_links.specs.declared.links.Part.TheVariants.{Task}
+use Rattle.hp_links.specs.Frames.{Frame, frame_of, Stands, StandsAlone, IsWhole}
+use Rattle.hp_links.specs.Labelled.{Tree, Gone, Leaf, Branch, numbers, AreApart, IsFull, IsNormal, front_of, part_in}
 use Rattle.hp_links.specs.Linked.{Linked, NamesTask, tree_of, whole}
 use Rattle.hp_links.specs.Placed.{IsPlaced}
 use Rattle.hp_links.specs.Undoing.{IsStage}
 use Rattle.hp_links.proofs.ChangeLemmas.{normal_cases}
-use Rattle.hp_links.proofs.HangLemmas.{top_owned}
 use Rattle.hp_links.proofs.NumberLemmas.{contains_nothing}
-use Rattle.hp_links.proofs.ParentLemmas.{Parent, parent_of, parent_row, part_stands, part_is_tree}
+use Rattle.hp_links.proofs.ParentLemmas.{part_stands, part_is_tree}
 use Rattle.hp_links.proofs.PlaceLemmas.{number_tells, part_tells}
 use Rattle.hp_links.proofs.ShortenLemmas.{is_leaf}
 use Rattle.hp_links.proofs.TreeLemmas.{whole_is}

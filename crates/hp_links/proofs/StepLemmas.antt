@@ -1,12 +1,12 @@
 -- One change of a network in place, and how it is taken back.
-use Rattle.std.proofs.Common.{◌≡◌, ℕ, zero, suc, ◌+◌, ◌-◌, ◌<◌, ◌≤◌, List, [], ◌∷◌, length, get_or, set, take, Option, Some, None, refl, sym, ap, ap₂, subst, ◌∙◌, arith}
+use Rattle.std.proofs.Common.{◌≡◌, ℕ, ◌+◌, ◌-◌, ◌<◌, ◌≤◌, List, length, get_or, set, take, Option, Some, None, refl, sym, ap, ap₂, subst, ◌∙◌, arith}
 use Rattle.std.specs.Prelude.{slice_get}
 use Rattle.std.specs.List.{Contains, remove}
 use Rattle.std.proofs.lemmas.List.{take_all, set-set, set-get_or, length-set}
 use Rattle.std.proofs.lemmas.List.Edits.{length-remove, length-insert}
 use Rattle.std.proofs.lemmas.Option.{same_Some, slice_get_within, get_or_from_slice_get}
 use Rattle.hp_links.specs.declared.links.Part.{Part}
-use Rattle.hp_links.specs.declared.links.Part.TheVariants.{Task, Row}
+use Rattle.hp_links.specs.declared.links.Part.TheVariants.{Row}
 use Rattle.hp_links.specs.declared.links.Span.{Span}
 use Rattle.hp_links.specs.declared.undo.Change.{Change}
 use Rattle.hp_links.specs.declared.undo.Turn.{Turn}
@@ -15,13 +15,13 @@ use Rattle.hp_links.specs.declared.entry.Order.{Order}
 use Rattle.hp_links.specs.Changing.{IsSpan, HasSpan, IsFirstFrom, IsSlotOf, other_of, put_at, hung, root_after, shortened}
 use Rattle.hp_links.specs.Fronts.{settled}
 use Rattle.hp_links.specs.Frames.{Frame, frame_of, top, tops, Stands, IsWhole, tree_at, IsHeld}
-use Rattle.hp_links.specs.Labelled.{Tree, Gone, Branch, count, numbers, numbers_of_all, IsFull, front_of, replaced, without}
+use Rattle.hp_links.specs.Labelled.{Tree, Gone, Branch, count, numbers, IsFull, front_of, replaced, without}
 use Rattle.hp_links.specs.Linked.{Linked, NamesTask, whole}
 use Rattle.hp_links.specs.Turning.{turned_right, turned_left}
 use Rattle.hp_links.specs.Undoing.{IsStage, IsCleared, IsWithin, LeavesOne, Steps, lengthened, longer, put_back, was_at}
 use Rattle.hp_links.proofs.ChangeLemmas.{left_full, without_apart, without_normal}
 use Rattle.hp_links.proofs.FinishLemmas.{task_alone, task_parent, joins, shortens, front_left}
-use Rattle.hp_links.proofs.HangLemmas.{above_more, same_part, slot_read, stands_hung, tops_owned, top_owned}
+use Rattle.hp_links.proofs.HangLemmas.{above_more, same_part, slot_read, stands_hung, top_owned}
 use Rattle.hp_links.proofs.HeldLemmas.{held, tree_at-top}
 use Rattle.hp_links.proofs.HungLemmas.{Placed, hung_whole, listed_above}
 use Rattle.hp_links.proofs.ParentLemmas.{Parent, tops_there}
@@ -31,7 +31,7 @@ use Rattle.hp_links.proofs.TreeLemmas.{length-tops}
 use Rattle.hp_links.proofs.TurnLemmas.{turned_both}
 
 -- networks in place with equal parts are equal
-same_linked : (a b : List Part) (c d : List (Option ℕ)) (e f : List ℕ) (g h i j k l : Option ℕ) → a ≡ b → c ≡ d
+pub same_linked : (a b : List Part) (c d : List (Option ℕ)) (e f : List ℕ) (g h i j k l : Option ℕ) → a ≡ b → c ≡ d
     → e ≡ f → g ≡ h → i ≡ j → k ≡ l
     → (λ (s : Linked). s) (record { parts = a; owners = c; rows = e; root = g; focus = i; front = k })
     ≡ record { parts = b; owners = d; rows = f; root = h; focus = j; front = l }

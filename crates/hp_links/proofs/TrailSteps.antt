@@ -1,5 +1,5 @@
 -- One change of a store, noted or undone.
-use Rattle.std.proofs.Common.{◌≡◌, ℕ, ◌+◌, ◌<◌, ◌≤◌, List, [], ◌∷◌, ◌++◌, Option, length, sym, ap, ◌∙◌, subst, arith, vec_len}
+use Rattle.std.proofs.Common.{◌≡◌, ℕ, ◌+◌, ◌≤◌, List, [], ◌∷◌, ◌++◌, Option, length, sym, ap, ◌∙◌, subst, arith, vec_len}
 use Rattle.std.proofs.lemmas.List.{length_push}
 use Rattle.hp_world.specs.Histories.{history, undone_to, KeepsPasts}
 use Rattle.hp_world.specs.Trails.{IsUndoable}

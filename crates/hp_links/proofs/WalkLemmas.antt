@@ -1,5 +1,5 @@
 -- The walk to the first tasks.
-use Rattle.std.proofs.Common.{◌≡◌, ℕ, zero, suc, ◌+◌, ◌-◌, ◌<◌, ◌≤◌, Bool, List, [], ◌∷◌, ◌++◌, length, get_or, take, drop, Option, Some, None, refl, sym, ap, ap₂, subst, ◌∙◌, arith, append_assoc}
+use Rattle.std.proofs.Common.{◌≡◌, ℕ, ◌+◌, ◌-◌, ◌<◌, ◌≤◌, Bool, List, [], ◌∷◌, ◌++◌, length, take, drop, Some, refl, sym, ap, ap₂, subst, ◌∙◌, arith, append_assoc}
 use Rattle.std.specs.Prelude.{slice_get, reverse}
 use Rattle.std.specs.List.{All}
 use Rattle.std.proofs.lemmas.List.{append-nil, reverse-append, reverse-reverse}
@@ -9,10 +9,10 @@ use Rattle.hp_links.proofs.ListSteps.{some_read}
 use Rattle.hp_links.specs.declared.links.Part.TheVariants.{Task, Row}
 use Rattle.hp_links.specs.declared.entry.Order.{Order}
 use Rattle.hp_links.specs.declared.entry.Order.TheVariants.{Ordered, Unordered}
-use Rattle.hp_links.specs.Frames.{Frame, top, tops, StandFrom, Stands, AllStand, tree_at, IsHeld}
-use Rattle.hp_links.specs.Labelled.{Tree, Trees, Gone, Leaf, Branch, NoTree, With, count, IsFull, AreFull, leads, leads_of_first, leads_of_all}
+use Rattle.hp_links.specs.Frames.{Frame, top, tops, AllStand, tree_at, IsHeld}
+use Rattle.hp_links.specs.Labelled.{Tree, Trees, Gone, Leaf, Branch, NoTree, With, count, AreFull, leads, leads_of_all}
 use Rattle.hp_links.specs.Walked.{to_walk, IsWithinRows}
-use Rattle.hp_links.proofs.HeldLemmas.{held_list, HeldList, held, tree_at-top}
+use Rattle.hp_links.proofs.HeldLemmas.{held_list, held, tree_at-top}
 use Rattle.hp_links.proofs.ShortenLemmas.{is_leaf}
 use Rattle.hp_links.proofs.TreeLemmas.{row_read, length-tops}
 

@@ -1,8 +1,7 @@
 -- The places of parts, and what becomes of frames where parts are hung elsewhere or taken out.
-use Rattle.std.specs.Prelude.{◌≡◌, ℕ, suc, ◌+◌, ◌-◌, ◌<◌, ◌≤◌, ◌==◌, not, filter, cond, List, length, Option, Some, None, slice_get, slice_set}
+use Rattle.std.specs.Prelude.{◌≡◌, ℕ, ◌+◌, ◌-◌, ◌<◌, ◌≤◌, ◌==◌, not, filter, cond, List, length, Option, Some, None, slice_get, slice_set}
 use Rattle.hp_links.specs.declared.links.Part.TheVariants.{Row}
 use Rattle.hp_links.specs.declared.links.Span.{Span}
-use Rattle.hp_links.specs.declared.entry.Order.{Order}
 use Rattle.hp_links.specs.Turning.{turned_right}
 use Rattle.hp_links.specs.Frames.{Frame, StandFrom}
 

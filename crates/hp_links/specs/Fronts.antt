@@ -24,4 +24,4 @@ first_of (Branch k Unordered ts) = None
 -- the front of the tree of a number, if there is one
 abbrev pub front_at : Frame → Option ℕ → Option ℕ
 front_at f None = None
-front_at f (Some root) = front_of (tree_at f root)
+front_at f (Some k) = front_of (tree_at f k)

@@ -5,7 +5,7 @@ pub mod Fronts
 pub mod Labelled
 pub mod Linked
 pub mod Placed
-pub mod Planting
+pub mod Planted
 pub mod Pushed
 pub mod Turning
 pub mod Undoing

@@ -1,8 +1,7 @@
 -- The histories of networks in place, and trails that can be undone.
-use Rattle.std.specs.Prelude.{◌≡◌, ℕ, suc, ◌+◌, ◌<◌, ◌≤◌, List, ◌∷◌, ◌++◌, length, take, drop, Option, Some, None, IfSome, Contains, slice_get, slice_set, vec_len}
+use Rattle.std.specs.Prelude.{◌≡◌, ℕ, ◌+◌, ◌<◌, ◌≤◌, List, [], ◌∷◌, length, take, Option, Some, None, IfSome, Contains, slice_get, slice_set, vec_len}
 use Rattle.hp_world.specs.Histories.{History, history, undone_to}
 use Rattle.hp_world.specs.Trails.{IsUndoable}
-use Rattle.hp_eval.specs.declared.tasks.TaskTree.{TaskTree}
 use Rattle.hp_links.specs.declared.links.Part.{Part}
 use Rattle.hp_links.specs.declared.links.Part.TheVariants.{Task, Row}
 use Rattle.hp_links.specs.declared.undo.Turn.{Turn}
@@ -11,9 +10,10 @@ use Rattle.hp_links.specs.declared.store.Store.{Store}
 use Rattle.hp_links.specs.Changing.{IsSpan, IsFirstFrom, IsSlotOf, other_of, put_at, root_after}
 use Rattle.hp_links.specs.declared.links.Span.{Span}
 use Rattle.hp_links.specs.Frames.{Frame, frame_of, IsWhole}
-use Rattle.hp_links.specs.Labelled.{Tree, IsNormal, AreApart, numbers, front_of}
+use Rattle.hp_links.specs.Labelled.{Tree, Gone, IsNormal, AreApart, numbers, number_of, front_of, replaced}
+use Rattle.hp_links.specs.declared.entry.Entry.{Entry}
+use Rattle.hp_links.specs.Planted.{trees_at}
 use Rattle.hp_links.specs.Linked.{Linked, whole}
-use Rattle.hp_links.specs.Placed.{Expands}
 use Rattle.hp_links.specs.Turning.{turned_left}
 
 abbrev pub turned_back : Option Turn → List ℕ → List ℕ
@@ -116,13 +116,6 @@ pub record Steps (t : Change) (tree : Tree) (f : Option ℕ) (old new : Linked) 
   pub whole : whole new ≡ tree
   pub focus : new.focus ≡ f
 
--- one change was made: undoing takes it back, the network is sound, and the task is decomposed
-pub record Decomposes (t : Change) (old new : Linked) (id : ℕ) (tree : TaskTree) : Type 0 where
-  pub back : undone t new ≡ old
-  pub fits : Fits t new
-  pub stage : IsStage new
-  pub expands : Expands old new id tree
-
 -- ---- parts in other places
 
 -- a part in the place of another one
@@ -170,3 +163,24 @@ pub record IsCleared (t : Change) (old new : Linked) : Type 0 where
     focus = None;
     front = None;
   }
+
+-- the tree of some entries stands in the place of a task, behind all other parts, and has the focus
+pub record Grafts (es : List Entry) (x : ℕ) (t : Change) (old new : Linked) : Type 0 where
+  pub tree : Tree
+  pub is : trees_at (length old.parts) es ≡ tree ∷ []
+  pub normal : IsNormal tree
+  pub number : number_of tree ≡ Some (length old.parts)
+  pub fresh : (y : ℕ) → Contains (numbers (whole old)) y → Contains (numbers tree) y → ⊥
+  pub steps : Steps t (replaced x tree (whole old)) (Some (length old.parts)) old new
+
+-- the number of the first entry, if there is one
+abbrev pub first_of_entries : List Entry → Option ℕ
+first_of_entries [] = None
+first_of_entries (e ∷ es) = Some 0
+
+-- the network is that of entries, in which nothing was done yet
+pub record Starts (es : List Entry) (s : Linked) : Type 0 where
+  pub stage : IsStage s
+  pub none : es ≡ [] → whole s ≡ Gone
+  pub one : (t : Tree) → trees_at 0 es ≡ t ∷ [] → whole s ≡ t
+  pub focus : s.focus ≡ None

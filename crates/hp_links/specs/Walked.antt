@@ -1,5 +1,5 @@
 -- What is walked on the way to the first tasks.
-use Rattle.std.specs.Prelude.{ℕ, ◌+◌, ◌<◌, ◌≤◌, List, [], ◌∷◌, ◌++◌, take}
+use Rattle.std.specs.Prelude.{ℕ, ◌+◌, ◌<◌, ◌≤◌, List, take}
 use Rattle.hp_links.specs.declared.entry.Order.{Order}
 use Rattle.hp_links.specs.declared.entry.Order.TheVariants.{Ordered, Unordered}
 

@@ -34,14 +34,14 @@ impl Links {
         front
     }
 
-    /// The part below which all first tasks of the whole stand.
+    /// The part below which all first tasks of a part stand, if there is one.
     pub(crate) fn front_of(&self, root: Option<usize>) -> Option<usize>
-        requires { IfSome root (IsHeld (frame_in self.now)) }
+        requires { IfSome root (λ k. IsHeld (frame_in self.now) k) }
         ensures { result ≡ front_at (frame_in self.now) root }
     {
         match root {
             None => None,
-            Some(root) => Some(self.front_below(root)),
+            Some(part) => Some(self.front_below(part)),
         }
     }
 

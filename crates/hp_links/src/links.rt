@@ -1,5 +1,5 @@
 //! Numbered parts, the lists that they are parts of, and the rows of the lists.
-ghost use Rattle.std.specs.Prelude.{◌≡◌, ℕ, ◌+◌, ◌-◌, ◌<◌, ◌≤◌, Bool, Some, None, IfOk, IfSome, length, slice_get, slice_set, vec_len};
+ghost use Rattle.std.specs.Prelude.{◌≡◌, ℕ, ◌+◌, ◌-◌, ◌<◌, ◌≤◌, Bool, [], Some, None, IfOk, IfSome, length, slice_get, slice_set, vec_len};
 ghost use Rattle.hp_links.specs.Changing.{HasSpan, IsSpan, IsFirstFrom, IsSlotOf, IsListed, put_at, other_of};
 ghost use Rattle.hp_links.specs.Frames.{frame_in};
 ghost use Rattle.hp_links.specs.Turning.{turned_right};
@@ -44,6 +44,17 @@ impl Drop for Links {
 }
 
 impl Links {
+    /// No parts.
+    pub(crate) fn new(alloc: Global) -> Links
+        ensures { frame_in result ≡ record { parts = []; owners = []; rows = [] } }
+    {
+        Links {
+            parts: Vec::new(alloc),
+            owners: Vec::new(alloc),
+            rows: Vec::new(alloc),
+        }
+    }
+
     /// Equal parts, owners and rows.
     pub(crate) fn copy(&self, alloc: Global) -> Result<Links, AllocError>
         ensures { IfOk result (λ l. frame_in l ≡ frame_in self.now) }

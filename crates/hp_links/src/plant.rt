@@ -1,159 +1,118 @@
 //! Networks in reading order become numbered parts.
-ghost use Rattle.std.specs.Prelude.{◌≡◌, ◌+◌, ◌<◌, ◌≤◌, ℕ, [], None, IfOk, OnOk, OnErr, ◌++◌, length, take, drop, reverse, slice_get, vec_capacity, vec_len};
+ghost use Rattle.std.specs.Prelude.{◌≡◌, ◌+◌, ◌-◌, ◌<◌, ◌≤◌, ◌++◌, ℕ, List, Some, None, OnOk, OnErr, length, map, take, drop, replicate, reverse, slice_set, vec_len};
 ghost use Rattle.std.specs.List.{All};
-ghost use Rattle.hp_eval.specs.GoalViews.{TreeBelow};
 ghost use Rattle.hp_links.specs.Entries.{AreClosed, EntryBelow};
-ghost use Rattle.hp_links.specs.Frames.{frame_in};
+ghost use Rattle.hp_links.specs.Frames.{frame_in, top};
 ghost use Rattle.hp_links.specs.Linked.{PartBelow};
-ghost use Rattle.hp_links.specs.Planting.{part_of, laid, owned_by, plot_in, listed_from, planted, taken_by, HasRoom, Grown, Plants};
+ghost use Rattle.hp_links.specs.Planted.{HasRoots, KeepsFirst, Planting, linked, own_all, part_of, roots_left, trees_at};
 
 use crate::entry::{Entry, Order};
 use crate::links::{Links, Part};
-use crate::push::push_tree;
-use hp_eval::TaskTree;
+use crate::walk::push_reversed;
 use std::alloc::{AllocError, Global};
 
-// A task as it is, or a list whose parts aren't known yet.
+impl Links {
+    /// Plants networks in reading order behind the other parts, which stay, also where memory is wanting.
+    pub(crate) fn plant(&mut self, alloc: Global, entries: &[Entry]) -> Result<(), AllocError>
+        requires closed { AreClosed entries.now }
+        requires owners { length self.old.owners.items ≡ length self.old.parts.items }
+        ensures keeps { KeepsFirst (frame_in self.old) (frame_in self.new) }
+        ensures planted { OnOk result ((js : List ℕ) → js
+            ≡ reverse (map top (trees_at (length self.old.parts.items) entries.now))
+            → Planting entries.now 0 js (frame_in self.old) (frame_in self.new)) }
+        ensures below { OnOk result ((k : ℕ) → All (EntryBelow k) entries.now → All (PartBelow k) self.old.parts.items
+            → All (PartBelow k) self.new.parts.items) }
+    {
+        let base = self.parts.len();
+        self.push_entries(entries)?;
+        let mut roots = Vec::new(alloc);
+        let mut at = entries.len();
+        while at > 0 {
+            at -= 1;
+            self.link(base + at, entries[at], &mut roots)?;
+        }
+        Ok(())
+    }
+
+    // Puts the part of each entry behind the others, without its parts and without an owner.
+    fn push_entries(&mut self, entries: &[Entry]) -> Result<(), AllocError>
+        ensures keeps { KeepsFirst (frame_in self.old) (frame_in self.new) }
+        ensures parts { OnOk result (self.new.parts.items ≡ self.old.parts.items ++ map part_of entries.now) }
+        ensures owners { OnOk result (self.new.owners.items
+            ≡ self.old.owners.items ++ replicate (length entries.now) None) }
+        ensures rows { self.new.rows ≡ self.old.rows }
+    {
+        for entry in entries {
+            self.parts.push(part_of(*entry))?;
+            self.owners.push(None)?;
+        }
+        Ok(())
+    }
+
+    // Gives the part of an entry its parts: the last roots, of which the first in order is the last.
+    fn link(
+        &mut self,
+        number: usize,
+        entry: Entry,
+        roots: &mut Vec<usize>,
+    ) -> Result<(), AllocError>
+        requires number { number < vec_len self.old.parts }
+        requires roots { HasRoots entry roots.old.items }
+        requires owned { All (λ j. j < length self.old.owners.items) roots.old.items }
+        ensures linked { OnOk result (frame_in self.new ≡ linked number entry roots.old.items (frame_in self.old)) }
+        ensures roots { OnOk result (roots.new.items ≡ roots_left number entry roots.old.items) }
+        ensures err { OnErr result (frame_in self.new ≡ frame_in self.old) }
+    {
+        match entry {
+            Entry::Task(_, _) => {
+                roots.push(number)?;
+                Ok(())
+            }
+            Entry::List(order, many) => self.link_list(number, order, many, roots),
+        }
+    }
+
+    fn link_list(
+        &mut self,
+        number: usize,
+        order: Order,
+        many: usize,
+        roots: &mut Vec<usize>,
+    ) -> Result<(), AllocError>
+        requires number { number < vec_len self.old.parts }
+        requires many { (0 < many) × (many ≤ length roots.old.items) }
+        requires owned { All (λ j. j < length self.old.owners.items) roots.old.items }
+        ensures linked { OnOk result (frame_in self.new
+            ≡ linked number (Entry.List order many) roots.old.items (frame_in self.old)) }
+        ensures roots { OnOk result (roots.new.items ≡ roots_left number (Entry.List order many) roots.old.items) }
+        ensures err { OnErr result (frame_in self.new ≡ frame_in self.old) }
+    {
+        let from = roots.len() - many;
+        let start = self.rows.len();
+        push_reversed(&mut self.rows, &roots[from..])?;
+        own(&mut self.owners, &roots[from..], number);
+        self.parts[number] = Part::Row(order, start, many);
+        roots.truncate(from);
+        roots.push_reserved(number);
+        Ok(())
+    }
+}
+
 fn part_of(entry: Entry) -> Part
     ensures { result ≡ part_of entry }
 {
     match entry {
         Entry::Task(cell, immediate) => Part::Task(cell, immediate),
-        Entry::List(order, many) => Part::Row(order, 0, many),
+        Entry::List(order, _) => Part::Row(order, 0, 0),
     }
 }
 
-// The only root, if there is one.
-fn root_of(mut roots: Vec<usize>) -> Option<usize>
-    ensures { result ≡ slice_get (reverse roots.items) 0 }
+// Makes a list the owner of some parts.
+fn own(owners: &mut [Option<usize>], parts: &[usize], list: usize)
+    requires { All (λ j. j < length owners.old) parts.now }
+    ensures { owners.new ≡ own_all (Some list) parts.now owners.old }
 {
-    roots.pop()
-}
-
-impl Links {
-    /// Puts the normal form of a tree behind all parts, as a part of no list, and tells its number, if it is something.
-    /// All memory is taken first, so an error leaves all as it was.
-    pub(crate) fn plant(
-        &mut self,
-        alloc: Global,
-        tree: &TaskTree,
-    ) -> Result<Option<usize>, AllocError>
-        requires { vec_len self.old.owners ≡ vec_len self.old.parts }
-        ensures plants { IfOk result (λ root. Plants (frame_in self.old) (frame_in self.new) root tree.now) }
-        ensures below { OnOk result ((k : ℕ) → All (PartBelow k) self.old.parts.items → TreeBelow k tree.now
-            → All (PartBelow k) self.new.parts.items) }
-        ensures nothing { IfOk result (λ root. root ≡ None → frame_in self.new ≡ frame_in self.old) }
-        ensures err { OnErr result (frame_in self.new ≡ frame_in self.old) }
-    {
-        let mut entries = Vec::new(alloc);
-        let count = push_tree(&mut entries, tree)?;
-        if count == 0 {
-            return Ok(None);
-        }
-        let mut roots = Vec::with_capacity(alloc, entries.len())?;
-        self.reserve(entries.len())?;
-        self.plant_entries(entries, &mut roots);
-        Ok(root_of(roots))
-    }
-
-    // Takes memory for so many parts more.
-    fn reserve(&mut self, more: usize) -> Result<(), AllocError>
-        ensures frame { frame_in self.new ≡ frame_in self.old }
-        ensures room { OnOk result (HasRoom more self.new) }
-    {
-        self.parts.reserve(more)?;
-        self.owners.reserve(more)?;
-        self.rows.reserve(more)?;
-        Ok(())
-    }
-
-    // Puts entries behind all parts, from the last one to the first. The roots that are left are told.
-    fn plant_entries(&mut self, mut entries: Vec<Entry>, roots: &mut Vec<usize>)
-        requires even { vec_len self.old.owners ≡ vec_len self.old.parts }
-        requires closed { AreClosed entries.items }
-        requires room { HasRoom (vec_len entries) self.old }
-        requires none { roots.old.items ≡ [] }
-        requires slots { vec_len entries ≤ vec_capacity roots.old }
-        ensures grown { Grown (frame_in self.old) [] entries.items (plot_in self.new roots.new) }
-        ensures below { (k : ℕ) → All (PartBelow k) self.old.parts.items → All (EntryBelow k) entries.items
-            → All (PartBelow k) self.new.parts.items }
-    {
-        let base = self.parts.len();
-        self.lay(&entries);
-        while let Some(entry) = entries.pop() {
-            self.plant_entry(entry, base + entries.len(), roots);
-        }
-    }
-
-    // Puts entries behind all parts, each as a part of no list.
-    fn lay(&mut self, entries: &[Entry])
-        requires { HasRoom (length entries.now) self.old }
-        ensures frame { frame_in self.new ≡ laid entries.now (frame_in self.old) }
-        ensures rows { self.new.rows ≡ self.old.rows }
-    {
-        for entry in entries {
-            self.parts.push_reserved(part_of(*entry));
-            self.owners.push_reserved(None);
-        }
-    }
-
-    // A task becomes a root, and a list the root of those that it takes.
-    fn plant_entry(&mut self, entry: Entry, number: usize, roots: &mut Vec<usize>)
-        requires number { number < vec_len self.old.parts }
-        requires takes { taken_by entry ≤ vec_len roots.old }
-        requires within { All (λ j. j < vec_len self.old.owners) (reverse roots.old.items) }
-        requires room { vec_len self.old.rows + (vec_len roots.old + 1) ≤ vec_capacity self.old.rows }
-        requires slot { vec_len roots.old < vec_capacity roots.old }
-        ensures plot { plot_in self.new roots.new ≡ planted number entry (plot_in self.old roots.old) }
-        ensures count { vec_len self.new.rows + vec_len roots.new ≡ vec_len self.old.rows + (vec_len roots.old + 1) }
-        ensures few { vec_len roots.new ≤ vec_len roots.old + 1 }
-        ensures rows { vec_capacity self.new.rows ≡ vec_capacity self.old.rows }
-        ensures slots { vec_capacity roots.new ≡ vec_capacity roots.old }
-    {
-        match entry {
-            Entry::Task(_, _) => roots.push_reserved(number),
-            Entry::List(order, many) => self.plant_list(number, order, many, roots),
-        }
-    }
-
-    // A list of the last so many roots takes their place.
-    fn plant_list(&mut self, number: usize, order: Order, many: usize, roots: &mut Vec<usize>)
-        requires number { number < vec_len self.old.parts }
-        requires takes { many ≤ vec_len roots.old }
-        requires within { All (λ j. j < vec_len self.old.owners) (reverse roots.old.items) }
-        requires room { vec_len self.old.rows + (vec_len roots.old + 1) ≤ vec_capacity self.old.rows }
-        requires slot { vec_len roots.old < vec_capacity roots.old }
-        ensures plot { plot_in self.new roots.new ≡ listed_from number order many (plot_in self.old roots.old) }
-        ensures count { vec_len self.new.rows + vec_len roots.new ≡ vec_len self.old.rows + (vec_len roots.old + 1) }
-        ensures few { vec_len roots.new ≤ vec_len roots.old + 1 }
-        ensures rows { vec_capacity self.new.rows ≡ vec_capacity self.old.rows }
-        ensures slots { vec_capacity roots.new ≡ vec_capacity roots.old }
-    {
-        let start = self.rows.len();
-        self.gather(number, many, roots);
-        self.parts[number] = Part::Row(order, start, many);
-        roots.push_reserved(number);
-    }
-
-    // The last so many roots become parts of a list, the last one first.
-    fn gather(&mut self, list: usize, many: usize, roots: &mut Vec<usize>)
-        requires takes { many ≤ vec_len roots.old }
-        requires within { All (λ j. j < vec_len self.old.owners) (reverse roots.old.items) }
-        requires room { vec_len self.old.rows + many ≤ vec_capacity self.old.rows }
-        ensures parts { self.new.parts ≡ self.old.parts }
-        ensures owners { self.new.owners.items
-            ≡ owned_by list (take many (reverse roots.old.items)) self.old.owners.items }
-        ensures rows { self.new.rows.items ≡ self.old.rows.items ++ take many (reverse roots.old.items) }
-        ensures roots { reverse roots.new.items ≡ drop many (reverse roots.old.items) }
-        ensures moved { vec_len self.new.rows ≡ vec_len self.old.rows + many }
-        ensures left { vec_len roots.new + many ≡ vec_len roots.old }
-        ensures room { vec_capacity self.new.rows ≡ vec_capacity self.old.rows }
-        ensures slots { vec_capacity roots.new ≡ vec_capacity roots.old }
-    {
-        for round in 0..many {
-            let part = roots.take_last();
-            self.rows.push_reserved(part);
-            self.owners[part] = Some(list);
-        }
+    for part in parts {
+        owners[*part] = Some(list);
     }
 }

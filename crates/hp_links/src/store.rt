@@ -5,15 +5,18 @@ ghost use Rattle.hp_syntax.specs.Terms.{Term};
 ghost use Rattle.hp_syntax.specs.Networks as plain;
 ghost use Rattle.hp_world.specs.Histories.{mark_of, undone_to, KeepsPasts};
 ghost use Rattle.hp_links.specs.Changing.{IsSpan, IsFirstFrom, IsListed};
+ghost use Rattle.hp_eval.specs.GoalViews.{network_of, TreeBelow};
+ghost use Rattle.hp_links.specs.Entries.{forest, AreClosed, EntryBelow};
 ghost use Rattle.hp_links.specs.Frames.{frame_of};
 ghost use Rattle.hp_links.specs.Labelled.{leads, network, or_else, part_in, without, Leaf};
 ghost use Rattle.hp_links.specs.Linked.{whole, NamesTask, PartBelow};
 ghost use Rattle.hp_links.specs.Placed.{candidates_in, scope_of, Expands, Finishes};
-ghost use Rattle.hp_eval.specs.GoalViews.{network_of, TreeBelow};
-ghost use Rattle.hp_links.specs.Undoing.{IsSound, IsStage, Decomposes, IsCleared, LeavesOne, Puts, Steps, Undoes, history_of, saved, stage_of};
+ghost use Rattle.hp_links.specs.Undoing.{Grafts, Starts, first_of_entries, IsSound, IsStage, IsCleared, LeavesOne, Puts, Steps, Undoes, history_of, saved, stage_of};
 
+use crate::entry::Entry;
 use crate::id::TaskId;
 use crate::links::{Links, Span};
+use crate::push::push_tree;
 use crate::undo::{Change, Turn};
 use crate::walk::keep_immediate;
 use hp_cells::Cell;
@@ -55,12 +58,23 @@ impl Store {
         ensures past { IfOk result (λ s. (history_of s).past ≡ []) }
         ensures below { IfOk result (λ s. (k : ℕ) → TreeBelow k tree.now → All (PartBelow k) (stage_of s).parts) }
     {
-        let mut links = Links {
-            parts: Vec::new(alloc),
-            owners: Vec::new(alloc),
-            rows: Vec::new(alloc),
-        };
-        let root = links.plant(alloc, tree)?;
+        let mut entries = Vec::new(alloc);
+        push_tree(&mut entries, tree)?;
+        Store::from_entries(alloc, entries.as_slice())
+    }
+
+    // The network of entries, which are one or none.
+    fn from_entries(alloc: Global, entries: &[Entry]) -> Result<Store, AllocError>
+        requires closed { AreClosed entries.now }
+        requires one { length (forest [] entries.now) ≤ 1 }
+        ensures starts { IfOk result (λ s. Starts entries.now (stage_of s)) }
+        ensures past { IfOk result (λ s. s.trail.items ≡ []) }
+        ensures below { IfOk result (λ s. (k : ℕ) → All (EntryBelow k) entries.now
+            → All (PartBelow k) (stage_of s).parts) }
+    {
+        let mut links = Links::new(alloc);
+        links.plant(alloc, entries)?;
+        let root = first_number(entries);
         let front = links.front_of(root);
         Ok(Store {
             links,
@@ -78,12 +92,13 @@ impl Store {
         ensures sound { IfOk result (λ s. IsSound s) }
         ensures same { IfOk result (λ s. history_of s ≡ record { past = []; now = stage_of self.now }) }
     {
+        let trail = Vec::new(self.alloc);
         Ok(Store {
             links: self.links.copy(self.alloc)?,
             root: self.root,
             focus: self.focus,
             front: self.front,
-            trail: Vec::new(self.alloc),
+            trail,
             alloc: self.alloc,
         })
     }
@@ -171,29 +186,39 @@ impl Store {
             → All (PartBelow k) (stage_of self.new).parts }
         ensures err { OnErr result (history_of self.new ≡ history_of self.old) }
     {
+        let mut entries = Vec::new(self.alloc);
+        let many = push_tree(&mut entries, tree)?;
+        if many == 0 {
+            return self.finish(id);
+        }
         self.trail.reserve(1)?;
-        let change = self.decompose(id.number(), tree)?;
+        let change = self.graft(id.number(), entries.as_slice())?;
         self.note(change);
         Ok(())
     }
 
-    // A task is decomposed. All memory is taken first.
-    fn decompose(&mut self, id: usize, tree: &TaskTree) -> Result<Change, AllocError>
+    // Plants entries that are one network, and puts it in the place of a task.
+    fn graft(&mut self, id: usize, entries: &[Entry]) -> Result<Change, AllocError>
         requires stage { IsStage (stage_of self.old) }
         requires names { NamesTask (stage_of self.old) id }
-        ensures steps { IfOk result (λ t. Decomposes t (stage_of self.old) (stage_of self.new) id tree.now) }
-        ensures below { OnOk result ((k : ℕ) → All (PartBelow k) (stage_of self.old).parts → TreeBelow k tree.now
-            → All (PartBelow k) (stage_of self.new).parts) }
+        requires closed { AreClosed entries.now }
+        requires one { length (forest [] entries.now) ≡ 1 }
+        ensures grafts { IfOk result (λ t. Grafts entries.now id t (stage_of self.old) (stage_of self.new)) }
+        ensures below { (k : ℕ) → All (PartBelow k) (stage_of self.old).parts → All (EntryBelow k) entries.now
+            → All (PartBelow k) (stage_of self.new).parts }
         ensures trail { self.new.trail ≡ self.old.trail }
         ensures err { OnErr result (stage_of self.new ≡ stage_of self.old) }
     {
         let mut change = self.saved();
-        match self.links.plant(self.alloc, tree)? {
-            None => Ok(self.take_out(id)),
-            Some(root) => {
-                change.place = self.put(root, id);
-                self.focus = Some(root);
-                self.front = self.links.settled(self.front, id, id, root);
+        match self.links.plant(self.alloc, entries) {
+            Err(error) => {
+                self.links.cut(change.parts, change.rows);
+                Err(error)
+            }
+            Ok(()) => {
+                change.place = self.put(change.parts, id);
+                self.focus = Some(change.parts);
+                self.front = self.links.settled(self.front, id, id, change.parts);
                 Ok(change)
             }
         }
@@ -370,4 +395,11 @@ impl Store {
         self.focus = change.focus;
         self.front = change.front;
     }
+}
+
+// The number of the first entry, in a network of its own.
+fn first_number(entries: &[Entry]) -> Option<usize>
+    ensures { result ≡ first_of_entries entries.now }
+{
+    if entries.is_empty() { None } else { Some(0) }
 }

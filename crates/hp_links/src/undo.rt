@@ -30,6 +30,17 @@ pub struct Change {
 }
 
 impl Links {
+    /// Leaves the first parts, and the first places of rows.
+    pub(crate) fn cut(&mut self, parts: usize, rows: usize)
+        ensures parts { self.new.parts.items ≡ take parts self.old.parts.items }
+        ensures owners { self.new.owners.items ≡ take parts self.old.owners.items }
+        ensures rows { self.new.rows.items ≡ take rows self.old.rows.items }
+    {
+        self.parts.truncate(parts);
+        self.owners.truncate(parts);
+        self.rows.truncate(rows);
+    }
+
     /// Puts back what a change wrote over. It takes no memory.
     pub(crate) fn put_back(&mut self, change: &Change)
         requires owner { IsWithin (length (take change.now.parts self.old.owners.items)) change.now.owner }

@@ -1,4 +1,4 @@
-use Rattle.std.proofs.Common.{refl, arith}
+use Rattle.std.proofs.Common.{refl}
 use Rattle.hp_links.proofs.TurnLemmas.{put_right}
 use Rattle.hp_links.proofs.links.turn_right.Goals as goal
 

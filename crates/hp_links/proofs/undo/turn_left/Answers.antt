@@ -1,4 +1,4 @@
-use Rattle.std.proofs.Common.{refl, arith}
+use Rattle.std.proofs.Common.{refl}
 use Rattle.hp_links.proofs.TurnLemmas.{put_left}
 use Rattle.hp_links.proofs.undo.turn_left.Goals as goal
 

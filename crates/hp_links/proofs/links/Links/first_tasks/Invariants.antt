@@ -1,5 +1,5 @@
 use Rattle.std.proofs.Common.{◌≡◌, ◌++◌}
-use Rattle.std.specs.Prelude.{reverse, sum_by}
+use Rattle.std.specs.Prelude.{reverse}
 use Rattle.std.specs.List.{All}
 use Rattle.hp_links.specs.Frames.{IsHeld, frame_in, tree_at}
 use Rattle.hp_links.specs.Labelled.{leads}

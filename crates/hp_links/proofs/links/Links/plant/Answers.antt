@@ -1,62 +1,71 @@
-use Rattle.std.proofs.Common.{◌≡◌, ◌<◌, arith, [], length, sym, ap, ◌∙◌, subst}
-use Rattle.std.specs.Prelude.{reverse, slice_get}
+use Rattle.std.proofs.Common.{◌≡◌, ◌+◌, ◌-◌, ◌<◌, ℕ, List, suc, length, refl, sym, subst, arith}
 use Rattle.std.specs.List.{All}
-use Rattle.std.proofs.lemmas.List.Elements.{All-nil}
-use Rattle.hp_links.specs.Entries.{forest, EntryBelow}
-use Rattle.hp_links.specs.Frames.{frame_in}
 use Rattle.hp_links.specs.Linked.{PartBelow}
-use Rattle.hp_links.specs.Planting.{Plants, plot_in}
-use Rattle.hp_links.specs.Pushed.{kept, Adds}
-use Rattle.hp_links.proofs.PlantSteps.{closed_added, forest_of_added, plants_all, plants_none, root_stands}
+use Rattle.std.proofs.lemmas.Option.{slice_get_read}
+use Rattle.hp_links.specs.Frames.{Frame, frame_in}
+use Rattle.hp_links.specs.Planted.{Planting, roots_left}
+use Rattle.hp_links.proofs.PlantSteps.{planting_first, has_roots, roots_within, planted_step, linked_below, entries_below}
 use Rattle.hp_links.proofs.links.Links.plant.Goals as goal
 
-pub plant_entries-requires-clause-closed : goal.plant_entries-requires-clause-closed
-plant_entries-requires-clause-closed c =
-    let es = c.push_tree.new.entries.items in
-    let tree = c.args.tree.now in
-    closed_added (kept tree) c.in_ok-count.count es
-    (subst (λ old. Adds (kept tree) c.in_ok-count.count old es) c.new-entries.ensures.items
-    c.in_ok-count.ensures.adds)
+pub loop-at-init : goal.loop-at-init
+loop-at-init c = record {
+  within = omega arith;
+  planting =
+      planting_first c.args.entries.now c.new-roots.result.items (frame_in c.args.self.now)
+      (frame_in c.push_entries.new.self) c.new-roots.ensures.items c.push_entries.ensures.keeps
+      c.in_ok-push_entries.ensures.parts c.in_ok-push_entries.ensures.owners c.requires.owners;
+  below = λ k h g.
+      subst (All (PartBelow k)) (sym c.in_ok-push_entries.ensures.parts)
+      (entries_below k c.args.entries.now c.args.self.now.parts.items h g);
+}
 
-pub returns-clause-plants : goal.returns-clause-plants
-returns-clause-plants c =
-    let es = c.push_tree.new.entries.items in
-    let tree = c.args.tree.now in
-    let new = frame_in c.plant_entries.new.self in
-    let added = subst (λ old. Adds (kept tree) c.in_ok-count.count old es) c.new-entries.ensures.items
-    c.in_ok-count.ensures.adds in
-    subst (λ f. Plants f new c.root_of.result tree) c.reserve.ensures.frame
-    (subst (λ r. Plants (frame_in c.reserve.new.self) new r tree) (sym c.root_of.ensures)
-    (plants_all (frame_in c.reserve.new.self) es (plot_in c.plant_entries.new.self c.plant_entries.new.roots) tree
-    c.plant_entries.ensures.grown (forest_of_added (kept tree) c.in_ok-count.count es added)))
+pub link-requires-clause-roots : goal.link-requires-clause-roots
+link-requires-clause-roots c =
+    let es = c.args.entries.now in
+    let n = c.loop-at.at - 1 in
+    let test : 0 < c.loop-at.at = c.loop-at-test.true in
+    let same : c.loop-at.at ≡ suc n = omega arith in
+    let read = slice_get_read es (length es) n c.index-entries-at.result refl
+    (omega (arith, c.loop-at.invariant.within)) c.index-entries-at.is in
+    has_roots es n c.loop-at.roots.items (frame_in c.args.self.now) (frame_in c.loop-at.self)
+    (subst (λ q. Planting es q c.loop-at.roots.items (frame_in c.args.self.now) (frame_in c.loop-at.self)) same
+    c.loop-at.invariant.planting) c.requires.closed c.index-entries-at.result read
 
-pub returns-clause-below : goal.returns-clause-below
-returns-clause-below c = λ k h t.
-    c.plant_entries.ensures.below k
-    (subst (λ f. All (PartBelow k) f.parts) (sym c.reserve.ensures.frame) h)
-    (c.in_ok-count.ensures.below k t
-    (subst (All (EntryBelow k)) (sym c.new-entries.ensures.items) (All-nil (EntryBelow k))))
+pub link-requires-clause-owned : goal.link-requires-clause-owned
+link-requires-clause-owned c =
+    let es = c.args.entries.now in
+    let n = c.loop-at.at - 1 in
+    let test : 0 < c.loop-at.at = c.loop-at-test.true in
+    let same : c.loop-at.at ≡ suc n = omega arith in
+    roots_within es n c.loop-at.roots.items (frame_in c.args.self.now) (frame_in c.loop-at.self)
+    (subst (λ q. Planting es q c.loop-at.roots.items (frame_in c.args.self.now) (frame_in c.loop-at.self)) same
+    c.loop-at.invariant.planting) c.requires.closed
 
-pub returns-then-count-eq0-clause-plants : goal.returns-then-count-eq0-clause-plants
-returns-then-count-eq0-clause-plants c =
-    let es = c.push_tree.new.entries.items in
-    let tree = c.args.tree.now in
-    let f = frame_in c.args.self.now in
-    let added = subst (λ old. Adds (kept tree) c.in_ok-count.count old es) c.new-entries.ensures.items
-    c.in_ok-count.ensures.adds in
-    let even : length f.owners ≡ length f.parts =
-    let a = c.args.self.now.owners.ok in let b = c.args.self.now.parts.ok in let d = c.requires in omega arith in
-    plants_none f tree es even (subst (λ n. Adds (kept tree) n [] es) c.if-count-eq0.true added)
-
-pub returns-clause-nothing : goal.returns-clause-nothing
-returns-clause-nothing c = λ e.
-    let es = c.push_tree.new.entries.items in
-    let tree = c.args.tree.now in
-    let added = subst (λ old. Adds (kept tree) c.in_ok-count.count old es) c.new-entries.ensures.items
-    c.in_ok-count.ensures.adds in
-    let same = ap length (forest_of_added (kept tree) c.in_ok-count.count es added []) in
-    let count = added.reads.count [] in
-    let some : 0 < length (forest [] es) = let n = c.if-count-eq0.false in omega arith in
-    absurd
-    (root_stands (frame_in c.reserve.new.self) es (plot_in c.plant_entries.new.self c.plant_entries.new.roots)
-    c.plant_entries.ensures.grown some (sym c.root_of.ensures ∙ e))
+pub loop-at-preserved : goal.loop-at-preserved
+loop-at-preserved c =
+    let es = c.args.entries.now in
+    let n = c.loop-at.at - 1 in
+    let test : 0 < c.loop-at.at = c.loop-at-test.true in
+    let same : c.loop-at.at ≡ suc n = omega arith in
+    let read = slice_get_read es (length es) n c.index-entries-at.result refl
+    (omega (arith, c.loop-at.invariant.within)) c.index-entries-at.is in
+    let k = c.len-base.result + n in
+    let is : k ≡ length c.args.self.now.parts.items + n =
+    omega (arith, c.len-base.ensures, c.args.self.now.parts.ok.0) in
+    let step = planted_step es n c.loop-at.roots.items (frame_in c.args.self.now) (frame_in c.loop-at.self)
+    (subst (λ q. Planting es q c.loop-at.roots.items (frame_in c.args.self.now) (frame_in c.loop-at.self)) same
+    c.loop-at.invariant.planting) c.requires.closed c.index-entries-at.result k read c.requires.owners is in
+    record {
+      within = omega (arith, c.loop-at.invariant.within);
+      planting =
+          subst (λ (js : List ℕ). Planting es n js (frame_in c.args.self.now) (frame_in c.link.new.self))
+          (sym c.in_ok-link.ensures.roots)
+          (subst
+          (λ (f : Frame). Planting es n (roots_left k c.index-entries-at.result c.loop-at.roots.items)
+          (frame_in c.args.self.now) f)
+          (sym c.in_ok-link.ensures.linked) step);
+      below = λ b h g.
+          subst (λ (f : Frame). All (PartBelow b) f.parts) (sym c.in_ok-link.ensures.linked)
+          (linked_below b k c.index-entries-at.result c.loop-at.roots.items (frame_in c.loop-at.self)
+          (c.loop-at.invariant.below b h g));
+    }

@@ -1,4 +1,4 @@
-use Rattle.std.proofs.Common.{List, ℕ, ap, ap₂, ◌∙◌}
+use Rattle.std.proofs.Common.{ap₂, ◌∙◌}
 use Rattle.hp_links.specs.Placed.{candidates_in, immediate_first}
 use Rattle.hp_links.proofs.store.Store.candidates.Goals as goal
 

@@ -1,4 +1,4 @@
-use Rattle.std.proofs.Common.{[], List, ap, sym, subst, ◌∙◌}
+use Rattle.std.proofs.Common.{List, ap, sym, subst}
 use Rattle.hp_world.specs.Trails.{IsUndoable}
 use Rattle.hp_links.specs.declared.undo.Change.{Change}
 use Rattle.hp_links.specs.Frames.{Frame, frame_in}
@@ -20,5 +20,5 @@ returns-clause-sound c =
     } in
     let stage = stage_now s.trail.items (stage_of s) c.requires in
     let same = ap with_frame c.in_ok-copy.ensures in
-    subst (λ (ts : List Change). IsUndoable undone Fits IsStage ts (with_frame (frame_in c.in_ok-copy.field-0))) (sym c.new.ensures.items)
+    subst (λ (ts : List Change). IsUndoable undone Fits IsStage ts (with_frame (frame_in c.in_ok-copy.field-0))) (sym c.new-trail.ensures.items)
     (subst IsStage (sym same) stage)

@@ -1,6 +1,5 @@
 use Rattle.std.proofs.Common.{[], ◌∷◌, ◌++◌, List, None, ap, sym, subst, ◌∙◌}
 use Rattle.std.specs.List.{All}
-use Rattle.hp_links.specs.declared.links.Part.{Part}
 use Rattle.hp_links.specs.declared.undo.Change.{Change}
 use Rattle.hp_links.specs.Linked.{Linked, PartBelow}
 use Rattle.hp_links.specs.Undoing.{stage_of}

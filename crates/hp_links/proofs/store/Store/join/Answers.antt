@@ -1,10 +1,8 @@
-use Rattle.std.proofs.Common.{◌≡◌, ◌<◌, ℕ, Option, Some, None, arith, length, refl, sym, ap, subst, ◌∙◌}
-use Rattle.std.specs.Prelude.{slice_get}
+use Rattle.std.proofs.Common.{◌<◌, None, arith, length, sym, ap, subst}
 use Rattle.std.proofs.lemmas.Option.{slice_get_within}
-use Rattle.hp_links.specs.Changing.{hung}
-use Rattle.hp_links.specs.Frames.{Frame, frame_of, IsHeld}
+use Rattle.hp_links.specs.Frames.{frame_of, IsHeld}
 use Rattle.hp_links.specs.Linked.{Linked, whole}
-use Rattle.hp_links.specs.Undoing.{LeavesOne, stage_of}
+use Rattle.hp_links.specs.Undoing.{stage_of}
 use Rattle.hp_links.proofs.ParentLemmas.{numbers_within}
 use Rattle.hp_links.proofs.StageLemmas.{stage_stands}
 use Rattle.hp_links.proofs.StepLemmas.{left_one, list_placed, rest_held, joined_steps, part_owned, stage_is, change_is}

@@ -1,35 +1,52 @@
-use Rattle.std.proofs.Common.{List, None, sym, ap, subst, ◌∙◌}
-use Rattle.hp_world.specs.Trails.{IsUndoable}
-use Rattle.hp_links.specs.declared.undo.Change.{Change}
-use Rattle.hp_links.specs.Frames.{frame_in}
-use Rattle.hp_links.specs.Labelled.{network}
-use Rattle.hp_links.specs.Linked.{Linked}
-use Rattle.hp_links.specs.Undoing.{Fits, IsStage, undone}
-use Rattle.hp_links.proofs.GraftLemmas.{planted_stage, root_held}
+use Rattle.std.proofs.Common.{◌≡◌, [], length, sym, ap, subst, ◌∙◌, arith}
+use Rattle.std.specs.List.{All}
+use Rattle.std.proofs.lemmas.List.Elements.{All-nil}
+use Rattle.std.proofs.lemmas.Result.{IfOk-weaker}
+use Rattle.hp_links.specs.Entries.{forest, AreClosed, EntryBelow}
+use Rattle.hp_links.specs.Pushed.{kept, Adds}
+use Rattle.hp_links.specs.Undoing.{Starts, stage_of}
+use Rattle.hp_links.proofs.EntryLemmas.{kept_closed, kept_many}
+use Rattle.hp_links.proofs.PushedLemmas.{one_or_none}
+use Rattle.hp_links.proofs.StartLemmas.{start_net}
 use Rattle.hp_links.proofs.store.Store.new.Goals as goal
 
-pub front_of-front-requires : goal.front_of-front-requires
-front_of-front-requires c =
-    root_held _ (frame_in c.plant.new.self) c.in_ok-root.root c.args.tree.now c.in_ok-root.ensures.plants
+pub from_entries-requires-clause-closed : goal.from_entries-requires-clause-closed
+from_entries-requires-clause-closed c =
+    let es = c.push_tree.new.entries.items in
+    let a : Adds (kept c.args.tree.now) c.in_ok-push_tree.field-0 [] es =
+    subst (λ old. Adds (kept c.args.tree.now) c.in_ok-push_tree.field-0 old es) c.new-entries.ensures.items
+    c.in_ok-push_tree.ensures.adds in
+    subst AreClosed (sym c.as_slice.ensures.value) (kept_closed c.args.tree.now c.in_ok-push_tree.field-0 es a)
 
-pub returns-clause-sound : goal.returns-clause-sound
-returns-clause-sound c =
-    let s = planted_stage _ (frame_in c.plant.new.self) c.in_ok-root.root c.front_of-front.result c.args.tree.now
-    c.in_ok-root.ensures.plants c.front_of-front.ensures in
-    let g = frame_in c.plant.new.self in
-    let now : Linked = record {
-      parts = g.parts;
-      owners = g.owners;
-      rows = g.rows;
-      root = c.in_ok-root.root;
-      focus = None;
-      front = c.front_of-front.result;
-    } in
-    subst (λ (ts : List Change). IsUndoable undone Fits IsStage ts now) (sym c.new-4.ensures.items) s.0
+pub from_entries-requires-clause-one : goal.from_entries-requires-clause-one
+from_entries-requires-clause-one c =
+    let es = c.push_tree.new.entries.items in
+    let a : Adds (kept c.args.tree.now) c.in_ok-push_tree.field-0 [] es =
+    subst (λ old. Adds (kept c.args.tree.now) c.in_ok-push_tree.field-0 old es) c.new-entries.ensures.items
+    c.in_ok-push_tree.ensures.adds in
+    let few = one_or_none c.args.tree.now c.in_ok-push_tree.field-0 [] es a in
+    let many : length (forest [] c.as_slice.result.now) ≡ c.in_ok-push_tree.field-0 =
+    ap (λ xs. length (forest [] xs)) c.as_slice.ensures.value
+    ∙ kept_many c.args.tree.now c.in_ok-push_tree.field-0 es a [] in
+    omega arith
 
 pub returns-clause-net : goal.returns-clause-net
-returns-clause-net c = λ terms.
-    let p = c.in_ok-root.ensures.plants in
-    let s = planted_stage _ (frame_in c.plant.new.self) c.in_ok-root.root c.front_of-front.result c.args.tree.now p
-    c.front_of-front.ensures in
-    ap (network terms) s.1 ∙ p.network terms
+returns-clause-net c =
+    let es = c.push_tree.new.entries.items in
+    let a : Adds (kept c.args.tree.now) c.in_ok-push_tree.field-0 [] es =
+    subst (λ old. Adds (kept c.args.tree.now) c.in_ok-push_tree.field-0 old es) c.new-entries.ensures.items
+    c.in_ok-push_tree.ensures.adds in
+    IfOk-weaker c.from_entries.result _ _
+    (λ s h terms.
+    start_net c.args.tree.now c.in_ok-push_tree.field-0 es a (stage_of s)
+    (subst (λ xs. Starts xs (stage_of s)) c.as_slice.ensures.value h) terms) c.from_entries.ensures.starts
+
+pub returns-clause-below : goal.returns-clause-below
+returns-clause-below c =
+    IfOk-weaker c.from_entries.result _ _
+    (λ s h k b.
+    h k
+    (subst (All (EntryBelow k)) (sym c.as_slice.ensures.value)
+    (c.in_ok-push_tree.ensures.below k b
+    (subst (All (EntryBelow k)) (sym c.new-entries.ensures.items) (All-nil (EntryBelow k))))))
+    c.from_entries.ensures.below

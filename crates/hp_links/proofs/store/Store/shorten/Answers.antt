@@ -1,4 +1,4 @@
-use Rattle.std.proofs.Common.{ap, subst, sym, arith, ◌<◌, length}
+use Rattle.std.proofs.Common.{ap, subst, sym, arith}
 use Rattle.std.proofs.lemmas.Option.{slice_get_within}
 use Rattle.hp_links.specs.Frames.{Frame, IsHeld}
 use Rattle.hp_links.specs.Undoing.{stage_of}

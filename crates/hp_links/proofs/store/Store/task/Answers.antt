@@ -1,7 +1,6 @@
-use Rattle.std.proofs.Common.{◌≡◌, ◌<◌, Some, sym, ap, subst, ◌∙◌, length, get_or}
+use Rattle.std.proofs.Common.{◌≡◌, Some, sym, ap, subst, ◌∙◌, get_or}
 use Rattle.std.specs.Prelude.{slice_get}
 use Rattle.std.proofs.lemmas.Option.{slice_get_within, get_or_from_slice_get}
-use Rattle.hp_links.specs.declared.links.Part.{Part}
 use Rattle.hp_links.specs.declared.links.Part.TheVariants.{Task}
 use Rattle.hp_links.specs.Linked.{PartBelow}
 use Rattle.hp_links.specs.Undoing.{stage_of}

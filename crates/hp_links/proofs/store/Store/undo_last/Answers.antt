@@ -1,4 +1,3 @@
-use Rattle.std.proofs.Common.{◌∙◌, sym}
 use Rattle.hp_links.specs.Undoing.{stage_of}
 use Rattle.hp_links.proofs.TrailSteps.{last_fits, taken_back}
 use Rattle.hp_links.proofs.store.Store.undo_last.Goals as goal
