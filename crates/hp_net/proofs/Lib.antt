@@ -1,9 +1,3 @@
-pub mod EditLemmas
-pub mod EditSteps
-pub mod EntryPathLemmas
-pub mod FlatNetworkLemmas
-pub mod PushedLemmas
-pub mod ReadingLemmas
-pub mod ReadingSteps
+pub mod NetSteps
 pub mod RunLemmas
 pub mod StandingLemmas

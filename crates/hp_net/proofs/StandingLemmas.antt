@@ -1,11 +1,15 @@
 -- Places where a walk stands.
-use Rattle.std.proofs.Common.{◌≡◌, ◌≢◌, ℕ, ◌<◌, List, [], ◌∷◌, length, arith, refl, ap, sym, Option, Some, None, option_map, map, true, false, ◌==◌, ◌∙◌}
+use Rattle.std.proofs.Common.{◌≡◌, ◌≢◌, ℕ, suc, ◌<◌, List, [], ◌∷◌, length, arith, refl, ap, sym, Option, Some, None, option_map, map, true, false, ◌==◌, nat_eq, ◌∙◌}
 use Rattle.std.proofs.lemmas.Option.{same_Some}
 use Rattle.hp_syntax.specs.Walk.{Node, Sight, Visit, visit, Did, Plan, CutHere, FaultHere}
 use Rattle.hp_net.specs.declared.walk.Step.{Step}
 use Rattle.hp_net.specs.declared.walk.Step.TheVariants as steps
 use Rattle.hp_net.specs.Standings.{Standing, standing, parent, step_of, next_below, arrived, stepped}
-use Rattle.hp_net.proofs.FlatNetworkLemmas.{no_zero}
+use Rattle.std.proofs.lemmas.Bool.Decides.{nat_tests}
+
+-- a successor is not zero
+no_zero : (n : ℕ) → nat_eq (suc n) 0 ≡ false
+no_zero n = grind (arith, nat_tests)
 
 -- the way to a parent is shorter
 pub parent_shorter : (p : List ℕ) → p ≢ [] → length (parent p) < length p

@@ -4,16 +4,14 @@
 ghost use Rattle.std.specs.Prelude.{◌≡◌, ℕ, false, List, ◌++◌, Some};
 ghost use Rattle.hp_syntax.specs.Networks.{Place};
 ghost use Rattle.hp_syntax.specs.Walk.{heard_visits};
-ghost use Rattle.hp_net.specs.FlatNetworks.{FlatNetwork, IsFlatNetwork, NamesTask, place_of};
+ghost use Rattle.hp_links.specs.Linked.{Linked, NamesTask, place_of};
 ghost use Rattle.hp_net.specs.Standings.{Standing};
 ghost use Rattle.hp_net.specs.Runs.{Call, MayRun, after_calls, visited, LeavesOut};
 
-/// Each id that names a task has a place in its network, and no two entries have the same place.
+/// Each id that names a task has a place in its network, and no two parts have the same place.
 pub fn tasks_have_places()
-    ensures places { (n : FlatNetwork) (id : ℕ) → IsFlatNetwork n → NamesTask n id
-        → (p : Place) × (place_of n.entries id ≡ Some p) }
-    ensures apart { (n : FlatNetwork) (i j : ℕ) (p : Place) → place_of n.entries i ≡ Some p
-        → place_of n.entries j ≡ Some p → i ≡ j }
+    ensures places { (n : Linked) (id : ℕ) → NamesTask n id → (p : Place) × (place_of n id ≡ Some p) }
+    ensures apart { (n : Linked) (i j : ℕ) (p : Place) → place_of n i ≡ Some p → place_of n j ≡ Some p → i ≡ j }
 {}
 
 /// Whatever calls are made, what they visit and what is left then are together the walk up to its first fault, without

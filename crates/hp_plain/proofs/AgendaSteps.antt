@@ -76,7 +76,7 @@ module _ (old new : List Term) (g : Grows old new) where
     -- a satisfier of a choice gives the same children
     done_keeps : (c : OpenChoice) → c.task < length old → done_in rules nest new s c ≡ done_in rules nest old s c
     done_keeps c l =
-        ap₂ (λ n t. done_by rules nest n (place_in s.net.now.entries c.id) t (slice_get rules c.rule) c.choice.branch)
+        ap₂ (λ n t. done_by rules nest n (place_in s.net.now c.id) t (slice_get rules c.rule) c.choice.branch)
         (node_stays old new g (held s) node) (term_stays old new g c.task l)
 
     -- a choice has the same children left
@@ -96,7 +96,7 @@ module _ (old new : List Term) (g : Grows old new) where
     -- a queue has the same children left
     pub queue_stays : (q : CandidateQueue) → queue_children rules nest new s q ≡ queue_children rules nest old s q
     queue_stays q =
-        ap (λ n. by_candidates rules nest n s.net.now.entries (drop q.at q.candidates.items) q.tried)
+        ap (λ n. by_candidates rules nest n s.net.now (drop q.at q.candidates.items) q.tried)
         (node_stays old new g (held s) node)
 
 module _ (rules : List Rule) (nest : ℕ) (terms : List Term) (s : SearchNode) (c : OpenChoice) where
@@ -183,7 +183,7 @@ module _ (old new : List Term) (g : Grows old new) (rules : List Rule) (nest : �
       → Takes new None all (agenda_children rules nest new s after)
   agenda_ends none l =
       let empty : queue_children rules nest new s after.queue ≡ [] =
-      ap (λ ks. by_candidates rules nest (node_in new s) s.net.now.entries ks after.queue.tried)
+      ap (λ ks. by_candidates rules nest (node_in new s) s.net.now ks after.queue.tried)
       (drop_all after.queue.at after.queue.candidates.items l) in
       takes_none new all (agenda_children rules nest new s after)
       (agenda_next ∙ ap (λ xs. xs ++ agenda_children rules nest new s after)

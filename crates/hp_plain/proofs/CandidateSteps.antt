@@ -34,7 +34,7 @@ use Rattle.hp_effect.specs.Puts.{IsApplied}
 use Rattle.hp_world.specs.declared.store.Applied.{Applied}
 use Rattle.hp_world.specs.declared.store.Applied.TheVariants.{Done, Guarded as WasGuarded}
 use Rattle.hp_eval.specs.GoalViews.{term_at}
-use Rattle.hp_net.specs.FlatNetworks.{FlatNetwork, focused, place_of, EntryBelow}
+use Rattle.hp_links.specs.Linked.{Linked, focused, place_of, PartBelow}
 use Rattle.hp_world.specs.Histories.{History}
 use Rattle.hp_world.specs.Recorded.{Recorded}
 use Rattle.hp_world.specs.Stages.{Stage, state_of, guards_of, terms_at}
@@ -53,7 +53,7 @@ use Rattle.hp_plain.proofs.CandidateLemmas.{done_stays}
 
 -- ---- nodes
 
-module _ (terms : List Term) (world : Recorded) (net : History FlatNetwork) (steps : Vec ℕ Global)
+module _ (terms : List Term) (world : Recorded) (net : History Linked) (steps : Vec ℕ Global)
     (cost : ℤ) (depth : ℕ) where
   -- a search node of these parts
   abbrev pub node_by : SearchNode
@@ -71,27 +71,27 @@ module _ (terms : List Term) (world : Recorded) (net : History FlatNetwork) (ste
 
 -- ---- networks that are changed
 
-module _ (n : ℕ) (terms : List Term) (s : Candidate) (fits : CandidateFits n s) (copy new : FlatNetwork)
+module _ (n : ℕ) (terms : List Term) (s : Candidate) (fits : CandidateFits n s) (copy new : Linked)
     (same : copy ≡ s.node.now.net.now) where
-  there : place_of copy.entries s.id ≡ Some (place_at s)
-  there = ap (λ o. place_of o.entries s.id) same ∙ fits.candidate.stands
+  there : place_of copy s.id ≡ Some (place_at s)
+  there = ap (λ o. place_of o s.id) same ∙ fits.candidate.stands
 
   -- the task of a candidate is taken out of a copy of the network
-  pub finish_given : ((p : Place) → place_of copy.entries s.id ≡ Some p
+  pub finish_given : ((p : Place) → place_of copy s.id ≡ Some p
       → focused terms new ≡ finish (focused terms copy).0 p)
       → focused terms new ≡ finish (focused terms s.node.now.net.now).0 (place_at s)
   finish_given h = h (place_at s) there ∙ ap (λ o. finish (focused terms o).0 (place_at s)) same
 
   -- subtasks stand in its place
-  pub expand_given : (sub : Network) → ((p : Place) → place_of copy.entries s.id ≡ Some p
+  pub expand_given : (sub : Network) → ((p : Place) → place_of copy s.id ≡ Some p
       → focused terms new ≡ expand (focused terms copy).0 p sub)
       → focused terms new ≡ expand (focused terms s.node.now.net.now).0 (place_at s) sub
   expand_given sub h = h (place_at s) there ∙ ap (λ o. expand (focused terms o).0 (place_at s) sub) same
 
-  -- the entries stay below a count
-  pub entries_given : (All (EntryBelow n) copy.entries → All (EntryBelow n) new.entries)
-      → All (EntryBelow n) new.entries
-  entries_given h = h (subst (λ o. All (EntryBelow n) o.entries) (sym same) fits.node.network)
+  -- the cells stay below a count
+  pub parts_given : (All (PartBelow n) copy.parts → All (PartBelow n) new.parts)
+      → All (PartBelow n) new.parts
+  parts_given h = h (subst (λ o. All (PartBelow n) o.parts) (sym same) fits.node.network)
 
 -- ---- children
 

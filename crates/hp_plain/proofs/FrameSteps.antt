@@ -10,7 +10,7 @@ use Rattle.hp_syntax.specs.Syntax.{Rule}
 use Rattle.hp_syntax.specs.Terms.{Term}
 use Rattle.hp_syntax.specs.Networks.{candidates, is_empty}
 use Rattle.hp_syntax.specs.Walk.{Child}
-use Rattle.hp_net.specs.FlatNetworks.{NamesTask, place_of, focused}
+use Rattle.hp_links.specs.Linked.{NamesTask, place_of, focused}
 use Rattle.hp_tree.specs.Children.{by_candidates, IsCandidate}
 use Rattle.hp_tree.specs.Successors.{TheChild, successors}
 use Rattle.hp_tree.proofs.ChildLemmas.{by_all, candidates_are}
@@ -37,7 +37,7 @@ module _ (rules : List Rule) (nest : ℕ) where
         let q = f.agenda.queue in
         let few : length q.candidates.items ≡ 0 = ap length none in
         let empty : queue_children rules nest terms f.node q ≡ [] =
-        ap (λ ks. by_candidates rules nest (node_in terms f.node) f.node.net.now.entries ks q.tried)
+        ap (λ ks. by_candidates rules nest (node_in terms f.node) f.node.net.now ks q.tried)
         (drop_all q.at q.candidates.items (omega arith)) in
         ap₂ (λ o cs. end_successors o ++ map TheChild cs) e
         (ap₂ (λ r cs. if_open rules nest terms f.node r ++ cs) none_open empty)
@@ -78,7 +78,7 @@ module _ (rules : List Rule) (nest : ℕ) where
   pub opens_children : (terms : List Term) (s : SearchNode) (ids : Vec ℕ Global)
       → is_empty (focused terms s.net.now).0 ≡ false
       → 0 < s.depth → All (NamesTask s.net.now) ids.items
-      → map (place_of s.net.now.entries) ids.items
+      → map (place_of s.net.now) ids.items
       ≡ map Some (candidates (focused terms s.net.now).0 (focused terms s.net.now).1)
       → Opens rules nest terms s (record {
         node = s;
@@ -102,7 +102,7 @@ module _ (rules : List Rule) (nest : ℕ) where
               };
         };
     left =
-        ap (map TheChild) (by_all rules nest (node_in terms s) s.net.now.entries ids.items places)
+        ap (map TheChild) (by_all rules nest (node_in terms s) s.net.now ids.items places)
         ∙ sym (successors_children rules nest (node_in terms s) some (ne_eqb s.depth 0 (λ e. omega arith)));
   }
 

@@ -454,7 +454,7 @@ goes_pruned s h did n is =
       agenda = record { «open» = None; queue = record s.top.agenda.queue { at = n } };
     } in
     let none : left_of rules s.nest s.cells t ≡ [] =
-    ap (λ ks. map TheChild (by_candidates rules s.nest (node_in s.cells s.top.node) s.top.node.net.now.entries ks
+    ap (λ ks. map TheChild (by_candidates rules s.nest (node_in s.cells s.top.node) s.top.node.net.now ks
     s.top.agenda.queue.tried)) (drop_all n s.top.agenda.queue.candidates.items (omega (arith, is))) in
     let leads = pruned_to rules s.nest (stack_of s) h.stack did in
     let stack = ap (λ cs. stack_by (with_left (stack_of s).top cs) (stack_of s).above false s.over) none in

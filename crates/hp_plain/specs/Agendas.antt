@@ -27,7 +27,7 @@ module _ (rules : List Rule) (nest : ℕ) where
   -- the children that a satisfier of a choice gives
   abbrev pub done_in : List Term → SearchNode → OpenChoice → Bindings → List Child
   done_in terms s c =
-      done_by rules nest (node_in terms s) (place_in s.net.now.entries c.id) (term_at terms c.task)
+      done_by rules nest (node_in terms s) (place_in s.net.now c.id) (term_at terms c.task)
       (slice_get rules c.rule) c.choice.branch
 
   -- the children that are left of a choice
@@ -45,7 +45,7 @@ module _ (rules : List Rule) (nest : ℕ) where
   -- the children that are left of a queue
   abbrev pub queue_children : List Term → SearchNode → CandidateQueue → List Child
   queue_children terms s q =
-      by_candidates rules nest (node_in terms s) s.net.now.entries (drop q.at q.candidates.items) q.tried
+      by_candidates rules nest (node_in terms s) s.net.now (drop q.at q.candidates.items) q.tried
 
   -- the children that are left of an agenda
   abbrev pub agenda_children : List Term → SearchNode → Agenda → List Child

@@ -26,7 +26,7 @@ own_node terms c = node_in terms c.node.now
 
 -- the place of the task, or that of the whole network where it has none
 abbrev pub place_at : Candidate → Place
-place_at c = place_in c.node.now.net.now.entries c.id
+place_at c = place_in c.node.now.net.now c.id
 
 abbrev pub own_task : List Term → Candidate → Term
 own_task terms c = term_at terms c.task

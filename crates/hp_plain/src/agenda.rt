@@ -124,7 +124,7 @@ fn relevant_rule(
     requires candidate { IsCandidate node.now.net.now id }
     ensures { option_map (slice_get (rules_of context.now)) result
         ≡ option_map Some (slice_get (relevant_to (part_at (node_in cells.now node.now).network
-        (place_in node.now.net.now.entries id)) (rules_of context.now)) number) }
+        (place_in node.now.net.now id)) (rules_of context.now)) number) }
 {
     let task = node.net.task(id);
     context.book.relevant_at(task, number, cells)
@@ -143,7 +143,7 @@ fn opened(
     requires candidate { IsCandidate node.now.net.now id }
     requires deep { 0 < node.now.depth }
     ensures children { IfOk result (λ choice. let n = node_in cells.old node.now in
-        let p = place_in node.now.net.now.entries id in
+        let p = place_in node.now.net.now id in
         choice_children (rules_of context.now) context.now.nest cells.new node.now choice
         ≡ one_by (rules_of context.now) context.now.nest n p (part_at n.network p)
         (slice_get (rules_of context.now) rule)) }

@@ -16,8 +16,7 @@ use Rattle.hp_syntax.specs.Terms.{Term}
 use Rattle.hp_syntax.specs.Values.{Bindings}
 use Rattle.hp_syntax.specs.Walk.{Node, child_of, operated, after_effects, decomposed, branch_children, operator_children, task_children, children}
 use Rattle.hp_eval.proofs.Loops.{left_more}
-use Rattle.hp_net.specs.declared.entry.Entry.{Entry}
-use Rattle.hp_net.specs.FlatNetworks.{FlatNetwork, NamesTask, place_of}
+use Rattle.hp_links.specs.Linked.{Linked, NamesTask, place_of}
 use Rattle.hp_laws.specs.RulesByName.{relevant_to}
 use Rattle.hp_laws.proofs.RuleNameLemmas.{relevant_give}
 use Rattle.hp_tree.specs.Children.{place_or_whole, place_in, IsCandidate, branch_done, task_by, one_by, relevant_by, by_candidates}
@@ -25,30 +24,30 @@ use Rattle.hp_tree.specs.Children.{place_or_whole, place_in, IsCandidate, branch
 -- ---- candidates
 
 -- ids that name places stand there
-places_are : (es : List Entry) (ids : List ℕ) (ps : List Place) → map (place_of es) ids ≡ map Some ps
-    → map (place_in es) ids ≡ ps
-places_are es [] [] h = refl
-places_are es [] (p ∷ ps) h = absurd cc
-places_are es (i ∷ ids) [] h = absurd cc
-places_are es (i ∷ ids) (p ∷ ps) h =
-    let e : place_of es i ≡ Some p = cc in
-    let t : map (place_of es) ids ≡ map Some ps = cc in
-    ap₂ ◌∷◌ (ap place_or_whole e) (places_are es ids ps t)
+places_are : (net : Linked) (ids : List ℕ) (ps : List Place) → map (place_of net) ids ≡ map Some ps
+    → map (place_in net) ids ≡ ps
+places_are net [] [] h = refl
+places_are net [] (p ∷ ps) h = absurd cc
+places_are net (i ∷ ids) [] h = absurd cc
+places_are net (i ∷ ids) (p ∷ ps) h =
+    let e : place_of net i ≡ Some p = cc in
+    let t : map (place_of net) ids ≡ map Some ps = cc in
+    ap₂ ◌∷◌ (ap place_or_whole e) (places_are net ids ps t)
 
 -- ids that name tasks and places are candidates
-pub candidates_are : (o : FlatNetwork) (ids : List ℕ) (ps : List Place) → All (NamesTask o) ids
-    → map (place_of o.entries) ids ≡ map Some ps → All (IsCandidate o) ids
-candidates_are o [] ps n h = All-nil (IsCandidate o)
-candidates_are o (i ∷ ids) [] n h = absurd cc
-candidates_are o (i ∷ ids) (p ∷ ps) n h =
-    let e : place_of o.entries i ≡ Some p = cc in
-    let t : map (place_of o.entries) ids ≡ map Some ps = cc in
-    All-cons (IsCandidate o) i ids
+pub candidates_are : (net : Linked) (ids : List ℕ) (ps : List Place) → All (NamesTask net) ids
+    → map (place_of net) ids ≡ map Some ps → All (IsCandidate net) ids
+candidates_are net [] ps n h = All-nil (IsCandidate net)
+candidates_are net (i ∷ ids) [] n h = absurd cc
+candidates_are net (i ∷ ids) (p ∷ ps) n h =
+    let e : place_of net i ≡ Some p = cc in
+    let t : map (place_of net) ids ≡ map Some ps = cc in
+    All-cons (IsCandidate net) i ids
     (record {
-      names = All-head (NamesTask o) i ids n;
+      names = All-head (NamesTask net) i ids n;
       stands = e ∙ ap (λ z. Some (place_or_whole z)) (sym e);
     })
-    (candidates_are o ids ps (All-tail (NamesTask o) i ids n) t)
+    (candidates_are net ids ps (All-tail (NamesTask net) i ids n) t)
 
 module _ (rules : List Rule) (nest : ℕ) where
   -- the rules relevant to a part of a network give all its children
@@ -60,22 +59,22 @@ module _ (rules : List Rule) (nest : ℕ) where
   by_relevant n p (Some (Ordered ns)) = refl
   by_relevant n p (Some (Unordered ns)) = refl
 
-  by_places : (n : Node) (es : List Entry) (ids : List ℕ)
-      → by_candidates rules nest n es ids 0
-      ≡ flat_map (λ p. task_children rules nest n p (part_at n.network p)) (map (place_in es) ids)
-  by_places n es [] = refl
-  by_places n es (i ∷ ids) =
-      ap₂ ◌++◌ (by_relevant n (place_in es i) (part_at n.network (place_in es i))) (by_places n es ids)
+  by_places : (n : Node) (net : Linked) (ids : List ℕ)
+      → by_candidates rules nest n net ids 0
+      ≡ flat_map (λ p. task_children rules nest n p (part_at n.network p)) (map (place_in net) ids)
+  by_places n net [] = refl
+  by_places n net (i ∷ ids) =
+      ap₂ ◌++◌ (by_relevant n (place_in net i) (part_at n.network (place_in net i))) (by_places n net ids)
 
   -- the children by all candidates are those of the node
-  pub by_all : (n : Node) (es : List Entry) (ids : List ℕ)
-      → map (place_of es) ids ≡ map Some (candidates n.network n.focus)
-      → by_candidates rules nest n es ids 0 ≡ children rules nest n
+  pub by_all : (n : Node) (net : Linked) (ids : List ℕ)
+      → map (place_of net) ids ≡ map Some (candidates n.network n.focus)
+      → by_candidates rules nest n net ids 0 ≡ children rules nest n
   unfolding children
-  by_all n es ids h =
-      by_places n es ids
+  by_all n net ids h =
+      by_places n net ids
       ∙ ap (flat_map (λ p. task_children rules nest n p (part_at n.network p)))
-      (places_are es ids (candidates n.network n.focus) h)
+      (places_are net ids (candidates n.network n.focus) h)
 
   -- ---- the next rule and the next candidate
 
@@ -96,37 +95,37 @@ module _ (rules : List Rule) (nest : ℕ) where
   rules_end n p (Some (Ordered ns)) = refl
   rules_end n p (Some (Unordered ns)) = refl
 
-  module _ (n : Node) (es : List Entry) (cs : List ℕ) (at c : ℕ) (within : at < length cs) (is : c ≡ get_or cs at c)
+  module _ (n : Node) (net : Linked) (cs : List ℕ) (at c : ℕ) (within : at < length cs) (is : c ≡ get_or cs at c)
     where
       -- the children by the next candidate and the next rule that is relevant to it are first
       pub candidate_next : (k place : ℕ) (r : Rule)
-          → slice_get (relevant_to (part_at n.network (place_in es c)) rules) k ≡ Some r
+          → slice_get (relevant_to (part_at n.network (place_in net c)) rules) k ≡ Some r
           → slice_get rules place ≡ Some r
-          → by_candidates rules nest n es (drop at cs) k
-          ≡ one_by rules nest n (place_in es c) (part_at n.network (place_in es c)) (slice_get rules place)
-          ++ by_candidates rules nest n es (drop at cs) (k + 1)
+          → by_candidates rules nest n net (drop at cs) k
+          ≡ one_by rules nest n (place_in net c) (part_at n.network (place_in net c)) (slice_get rules place)
+          ++ by_candidates rules nest n net (drop at cs) (k + 1)
       candidate_next k place r e there =
-          let p = place_in es c in
+          let p = place_in net c in
           let part = part_at n.network p in
           let own = relevant_to part rules in
           let next = left_more cs at c within is in
-          let rest = by_candidates rules nest n es (drop (at + 1) cs) 0 in
-          ap (λ ks. by_candidates rules nest n es ks k) next
+          let rest = by_candidates rules nest n net (drop (at + 1) cs) 0 in
+          ap (λ ks. by_candidates rules nest n net ks k) next
           ∙ (ap (λ rs. task_by rules nest n p part rs ++ rest)
           (left_more own k r (slice_get_within own k r e) (sym (get_or_from_slice_get own k r r e)))
           ∙ (ap (λ xs. xs ++ rest) (rules_next n p part r (drop (k + 1) own))
           ∙ (append_assoc (one_by rules nest n p part (Some r)) (relevant_by rules nest n p part (k + 1)) rest
-          ∙ ap₂ (λ o ks. one_by rules nest n p part o ++ by_candidates rules nest n es ks (k + 1)) (sym there)
+          ∙ ap₂ (λ o ks. one_by rules nest n p part o ++ by_candidates rules nest n net ks (k + 1)) (sym there)
           (sym next))))
 
       -- where no such rule is left, those by the others are
-      pub candidate_done : (k : ℕ) → length (relevant_to (part_at n.network (place_in es c)) rules) ≤ k
-          → by_candidates rules nest n es (drop at cs) k ≡ by_candidates rules nest n es (drop (at + 1) cs) 0
+      pub candidate_done : (k : ℕ) → length (relevant_to (part_at n.network (place_in net c)) rules) ≤ k
+          → by_candidates rules nest n net (drop at cs) k ≡ by_candidates rules nest n net (drop (at + 1) cs) 0
       candidate_done k l =
-          let p = place_in es c in
+          let p = place_in net c in
           let part = part_at n.network p in
-          let rest = by_candidates rules nest n es (drop (at + 1) cs) 0 in
-          ap (λ ks. by_candidates rules nest n es ks k) (left_more cs at c within is)
+          let rest = by_candidates rules nest n net (drop (at + 1) cs) 0 in
+          ap (λ ks. by_candidates rules nest n net ks k) (left_more cs at c within is)
           ∙ (ap (λ rs. task_by rules nest n p part rs ++ rest) (drop_all k (relevant_to part rules) l)
           ∙ ap (λ xs. xs ++ rest) (rules_end n p part))
 

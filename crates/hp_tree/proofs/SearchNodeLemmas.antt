@@ -15,9 +15,11 @@ use Rattle.hp_syntax.specs.Walk.{Node}
 use Rattle.hp_eval.specs.GoalViews.{term_or_nil, term_at, as_networks}
 use Rattle.hp_eval.specs.Growth.{Grows}
 use Rattle.hp_eval.proofs.GrowthLemmas.{stays, all_below, terms_stay, grows_length}
-use Rattle.hp_net.specs.declared.entry.Entry.{Entry}
-use Rattle.hp_net.specs.declared.entry.Entry.TheVariants.{Task, List as Parts}
-use Rattle.hp_net.specs.FlatNetworks.{focused, forest, listed, first_network, network_in, place_of, EntryBelow}
+use Rattle.hp_links.specs.declared.links.Part.{Part}
+use Rattle.hp_links.specs.declared.links.Part.TheVariants.{Task, Row}
+use Rattle.hp_links.specs.Labelled.{network}
+use Rattle.hp_links.specs.Linked.{Linked, focused, place_of, whole, PartBelow}
+use Rattle.hp_links.proofs.BelowLemmas.{network_agrees, whole_below}
 use Rattle.hp_world.specs.Stages.{AllBelow, live_atoms, state_of, guards_of, terms_at}
 use Rattle.hp_tree.specs.SearchNodes.{HeldNode, node_of, most_cost, IsHeldNode}
 
@@ -52,33 +54,22 @@ module _ (old new : List Term) (g : Grows old new) where
   pub term_stays : (cell : ℕ) → cell < length old → term_at new cell ≡ term_at old cell
   term_stays cell l = ap term_or_nil (stays old new g cell l)
 
-  -- entries below the number of terms stand for the same networks
-  forest_stays : (es : List Entry) → All (EntryBelow (length old)) es → forest new es ≡ forest old es
-  forest_stays [] h = refl
-  forest_stays (Task cell immediate ∷ es) h =
-      ap₂ (λ t ns. plain.Task t immediate ∷ ns)
-      (term_stays cell (All-head (EntryBelow (length old)) (Task cell immediate) es h))
-      (forest_stays es (All-tail (EntryBelow (length old)) (Task cell immediate) es h))
-  forest_stays (Parts order n ∷ es) h =
-      ap (λ ns. listed order (as_networks (take n ns)) ∷ drop n ns)
-      (forest_stays es (All-tail (EntryBelow (length old)) (Parts order n) es h))
+  -- parts whose cells are below the number of terms are the same network
+  network_stays : (s : Linked) → All (PartBelow (length old)) s.parts
+      → network new (whole s) ≡ network old (whole s)
+  network_stays s h =
+      network_agrees old new (length old) term_stays (whole s) (whole_below (length old) s h)
 
-  -- so they are the same network
-  network_stays : (es : List Entry) → All (EntryBelow (length old)) es → network_in new es ≡ network_in old es
-  unfolding network_in
-  network_stays es h = ap first_network (forest_stays es h)
-
-  entry_grows : (e : Entry) → EntryBelow (length old) e → EntryBelow (length new) e
-  entry_grows (Task cell immediate) h = omega (arith, h, grows_length old new g)
-  entry_grows (Parts order n) h = h
+  part_grows : (p : Part) → PartBelow (length old) p → PartBelow (length new) p
+  part_grows (Task cell immediate) h = omega (arith, h, grows_length old new g)
+  part_grows (Row order start many) h = h
 
   -- a node whose cells are below the number of terms is the same node
   pub node_stays : (h : HeldNode) → IsHeldNode (length old) h → node_of new h ≡ node_of old h
   node_stays h is =
       node_is new h (node_of old h) (terms_stay old new g (live_atoms h.stage.places) is.stage.atoms)
       (terms_stay old new g h.stage.guards is.stage.guards)
-      (ap (λ n. (n, option_and_then (place_of h.network.entries) h.network.focus))
-      (network_stays h.network.entries is.network))
+      (ap (λ n. (n, option_and_then (place_of h.network) h.network.focus)) (network_stays h.network is.network))
       (terms_stay old new g h.steps is.steps) refl refl
 
   -- its cells stay below the number of terms
@@ -90,7 +81,7 @@ module _ (old new : List Term) (g : Grows old new) where
           guards = all_below old new g h.stage.guards is.stage.guards;
         };
     network =
-        All-weaker (EntryBelow (length old)) (EntryBelow (length new)) entry_grows h.network.entries is.network;
+        All-weaker (PartBelow (length old)) (PartBelow (length new)) part_grows h.network.parts is.network;
     steps = all_below old new g h.steps is.steps;
     depth = is.depth;
     low = is.low;

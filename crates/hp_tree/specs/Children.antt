@@ -8,8 +8,7 @@ use Rattle.hp_syntax.specs.Syntax.{Rule, Does, Refines, Concludes, Branch}
 use Rattle.hp_syntax.specs.Terms.{Term}
 use Rattle.hp_syntax.specs.Values.{Bindings}
 use Rattle.hp_syntax.specs.Walk.{Node, Child, after_effects, decomposed, rule_children}
-use Rattle.hp_net.specs.declared.entry.Entry.{Entry}
-use Rattle.hp_net.specs.FlatNetworks.{FlatNetwork, place_of, NamesTask}
+use Rattle.hp_links.specs.Linked.{Linked, place_of, NamesTask}
 use Rattle.hp_laws.specs.RulesByName.{relevant_to}
 
 -- ---- candidates
@@ -19,14 +18,14 @@ abbrev pub place_or_whole : Option Place → Place
 place_or_whole None = []
 place_or_whole (Some p) = p
 
--- the place of an entry's network, or that of the whole network where it has none
-abbrev pub place_in : List Entry → ℕ → Place
-place_in es id = place_or_whole (place_of es id)
+-- the place of a part of a network, or that of the whole network where it has none
+abbrev pub place_in : Linked → ℕ → Place
+place_in net id = place_or_whole (place_of net id)
 
 -- an id names a task that stands at a place of the network
-pub record IsCandidate (o : FlatNetwork) (id : ℕ) : Type 0 where
-  pub names : NamesTask o id
-  pub stands : place_of o.entries id ≡ Some (place_in o.entries id)
+pub record IsCandidate (net : Linked) (id : ℕ) : Type 0 where
+  pub names : NamesTask net id
+  pub stands : place_of net id ≡ Some (place_in net id)
 
 -- ---- events
 
@@ -71,7 +70,7 @@ module _ (rules : List Rule) (nest : ℕ) where
   relevant_by n p part k = task_by n p part (drop k (relevant_to part rules))
 
   -- the children by candidates, without those by the first candidate and the first so many rules relevant to it
-  abbrev pub by_candidates : Node → List Entry → List ℕ → ℕ → List Child
-  by_candidates n es [] k = []
-  by_candidates n es (c ∷ cs) k =
-      relevant_by n (place_in es c) (part_at n.network (place_in es c)) k ++ by_candidates n es cs 0
+  abbrev pub by_candidates : Node → Linked → List ℕ → ℕ → List Child
+  by_candidates n net [] k = []
+  by_candidates n net (c ∷ cs) k =
+      relevant_by n (place_in net c) (part_at n.network (place_in net c)) k ++ by_candidates n net cs 0

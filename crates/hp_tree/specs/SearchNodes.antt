@@ -5,13 +5,13 @@ use Rattle.hp_syntax.specs.declared.limits.TheConstants.{DEEPEST_WALK}
 use Rattle.hp_syntax.specs.Terms.{Term}
 use Rattle.hp_syntax.specs.Walk.{Node}
 use Rattle.hp_world.specs.Stages.{Stage, AllBelow, StageBelow, terms_at, state_of, guards_of}
-use Rattle.hp_net.specs.FlatNetworks.{FlatNetwork, focused, EntryBelow}
+use Rattle.hp_links.specs.Linked.{Linked, focused, PartBelow}
 
 -- a search node as it stands in memory: the stage of its world, its network, the cells of its steps, their cost, and
 -- the number of decompositions that may follow
 pub record HeldNode : Type 0 where
   pub stage : Stage
-  pub network : FlatNetwork
+  pub network : Linked
   pub steps : List ℕ
   pub cost : ℤ
   pub depth : ℕ
@@ -35,7 +35,7 @@ most_cost depth = (DEEPEST_WALK - depth) * 2 ^ 63
 -- each cell of a node is below a count, and its steps cost no more than they can
 pub record IsHeldNode (n : ℕ) (h : HeldNode) : Type 0 where
   pub stage : StageBelow n h.stage
-  pub network : All (EntryBelow n) h.network.entries
+  pub network : All (PartBelow n) h.network.parts
   pub steps : AllBelow n h.steps
   pub depth : h.depth ≤ DEEPEST_WALK
   pub low : neg_ℤ (pos (most_cost h.depth)) ≤ℤ h.cost

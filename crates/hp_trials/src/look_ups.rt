@@ -1,7 +1,7 @@
 //! Look-ups: a world that is changed and undone at random, whose indexes are compared with a plain scan, and generators
 //! in it with the engine that copies; and many changes of a large world.
 
-mod draws;
+pub mod draws;
 pub mod large;
 pub mod rounds;
 mod satisfiers;

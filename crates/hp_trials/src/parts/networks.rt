@@ -1,8 +1,10 @@
 //! Networks whose tasks are done and decomposed.
 ghost use Rattle.std.specs.List.{All};
-ghost use Rattle.hp_net.specs.FlatNetworks.{NamesTask};
+ghost use Rattle.hp_links.specs.Linked.{NamesTask};
 
 use crate::page::Page;
+use crate::parts::large_networks::show_large;
+use crate::parts::undone_networks::show_undone;
 use hp_cells::{Cell, Cells};
 use hp_eval::TaskTree;
 use hp_net::{Net, TaskId};
@@ -19,15 +21,20 @@ fn tasks_of(net: &Net, ids: &[TaskId], alloc: Global) -> Result<Vec<Cell>, Alloc
     Ok(tasks)
 }
 
+/// The tasks of the candidates, from left to right.
+pub fn next_tasks(net: &Net, alloc: Global) -> Result<Vec<Cell>, AllocError> {
+    let ids = net.candidates(alloc)?;
+    tasks_of(net, ids.as_slice(), alloc)
+}
+
 // Whether the candidates are these, from left to right.
 fn are_next(net: &Net, alloc: Global, cells: &[Cell]) -> Result<bool, AllocError> {
-    let ids = net.candidates(alloc)?;
-    let tasks = tasks_of(net, ids.as_slice(), alloc)?;
+    let tasks = next_tasks(net, alloc)?;
     Ok(tasks.as_slice() == cells)
 }
 
-// Does the first candidate.
-fn finish_first(net: &mut Net, alloc: Global) -> Result<(), AllocError> {
+/// Does the first candidate.
+pub fn finish_first(net: &mut Net, alloc: Global) -> Result<(), AllocError> {
     let ids = net.candidates(alloc)?;
     match ids.first() {
         Some(id) => net.finish(*id),
@@ -63,8 +70,13 @@ fn unordered(alloc: Global, first: Cell, second: Cell, immediate: bool) -> Resul
     Net::new(alloc, &tree)
 }
 
-// Decomposes the first candidate into two ordered tasks.
-fn expand_into(net: &mut Net, alloc: Global, first: Cell, second: Cell) -> Result<(), AllocError> {
+/// Decomposes the first candidate into two ordered tasks.
+pub fn expand_into(
+    net: &mut Net,
+    alloc: Global,
+    first: Cell,
+    second: Cell,
+) -> Result<(), AllocError> {
     let tree = TaskTree::Ordered(two_tasks(alloc, first, second, false)?);
     expand_first(net, alloc, &tree)
 }
@@ -157,5 +169,7 @@ fn show_newest_first(
 pub fn show_networks(page: &mut Page, alloc: Global, cells: &mut Cells) -> Result<(), AllocError> {
     let [x, y, a, b] = four_tasks(cells)?;
     show_newest_first(page, alloc, [x, y, a, b])?;
-    show_immediate(page, alloc, &mut unordered(alloc, x, y, true)?, x, y)
+    show_immediate(page, alloc, &mut unordered(alloc, x, y, true)?, x, y)?;
+    show_undone(page, alloc, [x, y, a, b])?;
+    show_large(page, alloc, x, y)
 }

@@ -26,7 +26,7 @@ returns-clause-children c =
     let old = c.args.cells.now in
     let node = c.args.node.now in
     let context = c.args.context.now in
-    let p = place_in node.net.now.entries c.args.id in
+    let p = place_in node.net.now c.args.id in
     let part = c.task-task.ensures.task old p c.requires.candidate.stands in
     c.in_ok-choice.ensures.chooses.stand
     ∙ sym (ap (λ o. one_by (rules_of context) context.nest (node_in old node) p o (slice_get (rules_of context)

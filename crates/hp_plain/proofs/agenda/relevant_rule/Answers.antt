@@ -10,7 +10,7 @@ relevant_at-requires c = record { task = c.task-task.ensures.below (length c.arg
 pub returns : goal.returns
 returns c =
     let node = c.args.node.now in
-    let p = place_in node.net.now.entries c.args.id in
+    let p = place_in node.net.now c.args.id in
     let part = c.task-task.ensures.task c.args.cells.now p c.requires.candidate.stands in
     c.relevant_at.ensures
     ∙ sym (ap (λ o. option_map Some (slice_get (relevant_to o (rules_of c.args.context.now)) c.args.number)) part.1)

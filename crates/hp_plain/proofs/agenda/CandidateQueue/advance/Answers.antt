@@ -27,10 +27,10 @@ returns-in-None-clause-left c =
     let q = c.args.self.now in
     let context = c.args.context.now in
     let n = node_in c.args.cells.now c.args.node.now in
-    let es = c.args.node.now.net.now.entries in
+    let net = c.args.node.now.net.now in
     let id = c.index-id.result.now in
-    let own = relevant_to (part_at n.network (place_in es id)) (rules_of context) in
-    candidate_done (rules_of context) context.nest n es q.candidates.items q.at id c.requires.some c.index-id.ensures
+    let own = relevant_to (part_at n.network (place_in net id)) (rules_of context) in
+    candidate_done (rules_of context) context.nest n net q.candidates.items q.at id c.requires.some c.index-id.ensures
     q.tried (no_place (rules_of context) own q.tried c.relevant_rule.result c.relevant_rule.ensures c.in-None.is)
 
 pub returns-in_ok-choice-in-Some-clause-left : goal.returns-in_ok-choice-in-Some-clause-left
@@ -42,13 +42,13 @@ returns-in_ok-choice-in-Some-clause-left c =
     let rules = rules_of context in
     let node = c.args.node.now in
     let n = node_in old node in
-    let es = node.net.now.entries in
+    let net = node.net.now in
     let id = c.index-id.result.now in
-    let own = relevant_to (part_at n.network (place_in es id)) rules in
+    let own = relevant_to (part_at n.network (place_in net id)) rules in
     let (r, e, there) =
     rule_at_place rules own q.tried c.relevant_rule.result c.relevant_rule.ensures c.in-Some.rule c.in-Some.is in
     let later = record q { tried = q.tried + 1 } in
-    candidate_next rules context.nest n es q.candidates.items q.at id c.requires.some c.index-id.ensures q.tried
+    candidate_next rules context.nest n net q.candidates.items q.at id c.requires.some c.index-id.ensures q.tried
     c.in-Some.rule r e there
     ∙ ap₂ (λ xs ys. xs ++ ys) (sym c.in_ok-choice-in-Some.ensures.children)
     (sym (queue_stays old new c.in_ok-choice-in-Some.ensures.cells rules context.nest node c.requires.node later))
@@ -58,7 +58,7 @@ returns-in_ok-choice-in-Some-clause-queue c =
     let q = c.args.self.now in
     let rules = rules_of c.args.context.now in
     let n = node_in c.args.cells.now c.args.node.now in
-    let part = part_at n.network (place_in c.args.node.now.net.now.entries c.index-id.result.now) in
+    let part = part_at n.network (place_in c.args.node.now.net.now c.index-id.result.now) in
     let own = relevant_to part rules in
     let (r, e, there) =
     rule_at_place rules own q.tried c.relevant_rule.result c.relevant_rule.ensures c.in-Some.rule c.in-Some.is in

@@ -49,7 +49,7 @@ returns-then-is_some-clause-takes c =
     let before = c.loop-self.invariant in
     let some : is_some c.in_ok-child.child ≡ true = search rules in
     let makes = subst (Makes new c.in_ok-child.child)
-    (ap₂ (λ i t. child_of (done_by (rules_of context) context.nest (node_in mid node) (place_in node.net.now.entries i)
+    (ap₂ (λ i t. child_of (done_by (rules_of context) context.nest (node_in mid node) (place_in node.net.now i)
     (term_at mid t) (slice_get (rules_of context) r.rule) r.choice.branch) (answer_event mid c.index-found.result.now))
     (sym before.id) (sym before.task)) c.in_ok-child.ensures.makes in
     choice_takes mid new c.in_ok-child.ensures.cells (rules_of context) context.nest node
@@ -74,7 +74,7 @@ loop-self-preserved c =
     let before = c.loop-self.invariant in
     let none : is_some c.in_ok-child.child ≡ false = search rules in
     let makes = subst (Makes new c.in_ok-child.child)
-    (ap₂ (λ i t. child_of (done_by (rules_of context) context.nest (node_in mid node) (place_in node.net.now.entries i)
+    (ap₂ (λ i t. child_of (done_by (rules_of context) context.nest (node_in mid node) (place_in node.net.now i)
     (term_at mid t) (slice_get (rules_of context) r.rule) r.choice.branch) (answer_event mid c.index-found.result.now))
     (sym before.id) (sym before.task)) c.in_ok-child.ensures.makes in
     record {

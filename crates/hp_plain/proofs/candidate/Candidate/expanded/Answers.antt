@@ -5,7 +5,7 @@ use Rattle.hp_eval.specs.GoalViews.{network_of}
 use Rattle.hp_world.specs.Stages.{StageBelow, state_of, guards_of, terms_at}
 use Rattle.hp_tree.specs.SearchNodes.{most_cost}
 use Rattle.hp_tree.proofs.SearchNodeLemmas.{low_stays, high_stays, cost_kept}
-use Rattle.hp_plain.proofs.CandidateSteps.{did, expand_given, entries_given}
+use Rattle.hp_plain.proofs.CandidateSteps.{did, expand_given, parts_given}
 use Rattle.hp_plain.proofs.candidate.Candidate.expanded.Goals as goal
 
 pub returns : goal.returns
@@ -27,7 +27,7 @@ returns c =
     (record {
       stage = subst (λ w. StageBelow n w.now) (sym world) fits.node.stage;
       network =
-          entries_given n terms s fits c.in_ok-net.net.now c.expand.new.self.now (ap (λ h. h.now) c.in_ok-net.ensures)
+          parts_given n terms s fits c.in_ok-net.net.now c.expand.new.self.now (ap (λ h. h.now) c.in_ok-net.ensures)
           (λ h. c.in_ok-expand.ensures.below n h c.requires.tree);
       steps = All-same (λ c. c < n) c.in_ok-steps.steps.items node.steps.items items fits.node.steps;
       depth = omega arith;

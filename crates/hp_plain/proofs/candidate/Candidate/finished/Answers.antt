@@ -2,7 +2,7 @@ use Rattle.std.proofs.Common.{w64, pos, neg_ℤ, ◌-◌, ◌≤ℤ◌, ◌∷�
 use Rattle.std.proofs.lemmas.Int.{to_z-of_z}
 use Rattle.hp_tree.specs.SearchNodes.{most_cost}
 use Rattle.hp_tree.proofs.SearchNodeLemmas.{low_after, high_after, cost_added, steps_below, steps_named}
-use Rattle.hp_plain.proofs.CandidateSteps.{did, finish_given, entries_given}
+use Rattle.hp_plain.proofs.CandidateSteps.{did, finish_given, parts_given}
 use Rattle.hp_plain.proofs.candidate.Candidate.finished.Goals as goal
 
 pub returns : goal.returns
@@ -24,7 +24,7 @@ returns c =
     (record {
       stage = c.requires.world;
       network =
-          entries_given n terms s fits c.in_ok-net.net.now c.finish.new.self.now (ap (λ h. h.now) c.in_ok-net.ensures)
+          parts_given n terms s fits c.in_ok-net.net.now c.finish.new.self.now (ap (λ h. h.now) c.in_ok-net.ensures)
           (c.in_ok-finish.ensures.below n);
       steps = steps_below n c.push.new.self.items node.steps.items s.task items fits.node.steps fits.task;
       depth = omega arith;

@@ -1,5 +1,5 @@
 use Rattle.std.proofs.Common.{sym, subst}
-use Rattle.hp_net.specs.FlatNetworks.{NamesTask}
+use Rattle.hp_links.specs.Linked.{NamesTask}
 use Rattle.hp_trials.proofs.parts.networks.tasks_of.Goals as goal
 
 pub task-requires : goal.task-requires

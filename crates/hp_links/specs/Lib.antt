@@ -1,0 +1,12 @@
+pub mod Changing
+pub mod Entries
+pub mod Frames
+pub mod Fronts
+pub mod Labelled
+pub mod Linked
+pub mod Placed
+pub mod Planted
+pub mod Pushed
+pub mod Turning
+pub mod Undoing
+pub mod Walked

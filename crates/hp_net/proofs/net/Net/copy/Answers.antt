@@ -1,5 +1,0 @@
-use Rattle.std.proofs.Common.{rules}
-use Rattle.hp_net.proofs.net.Net.copy.Goals as goal
-
-pub returns : goal.returns
-returns c = search rules
