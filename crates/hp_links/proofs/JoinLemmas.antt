@@ -9,6 +9,7 @@ use Rattle.hp_links.specs.Changing.{HasRow}
 use Rattle.hp_links.specs.Frames.{Frame, top, tops, Stands, AllStand}
 use Rattle.hp_links.specs.Labelled.{Tree, Trees, Gone, Leaf, Branch, NoTree, With, count, IsFull, AreFull, unless_gone, as_branch, without, without_among, replaced, replaced_among}
 use Rattle.hp_links.specs.Linked.{Linked, tree_of}
+use Rattle.hp_links.proofs.ChangeLemmas.{count-replaced}
 use Rattle.hp_links.proofs.HangLemmas.{top_owned, same_part}
 use Rattle.hp_links.proofs.ShortenLemmas.{unless_standing, many_as_branch, leaf_out, same_tops}
 use Rattle.hp_links.proofs.TreeLemmas.{tree_of-top, length-tops}
@@ -41,11 +42,6 @@ mutual
   not_among f k NoTree s y h l = refl
   not_among f k (With t ts) s y h l =
       ap₂ With (not_below f (Some k) t s y h.1 (let m : k < top t = h.0 in omega arith)) (not_among f k ts s y h.2 l)
-
--- as many parts stand with another in the place of one
-count-replaced : (y : ℕ) (s : Tree) (ts : Trees) → count (replaced_among y s ts) ≡ count ts
-count-replaced y s NoTree = refl
-count-replaced y s (With t ts) = ap suc (count-replaced y s ts)
 
 module _ (f : Frame) (list : ℕ) (js : List ℕ) (r : HasRow f list js) (x cell : ℕ) (immediate : Bool)
     (task : slice_get f.parts x ≡ Some (Task cell immediate)) (owned : slice_get f.owners x ≡ Some (Some list))

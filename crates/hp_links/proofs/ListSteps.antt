@@ -1,6 +1,6 @@
 -- What is read of lists.
-use Rattle.std.proofs.Common.{◌≡◌, ℕ, zero, suc, ◌<◌, ◌≤◌, ◌⊎◌, inl, inr, List, [], ◌∷◌, length, get_or, set, Some, refl, ap, ◌∙◌, arith}
-use Rattle.std.specs.Prelude.{slice_get, Contains}
+use Rattle.std.proofs.Common.{◌≡◌, ℕ, zero, suc, ◌<◌, ◌≤◌, List, [], ◌∷◌, length, get_or, set, Some, refl, ap, ◌∙◌, arith}
+use Rattle.std.specs.Prelude.{slice_get}
 use Rattle.std.specs.List.{insert, remove}
 use Rattle.std.proofs.lemmas.List.Edits.{length-remove}
 use Rattle.hp_links.specs.Turning.{turned_right}
@@ -25,27 +25,6 @@ pub some_read : {A : Type 0} (xs : List A) (i : ℕ) → i < length xs → (x : 
 some_read [] i l = absurd (omega arith)
 some_read (x ∷ xs) zero l = (x, refl)
 some_read (x ∷ xs) (suc i) l = some_read xs i (omega arith)
-
-first_or_behind : (k : ℕ) (ks : List ℕ) (x i : ℕ) → i < length (k ∷ ks) → get_or (k ∷ ks) i x ≡ x
-    → (k ≡ x) ⊎ Contains ks x
-first_or_behind k ks x zero l e = inl e
-first_or_behind k ks x (suc i) l e = inr (i, omega arith, e)
-
--- what a list has is its first value or one of those behind it
-pub contains_cases : (k : ℕ) (ks : List ℕ) (x : ℕ) → Contains (k ∷ ks) x → (k ≡ x) ⊎ Contains ks x
-contains_cases k ks x h = first_or_behind k ks x h.0 h.1 h.2
-
--- a list has its first value
-pub contains_first : (k : ℕ) (ks : List ℕ) → Contains (k ∷ ks) k
-contains_first k ks = (0, omega arith, refl)
-
--- a list has what stands behind its first value
-pub contains_behind : (k : ℕ) (ks : List ℕ) (x : ℕ) → Contains ks x → Contains (k ∷ ks) x
-contains_behind k ks x h = (suc h.0, (let l : h.0 < length ks = h.1 in omega arith), h.2)
-
--- an empty list has nothing
-pub contains_none : (x : ℕ) → Contains [] x → ⊥
-contains_none x h = let l : h.0 < length {A = ℕ} [] = h.1 in omega arith
 
 -- before what is removed all stays
 pub read_removed_below : {A : Type 0} (xs : List A) (i k : ℕ) → k < i → slice_get (remove xs i) k ≡ slice_get xs k
