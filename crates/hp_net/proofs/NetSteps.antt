@@ -1,5 +1,5 @@
 -- Networks in place, and what their tasks and changes are in the definition.
-use Rattle.std.proofs.Common.{◌≡◌, ℕ, Bool, true, false, cond, List, map, Option, Some, None, refl, sym, ap, ap₂, ◌∙◌, subst, ⊎_elim}
+use Rattle.std.proofs.Common.{◌≡◌, ℕ, Bool, true, false, cond, List, map, Option, Some, None, refl, sym, ap, ap₂, ◌∙◌, ⊎_elim}
 use Rattle.std.specs.Prelude.{filter, slice_get}
 use Rattle.std.specs.List.{All, Contains, list_any}
 use Rattle.std.specs.Option.{option_and_then}
@@ -10,9 +10,7 @@ use Rattle.hp_syntax.specs.Networks.{Network, Place}
 use Rattle.hp_syntax.specs.Terms.{Term}
 use Rattle.hp_eval.specs.declared.tasks.TaskTree.{TaskTree}
 use Rattle.hp_eval.specs.GoalViews.{term_at, network_of}
-use Rattle.hp_links.specs.declared.links.Part.{Part}
-use Rattle.hp_links.specs.declared.links.Part.TheVariants.{Task}
-use Rattle.hp_links.specs.Labelled.{Tree, Leaf, network, number_of, numbers, place_in, part_in, leads, replaced}
+use Rattle.hp_links.specs.Labelled.{Leaf, network, number_of, numbers, place_in, part_in, leads}
 use Rattle.hp_links.specs.Linked.{Linked, tree_of, whole, place_of, focused, NamesTask}
 use Rattle.hp_links.specs.Placed.{IsPlaced, Finishes, Expands, is_immediate, immediate_first, scope_of, candidates_in}
 use Rattle.hp_links.proofs.ChangeLemmas.{replaced_part}
