@@ -5,7 +5,7 @@ use Rattle.std.proofs.lemmas.Bool.{cases_eq}
 use Rattle.std.proofs.lemmas.List.Elements.{Contains-append_left, Contains-append_right, Contains-append_cases}
 use Rattle.hp_links.specs.declared.entry.Order.{Order}
 use Rattle.hp_links.specs.Labelled.{Tree, Trees, Gone, Leaf, Branch, NoTree, With, numbers, numbers_of_all, number_of, AreApart, or_else, place_in, place_among, part_in, part_among, count, IsFull, AreFull, IsNormal, replaced, replaced_among, unless_gone, as_branch, without, without_among}
-use Rattle.hp_links.proofs.NumberLemmas.{AreDisjoint, IsWithin, contains_nothing, contains_first, contains_later, contains_cases, apart-append, apart_left, apart_right, apart_disjoint}
+use Rattle.hp_links.proofs.NumberLemmas.{AreDisjoint, AreAmong, contains_nothing, contains_first, contains_later, contains_cases, apart-append, apart_left, apart_right, apart_disjoint}
 use Rattle.hp_links.proofs.PlaceLemmas.{at_number, off_number, number_tells, absent_tells, is_number, part_within, part_among_within, part_of_number, place_of_number}
 
 -- ---- normal form
@@ -164,7 +164,7 @@ numbers-unless_gone (Branch k order us) ts = refl
 
 -- a list has no numbers but its own and those of its parts
 as_branch_within : (k : ℕ) (order : Order) (ts : Trees)
-    → IsWithin (numbers (as_branch k order ts)) (k ∷ numbers_of_all ts)
+    → AreAmong (numbers (as_branch k order ts)) (k ∷ numbers_of_all ts)
 as_branch_within k order NoTree = λ y c. absurd (contains_nothing y c)
 as_branch_within k order (With t NoTree) =
     λ y c. contains_later k y (numbers t ++ []) (Contains-append_left (numbers t) [] y c)
@@ -172,16 +172,16 @@ as_branch_within k order (With t (With u ts)) = λ y c. c
 
 -- without a part no numbers are new
 mutual
-  pub without_within : (x : ℕ) (t : Tree) → IsWithin (numbers (without x t)) (numbers t)
+  pub without_within : (x : ℕ) (t : Tree) → AreAmong (numbers (without x t)) (numbers t)
   without_within x Gone = λ y c. c
   without_within x (Leaf k cell immediate) =
-      elim (eqb k x) as (λ b. IsWithin (numbers (cond b Gone (Leaf k cell immediate))) (k ∷ [])) [
+      elim (eqb k x) as (λ b. AreAmong (numbers (cond b Gone (Leaf k cell immediate))) (k ∷ [])) [
         | true ↦ λ y c. absurd (contains_nothing y c)
         | false ↦ λ y c. c
       ]
   without_within x (Branch k order ts) =
       elim (eqb k x) as
-      (λ b. IsWithin (numbers (cond b Gone (as_branch k order (without_among x ts)))) (k ∷ numbers_of_all ts)) [
+      (λ b. AreAmong (numbers (cond b Gone (as_branch k order (without_among x ts)))) (k ∷ numbers_of_all ts)) [
         | true ↦ λ y c. absurd (contains_nothing y c)
         | false ↦ λ y c.
             ⊎_elim
@@ -191,7 +191,7 @@ mutual
             (as_branch_within k order (without_among x ts) y c))
       ]
 
-  pub without_among_within : (x : ℕ) (ts : Trees) → IsWithin (numbers_of_all (without_among x ts)) (numbers_of_all ts)
+  pub without_among_within : (x : ℕ) (ts : Trees) → AreAmong (numbers_of_all (without_among x ts)) (numbers_of_all ts)
   without_among_within x NoTree = λ y c. c
   without_among_within x (With t ts) =
       λ y c.
@@ -281,8 +281,8 @@ mutual
       (subst (λ u. Contains (numbers u) y) (off_number k x s (Branch k order (replaced_among x s ts)) e) c)))
       (cases_eq k x)
 
-  pub replaced_among_within : (x : ℕ) (s : Tree) (ts : Trees) (y : ℕ) → Contains (numbers_of_all (replaced_among x s ts)) y
-      → Contains (numbers_of_all ts) y ⊎ Contains (numbers s) y
+  pub replaced_among_within : (x : ℕ) (s : Tree) (ts : Trees) (y : ℕ)
+      → Contains (numbers_of_all (replaced_among x s ts)) y → Contains (numbers_of_all ts) y ⊎ Contains (numbers s) y
   replaced_among_within x s NoTree y c = inl c
   replaced_among_within x s (With t ts) y c =
       ⊎_elim
@@ -363,7 +363,8 @@ module _ (x : ℕ) (s : Tree) (f : ℕ) (number : number_of s ≡ Some f) where
               ∙ (place_of_number f s number ∙ sym (at_number k x (Some []) (place_among x 0 ts) n)),
         ))
         (λ n.
-        let m : k ≡ f → ⊥ = λ g. c (subst (Contains (k ∷ numbers_of_all ts)) g (contains_first k (numbers_of_all ts))) in
+        let m : k ≡ f → ⊥ =
+        λ g. c (subst (Contains (k ∷ numbers_of_all ts)) g (contains_first k (numbers_of_all ts))) in
         let r = replaced_among_part 0 ts u (λ h. c (contains_later k f (numbers_of_all ts) h))
         (sym (off_number k x (Some (Branch k order ts)) (part_among x ts) n) ∙ e) in (
           ap (part_in f) (off_number k x s (Branch k order (replaced_among x s ts)) n)

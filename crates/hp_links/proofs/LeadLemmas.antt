@@ -104,8 +104,8 @@ place_of_first t ts x i l =
     ∙ sym (ap (option_map (λ p. i ∷ p)) h.1)
 
 -- a task of a part is a task of the whole
-pub leaf_of_part : (t s : Tree) (f : ℕ) (p : Place) → AreApart (numbers t) → place_in f t ≡ Some p → part_in f t ≡ Some s
-    → (x : ℕ) → IsLeaf s x → IsLeaf t x
+pub leaf_of_part : (t s : Tree) (f : ℕ) (p : Place) → AreApart (numbers t) → place_in f t ≡ Some p
+    → part_in f t ≡ Some s → (x : ℕ) → IsLeaf s x → IsLeaf t x
 leaf_of_part t s f p a e g x l =
     let h = part_tells x s (Leaf x l.0 l.1) l.2 in
     (l.0, l.1, (place_below f t s p a e g x h.0 (Leaf x l.0 l.1) h.1 l.2).1)

@@ -9,8 +9,8 @@ abbrev pub AreDisjoint : List ℕ → List ℕ → Type 0
 AreDisjoint xs ys = (x : ℕ) → Contains xs x → Contains ys x → ⊥
 
 -- each number of one list is in the other
-abbrev pub IsWithin : List ℕ → List ℕ → Type 0
-IsWithin xs ys = (x : ℕ) → Contains xs x → Contains ys x
+abbrev pub AreAmong : List ℕ → List ℕ → Type 0
+AreAmong xs ys = (x : ℕ) → Contains xs x → Contains ys x
 
 -- no number is in the empty list
 pub contains_nothing : (x : ℕ) → Contains [] x → ⊥

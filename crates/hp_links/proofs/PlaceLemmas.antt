@@ -5,7 +5,7 @@ use Rattle.std.proofs.lemmas.Bool.{cases_eq, cond-true, cond-false, eq-eqb, ne_e
 use Rattle.std.proofs.lemmas.List.Elements.{Contains-append_left, Contains-append_right, Contains-append_cases}
 use Rattle.hp_syntax.specs.Networks.{Place}
 use Rattle.hp_links.specs.Labelled.{Tree, Trees, Gone, Leaf, Branch, NoTree, With, numbers, numbers_of_all, number_of, AreApart, or_else, place_in, place_among, part_in, part_among}
-use Rattle.hp_links.proofs.NumberLemmas.{IsWithin, contains_nothing, contains_first, contains_later, contains_cases, apart_left, apart_right}
+use Rattle.hp_links.proofs.NumberLemmas.{AreAmong, contains_nothing, contains_first, contains_later, contains_cases, apart_left, apart_right}
 
 -- ---- choices
 
@@ -210,7 +210,7 @@ number_at x ts j q s h = part_among_tells x ts s (part_among_at x ts j q s h)
 
 -- the numbers of a part are numbers of the whole
 mutual
-  pub part_within : (x : ℕ) (t s : Tree) → part_in x t ≡ Some s → IsWithin (numbers s) (numbers t)
+  pub part_within : (x : ℕ) (t s : Tree) → part_in x t ≡ Some s → AreAmong (numbers s) (numbers t)
   part_within x Gone s e = absurd cc
   part_within x (Leaf k cell immediate) s e =
       ⊎_elim
@@ -218,7 +218,7 @@ mutual
       let f : Some (Leaf k cell immediate) ≡ Some s =
       sym (at_number k x (Some (Leaf k cell immediate)) None n) ∙ e in
       let g : Leaf k cell immediate ≡ s = cc in
-      subst (λ u. IsWithin (numbers u) (k ∷ [])) g (λ y c. c))
+      subst (λ u. AreAmong (numbers u) (k ∷ [])) g (λ y c. c))
       (λ n.
       absurd (let f : None ≡ Some s = sym (off_number k x (Some (Leaf k cell immediate)) None n) ∙ e in cc))
       (cases_eq k x)
@@ -228,14 +228,14 @@ mutual
       let f : Some (Branch k order ts) ≡ Some s =
       sym (at_number k x (Some (Branch k order ts)) (part_among x ts) n) ∙ e in
       let g : Branch k order ts ≡ s = cc in
-      subst (λ u. IsWithin (numbers u) (k ∷ numbers_of_all ts)) g (λ y c. c))
+      subst (λ u. AreAmong (numbers u) (k ∷ numbers_of_all ts)) g (λ y c. c))
       (λ n y c.
       contains_later k y (numbers_of_all ts)
       (part_among_within x ts s (sym (off_number k x (Some (Branch k order ts)) (part_among x ts) n) ∙ e) y c))
       (cases_eq k x)
 
   pub part_among_within : (x : ℕ) (ts : Trees) (s : Tree) → part_among x ts ≡ Some s
-      → IsWithin (numbers s) (numbers_of_all ts)
+      → AreAmong (numbers s) (numbers_of_all ts)
   part_among_within x NoTree s e = absurd cc
   part_among_within x (With t ts) s e =
       ⊎_elim

@@ -62,7 +62,8 @@ fn see(net: &Net, seen: &mut Vec<Seen>) -> Result<(), AllocError> {
     Ok(())
 }
 
-// Undoes what was changed since the last copy was made, and lets the copy go unless it is the first: whether they agree.
+// Undoes what was changed since the last copy was made, and lets the copy go unless it is the first: whether they
+// agree.
 fn undo(alloc: Global, net: &mut Net, seen: &mut Vec<Seen>) -> Result<bool, AllocError> {
     let Some(last) = seen.last() else {
         return Ok(false);
