@@ -10,4 +10,4 @@ pub use changes::{Changes, Part};
 pub use costs::cost;
 pub use hp_syntax::Side;
 pub use obstacle::Obstacle;
-pub use putting::{put_atom, put_atoms, put_each, put_protection};
+pub use putting::{PutAtoms, put_atom, put_atoms, put_each, put_protection};

@@ -72,11 +72,55 @@ pub fn put_atoms(
     Ok(())
 }
 
+/// Atoms in order, however they are held, whose values can be put into changes.
+pub trait PutAtoms {
+    ghost use Rattle.std.specs.Prelude.{List, length};
+    ghost use Rattle.hp_syntax.specs.Changes.{atom_values};
+    ghost use Rattle.hp_syntax.specs.Syntax.{Atom};
+    ghost use Rattle.hp_eval.specs.Growth.{Grows};
+    ghost use Rattle.hp_eval.specs.Slotted.{AreBelow, bindings_of};
+    ghost use Rattle.hp_world.specs.Stages.{ChangesBelow, changes_of};
+    ghost use Rattle.hp_effect.specs.Gathering.{only_atoms, PutsAll};
+
+    /// The atoms.
+    ghost atoms: { Self → List Atom };
+
+    /// Puts the values of the atoms into changes.
+    fn put_all(
+        &self,
+        side: Side,
+        slots: &Slots,
+        cells: &mut Cells,
+        changes: &mut Changes,
+    ) -> Result<(), Obstacle>
+        requires slots { AreBelow (length cells.old) slots.now }
+        requires below { ChangesBelow (length cells.old) changes.old }
+        ensures puts { PutsAll side result (only_atoms (atom_values (atoms self.now) (bindings_of cells.old slots.now)))
+            cells.new (changes_of cells.old changes.old) changes.new }
+        ensures cells { Grows cells.old cells.new };
+}
+
+impl PutAtoms for Vec<AtomPat> {
+    ghost use Rattle.hp_syntax.specs.Views.{atoms_of};
+
+    ghost atoms = { λ v. atoms_of v.items };
+
+    fn put_all(
+        &self,
+        side: Side,
+        slots: &Slots,
+        cells: &mut Cells,
+        changes: &mut Changes,
+    ) -> Result<(), Obstacle> {
+        put_atoms(side, self.as_slice(), slots, cells, changes)
+    }
+}
+
 // Puts the values of atoms under the first event of a list into changes, whose bindings are in the slots if it is a
 // Sat: true where more may come, false at the end.
-fn put_event(
+fn put_event<A: PutAtoms>(
     side: Side,
-    atoms: &[AtomPat],
+    atoms: &A,
     event: Event,
     slots: &Slots,
     cells: &mut Cells,
@@ -85,7 +129,7 @@ fn put_event(
     requires slots { AreBelow (length cells.old) slots.now }
     requires below { ChangesBelow (length cells.old) changes.old }
     ensures puts { (xs : List PlainEvent) → event ≡ event_of xs → AreOfFirst xs (bindings_of cells.old slots.now)
-        → PutsNext side result (each_going (atoms_of atoms.now) xs) (each_going (atoms_of atoms.now) (left_after xs))
+        → PutsNext side result (each_going (A.atoms atoms.now) xs) (each_going (A.atoms atoms.now) (left_after xs))
         cells.new (changes_of cells.old changes.old) changes.new }
     ensures fewer { (xs : List PlainEvent) → event ≡ event_of xs → result ≡ Ok true
         → length (left_after xs) < length xs }
@@ -93,7 +137,7 @@ fn put_event(
 {
     match event {
         Event::Sat => {
-            put_atoms(side, atoms, slots, cells, changes)?;
+            atoms.put_all(side, slots, cells, changes)?;
             Ok(true)
         }
         Event::Cut => Err(Obstacle::Cut),
@@ -103,9 +147,9 @@ fn put_event(
 }
 
 // Puts the values of atoms under the next event into changes: true where more may come, false at the end.
-fn put_next<B, S: Sats<B>>(
+fn put_next<A: PutAtoms, B, S: Sats<B>>(
     side: Side,
-    atoms: &[AtomPat],
+    atoms: &A,
     sats: &mut S,
     base: &B,
     slots: &mut Slots,
@@ -119,8 +163,8 @@ fn put_next<B, S: Sats<B>>(
     requires cells { S.kept sats.old ≤ length cells.old }
     requires below { ChangesBelow (length cells.old) changes.old }
     ensures puts { PutsNext side result
-        (each_going (atoms_of atoms.now) (S.rest sats.old base.now cells.old slots.old))
-        (each_going (atoms_of atoms.now) (S.rest sats.new base.now cells.new slots.new))
+        (each_going (A.atoms atoms.now) (S.rest sats.old base.now cells.old slots.old))
+        (each_going (A.atoms atoms.now) (S.rest sats.new base.now cells.new slots.new))
         cells.new (changes_of cells.old changes.old) changes.new }
     ensures fewer { result ≡ Ok true → length (S.rest sats.new base.now cells.new slots.new)
         < length (S.rest sats.old base.now cells.old slots.old) }
@@ -139,9 +183,9 @@ fn put_next<B, S: Sats<B>>(
 
 /// Puts the values of atoms under each Sat that is left in turn into changes; a Cut or a Fault stops here. The
 /// satisfiers are to be closed then.
-pub fn put_each<B, S: Sats<B>>(
+pub fn put_each<A: PutAtoms, B, S: Sats<B>>(
     side: Side,
-    atoms: &[AtomPat],
+    atoms: &A,
     sats: &mut S,
     base: &B,
     slots: &mut Slots,
@@ -155,7 +199,7 @@ pub fn put_each<B, S: Sats<B>>(
     requires cells { S.kept sats.old ≤ length cells.old }
     requires below { ChangesBelow (length cells.old) changes.old }
     ensures puts { PutsAll side result
-        (only_atoms (values_for_each (atoms_of atoms.now) (S.rest sats.old base.now cells.old slots.old)))
+        (only_atoms (values_for_each (A.atoms atoms.now) (S.rest sats.old base.now cells.old slots.old)))
         cells.new (changes_of cells.old changes.old) changes.new }
     ensures slots { S.fits sats.new slots.new }
     ensures undone { undone (S.start sats.new) slots.new ≡ undone (S.start sats.old) slots.old }

@@ -33,7 +33,7 @@ pub enum EffectsOutcome {
 fn put_listed(
     alloc: Global,
     side: Side,
-    atoms: &[AtomPat],
+    atoms: &Vec<AtomPat>,
     found: Vec<Answer>,
     vars: usize,
     cells: &mut Cells,
@@ -42,7 +42,7 @@ fn put_listed(
     requires few { vars ≤ MOST_VARIABLES }
     requires fit { AllFit vars (length cells.old) found.items }
     requires below { ChangesBelow (length cells.old) changes.old }
-    ensures puts { PutsAll side result (each_going (atoms_of atoms.now) (heard (answer_events cells.old found.items)))
+    ensures puts { PutsAll side result (each_going (atoms_of atoms.now.items) (heard (answer_events cells.old found.items)))
         cells.new (changes_of cells.old changes.old) changes.new }
     ensures cells { Grows cells.old cells.new }
 {
@@ -76,15 +76,7 @@ impl Scene<'_> {
             Effect::Protection(atom) => put_protection(side, atom, slots, cells, changes),
             Effect::Forall(_, expr, atoms) => {
                 let found = self.events(expr, slots, nest, cells)?;
-                put_listed(
-                    self.alloc,
-                    side,
-                    atoms.as_slice(),
-                    found,
-                    slots.vars(),
-                    cells,
-                    changes,
-                )
+                put_listed(self.alloc, side, atoms, found, slots.vars(), cells, changes)
             }
         }
     }

@@ -1,6 +1,5 @@
 use Rattle.std.proofs.Common.{refl, ◌∙◌, arith}
 use Rattle.std.proofs.lemmas.Result.{err_from_is_err_and}
-use Rattle.hp_syntax.specs.Views.{atoms_of}
 use Rattle.hp_eval.proofs.GrowthLemmas.{grows_self, grows_on}
 use Rattle.hp_world.specs.Stages.{changes_of}
 use Rattle.hp_effect.specs.Gathering.{each_going, HasPut, PutsFirst}
@@ -11,7 +10,7 @@ pub loop-init : goal.loop-init
 loop-init g c =
     let old = c.args.cells.now in
     let changes = c.args.changes.now in
-    let whole = each_going (atoms_of c.args.atoms.now)
+    let whole = each_going (g.A.PutAtoms.atoms c.args.atoms.now)
     (g.S.Sats.rest c.args.sats.now c.args.base.now old c.args.slots.now) in
     record {
       along = along_none c.args.side whole (changes_of old changes) old changes refl c.requires.below;
@@ -50,7 +49,7 @@ loop-preserved g c =
     let next = c.put_next.ensures in
     let kept = next.kept in
     let old = c.args.cells.now in
-    let as' = atoms_of c.args.atoms.now in
+    let as' = g.A.PutAtoms.atoms c.args.atoms.now in
     let whole = each_going as' (g.S.Sats.rest c.args.sats.now c.args.base.now old c.args.slots.now) in
     let left = each_going as' (g.S.Sats.rest c.loop.sats c.args.base.now c.loop.cells c.loop.slots) in
     let rest =
@@ -76,7 +75,7 @@ loop-preserved g c =
 pub returns-clause-puts : goal.returns-clause-puts
 returns-clause-puts g c =
     let old = c.args.cells.now in
-    let as' = atoms_of c.args.atoms.now in
+    let as' = g.A.PutAtoms.atoms c.args.atoms.now in
     let whole = each_going as' (g.S.Sats.rest c.args.sats.now c.args.base.now old c.args.slots.now) in
     let left = each_going as' (g.S.Sats.rest c.loop.sats c.args.base.now c.loop.cells c.loop.slots) in
     let put : HasPut c.args.side left c.put_next.new.cells (changes_of c.loop.cells c.loop.changes)
@@ -88,7 +87,7 @@ returns-clause-puts g c =
 pub returns-in_err-put_next-clause-puts : goal.returns-in_err-put_next-clause-puts
 returns-in_err-put_next-clause-puts g c =
     let old = c.args.cells.now in
-    let as' = atoms_of c.args.atoms.now in
+    let as' = g.A.PutAtoms.atoms c.args.atoms.now in
     let whole = each_going as' (g.S.Sats.rest c.args.sats.now c.args.base.now old c.args.slots.now) in
     let left = each_going as' (g.S.Sats.rest c.loop.sats c.args.base.now c.loop.cells c.loop.slots) in
     let p = err_from_is_err_and c.from_residual.result c.from_residual.ensures.1 in

@@ -1,5 +1,4 @@
 use Rattle.std.proofs.Common.{◌≡◌, ◌≤◌, true, length}
-use Rattle.hp_syntax.specs.Views.{atoms_of}
 use Rattle.hp_eval.specs.Growth.{Grows}
 use Rattle.hp_eval.specs.Slotted.{undone}
 use Rattle.hp_world.specs.Stages.{changes_of}
@@ -10,8 +9,8 @@ use Rattle.hp_effect.proofs.putting.put_each.Given as goal
 abbrev pub invariant-loop : goal.invariant-loop
 invariant-loop g l = record {
   along : Along l.side
-      (each_going (atoms_of l.atoms) (g.S.Sats.rest l.initial.sats l.base l.initial.cells l.initial.slots))
-      (each_going (atoms_of l.atoms) (g.S.Sats.rest l.sats l.base l.cells l.slots)) l.cells
+      (each_going (g.A.PutAtoms.atoms l.atoms) (g.S.Sats.rest l.initial.sats l.base l.initial.cells l.initial.slots))
+      (each_going (g.A.PutAtoms.atoms l.atoms) (g.S.Sats.rest l.sats l.base l.cells l.slots)) l.cells
       (changes_of l.initial.cells l.initial.changes) l.changes;
   live : g.S.Sats.is_live l.sats ≡ true;
   still_open : g.S.Sats.is_open l.sats ≡ true;

@@ -1,5 +1,4 @@
 use Rattle.std.proofs.Common.{◌≡◌, length, sym, ap, subst, ◌∙◌, arith}
-use Rattle.hp_syntax.specs.Views.{atoms_of}
 use Rattle.hp_eval.specs.Events.{left_after}
 use Rattle.hp_eval.proofs.GrowthLemmas.{grows_on, grows_length, kept_agree}
 use Rattle.hp_eval.proofs.SlotLemmas.{undone_start}
@@ -39,7 +38,7 @@ returns-clause-puts g c =
     let old = c.args.cells.now in
     let between = c.next.new.cells in
     let new = c.put_event.new.cells in
-    let as' = atoms_of c.args.atoms.now in
+    let as' = g.A.PutAtoms.atoms c.args.atoms.now in
     let changes = c.args.changes.now in
     let xs = g.S.Sats.rest c.args.sats.now c.args.base.now old c.args.slots.now in
     let sats = c.next.new.self in

@@ -21,7 +21,7 @@ new-sats-requires-clause-fit c =
 pub returns-clause-puts : goal.returns-clause-puts
 returns-clause-puts c =
     let old = c.args.cells.now in
-    let same = ap (each_going (atoms_of c.args.atoms.now)) (c.new-sats.ensures.rest old c.in_ok-slots.slots) in
+    let same = ap (each_going (atoms_of c.args.atoms.now.items)) (c.new-sats.ensures.rest old c.in_ok-slots.slots) in
     subst
     (λ g. PutsAll {A = Unit {0}} c.args.side c.put_each.result g c.put_each.new.cells
     (changes_of old c.args.changes.now) c.put_each.new.changes) same c.put_each.ensures.puts

@@ -30,12 +30,11 @@ returns-in_ok-found-in-Forall-clause-puts c =
     let as' = atoms_of c.in-Forall.atoms.items in
     let events = heard (answer_events mid c.in_ok-found-in-Forall.found.items) in
     let after = c.put_listed.new.changes in
-    let put = each_going (atoms_of c.as_slice.result.now) events in
+    let put = each_going as' events in
     let same =
-    ap (λ xs. each_going (atoms_of xs) events) c.as_slice.ensures.value
-    ∙ (ap (each_going as') c.in_ok-found-in-Forall.ensures.found
+    ap (each_going as') c.in_ok-found-in-Forall.ensures.found
     ∙ each_effect axioms c.args.nest state e c.args.effect.now c.in-Forall.field-0 c.in-Forall.expr c.in-Forall.atoms
-    c.in-Forall.is) in
+    c.in-Forall.is in
     let stay = changes_stay old mid c.events.ensures.cells c.args.changes.now c.requires.below in
     subst (λ g. PutsAll {A = Unit {0}} side c.put_listed.result g new (changes_of old c.args.changes.now) after) same
     (subst (λ x. PutsAll {A = Unit {0}} side c.put_listed.result put new x after) stay c.put_listed.ensures.puts)

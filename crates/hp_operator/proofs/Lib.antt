@@ -1,0 +1,5 @@
+mod BodyLemmas
+mod ChangedLemmas
+mod ChangedNodes
+mod SideSteps
+mod WholeSteps
