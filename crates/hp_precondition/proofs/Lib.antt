@@ -1,1 +1,2 @@
 mod PreconditionLemmas
+pub mod PickedScenes

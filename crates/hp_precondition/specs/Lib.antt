@@ -1,1 +1,3 @@
 pub mod PreconditionNodes
+pub mod Picks
+pub mod PickedLaws

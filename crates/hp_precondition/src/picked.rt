@@ -1,17 +1,24 @@
 //! What a precondition takes of the satisfiers of its expression.
+ghost use Rattle.std.specs.Prelude.{◌≡◌, ◌≤◌, true, false, IfOk, OnOk, OnErr, length};
+ghost use Rattle.hp_eval.specs.Events.{event_of, left_after, AreOfFirst};
+ghost use Rattle.hp_eval.specs.Growth.{Grows};
+ghost use Rattle.hp_eval.specs.Slotted.{AreBelow, Binds, bindings_of, undone};
+ghost use Rattle.hp_precondition.specs.Picks.{picked_rest, PickedSuits, PickedFits, picked_start, picked_kept, picked_live, picked_open};
+
 use hp_cells::Cells;
 use hp_eval::{Event, Sats, Slots};
+use hp_gen::{Gen, Scene};
 use hp_pick::{First, Sorted};
 use std::alloc::AllocError;
 
-/// All of some satisfiers, the first alone, or all in the order of a variable.
-pub enum Picked<S> {
-    All(S),
-    First(First<S>),
-    Sorted(Sorted<S>),
+/// All satisfiers of an expression, the first alone, or all in the order of a variable.
+pub enum Picked {
+    All(Gen),
+    First(First<Gen>),
+    Sorted(Sorted<Gen>),
 }
 
-impl<S: Drop> Drop for Picked<S> {
+impl Drop for Picked {
     fn drop(self) {
         match self {
             Picked::All(inner) => drop(inner),
@@ -21,57 +28,51 @@ impl<S: Drop> Drop for Picked<S> {
     }
 }
 
-impl<B, S: Sats<B>> Sats<B> for Picked<S> {
-    ghost use Rattle.hp_precondition.specs.declared.picked.Picked.TheVariants as picks;
+impl<'a> Sats<Scene<'a>> for Picked {
+    ghost use Rattle.hp_precondition.specs.Picks.{picked_rest, PickedSuits, PickedFits, picked_start, picked_kept, picked_live, picked_open};
 
-    ghost rest = { λ s b c e. elim s [
-      | picks.All x ↦ S.rest x b c e
-      | picks.First x ↦ ⟦<First<S> as Sats<B>>⟧.rest x b c e
-      | picks.Sorted x ↦ ⟦<Sorted<S> as Sats<B>>⟧.rest x b c e
-    ] };
+    ghost rest = { λ s b c e. picked_rest s b c e };
 
-    ghost suits = { λ s b c. elim s as (λ x. Type 0) [
-      | picks.All x ↦ S.suits x b c
-      | picks.First x ↦ ⟦<First<S> as Sats<B>>⟧.suits x b c
-      | picks.Sorted x ↦ ⟦<Sorted<S> as Sats<B>>⟧.suits x b c
-    ] };
+    ghost suits = { λ s b c. PickedSuits s b c };
 
-    ghost fits = { λ s e. elim s as (λ x. Type 0) [
-      | picks.All x ↦ S.fits x e
-      | picks.First x ↦ ⟦<First<S> as Sats<B>>⟧.fits x e
-      | picks.Sorted x ↦ ⟦<Sorted<S> as Sats<B>>⟧.fits x e
-    ] };
+    ghost fits = { λ s e. PickedFits s e };
 
-    ghost start = { λ s. elim s [
-      | picks.All x ↦ S.start x
-      | picks.First x ↦ ⟦<First<S> as Sats<B>>⟧.start x
-      | picks.Sorted x ↦ ⟦<Sorted<S> as Sats<B>>⟧.start x
-    ] };
+    ghost start = { λ s. picked_start s };
 
-    ghost kept = { λ s. elim s [
-      | picks.All x ↦ S.kept x
-      | picks.First x ↦ ⟦<First<S> as Sats<B>>⟧.kept x
-      | picks.Sorted x ↦ ⟦<Sorted<S> as Sats<B>>⟧.kept x
-    ] };
+    ghost kept = { λ s. picked_kept s };
 
-    ghost is_live = { λ s. elim s [
-      | picks.All x ↦ S.is_live x
-      | picks.First x ↦ ⟦<First<S> as Sats<B>>⟧.is_live x
-      | picks.Sorted x ↦ ⟦<Sorted<S> as Sats<B>>⟧.is_live x
-    ] };
+    ghost is_live = { λ s. picked_live s };
 
-    ghost is_open = { λ s. elim s [
-      | picks.All x ↦ S.is_open x
-      | picks.First x ↦ ⟦<First<S> as Sats<B>>⟧.is_open x
-      | picks.Sorted x ↦ ⟦<Sorted<S> as Sats<B>>⟧.is_open x
-    ] };
+    ghost is_open = { λ s. picked_open s };
 
     fn next(
         &mut self,
-        base: &B,
+        base: &Scene<'a>,
         cells: &mut Cells,
         slots: &mut Slots,
-    ) -> Result<Event, AllocError> {
+    ) -> Result<Event, AllocError>
+        requires live { picked_live self.old ≡ true }
+        requires open { picked_open self.old ≡ true }
+        requires base { PickedSuits self.old base.now cells.old }
+        requires slots { PickedFits self.old slots.old }
+        requires cells { picked_kept self.old ≤ length cells.old }
+        ensures event { IfOk result (λ x. x ≡ event_of (picked_rest self.old base.now cells.old slots.old)) }
+        ensures rest { OnOk result (picked_rest self.new base.now cells.new slots.new
+            ≡ left_after (picked_rest self.old base.now cells.old slots.old)) }
+        ensures sat { OnOk result (AreOfFirst (picked_rest self.old base.now cells.old slots.old)
+            (bindings_of cells.new slots.new)) }
+        ensures base { PickedSuits self.new base.now cells.new }
+        ensures slots { PickedFits self.new slots.new }
+        ensures above { Binds (undone (picked_start self.old) slots.old) slots.new }
+        ensures below { AreBelow (picked_kept self.new) slots.new }
+        ensures undone { OnErr result (Binds slots.new slots.old) }
+        ensures start { picked_start self.new ≡ picked_start self.old }
+        ensures kept { (picked_kept self.old ≤ picked_kept self.new) × (picked_kept self.new ≤ length cells.new) }
+        ensures cells { Grows cells.old cells.new }
+        ensures live { OnOk result (picked_live self.new ≡ true) }
+        ensures dead { OnErr result (picked_live self.new ≡ false) }
+        ensures open { picked_open self.new ≡ true }
+    {
         match self {
             Picked::All(inner) => inner.next(base, cells, slots),
             Picked::First(first) => first.next(base, cells, slots),
@@ -79,7 +80,13 @@ impl<B, S: Sats<B>> Sats<B> for Picked<S> {
         }
     }
 
-    fn close(&mut self, slots: &mut Slots) {
+    fn close(&mut self, slots: &mut Slots)
+        requires open { picked_open self.old ≡ true }
+        requires slots { PickedFits self.old slots.old }
+        ensures slots { slots.new ≡ undone (picked_start self.old) slots.old }
+        ensures closed { picked_open self.new ≡ false }
+        ensures live { picked_live self.new ≡ picked_live self.old }
+    {
         match self {
             Picked::All(inner) => inner.close(slots),
             Picked::First(first) => first.close(slots),
@@ -87,7 +94,9 @@ impl<B, S: Sats<B>> Sats<B> for Picked<S> {
         }
     }
 
-    fn live(&self) -> bool {
+    fn live(&self) -> bool
+        ensures { result ≡ picked_live self.now }
+    {
         match self {
             Picked::All(inner) => inner.live(),
             Picked::First(first) => first.live(),
@@ -95,39 +104,13 @@ impl<B, S: Sats<B>> Sats<B> for Picked<S> {
         }
     }
 
-    ghost use Rattle.hp_syntax.specs.Events.{EventExtends};
-    ghost use Rattle.hp_syntax.specs.Views.{key_of};
-    ghost use Rattle.hp_eval.specs.Slotted.{bindings_of, undone};
-    ghost use Rattle.hp_pick.specs.SortedLaws.{either_hold, either_suits, either_same, either_extend};
-    ghost use Rattle.hp_pick.specs.UpToSat.{first_same, first_extend};
+    ghost use Rattle.hp_precondition.specs.PickedLaws.{picked_hold, picked_same_base, picked_same_cells, picked_extend};
 
-    ghost fits_hold = { elim [
-      | picks.All x ↦ λ e h. S.fits_hold x e h
-      | picks.First x ↦ λ e h. S.fits_hold x.inner e h
-      | picks.Sorted x ↦ λ e h. either_hold (S.fits x.inner e) (S.start x.inner) x.mark (S.kept x.inner) x.heard e
-          (S.fits_hold x.inner e) h
-    ] };
+    ghost fits_hold = { λ s e h. picked_hold s e h };
 
-    ghost same_base = { elim [
-      | picks.All x ↦ λ b c d u k. S.same_base x b c d u k
-      | picks.First x ↦ λ b c d u k. S.same_base x.inner b c d u k
-      | picks.Sorted x ↦ λ b c d u k. either_suits (S.suits x.inner b c) (S.suits x.inner b d) (S.kept x.inner) x.heard
-          c d (S.same_base x.inner b c d) u k
-    ] };
+    ghost same_base = { λ s b c d u k. picked_same_base s b c d u k };
 
-    ghost same_cells = { elim [
-      | picks.All x ↦ λ b c d e u h k. S.same_cells x b c d e u h k
-      | picks.First x ↦ λ b c d e u h k. first_same x.ended (S.same_cells x.inner b c d e u h k)
-      | picks.Sorted x ↦ λ b c d e u h k. either_same (key_of x.key) (S.suits x.inner b c) (S.fits x.inner e)
-          (S.start x.inner) x.mark (S.kept x.inner) x.heard e c d (S.rest x.inner b c e) (S.rest x.inner b d e)
-          (S.same_cells x.inner b c d e) u h k
-    ] };
+    ghost same_cells = { λ s b c d e u h k. picked_same_cells s b c d e u h k };
 
-    ghost sats_extend = { elim [
-      | picks.All x ↦ λ b c e u h. S.sats_extend x b c e u h
-      | picks.First x ↦ λ b c e u h. first_extend (EventExtends (bindings_of c (undone (S.start x.inner) e)))
-          x.ended (S.rest x.inner b c e) (S.sats_extend x.inner b c e u h)
-      | picks.Sorted x ↦ λ b c e u h. either_extend (key_of x.key) (S.suits x.inner b c) (S.fits x.inner e)
-          (S.start x.inner) x.mark x.heard e c (S.rest x.inner b c e) (S.sats_extend x.inner b c e) u h
-    ] };
+    ghost sats_extend = { λ s b c e u h. picked_extend s b c e u h };
 }

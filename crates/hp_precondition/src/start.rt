@@ -6,12 +6,13 @@ ghost use Rattle.hp_eval.specs.Slotted.{bindings_of};
 ghost use Rattle.hp_nodes.specs.NodeViews.{laid_of};
 ghost use Rattle.hp_suspended.specs.SceneViews.{IsReady, code_in, setting_of};
 ghost use Rattle.hp_suspended.specs.Settings.{axioms_in, state_in};
+ghost use Rattle.hp_precondition.specs.Picks.{picked_rest, PickedSuits, PickedFits, picked_start, picked_kept, picked_live, picked_open};
 ghost use Rattle.hp_precondition.specs.PreconditionNodes.{IsPreconditionAt, precondition_at};
 
 use crate::picked::Picked;
 use hp_cells::Cells;
 use hp_code::{CodeNode, Op};
-use hp_eval::{Sats, Slots};
+use hp_eval::Slots;
 use hp_gen::{Gen, Scene};
 use hp_pick::{First, Sorted};
 use std::alloc::{AllocError, Global};
@@ -36,20 +37,19 @@ pub fn satisfiers<'a>(
     node: usize,
     nest: u32,
     slots: &Slots,
-) -> Result<Picked<Gen>, AllocError>
+) -> Result<Picked, AllocError>
     requires ready { IsReady scene.now cells.now slots.now }
     requires node { IsPreconditionAt (code_in scene.now) node }
     requires levels { nest ≤ 128 }
     ensures rest { IfOk result (λ s. (p : Precondition) → precondition_at (code_in scene.now) node ≡ Some p
-        → ⟦<Picked<Gen> as Sats<Scene<'a>>>⟧.rest s scene.now cells.now slots.now
-        ≡ precondition_events (axioms_in (setting_of scene.now cells.now)) nest
+        → picked_rest s scene.now cells.now slots.now ≡ precondition_events (axioms_in (setting_of scene.now cells.now)) nest
         (state_in (setting_of scene.now cells.now)) p (bindings_of cells.now slots.now)) }
-    ensures suits { IfOk result (λ s. ⟦<Picked<Gen> as Sats<Scene<'a>>>⟧.suits s scene.now cells.now) }
-    ensures fits { IfOk result (λ s. ⟦<Picked<Gen> as Sats<Scene<'a>>>⟧.fits s slots.now) }
-    ensures start { IfOk result (λ s. ⟦<Picked<Gen> as Sats<Scene<'a>>>⟧.start s ≡ length slots.now.trail) }
-    ensures kept { IfOk result (λ s. ⟦<Picked<Gen> as Sats<Scene<'a>>>⟧.kept s ≡ length cells.now) }
-    ensures live { IfOk result (λ s. ⟦<Picked<Gen> as Sats<Scene<'a>>>⟧.is_live s ≡ true) }
-    ensures open { IfOk result (λ s. ⟦<Picked<Gen> as Sats<Scene<'a>>>⟧.is_open s ≡ true) }
+    ensures suits { IfOk result (λ s. PickedSuits s scene.now cells.now) }
+    ensures fits { IfOk result (λ s. PickedFits s slots.now) }
+    ensures start { IfOk result (λ s. picked_start s ≡ length slots.now.trail) }
+    ensures kept { IfOk result (λ s. picked_kept s ≡ length cells.now) }
+    ensures live { IfOk result (λ s. picked_live s ≡ true) }
+    ensures open { IfOk result (λ s. picked_open s ≡ true) }
 {
     let op = &node_at(node, scene).op;
     let below = node + 1;

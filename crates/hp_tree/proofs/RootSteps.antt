@@ -16,8 +16,10 @@ use Rattle.hp_world.specs.declared.store.Applied.{Applied}
 use Rattle.hp_world.specs.declared.store.Applied.TheVariants as answers
 use Rattle.hp_world.specs.Answers.{Applies, Gives}
 use Rattle.hp_world.specs.Histories.{History}
+use Rattle.hp_world.specs.Pasts.{PastsBelow}
 use Rattle.hp_world.specs.Stages.{Stage, AllBelow, live_atoms, same_cell, terms_at}
 use Rattle.hp_world.proofs.AnswerLemmas.{applied_to_terms}
+use Rattle.hp_tree.specs.Roots.{nothing, untouched}
 
 -- ---- atoms
 
@@ -39,10 +41,6 @@ module _ (atoms : List AtomPat) (i : ℕ) (a : AtomPat) (l : i < length atoms) (
       ∙ map-append atom_said (atoms_of (take i atoms)) (atom_of a ∷ []))
 
 -- ---- the world
-
--- a stage where nothing stands
-abbrev pub nothing : Stage
-nothing = record { places = []; guards = [] }
 
 given : (a : Applied) (xs gs : List ℕ) (old new : History Stage) → Gives a (Now xs gs) old new
     → (live_atoms new.now.places ≡ xs) × (new.now.guards ≡ gs)
@@ -70,3 +68,7 @@ world_begun terms atoms a old new begun cells below h =
     ap (terms_at terms) there.0
     ∙ now_same (terms_at terms (with_added same_cell [] atoms)) (added [] (terms_at terms atoms)) [] [] same in
     (state, there.1)
+
+-- where nothing stood, all atoms are below any count
+pub untouched_below : (n : ℕ) → PastsBelow n untouched
+untouched_below n m = All-nil (λ c. c < n)

@@ -1,18 +1,17 @@
 -- Nodes in memory stand for the same where terms are added, and their costs stay within bounds.
-use Rattle.std.proofs.Common.{◌≡◌, ℕ, ◌-◌, ◌<◌, ◌≤◌, ℤ, pos, neg_ℤ, ◌+ℤ◌, ◌≤ℤ◌, SFits, w64, to_z, of_z, List, [], ◌∷◌, ◌++◌, length, take, drop, Option, refl, ◌∙◌, ap, ap₂, arith}
+use Rattle.std.proofs.Common.{◌≡◌, ℕ, ◌-◌, ◌<◌, ◌≤◌, ℤ, pos, neg_ℤ, ◌+ℤ◌, ◌≤ℤ◌, SFits, w64, to_z, of_z, List, [], ◌∷◌, ◌++◌, length, Option, refl, ◌∙◌, ap, ap₂, arith}
 use Rattle.std.specs.Int.{w128}
 use Rattle.std.specs.List.{All}
 use Rattle.std.specs.Option.{option_and_then}
 use Rattle.std.proofs.lemmas.Int.{ints, to_z-of_z}
 use Rattle.std.proofs.lemmas.List.{map-append}
-use Rattle.std.proofs.lemmas.List.Elements.{All-append, All-cons, All-head, All-nil, All-same, All-tail, All-weaker}
+use Rattle.std.proofs.lemmas.List.Elements.{All-append, All-cons, All-nil, All-same, All-weaker}
 use Rattle.hp_syntax.specs.declared.limits.TheConstants.{DEEPEST_WALK}
 use Rattle.hp_syntax.specs.Terms.{Term}
-use Rattle.hp_syntax.specs.Networks as plain
 use Rattle.hp_syntax.specs.Networks.{Network, Place}
 use Rattle.hp_syntax.specs.Events.{State}
 use Rattle.hp_syntax.specs.Walk.{Node}
-use Rattle.hp_eval.specs.GoalViews.{term_or_nil, term_at, as_networks}
+use Rattle.hp_eval.specs.GoalViews.{term_or_nil, term_at}
 use Rattle.hp_eval.specs.Growth.{Grows}
 use Rattle.hp_eval.proofs.GrowthLemmas.{stays, all_below, terms_stay, grows_length}
 use Rattle.hp_links.specs.declared.links.Part.{Part}

@@ -1,0 +1,2 @@
+pub mod BranchNodes
+mod ChosenEvents

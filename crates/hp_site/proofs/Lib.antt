@@ -1,0 +1,3 @@
+pub mod SiteLemmas
+pub mod AgreeLemmas
+mod OperatingSteps
