@@ -1,0 +1,153 @@
+//! Candidates, and the rules that are left for the first of them.
+ghost use Rattle.std.specs.Prelude.{◌≡◌, ◌<◌, ◌≤◌, ◌++◌, ℕ, [], Some, IfOk, IfSome, OnOk, drop, length, map, option_copied};
+ghost use Rattle.std.specs.List.{All};
+ghost use Rattle.hp_laws.specs.RulesByName.{relevant, symbol_name, task_name};
+ghost use Rattle.hp_code.specs.Codes.{code_of};
+ghost use Rattle.hp_code.specs.CodeViews.{beside, rule_nodes, rules_in};
+ghost use Rattle.hp_eval.specs.GoalViews.{term_at};
+ghost use Rattle.hp_eval.specs.Growth.{Grows};
+ghost use Rattle.hp_suspended.specs.SceneViews.{code_in};
+ghost use Rattle.hp_tree.specs.Children.{IsCandidate, by_candidates};
+ghost use Rattle.hp_tree.specs.SearchNodes.{node_of};
+ghost use Rattle.hp_site.specs.Sites.{IsSite, held_now};
+ghost use Rattle.hp_agenda.specs.Queues.{IsQueue, IsRuleIn, MaybeOpen, by_queue, if_open, queue_children, work_left};
+
+use hp_cells::{Cell, Cells, View};
+use hp_choice::{Choice, open};
+use hp_code::Code;
+use hp_net::TaskId;
+use hp_site::Site;
+use hp_syntax::Name;
+use std::alloc::{AllocError, Global};
+
+/// Candidates, of which those from a place on are left, and the nodes of the rules that are left for the first of
+/// these.
+pub struct Queue<'a> {
+    pub rules: &'a [usize],
+    pub candidates: Vec<TaskId>,
+    pub at: usize,
+}
+
+impl Drop for Queue<'_> {
+    fn drop(self) {
+        let Queue {
+            rules: _,
+            candidates,
+            at: _,
+        } = self;
+        drop(candidates);
+    }
+}
+
+// The name of a term, if it is a symbol.
+fn symbol_name(cell: Cell, cells: &Cells) -> Option<&Name>
+    requires { cell < length cells.now }
+    ensures { option_copied result ≡ symbol_name (term_at cells.now cell) }
+{
+    match cells.get(cell) {
+        View::Sym(name) => Some(name),
+        View::Nil | View::Num(_) | View::Cons(_, _) => None,
+    }
+}
+
+// The name in front of a task, if there is one.
+fn task_name(task: Cell, cells: &Cells) -> Option<&Name>
+    requires { task < length cells.now }
+    ensures { option_copied result ≡ task_name (term_at cells.now task) }
+{
+    match cells.get(task) {
+        View::Cons(head, _) => symbol_name(head, cells),
+        View::Nil | View::Sym(_) | View::Num(_) => None,
+    }
+}
+
+// The nodes of the rules that are relevant to a task, in the order of the domain.
+fn relevant_rules<'a>(code: &'a Code, task: Cell, cells: &Cells) -> &'a [usize]
+    requires { task < length cells.now }
+    ensures { map (λ i. beside i (rule_nodes (code_of code.now)) (rules_in (code_of code.now))) result.now
+        ≡ map Some (relevant (task_name (term_at cells.now task)) (rules_in (code_of code.now))) }
+{
+    match task_name(task, cells) {
+        Some(name) => code.task_rules(name),
+        None => &[],
+    }
+}
+
+// The nodes of the rules that are relevant to the candidate of a place, if there is one.
+fn rules_at<'a>(candidates: &[TaskId], at: usize, site: &Site<'a>, cells: &Cells) -> &'a [usize]
+    requires site { IsSite cells.now site.now }
+    requires candidates { All (IsCandidate site.now.net.now) candidates.now }
+    ensures left { (nest : ℕ) → by_queue (code_in site.now.scene) nest (node_of cells.now (held_now site.now))
+        site.now.net.now result.now (drop at candidates.now) ≡ by_candidates (rules_in (code_in site.now.scene)) nest
+        (node_of cells.now (held_now site.now)) site.now.net.now (drop at candidates.now) 0 }
+    ensures rules { All (IsRuleIn (code_in site.now.scene)) result.now }
+    ensures few { length result.now ≤ length (rules_in (code_in site.now.scene)) }
+{
+    match candidates.get(at) {
+        Some(id) => {
+            let task = site.net.task(*id);
+            relevant_rules(site.scene.code, task, cells)
+        }
+        None => &[],
+    }
+}
+
+impl<'a> Queue<'a> {
+    /// All of some candidates.
+    pub fn new(candidates: Vec<TaskId>, site: &Site<'a>, cells: &Cells) -> Queue<'a>
+        requires site { IsSite cells.now site.now }
+        requires candidates { All (IsCandidate site.now.net.now) candidates.items }
+        requires deep { 0 < site.now.depth }
+        ensures left { (nest : _) → queue_children (code_in site.now.scene) nest (node_of cells.now (held_now site.now))
+            site.now.net.now result ≡ by_candidates (rules_in (code_in site.now.scene)) nest
+            (node_of cells.now (held_now site.now)) site.now.net.now candidates.items 0 }
+        ensures queue { IsQueue (code_in site.now.scene) (held_now site.now) result }
+    {
+        let rules = rules_at(&candidates, 0, site, cells);
+        Queue {
+            rules,
+            candidates,
+            at: 0,
+        }
+    }
+
+    /// The choice of the next rule for the first candidate, if one is left; else the candidate is left.
+    pub fn advance(
+        &mut self,
+        alloc: Global,
+        nest: u32,
+        site: &Site<'a>,
+        cells: &mut Cells,
+    ) -> Result<Option<Choice>, AllocError>
+        requires site { IsSite cells.old site.now }
+        requires queue { IsQueue (code_in site.now.scene) (held_now site.now) self.old }
+        requires some { self.old.at < length self.old.candidates.items }
+        requires levels { nest ≤ 128 }
+        ensures left { IfOk result (λ o.
+            queue_children (code_in site.now.scene) nest (node_of cells.old (held_now site.now)) site.now.net.now
+            self.old ≡ if_open site.now.scene nest cells.new (held_now site.now) o
+            ++ queue_children (code_in site.now.scene) nest (node_of cells.new (held_now site.now)) site.now.net.now
+            self.new) }
+        ensures choice { IfOk result (λ o. MaybeOpen site.now.scene cells.new (length cells.old) (length cells.new)
+            (held_now site.now) o) }
+        ensures queue { OnOk result (IsQueue (code_in site.now.scene) (held_now site.now) self.new) }
+        ensures less { OnOk result (work_left (code_in site.now.scene) self.new
+            < work_left (code_in site.now.scene) self.old) }
+        ensures cells { Grows cells.old cells.new }
+    {
+        match self.rules.split_first() {
+            Some((rule, others)) => {
+                let id = self.candidates[self.at];
+                let task = site.net.task(id);
+                let choice = open(alloc, &site.scene, nest, *rule, id, task, cells)?;
+                self.rules = others;
+                Ok(choice)
+            }
+            None => {
+                self.at += 1;
+                self.rules = rules_at(&self.candidates, self.at, site, cells);
+                Ok(None)
+            }
+        }
+    }
+}

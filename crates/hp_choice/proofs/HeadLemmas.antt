@@ -1,0 +1,36 @@
+-- A head that matches a task, or doesn't.
+use Rattle.std.proofs.Common.{◌≡◌, ℕ, zero, suc, Bool, true, false, length, List, ◌∷◌, Option, Some, None, refl, sym, ◌∙◌, ap}
+use Rattle.std.proofs.lemmas.List.{length-replicate}
+use Rattle.hp_syntax.specs.Matching.{match_atom}
+use Rattle.hp_syntax.specs.Syntax.{Atom}
+use Rattle.hp_syntax.specs.Terms.{Term}
+use Rattle.hp_syntax.specs.Values.{unbound}
+use Rattle.hp_eval.specs.GoalViews.{term_at}
+use Rattle.hp_eval.specs.Slotted.{Slotted, Matched, bindings_of, no_bindings}
+use Rattle.hp_eval.proofs.SlotLemmas.{binds_vars, match_failed, match_made}
+
+-- free slots bind none of their variables
+none_bound : (terms : List Term) (n : ℕ) → bindings_of terms (no_bindings n) ≡ unbound n
+none_bound terms zero = refl
+none_bound terms (suc n) = ap (λ os. None ∷ os) (none_bound terms n)
+
+module _ (terms : List Term) (head : Atom) (cell vars : ℕ) (slots new : Slotted) (does : Bool)
+    (free : slots ≡ no_bindings vars)
+    (told : Matched does (match_atom head (term_at terms cell) (bindings_of terms slots)) terms slots new) where
+  from_free : match_atom head (term_at terms cell) (unbound vars)
+      ≡ match_atom head (term_at terms cell) (bindings_of terms slots)
+  from_free = ap (match_atom head (term_at terms cell)) (sym (ap (bindings_of terms) free ∙ none_bound terms vars))
+
+  -- a head that isn't matched from free slots matches under no bindings
+  pub head_missed : does ≡ false → match_atom head (term_at terms cell) (unbound vars) ≡ None
+  head_missed e = from_free ∙ (match_failed does _ terms slots new e told).0
+
+  -- a head that is matched from free slots is matched under these bindings
+  pub head_met : does ≡ true → match_atom head (term_at terms cell) (unbound vars) ≡ Some (bindings_of terms new)
+  head_met e = from_free ∙ (match_made does _ terms slots new e told).0
+
+  -- the slots are as many
+  pub head_vars : does ≡ true → length new.values ≡ vars
+  head_vars e =
+      binds_vars slots new (match_made does _ terms slots new e told).1
+      ∙ (ap (λ s. length s.values) free ∙ length-replicate {A = Option ℕ} vars None)

@@ -1,0 +1,8 @@
+//! The choice of a rule at a task, whose children are made one after the other, in place.
+#![tactic(auto)]
+
+mod choice;
+mod opening;
+
+pub use choice::{Choice, Deed, Given};
+pub use opening::open;

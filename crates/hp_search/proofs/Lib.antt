@@ -1,0 +1,3 @@
+pub mod CellSteps
+pub mod MarkSteps
+pub mod SearchSteps

@@ -1,0 +1,179 @@
+//! The planner.
+use crate::search::Search;
+use hp_cells::{Cell, Cells};
+use hp_code::{Code, asked_parts};
+use hp_gen::Scene;
+use hp_net::{Net, Step, Walk};
+use hp_site::Site;
+use hp_syntax::Pair;
+use hp_tree::root::Root;
+use hp_world::World;
+use std::alloc::{AllocError, Global};
+use std::marker::Model;
+
+/// A walk over one world, one network and one store of terms, which are changed and undone along the path, with
+/// satisfiers that are looked for one at a time. Going back takes no memory, and gives all terms back that were made
+/// since.
+#[derive(Drop)]
+pub struct Planner<'a> {
+    search: Search<'a>,
+    live: bool,
+}
+
+impl<'a> Model for Planner<'a> {
+    ghost use Rattle.hp_search.specs.Planned.{Planned};
+    ghost use Rattle.hp_site.specs.contracts.site.Site as sites;
+    ghost use Rattle.hp_agenda.specs.contracts.frame.Frame as frames;
+    ghost use Rattle.hp_cells.specs.TermCode.{terms_code};
+    ghost use Rattle.std.specs.Coded.{codes};
+    ghost use denote.Signature.{static_lft};
+
+    ghost Value = { Planned };
+
+    ghost coded = { Prim.hlevel (codes, (sites.the_row (static_lft)).coded, (frames.the_row (static_lft)).coded, terms_code) };
+
+    ghost use Rattle.hp_search.specs.Planned.{planned, IsPlanned};
+
+    ghost view = { λ p. planned p.search p.live };
+
+    ghost invariant = { λ p. IsPlanned p.search p.live };
+}
+
+impl<'a> Planner<'a> {
+    ghost use Rattle.std.specs.Prelude.{◌≡◌, ◌≤◌, [], true, false, IfOk, MatchOption};
+    ghost use Rattle.hp_syntax.specs.declared.limits.TheConstants.{DEEPEST_WALK, MOST_LEVELS};
+    ghost use Rattle.hp_syntax.specs.GroundPatterns.{IsGroundPair};
+    ghost use Rattle.hp_syntax.specs.Views.{pair_of};
+    ghost use Rattle.hp_syntax.specs.Walk.{root, visits};
+    ghost use Rattle.hp_code.specs.Codes.{code_of};
+    ghost use Rattle.hp_code.specs.CodeViews.{rules_in};
+    ghost use Rattle.hp_links.specs.Linked.{focused};
+    ghost use Rattle.hp_net.specs.Standings.{node_reached, standing};
+    ghost use Rattle.hp_search.specs.Planned.{HasMarks, tree_planned, stands_planned};
+
+    /// A walk of the tree of a pair at a depth, by the rules of a code, where axioms may call one another so deep. It
+    /// stands at the root, and all visits are left.
+    pub fn new(
+        alloc: Global,
+        code: &'a Code,
+        pair: &Pair,
+        depth: u32,
+        nest: u32,
+    ) -> Result<Planner<'a>, AllocError>
+        requires pair { IsGroundPair (pair_of pair.now) }
+        requires depth { depth ≤ DEEPEST_WALK }
+        requires nest { nest ≤ MOST_LEVELS }
+        ensures tree { IfOk result (λ p. tree_planned p ≡ record {
+          rules = rules_in (code_of code.now);
+          nest = nest;
+          root = root (pair_of pair.now) depth;
+        }) }
+        ensures stands { IfOk result (λ p. stands_planned p ≡ standing []
+            (visits (rules_in (code_of code.now)) nest (root (pair_of pair.now) depth) []) false) }
+        ensures live { IfOk result (λ p. p.live ≡ true) }
+    {
+        let parts = asked_parts(alloc, code)?;
+        let mut cells = Cells::new(alloc)?;
+        let Root { world, net } = Root::indexed(alloc, parts.as_slice(), pair, &mut cells)?;
+        let site = Site {
+            scene: Scene { world, code },
+            net,
+            steps: Vec::new(alloc),
+            cost: 0,
+            depth,
+        };
+        let search = Search::new(alloc, nest, site, cells)?;
+        Ok(Planner { search, live: true })
+    }
+
+    /// The network of the node reached, with its focus. Its pasts at the moments of the path are the networks of the
+    /// nodes on the path, as those of the world are their states and protections.
+    pub fn net(&self) -> &Net
+        requires live { self.now.live ≡ true }
+        ensures node { MatchOption (node_reached (tree_planned self.now) (stands_planned self.now)) ⊥
+            (λ n. focused self.now.terms result.now.now ≡ (n.network, n.focus)) }
+        ensures is { result.now ≡ self.now.site.net }
+        ensures marks { HasMarks self.now }
+    {
+        &self.search.site.net
+    }
+}
+
+impl Walk for Planner<'_> {
+    ghost use Rattle.std.specs.Prelude.{◌≡◌, ◌≢◌, [], None, Some, IfOk, OnErr, OnOk, false, option_map, true};
+    ghost use Rattle.hp_net.specs.Standings.{HasCells, gone_back, next_below, step_of, stepped};
+    ghost use Rattle.hp_search.specs.Searches.{root_base};
+    ghost use Rattle.hp_search.specs.Planned.{DropsFloor, StepCells, tree_planned, stands_planned};
+
+    ghost tree = { tree_planned };
+
+    ghost stands = { stands_planned };
+
+    ghost terms = { λ p. p.terms };
+
+    ghost is_live = { λ p. p.live };
+
+    ghost root_cells = { λ p. Some (root_base p.top p.above) };
+
+    fn step(&mut self) -> Result<Option<Step>, AllocError>
+        requires live { self.old.live ≡ true }
+        ensures answer { IfOk result (λ s. s
+            ≡ option_map step_of (next_below (stands_planned self.old).path (stands_planned self.old).rest)) }
+        ensures stands { OnOk result (stands_planned self.new ≡ stepped (stands_planned self.old)) }
+        ensures tree { tree_planned self.new ≡ tree_planned self.old }
+        ensures root_cells { Some (root_base self.new.top self.new.above)
+            ≡ Some (root_base self.old.top self.old.above) }
+        ensures given_back { IfOk result (λ s. s ≡ None → (stands_planned self.old).path ≡ []
+            → HasCells (Some (root_base self.new.top self.new.above)) self.new.terms) }
+        ensures live { OnOk result (self.new.live ≡ true) }
+        ensures dead { OnErr result (self.new.live ≡ false) }
+        ensures cells { IfOk result (λ s. StepCells self.old s self.new) }
+    {
+        self.live = false;
+        let step = self.search.step()?;
+        self.live = true;
+        Ok(step)
+    }
+
+    fn back(&mut self)
+        requires live { self.old.live ≡ true }
+        requires below { (stands_planned self.old).path ≢ [] }
+        requires done { next_below (stands_planned self.old).path (stands_planned self.old).rest ≡ None }
+        ensures stands { stands_planned self.new ≡ gone_back (stands_planned self.old) }
+        ensures tree { tree_planned self.new ≡ tree_planned self.old }
+        ensures root_cells { Some (root_base self.new.top self.new.above)
+            ≡ Some (root_base self.old.top self.old.above) }
+        ensures live { self.new.live ≡ true }
+        ensures cells { DropsFloor self.old self.new }
+    {
+        self.search.back();
+    }
+
+    fn prune(&mut self) {
+        self.search.prune();
+    }
+
+    fn plan(&self) -> &[Cell] {
+        self.search.site.steps.as_slice()
+    }
+
+    fn cost(&self) -> i128 {
+        self.search.site.cost
+    }
+
+    fn world(&self) -> &World {
+        &self.search.site.scene.world
+    }
+
+    fn cells(&self) -> &Cells {
+        &self.search.cells
+    }
+
+    fn path(&self) -> &[u64] {
+        self.search.path.as_slice()
+    }
+
+    fn live(&self) -> bool {
+        self.live
+    }
+}
