@@ -2,6 +2,7 @@
 use Rattle.std.proofs.Common.{◌≡◌, ℕ, Bool, false, List, [], ◌∷◌, length, map, get_or, Some, None, Result, Ok, Err, OnOk, IfOk, IfErr, refl, ap, sym, ◌∙◌, subst, arith}
 use Rattle.std.specs.List.{All}
 use Rattle.std.proofs.lemmas.List.Elements.{All-head}
+use Rattle.hp_code.specs.CodeViews.{CodeView, or_empty, rules_in, rules_of}
 use Rattle.hp_net.specs.Standings.{Tree, Standing, standing}
 use Rattle.hp_out.specs.Writing.{SinkRun, Wrote}
 use Rattle.hp_syntax.specs.declared.domain.Pair.{Pair}
@@ -57,6 +58,17 @@ pub walk_left : (rules : List Rule) (nest depth : ℕ) (p : plain.Pair) (ps : Li
 unfolding walk
 walk_left rules nest depth p ps vs only all =
     ap heard_visits all ∙ sym (ap (λ qs. walk_of_pairs rules nest qs depth) only)
+
+-- the visits of the code of rules, where it reads back as rules with the same tree, are heard as their walk
+pub planned_left : (rules lowered : List Rule) (nest depth : ℕ) (p : plain.Pair) (ps : List plain.Pair) (c : CodeView)
+    (s : Standing) → rules_of c ≡ Some lowered
+    → visits lowered nest (root p depth) [] ≡ visits rules nest (root p depth) [] → ps ≡ p ∷ []
+    → s ≡ standing [] (visits (rules_in c) nest (root p depth) []) false
+    → heard_visits s.rest ≡ walk_of_pairs rules nest ps depth
+planned_left rules lowered nest depth p ps c s reads same only stands =
+    let read : rules_in c ≡ lowered = ap or_empty reads in
+    walk_left rules nest depth p ps s.rest only
+    (ap (λ t. t.rest) stands ∙ ap (λ rs. visits rs nest (root p depth) []) read ∙ same)
 
 -- the report of visits is that of the visits that are heard
 pub report_left : (tell : ℕ → Visit → List ℕ) (k : ℕ) (vs ws : List Visit) → heard_visits vs ≡ ws

@@ -52,7 +52,7 @@ empty_is_read h = record { forest = empty_forest; spelled = h; form_is = refl }
 
 -- the command that plans the domain `d` and the problem `p`
 abbrev pub plan_of : ℕ → ℕ → Command
-plan_of plans depth = make_command (codes "d") (codes "p") (Planning plans depth (options 64 false))
+plan_of plans depth = make_command (codes "d") (codes "p") (Planning plans depth (options 64 false false))
 
 -- a proof that names this on its line has unfolded what the samples are read as, the checks and the language
 unfoldable pub the_samples : Unit {0}

@@ -31,32 +31,38 @@ number_within least most bs =
 
 -- ---- options
 
--- how deep axioms may call one another, and whether states are told
+-- how deep axioms may call one another, whether states are told, and whether the engine of copies is asked for
 pub record Options : Type 0 where
   pub levels : ℕ
   pub states : Bool
+  pub plain : Bool
 
-abbrev pub options : ℕ → Bool → Options
-options n s = record { levels = n; states = s }
+abbrev pub options : ℕ → Bool → Bool → Options
+options n s p = record { levels = n; states = s; plain = p }
 
 -- an option of a command
 pub data CommandOption : Type 0 where
   Nest : (levels : ℕ) → CommandOption
   States : CommandOption
+  Plain : CommandOption
 
 -- the word that an option begins with
 abbrev pub option_name : CommandOption → List ℕ
 option_name (Nest n) = codes "--nest"
 option_name States = codes "--states"
+option_name Plain = codes "--plain"
 
--- the options that words spell, in order: `--states`, and `--nest N`
+-- the options that words spell, in order: `--states`, `--plain`, and `--nest N`
 abbrev pub options_spelled : List (List ℕ) → Option (List CommandOption)
 options_spelled [] = Some []
-options_spelled (w ∷ []) = only_if (bytes_eq w (codes "--states")) (Some (States ∷ []))
+options_spelled (w ∷ []) =
+    cond (bytes_eq w (codes "--states")) (Some (States ∷ []))
+    (only_if (bytes_eq w (codes "--plain")) (Some (Plain ∷ [])))
 options_spelled (w ∷ x ∷ ws) =
     cond (bytes_eq w (codes "--states")) (option_map (λ os. States ∷ os) (options_spelled (x ∷ ws)))
+    (cond (bytes_eq w (codes "--plain")) (option_map (λ os. Plain ∷ os) (options_spelled (x ∷ ws)))
     (only_if (bytes_eq w (codes "--nest"))
-    (option_and_then (λ n. option_map (λ os. Nest n ∷ os) (options_spelled ws)) (number_within 0 MOST_LEVELS x)))
+    (option_and_then (λ n. option_map (λ os. Nest n ∷ os) (options_spelled ws)) (number_within 0 MOST_LEVELS x))))
 
 -- whether an option of this name is among options
 abbrev pub is_named_in : List ℕ → List CommandOption → Bool
@@ -81,18 +87,25 @@ abbrev pub levels_in : List CommandOption → ℕ
 levels_in [] = USUAL_LEVELS
 levels_in (Nest n ∷ os) = n
 levels_in (States ∷ os) = levels_in os
+levels_in (Plain ∷ os) = levels_in os
 
 -- whether states are told, by a list of options
 abbrev pub has_states : List CommandOption → Bool
 has_states os = is_named_in (codes "--states") os
 
--- how deep axioms may call one another, and whether states are told, by a list of options
+-- whether the engine of copies is asked for, by a list of options
+abbrev pub has_plain : List CommandOption → Bool
+has_plain os = is_named_in (codes "--plain") os
+
+-- how deep axioms may call one another, whether states are told, and whether the engine of copies is asked for, by a
+-- list of options
 abbrev pub options_in : List CommandOption → Options
-options_in os = options (levels_in os) (has_states os)
+options_in os = options (levels_in os) (has_states os) (has_plain os)
 
 -- the options of `plan`
 abbrev pub plan_options : List (List ℕ) → Option Options
-plan_options words = option_map options_in (options_of_words (codes "--states" ∷ codes "--nest" ∷ []) words)
+plan_options words =
+    option_map options_in (options_of_words (codes "--states" ∷ codes "--nest" ∷ codes "--plain" ∷ []) words)
 
 -- ---- commands
 

@@ -12,7 +12,7 @@ use Rattle.hp_top.specs.declared.words.Request.TheVariants as requests
 
 -- the options of a command
 abbrev pub options_of : asked_options.Options → Options
-options_of o = options o.levels o.states
+options_of o = options o.levels o.states o.plain
 
 abbrev pub job_of : asked.Job → Job
 job_of (jobs.Plan a) = Planning a.plans a.depth (options_of a.options)

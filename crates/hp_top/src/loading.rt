@@ -196,6 +196,7 @@ pub fn load<F: Folder>(
 ) -> Result<Loaded, LoadError>
     ensures loads { LoadsBoth (folder_run (F.file folder.old) (F.faults folder.old) (F.faults folder.new))
         domain.now problem.now (plain_of result) }
+    ensures numbered { IfOk result (λ l. IsNumberedDomain (domain_of l.domain)) }
     ensures text { IfOk result (λ l. HasText problem_form (problem_of l.problem)) }
     ensures files { (n : List ℕ) → F.file folder.new n ≡ F.file folder.old n }
     ensures later { (w : Input) → F.faults folder.old w ≤ F.faults folder.new w }

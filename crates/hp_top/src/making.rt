@@ -3,7 +3,8 @@
 ghost use Rattle.std.specs.Prelude.{◌≤◌, IfOk, codes};
 ghost use Rattle.hp_out.specs.Writing.{sink_run};
 ghost use Rattle.hp_syntax.specs.Grammar.{problem_form};
-ghost use Rattle.hp_syntax.specs.Views.{problem_of};
+ghost use Rattle.hp_syntax.specs.Numbered.{IsNumberedDomain};
+ghost use Rattle.hp_syntax.specs.Views.{domain_of, problem_of};
 ghost use Rattle.hp_top.specs.Loading.{HasText, LoadsBoth, plain_of};
 ghost use Rattle.hp_top.specs.Making.{made_command};
 ghost use Rattle.hp_top.specs.Serving.{ServesCommand, made_run};
@@ -22,6 +23,7 @@ use std::alloc::Global;
 fn load_made(alloc: Global, seed: u32, packages: u32) -> Result<Loaded, LoadError>
     requires { IsMakeable seed packages }
     ensures loads { LoadsBoth (made_run seed packages) (codes "domain") (codes "problem") (plain_of result) }
+    ensures numbered { IfOk result (λ l. IsNumberedDomain (domain_of l.domain)) }
     ensures text { IfOk result (λ l. HasText problem_form (problem_of l.problem)) }
 {
     let Ok(made) = make(alloc, seed, packages) else {

@@ -28,16 +28,21 @@ pub fn basic_comes_to_its_plan()
 
 /// The options of `plan`: in any order, each at most once, levels up to 128.
 pub fn options_are_read()
-    ensures none { plan_options [] ≡ Some (options 64 false) }
-    ensures both { plan_options (codes "--states" ∷ codes "--nest" ∷ codes "5" ∷ []) ≡ Some (options 5 true) }
-    ensures other_order { plan_options (codes "--nest" ∷ codes "0" ∷ codes "--states" ∷ []) ≡ Some (options 0 true) }
-    ensures most { plan_options (codes "--nest" ∷ codes "128" ∷ []) ≡ Some (options 128 false) }
+    ensures none { plan_options [] ≡ Some (options 64 false false) }
+    ensures both { plan_options (codes "--states" ∷ codes "--nest" ∷ codes "5" ∷ []) ≡ Some (options 5 true false) }
+    ensures other_order { plan_options (codes "--nest" ∷ codes "0" ∷ codes "--states" ∷ [])
+        ≡ Some (options 0 true false) }
+    ensures most { plan_options (codes "--nest" ∷ codes "128" ∷ []) ≡ Some (options 128 false false) }
     ensures too_many { plan_options (codes "--nest" ∷ codes "129" ∷ []) ≡ None }
     ensures no_number { plan_options (codes "--nest" ∷ []) ≡ None }
     ensures twice { plan_options (codes "--states" ∷ codes "--states" ∷ []) ≡ None }
+    ensures copies { plan_options (codes "--plain" ∷ codes "--states" ∷ codes "--nest" ∷ codes "7" ∷ [])
+        ≡ Some (options 7 true true) }
+    ensures copies_twice { plan_options (codes "--plain" ∷ codes "--nest" ∷ codes "7" ∷ codes "--plain" ∷ [])
+        ≡ None }
     ensures plan { accepts
         (codes "plan" ∷ codes "d" ∷ codes "--nest" ∷ codes "5" ∷ codes "10" ∷ codes "--states" ∷ [])
-        ≡ Some (on_files (codes "d") (codes "--nest") (Planning 5 10 (options 64 true))) }
+        ≡ Some (on_files (codes "d") (codes "--nest") (Planning 5 10 (options 64 true false))) }
     ensures no_plan { accepts (codes "plan" ∷ codes "d" ∷ codes "p" ∷ codes "0" ∷ codes "10" ∷ []) ≡ None }
 {}
 

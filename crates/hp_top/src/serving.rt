@@ -2,9 +2,13 @@
 
 ghost use Rattle.std.specs.List.{All};
 ghost use Rattle.std.specs.Prelude.{◌≡◌, ◌≤◌, ◌<◌, ℕ, List, IfOk, IfErr, OnOk, None, true};
+ghost use Rattle.hp_code.specs.CodeViews.{IsCodeOf};
+ghost use Rattle.hp_code.specs.Codes.{code_of};
 ghost use Rattle.hp_out.specs.Writing.{Wrote, sink_run};
 ghost use Rattle.hp_plain.specs.Walked.{stands_walked, tree_walked};
+ghost use Rattle.hp_search.specs.Planned.{stands_planned, tree_planned};
 ghost use Rattle.hp_syntax.specs.Grammar.{problem_form};
+ghost use Rattle.hp_syntax.specs.Numbered.{IsNumberedDomain};
 ghost use Rattle.hp_syntax.specs.Report.{plan_of, plan_report};
 ghost use Rattle.hp_syntax.specs.Views.{domain_of, problem_of};
 ghost use Rattle.hp_syntax.specs.Walk.{heard_visits};
@@ -23,6 +27,8 @@ use crate::summing::sum_up;
 use crate::telling::Halt;
 use crate::words::{Asked, Job};
 use hp_check::{first_fault, unserved_tasks};
+use hp_code::laws::{compiled_rules_are_a_code, lowered_rules_have_the_tree};
+use hp_code::{Code, lower};
 use hp_io::Sink;
 use hp_laws::pair_laws::{
     accepted_domains_are_checked, accepted_pairs_are_ground, problems_have_one_pair,
@@ -31,6 +37,7 @@ use hp_laws::tree_laws::visits_are_in_the_tree;
 use hp_net::Walk;
 use hp_out::Refusal;
 use hp_plain::PlainWalk;
+use hp_search::Planner;
 use hp_syntax::Status;
 use hp_syntax::limits::{DEEPEST_WALK, MADE_DEPTH, MOST_LEVELS, USUAL_LEVELS};
 use std::alloc::{AllocError, Global};
@@ -46,7 +53,7 @@ fn status_told(told: Result<Status, Halt>) -> Status
     }
 }
 
-/// The walk of the one pair of an accepted domain and problem, from its root.
+/// The walk of the one pair of an accepted domain and problem, from its root, by the engine of copies.
 fn walk_of(
     alloc: Global,
     loaded: &Loaded,
@@ -76,6 +83,44 @@ fn walk_of(
     )
 }
 
+/// The code of the domain of an accepted pair of files.
+fn code_in(alloc: Global, loaded: &Loaded) -> Result<Code, AllocError>
+    requires numbered { IsNumberedDomain (domain_of loaded.now.domain) }
+    requires checked { first_fault (domain_of loaded.now.domain) (problem_of loaded.now.problem) ≡ None }
+    ensures { IfOk result (λ code. IsCodeOf (domain_of loaded.now.domain).rules (code_of code)) }
+{
+    // Nothing runs here: the law makes known that the checks find nothing in the domain.
+    accepted_domains_are_checked();
+    lower(alloc, &loaded.domain)
+}
+
+/// The walk of the one pair of an accepted domain and problem, from its root, in place.
+fn planner_of<'a>(
+    alloc: Global,
+    code: &'a Code,
+    loaded: &Loaded,
+    depth: u32,
+    levels: u32,
+) -> Result<Planner<'a>, AllocError>
+    requires code { IsCodeOf (domain_of loaded.now.domain).rules (code_of code.now) }
+    requires text { HasText problem_form (problem_of loaded.now.problem) }
+    requires checked { first_fault (domain_of loaded.now.domain) (problem_of loaded.now.problem) ≡ None }
+    requires depth { depth ≤ DEEPEST_WALK }
+    requires levels { levels ≤ MOST_LEVELS }
+    ensures live { IfOk result (λ p. p.live ≡ true) }
+    ensures at { IfOk result (λ p. All (IsAtItsNode (tree_planned p)) (stands_planned p).rest) }
+    ensures walk { IfOk result (λ p. heard_visits (stands_planned p).rest
+        ≡ walk_of_pairs (domain_of loaded.now.domain).rules levels (problem_of loaded.now.problem).pairs depth) }
+{
+    // Nothing runs here: the laws make known that what is accepted can be walked, by its code as by its rules.
+    problems_have_one_pair();
+    accepted_pairs_are_ground();
+    compiled_rules_are_a_code();
+    lowered_rules_have_the_tree();
+    visits_are_in_the_tree();
+    Planner::new(alloc, code, &loaded.problem.pairs[0], depth, levels)
+}
+
 /// The detail in which a plan is told, with its state or without.
 fn detail_of(states: bool) -> Detail
     ensures { telling result ≡ plan_of states }
@@ -103,8 +148,13 @@ fn tell_plans<W: Walk, K: Sink>(
     tell(walk, plans, detail_of(states), out)
 }
 
-/// Looks for the plans of an accepted domain and problem.
-fn serve_plan<K: Sink>(alloc: Global, loaded: &Loaded, asked: Asked, out: &mut K) -> Status
+/// Looks for the plans of an accepted domain and problem by the engine of copies.
+fn serve_plan_by_copies<K: Sink>(
+    alloc: Global,
+    loaded: &Loaded,
+    asked: Asked,
+    out: &mut K,
+) -> Status
     requires asked { IsPlanned asked }
     requires text { HasText problem_form (problem_of loaded.now.problem) }
     requires checked { first_fault (domain_of loaded.now.domain) (problem_of loaded.now.problem) ≡ None }
@@ -120,6 +170,45 @@ fn serve_plan<K: Sink>(alloc: Global, loaded: &Loaded, asked: Asked, out: &mut K
     status_told(tell_plans(&mut walk, asked.plans, options.states, out))
 }
 
+/// Looks for the plans of an accepted domain and problem in place.
+fn serve_plan_in_place<K: Sink>(alloc: Global, loaded: &Loaded, asked: Asked, out: &mut K) -> Status
+    requires asked { IsPlanned asked }
+    requires numbered { IsNumberedDomain (domain_of loaded.now.domain) }
+    requires text { HasText problem_form (problem_of loaded.now.problem) }
+    requires checked { first_fault (domain_of loaded.now.domain) (problem_of loaded.now.problem) ≡ None }
+    ensures tells { Tells (job_answer (job_of (Job.Plan asked)) (domain_of loaded.now.domain)
+        (problem_of loaded.now.problem)) result
+        (sink_run (K.faults out.old) (K.faults out.new) (K.bytes out.old) (K.bytes out.new)) }
+    ensures later { K.faults out.old ≤ K.faults out.new }
+{
+    let options = asked.options;
+    let Ok(code) = code_in(alloc, loaded) else {
+        return Status::NoMemory;
+    };
+    let Ok(mut walk) = planner_of(alloc, &code, loaded, asked.depth, options.levels) else {
+        return Status::NoMemory;
+    };
+    status_told(tell_plans(&mut walk, asked.plans, options.states, out))
+}
+
+/// Looks for the plans of an accepted domain and problem, by the engine that is asked for.
+fn serve_plan<K: Sink>(alloc: Global, loaded: &Loaded, asked: Asked, out: &mut K) -> Status
+    requires asked { IsPlanned asked }
+    requires numbered { IsNumberedDomain (domain_of loaded.now.domain) }
+    requires text { HasText problem_form (problem_of loaded.now.problem) }
+    requires checked { first_fault (domain_of loaded.now.domain) (problem_of loaded.now.problem) ≡ None }
+    ensures tells { Tells (job_answer (job_of (Job.Plan asked)) (domain_of loaded.now.domain)
+        (problem_of loaded.now.problem)) result
+        (sink_run (K.faults out.old) (K.faults out.new) (K.bytes out.old) (K.bytes out.new)) }
+    ensures later { K.faults out.old ≤ K.faults out.new }
+{
+    if asked.options.plain {
+        serve_plan_by_copies(alloc, loaded, asked, out)
+    } else {
+        serve_plan_in_place(alloc, loaded, asked, out)
+    }
+}
+
 /// Sums up the first plan of an accepted domain and problem that were made.
 fn serve_sum<K: Sink>(
     alloc: Global,
@@ -128,6 +217,7 @@ fn serve_sum<K: Sink>(
     packages: u32,
     out: &mut K,
 ) -> Status
+    requires numbered { IsNumberedDomain (domain_of loaded.now.domain) }
     requires text { HasText problem_form (problem_of loaded.now.problem) }
     requires checked { first_fault (domain_of loaded.now.domain) (problem_of loaded.now.problem) ≡ None }
     ensures tells { Tells (job_answer (Summing seed packages) (domain_of loaded.now.domain)
@@ -135,7 +225,10 @@ fn serve_sum<K: Sink>(
         (sink_run (K.faults out.old) (K.faults out.new) (K.bytes out.old) (K.bytes out.new)) }
     ensures later { K.faults out.old ≤ K.faults out.new }
 {
-    let Ok(mut walk) = walk_of(alloc, loaded, MADE_DEPTH, USUAL_LEVELS) else {
+    let Ok(code) = code_in(alloc, loaded) else {
+        return Status::NoMemory;
+    };
+    let Ok(mut walk) = planner_of(alloc, &code, loaded, MADE_DEPTH, USUAL_LEVELS) else {
         return Status::NoMemory;
     };
     status_told(sum_up(alloc, seed, packages, &loaded.problem, &mut walk, out))
@@ -181,6 +274,7 @@ fn serve_show<K: Sink>(alloc: Global, loaded: &Loaded, out: &mut K) -> Status
 /// Checks a domain and a problem that are read, and does the job with them.
 pub fn serve_job<K: Sink>(alloc: Global, loaded: Loaded, job: Job, out: &mut K) -> Status
     requires asked { IsAsked job }
+    requires numbered { IsNumberedDomain (domain_of loaded.domain) }
     requires text { HasText problem_form (problem_of loaded.problem) }
     ensures tells { (domain problem : List ℕ) → Tells (answer_of_read (make_command domain problem (job_of job))
         (domain_of loaded.domain) (problem_of loaded.problem)) result

@@ -14,11 +14,13 @@ pub const LARGEST_SEED: u32 = 2_147_483_647;
 /// The most packages that a problem can be made with.
 pub const MOST_PACKAGES: u32 = 100;
 
-/// How deep axioms may call one another, and whether each plan is told with its state.
+/// How deep axioms may call one another, whether each plan is told with its state, and by which engine.
 #[derive(Clone, Copy)]
 pub struct Options {
     pub levels: u32,
     pub states: bool,
+    /// Whether the engine of copies is asked for.
+    pub plain: bool,
 }
 
 /// A request for plans: how many, down to which depth, and how.
@@ -119,6 +121,7 @@ fn plan_options(words: &[String]) -> Option<Options>
 {
     let mut levels: Option<u32> = None;
     let mut states = false;
+    let mut plain = false;
     let mut rest = words;
     while let Some((word, behind)) = rest.split_first() {
         match word.as_str() {
@@ -138,12 +141,20 @@ fn plan_options(words: &[String]) -> Option<Options>
                 levels = Some(most as u32);
                 rest = others;
             }
+            "--plain" => {
+                if plain {
+                    return None;
+                }
+                plain = true;
+                rest = behind;
+            }
             _ => return None,
         }
     }
     Some(Options {
         levels: levels.unwrap_or(USUAL_LEVELS),
         states,
+        plain,
     })
 }
 

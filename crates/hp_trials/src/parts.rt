@@ -33,10 +33,10 @@ fn tasks_of(method: &Method) -> Option<&NetPat> {
 }
 
 // The atoms that an operator's only effect adds for each satisfier.
-fn added_of(operator: &Operator) -> &[AtomPat] {
+fn added_of(operator: &Operator) -> Option<&Vec<AtomPat>> {
     match operator.adds.as_slice() {
-        [Effect::Forall(_, _, atoms)] => atoms.as_slice(),
-        _ => &[],
+        [Effect::Forall(_, _, atoms)] => Some(atoms),
+        _ => None,
     }
 }
 
@@ -73,7 +73,9 @@ fn show_samples(
             &open.head,
         );
         goals::show_goals(page, alloc, cells, &wide.head, &open.head)?;
-        picks::show_picks(page, alloc, cells, added_of(operator))?;
+        if let Some(atoms) = added_of(operator) {
+            picks::show_picks(page, alloc, cells, atoms)?;
+        }
         worlds::show_worlds(page, alloc, cells)?;
         worlds::show_changes(page, alloc, cells, unbound, &a.head, &operator.cost);
     }

@@ -121,7 +121,7 @@ fn put_for_each(
     cells: &mut Cells,
     slots: &mut Slots,
     answers: Vec<Reply>,
-    atoms: &[AtomPat],
+    atoms: &Vec<AtomPat>,
 ) -> (usize, Result<(), Obstacle>)
     requires answers { AnswersBelow (length cells.old) answers.items }
     requires slots { slots.old ≡ no_bindings 2 }
@@ -195,7 +195,7 @@ fn show_put(
     page: &mut Page,
     alloc: Global,
     cells: &mut Cells,
-    atoms: &[AtomPat],
+    atoms: &Vec<AtomPat>,
 ) -> Result<(), AllocError> {
     let Numbers { nine, one, .. } = three_numbers(cells)?;
     let mut slots = Slots::new(alloc, 2)?;
@@ -211,9 +211,10 @@ fn show_not_put(page: &mut Page, alloc: Global, cells: &mut Cells) -> Result<(),
     let Numbers { nine, .. } = three_numbers(cells)?;
     let mut slots = Slots::new(alloc, 2)?;
     let answers = vec![in alloc; Reply::Cut, Reply::Sat(nine)]?;
+    let none = Vec::new(alloc);
     page.line(
         "of a Cut and 9",
-        &put_for_each(alloc, cells, &mut slots, answers, &[]),
+        &put_for_each(alloc, cells, &mut slots, answers, &none),
     );
     Ok(())
 }
@@ -223,7 +224,7 @@ pub fn show_picks(
     page: &mut Page,
     alloc: Global,
     cells: &mut Cells,
-    atoms: &[AtomPat],
+    atoms: &Vec<AtomPat>,
 ) -> Result<(), AllocError> {
     show_answers(page, alloc, cells)?;
     show_first(page, alloc, cells)?;

@@ -22,6 +22,12 @@ returns-clause-no_number c = refl
 pub returns-clause-twice : goal.returns-clause-twice
 returns-clause-twice c = refl
 
+pub returns-clause-copies : goal.returns-clause-copies
+returns-clause-copies c = refl
+
+pub returns-clause-copies_twice : goal.returns-clause-copies_twice
+returns-clause-copies_twice c = refl
+
 pub returns-clause-plan : goal.returns-clause-plan
 returns-clause-plan c = refl
 

@@ -7,7 +7,7 @@ use Rattle.hp_top.proofs.words.plan_options.Given as goal
 
 abbrev pub invariant-loop-word : goal.invariant-loop-word
 invariant-loop-word l = record {
-  read : options_after l.levels l.states (map string_bytes l.rest) ≡ plan_options (map string_bytes l.fn.words);
+  read : options_after l.levels l.states l.plain (map string_bytes l.rest) ≡ plan_options (map string_bytes l.fn.words);
   levels : IfSome l.levels (λ n. n ≤ MOST_LEVELS);
 }
 

@@ -1,6 +1,6 @@
 use Rattle.hp_out.specs.Writing.{sink_run}
 use Rattle.hp_top.proofs.PlanEnds.{plans_left, tells_equal}
-use Rattle.hp_top.proofs.serving.serve_plan.Goals as goal
+use Rattle.hp_top.proofs.serving.serve_plan_by_copies.Goals as goal
 
 pub returns-clause-tells : goal.returns-clause-tells
 returns-clause-tells g c =
