@@ -1,13 +1,14 @@
 -- What goals ask for, node by node and argument by argument.
-use Rattle.std.proofs.Common.{◌≡◌, ℕ, ◌+◌, ◌<◌, ◌≤◌, Bool, true, false, ◌||◌, cond, List, [], ◌∷◌, ◌++◌, map, length, get_or, drop, refl, ap, ap₂, sym, ◌∙◌, arith}
+use Rattle.std.proofs.Common.{◌≡◌, ℕ, ◌+◌, ◌<◌, ◌≤◌, Bool, true, false, ◌||◌, ◌&&◌, not, cond, List, [], ◌∷◌, ◌++◌, map, length, get_or, drop, refl, ap, ap₂, sym, ◌∙◌, arith}
 use Rattle.std.specs.List.{filter, range_with_len}
 use Rattle.std.proofs.lemmas.List.{append-nil, at_drop_all, drop_more, map-id}
 use Rattle.std.proofs.lemmas.List.Elements.{filter_agree}
 use Rattle.std.proofs.lemmas.List.FromFn.{filter_of_map_range_with_len_more}
 use Rattle.hp_syntax.specs.declared.pattern.Pat.{Pat}
 use Rattle.hp_syntax.specs.Views.{pattern_of, patterns_of}
+use Rattle.hp_syntax.specs.Syntax.{Patterns}
 use Rattle.hp_nodes.specs.declared.node.CodeNode.{CodeNode}
-use Rattle.hp_nodes.specs.Asked.{Known, all_asked, also, asked_by, behind, is_in, is_known, known_arguments, none, variables}
+use Rattle.hp_nodes.specs.Asked.{Known, all_asked, also, asked_by, behind, is_in, is_known, is_sure, known_arguments, none, variables}
 use Rattle.hp_nodes.specs.Marks.{Marks, marked}
 use Rattle.hp_nodes.specs.NodeViews.{laid_of, operation_of}
 use Rattle.hp_nodes.proofs.MarkLemmas.{also_both}
@@ -19,37 +20,64 @@ here xs i x below at = drop_more xs i x below ∙ ap (λ y. y ∷ drop (i + 1) x
 
 -- ---- arguments
 
-module _ (args : List Pat) (i : ℕ) (arg : Pat) (seen asked seen' asked' : List Bool) (below : i < length args)
-    (at : arg ≡ get_or args i arg) (shown : marked seen' ≡ also (variables (pattern_of arg)) (marked seen))
-    (put : Marks (cond (is_known (marked seen) (pattern_of arg)) ((i + 1) ∷ []) []) asked asked') where
-  -- once one more argument is come to, what was asked for and what is left to ask for are what they were together
-  pub argument_more : (whole : ℕ → Bool)
-      → also (known_arguments (marked seen) (i + 1) (patterns_of (drop i args))) (marked asked) ≡ whole
-      → also (known_arguments (marked seen') (i + 1 + 1) (patterns_of (drop (i + 1) args))) (marked asked') ≡ whole
+-- numbers are left where a test fails, and none where it passes
+unless : (b : Bool) (ns : List ℕ) → cond (not b) ns [] ≡ cond b [] ns
+unless true ns = refl
+unless false ns = refl
+
+-- what the arguments that are left ask for: nothing, once none of them may serve
+abbrev pub left_to_ask : Bool → (ℕ → Bool) → (ℕ → Bool) → ℕ → Patterns → List ℕ
+left_to_ask may_serve sure seen n args = cond may_serve (known_arguments sure seen n args) []
+
+module _ (args : List Pat) (i : ℕ) (arg : Pat) (sure : ℕ → Bool) (seen asked seen' asked' : List Bool)
+    (below : i < length args) (at : arg ≡ get_or args i arg)
+    (shown : marked seen' ≡ also (variables (pattern_of arg)) (marked seen)) where
+  -- what an argument that may serve asks for and what those behind it do is what was left to ask for
+  argument_serves : Marks (cond (is_known (marked seen) (pattern_of arg)) ((i + 1) ∷ []) []) asked asked'
+      → (whole : ℕ → Bool)
+      → also (known_arguments sure (marked seen) (i + 1) (patterns_of (drop i args))) (marked asked) ≡ whole
+      → also (cond (is_sure sure (pattern_of arg)) []
+      (known_arguments sure (marked seen') (i + 1 + 1) (patterns_of (drop (i + 1) args)))) (marked asked') ≡ whole
   unfolding known_arguments
-  argument_more whole left =
+  argument_serves put whole left =
       let rest = patterns_of (drop (i + 1) args) in
-      ap₂ (λ known. also (known_arguments known (i + 1 + 1) rest)) shown put
-      ∙ also_both (cond (is_known (marked seen) (pattern_of arg)) ((i + 1) ∷ []) [])
-      (known_arguments (also (variables (pattern_of arg)) (marked seen)) (i + 1 + 1) rest) (marked asked)
-      ∙ ap (λ as'. also (known_arguments (marked seen) (i + 1) (patterns_of as')) (marked asked))
+      let behind = λ (s : ℕ → Bool). cond (is_sure sure (pattern_of arg)) [] (known_arguments sure s (i + 1 + 1) rest) in
+      ap₂ (λ s. also (behind s)) shown put
+      ∙ also_both (cond (is_known (marked seen) (pattern_of arg)) ((i + 1) ∷ []) []) (behind (also (variables (pattern_of arg)) (marked seen)))
+      (marked asked)
+      ∙ ap (λ as'. also (known_arguments sure (marked seen) (i + 1) (patterns_of as')) (marked asked))
       (sym (here args i arg below at))
       ∙ left
 
+  -- once one more argument is come to, what was asked for and what is left to ask for are what they were together
+  pub argument_more : (may_serve : Bool)
+      → Marks (cond (may_serve && is_known (marked seen) (pattern_of arg)) ((i + 1) ∷ []) []) asked asked'
+      → (whole : ℕ → Bool)
+      → also (left_to_ask may_serve sure (marked seen) (i + 1) (patterns_of (drop i args))) (marked asked) ≡ whole
+      → also (left_to_ask (may_serve && not (is_sure sure (pattern_of arg))) sure (marked seen') (i + 1 + 1)
+      (patterns_of (drop (i + 1) args))) (marked asked') ≡ whole
+  argument_more false put whole left = put ∙ left
+  argument_more true put whole left =
+      ap (λ ns. also ns (marked asked')) (unless (is_sure sure (pattern_of arg))
+      (known_arguments sure (marked seen') (i + 1 + 1) (patterns_of (drop (i + 1) args))))
+      ∙ argument_serves put whole left
+
 -- when all arguments were come to, all was asked for
-pub arguments_all : (args : List Pat) (i : ℕ) (known : ℕ → Bool) (asked : List Bool) (whole : ℕ → Bool)
-    → length args ≤ i → also (known_arguments known (i + 1) (patterns_of (drop i args))) (marked asked) ≡ whole
+pub arguments_all : (args : List Pat) (i : ℕ) (may_serve : Bool) (sure seen : ℕ → Bool) (asked : List Bool)
+    (whole : ℕ → Bool) → length args ≤ i
+    → also (left_to_ask may_serve sure seen (i + 1) (patterns_of (drop i args))) (marked asked) ≡ whole
     → marked asked ≡ whole
 unfolding known_arguments
-arguments_all args i known asked whole past left =
-    ap (λ as'. also (known_arguments known (i + 1) (patterns_of as')) (marked asked))
+arguments_all args i false sure seen asked whole past left = left
+arguments_all args i true sure seen asked whole past left =
+    ap (λ as'. also (known_arguments sure seen (i + 1) (patterns_of as')) (marked asked))
     (sym (at_drop_all (λ as'. as') args i past)) ∙ left
 
 -- ---- nodes
 
 module _ (nodes : List CodeNode) (i : ℕ) (node : CodeNode) (k k' : Known) (asked asked' : List Bool)
     (below : i < length nodes) (at : node ≡ get_or nodes i node) (known : k' ≡ behind (operation_of node.op) k)
-    (put : Marks (asked_by (operation_of node.op) k.seen) asked asked') where
+    (put : Marks (asked_by (operation_of node.op) k) asked asked') where
   -- once one more node is come to, what was asked for and what is left to ask for are what they were together
   pub node_more : (whole : ℕ → Bool)
       → also (all_asked k (map laid_of (drop i nodes))) (marked asked) ≡ whole
@@ -58,7 +86,7 @@ module _ (nodes : List CodeNode) (i : ℕ) (node : CodeNode) (k k' : Known) (ask
   node_more whole left =
       let rest = map laid_of (drop (i + 1) nodes) in
       ap₂ (λ known'. also (all_asked known' rest)) known put
-      ∙ also_both (asked_by (operation_of node.op) k.seen) (all_asked (behind (operation_of node.op) k) rest)
+      ∙ also_both (asked_by (operation_of node.op) k) (all_asked (behind (operation_of node.op) k) rest)
       (marked asked)
       ∙ ap (λ ns. also (all_asked k (map laid_of ns)) (marked asked)) (sym (here nodes i node below at))
       ∙ left

@@ -1,5 +1,6 @@
--- The parts of atoms that goals ask for: those that are known when a goal is come to. Part 0 is the name, and the
--- arguments are those behind it.
+-- The parts of atoms that goals ask for. Part 0 is the name, and the arguments are those behind it. Atoms are found by a
+-- goal's name and its first argument that has a value when the goal is come to. So a goal asks for its name, and for the
+-- arguments that may have a value, up to the first that surely has one: behind that none serves.
 use Rattle.std.specs.Prelude.{ℕ, ◌+◌, ◌==◌, Bool, true, false, cond, ◌||◌, List, [], ◌∷◌, ◌++◌, Option, Some, None}
 use Rattle.std.specs.List.{filter, list_any, range_with_len}
 use Rattle.hp_syntax.specs.declared.pattern.Tail.{Tail}
@@ -45,9 +46,11 @@ atom_variables a = all_variables a.args ++ tail_variables a.tail
 
 -- ---- goals
 
--- the variables of the head of a rule, and those that were seen so far in its branch
+-- the variables of the head of a rule, those of them that surely have a value, and those that were seen so far in its
+-- branch
 pub record Known : Type 0 where
   pub head : ℕ → Bool
+  pub sure : ℕ → Bool
   pub seen : ℕ → Bool
 
 -- whether a pattern is more than a variable that wasn't seen yet
@@ -55,39 +58,53 @@ abbrev pub is_known : (ℕ → Bool) → Pattern → Bool
 is_known seen (Variable s v) = seen v
 is_known seen _ = true
 
--- the arguments that are known, where the first has this number
-unfoldable pub known_arguments : (ℕ → Bool) → ℕ → Patterns → List ℕ
-known_arguments seen n NoPattern = []
-known_arguments seen n (Before first rest) =
-    cond (is_known seen first) (n ∷ []) [] ++ known_arguments (also (variables first) seen) (n + 1) rest
+-- whether a pattern surely has a value when its goal is come to; no list counts, since it has none while a variable in it
+-- is free
+abbrev pub is_sure : (ℕ → Bool) → Pattern → Bool
+is_sure sure (Variable s v) = sure v
+is_sure sure (Listing s parts tail) = false
+is_sure sure _ = true
 
--- the parts that a node asks for: a goal asks for its name and its known arguments
-abbrev pub asked_by : Operation → (ℕ → Bool) → List ℕ
-asked_by (Holds a) seen = 0 ∷ known_arguments seen 1 a.args
-asked_by _ seen = []
+-- the arguments that are known, up to the first that is sure, where the first of all has this number
+unfoldable pub known_arguments : (ℕ → Bool) → (ℕ → Bool) → ℕ → Patterns → List ℕ
+known_arguments sure seen n NoPattern = []
+known_arguments sure seen n (Before first rest) =
+    cond (is_known seen first) (n ∷ []) []
+    ++ cond (is_sure sure first) [] (known_arguments sure (also (variables first) seen) (n + 1) rest)
 
--- behind the head of a rule its variables are seen
-abbrev pub behind_head : Atom → Known
-behind_head a = record { head = also (atom_variables a) none; seen = also (atom_variables a) none }
+-- the parts that a node asks for: a goal asks for its name and its known arguments, up to the first that is sure
+abbrev pub asked_by : Operation → Known → List ℕ
+asked_by (Holds a) k = 0 ∷ known_arguments k.sure k.seen 1 a.args
+asked_by _ k = []
 
--- what is known behind a node: a branch begins with the variables of the head, and goals and assignments show theirs
+-- behind the head of a rule its variables are seen, and these are sure
+abbrev pub behind_head : Atom → (ℕ → Bool) → Known
+behind_head a sure = record {
+  head = also (atom_variables a) none;
+  sure = sure;
+  seen = also (atom_variables a) none;
+}
+
+-- what is known behind a node: the variables of an operator's or a method's head are sure, since a task has no variable
+-- when a rule is tried for it, and those of an axiom's head are not, since its goal may have free ones; a branch begins
+-- with the variables of the head; and goals and assignments show theirs
 abbrev pub behind : Operation → Known → Known
-behind (OperatorOf a) k = behind_head a
-behind (MethodOf a) k = behind_head a
-behind (AxiomOf a) k = behind_head a
-behind (BranchOf name) k = record { head = k.head; seen = k.head }
-behind (Holds a) k = record { head = k.head; seen = also (atom_variables a) k.seen }
-behind (Assign v value) k = record { head = k.head; seen = also (v ∷ []) k.seen }
+behind (OperatorOf a) k = behind_head a (also (atom_variables a) none)
+behind (MethodOf a) k = behind_head a (also (atom_variables a) none)
+behind (AxiomOf a) k = behind_head a none
+behind (BranchOf name) k = record { head = k.head; sure = k.sure; seen = k.head }
+behind (Holds a) k = record { head = k.head; sure = k.sure; seen = also (atom_variables a) k.seen }
+behind (Assign v value) k = record { head = k.head; sure = k.sure; seen = also (v ∷ []) k.seen }
 behind _ k = k
 
 -- the parts that nodes ask for, as often as they do
 unfoldable pub all_asked : Known → List Laid → List ℕ
 all_asked k [] = []
-all_asked k (n ∷ ns) = asked_by n.op k.seen ++ all_asked (behind n.op k) ns
+all_asked k (n ∷ ns) = asked_by n.op k ++ all_asked (behind n.op k) ns
 
 -- before the first rule nothing is known
 abbrev pub nothing_known : Known
-nothing_known = record { head = none; seen = none }
+nothing_known = record { head = none; sure = none; seen = none }
 
 -- the parts that nodes ask for, each once, in order, as far as indexes are kept
 abbrev pub asked_parts : List Laid → List ℕ

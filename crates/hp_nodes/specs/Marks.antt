@@ -12,4 +12,4 @@ Marks ns old new = marked new ≡ also ns (marked old)
 
 -- what is known while nodes are gone through
 abbrev pub known_of : Asking → Known
-known_of a = record { head = marked a.head.items; seen = marked a.seen.items }
+known_of a = record { head = marked a.head.items; sure = marked a.sure.items; seen = marked a.seen.items }
