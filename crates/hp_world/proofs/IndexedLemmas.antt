@@ -28,7 +28,7 @@ pub atom_in_row : (p : Inside) (row : Row) (i a : ℕ) → IsIndexed p → row_o
     → get_or row.places i None ≡ Some a → a < length p.table.items
 atom_in_row p row i a h view e =
     let here = subst (λ (r : Row). get_or r.places i None ≡ Some a) (sym view) e in
-    atom_within p.table.items p.places.items i a h here
+    atom_within p.table.items p.places.items i a h.index here
 
 -- the entry of an atom is its only place, or it stands nowhere
 pub place_from : (table places : List (Option ℕ)) (a : ℕ) (r : Option ℕ) → IsIndex table places

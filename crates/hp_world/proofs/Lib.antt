@@ -16,3 +16,4 @@ pub mod SoundLemmas
 pub mod LearningLemmas
 pub mod PartAtLemmas
 pub mod WaitingLemmas
+pub mod TurnLemmas

@@ -1,5 +1,5 @@
 -- Places of atoms, and a table from an atom to its place.
-use Rattle.std.specs.Prelude.{◌≡◌, ℕ, ◌<◌, List, Option, Some, None, length, slice_index_or, vec_capacity}
+use Rattle.std.specs.Prelude.{◌≡◌, ℕ, ◌-◌, ◌<◌, ◌^◌, List, Option, Some, None, min, length, slice_index_or, vec_capacity}
 use Rattle.hp_world.specs.declared.places.Places.TheInside.{Inside}
 
 -- places with their atoms, the bound of the atoms that the table has entries for, and the number of places that there
@@ -26,8 +26,13 @@ pub record IsIndex (table : List (Option ℕ)) (places : List (Option ℕ)) : Ty
 
 -- the view of places
 abbrev pub row_of : Inside → Row
-row_of p = record { places = p.places.items; width = length p.table.items; room = vec_capacity p.places }
+row_of p = record {
+  places = p.places.items;
+  width = length p.table.items;
+  room = min (vec_capacity p.places) (2 ^ 32 - 1);
+}
 
--- the table of places follows them
-abbrev pub IsIndexed : Inside → Type 0
-IsIndexed p = IsIndex p.table.items p.places.items
+-- the table of places follows them, and they have numbers of 32 bits
+pub record IsIndexed (p : Inside) : Type 0 where
+  pub index : IsIndex p.table.items p.places.items
+  pub few : length p.places.items < 2 ^ 32

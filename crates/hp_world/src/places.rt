@@ -7,12 +7,15 @@ use hp_cells::Cell;
 use std::alloc::{AllocError, Global};
 use std::marker::Model;
 
+// The most places that there may be.
+const MOST: usize = 0xffff_ffff;
+
 /// Places in a row, each with an atom or empty. No atom stands at two. Contracts see the places, how many can stand
 /// there without more memory, and up to which cell the table reaches.
 pub struct Places {
     places: Vec<Option<Cell>>,
     // By the number of an atom: its place.
-    table: Vec<Option<usize>>,
+    table: Vec<Option<u32>>,
 }
 
 impl Drop for Places {
@@ -89,20 +92,20 @@ impl Places {
     pub fn place_of(&self, atom: Cell) -> Option<usize>
         ensures { MatchOption result (IsAbsent atom self.now.places) (IsOnlyAt atom self.now.places) }
     {
-        if atom.index() < self.table.len() {
-            self.table[atom.index()]
-        } else {
-            None
-        }
+        let place = (*self.table.get(atom.index())?)?;
+        Some(place as usize)
     }
 
-    /// Makes room for so many more places, with these atoms.
+    /// Makes room for so many more places, with these atoms. There is none where there would be 2^32 places or more.
     pub fn reserve(&mut self, atoms: &[Cell]) -> Result<(), AllocError>
         ensures places { self.new.places ≡ self.old.places }
         ensures wider { self.old.width ≤ self.new.width }
         ensures room { OnOk result (length self.new.places + length atoms.now ≤ self.new.room) }
         ensures width { OnOk result (AllBelow self.new.width atoms.now) }
     {
+        if MOST - self.places.len() < atoms.len() {
+            return Err(AllocError);
+        }
         self.places.reserve(atoms.len())?;
         for atom in atoms {
             self.widen(*atom)?;
@@ -132,7 +135,7 @@ impl Places {
     {
         let place = self.places.len();
         self.places.push_reserved(Some(atom));
-        self.table[atom.index()] = Some(place);
+        self.table[atom.index()] = Some(place as u32);
     }
 
     /// Takes the last place away, as undoing does.
@@ -165,6 +168,6 @@ impl Places {
         ensures { self.new ≡ record self.old { places = slice_set self.old.places place (Some atom) } }
     {
         self.places[place] = Some(atom);
-        self.table[atom.index()] = Some(place);
+        self.table[atom.index()] = Some(place as u32);
     }
 }

@@ -1,5 +1,5 @@
 //! The world: the atoms that hold and the protections, and the pasts.
-ghost use Rattle.std.specs.Prelude.{◌≡◌, ◌↔◌, ◌≤◌, ◌<◌, ℕ, List, Option, [], Some, MatchOption, IfOk, IsTrue, OnErr};
+ghost use Rattle.std.specs.Prelude.{◌≡◌, ◌↔◌, ◌≤◌, ◌<◌, ℕ, List, Option, [], Some, MatchOption, IfOk, Contains, IsTrue, OnErr};
 ghost use Rattle.std.specs.Prelude.{length, slice_get};
 ghost use Rattle.hp_syntax.specs.Terms.{Term};
 ghost use Rattle.hp_world.specs.Answers.{Applies};
@@ -11,7 +11,7 @@ ghost use Rattle.hp_world.specs.Recorded.{history_in, Knows, IndexedBelow, Index
 ghost use Rattle.hp_world.specs.Pasts.{PastsBelow};
 ghost use Rattle.hp_world.specs.Stages.{live_atoms, PlacesKept, AllBelow, StageBelow, ChangesBelow};
 
-use crate::part_index::key_of;
+use crate::part_index::{PartIndex, key_of};
 use crate::store::{Applied, Store};
 use hp_cells::{Cell, Cells};
 use std::alloc::{AllocError, Global};
@@ -71,8 +71,8 @@ impl World {
     /// Cancels for each of `unguard` its first equal protection, deletes atoms, whose places stay and are empty then,
     /// adds atoms that are absent behind the others, and adds protections. Where an atom to delete is still protected
     /// after the cancelling, nothing is changed, and the first such atom is answered. All memory that is needed is
-    /// taken before the first change, so an error leaves the world as it was. The names of the atoms are not told, so
-    /// the world keeps no indexes.
+    /// taken before the first change, so an error leaves atoms, protections and pasts as they were. The parts of the
+    /// atoms are not told, so the world keeps no indexes, whatever is answered.
     pub fn apply(
         &mut self,
         unguard: &[Cell],
@@ -204,20 +204,51 @@ impl World {
         requires known { Knows cells.now self.now }
         ensures { IsNextNamedWith cells.now name part argument self.now.now.places from result }
     {
+        match self.store.index(part) {
+            Some(index) => self.next_by_turns(cells, index, name, part, argument, from),
+            None => self.next_among_named(cells, name, part, argument, from),
+        }
+    }
+
+    // As `next_with`, with the index by that part. Both positions follow a place of their chain, so each look-up but
+    // the first is one step.
+    fn next_by_turns(
+        &self,
+        cells: &Cells,
+        index: &PartIndex,
+        name: Cell,
+        part: usize,
+        argument: Cell,
+        from: usize,
+    ) -> Option<usize>
+        requires atoms { AllBelow (length cells.now) (live_atoms self.now.now.places) }
+        requires name { name < length cells.now }
+        requires argument { argument < length cells.now }
+        requires known { Knows cells.now self.now }
+        requires part { index.now.part ≡ part }
+        requires kept { Contains self.now.parts index.now }
+        ensures { IsNextNamedWith cells.now name part argument self.now.now.places from result }
+    {
         let end = self.places();
-        let mut at = from;
-        while at < end {
-            let place = self.next_likely(cells, name, part, argument, at)?;
-            if self.is_at(cells, name, part, argument, place) {
-                return Some(place);
+        let mut parted = from;
+        let mut named = from;
+        while parted < end {
+            let likely = self.next_parted(cells, index, name, part, argument, parted)?;
+            if self.is_at(cells, name, part, argument, likely) {
+                return Some(likely);
             }
-            at = self.next_named(cells, name, place + 1)?;
+            parted = likely + 1;
+            let other = self.next_named(cells, name, named)?;
+            if self.is_at(cells, name, part, argument, other) {
+                return Some(other);
+            }
+            named = other + 1;
         }
         None
     }
 
-    // A place not below one, before which no atom has this name and this part.
-    fn next_likely(
+    // As `next_with`, along the atoms with the name alone.
+    fn next_among_named(
         &self,
         cells: &Cells,
         name: Cell,
@@ -229,15 +260,42 @@ impl World {
         requires name { name < length cells.now }
         requires argument { argument < length cells.now }
         requires known { Knows cells.now self.now }
+        ensures { IsNextNamedWith cells.now name part argument self.now.now.places from result }
+    {
+        let end = self.places();
+        let mut named = from;
+        while named < end {
+            let place = self.next_named(cells, name, named)?;
+            if self.is_at(cells, name, part, argument, place) {
+                return Some(place);
+            }
+            named = place + 1;
+        }
+        None
+    }
+
+    // A place not below one with this part, by its index; before it no atom has this name and this part.
+    fn next_parted(
+        &self,
+        cells: &Cells,
+        index: &PartIndex,
+        name: Cell,
+        part: usize,
+        argument: Cell,
+        from: usize,
+    ) -> Option<usize>
+        requires atoms { AllBelow (length cells.now) (live_atoms self.now.now.places) }
+        requires argument { argument < length cells.now }
+        requires known { Knows cells.now self.now }
+        requires part { index.now.part ≡ part }
+        requires kept { Contains self.now.parts index.now }
         ensures { IsNoLaterThan (IsNamedWithAt cells.now name part argument self.now.now.places)
             (length self.now.now.places) from result }
     {
-        // No term stands at two cells.
+        // No term stands at two cells, and the index follows the places.
         let _ = cells.len();
-        match self.store.index(part) {
-            Some(index) => index.next_of(argument, from),
-            None => self.next_named(cells, name, from),
-        }
+        let _ = &self.store;
+        index.next_of(argument, from)
     }
 
     // Whether the atom of a place has this name and this part.

@@ -15,5 +15,9 @@ invariant_of-self c =
     take_all n table (omega (arith, short, c.index.ensures, c.index-then-len-index.ensures)) in
     let items : c.resize.new.self.items ≡ table ++ replicate more None =
     c.in_ok-resize.ensures.items ∙ ap (λ (t : List (Option ℕ)). t ++ replicate more None) whole in
-    subst (λ (t : List (Option ℕ)). IsIndex t c.self.inside.places.items) (sym items)
-    (index_padded table c.self.inside.places.items more None refl c.self.invariant)
+    record {
+      index =
+          subst (λ (t : List (Option ℕ)). IsIndex t c.self.inside.places.items) (sym items)
+          (index_padded table c.self.inside.places.items more None refl c.self.invariant.index);
+      few = c.self.invariant.few;
+    }
