@@ -1,3 +1,5 @@
+pub mod BackSteps
 pub mod CellSteps
+pub mod FrameLevels
 pub mod MarkSteps
 pub mod SearchSteps

@@ -1,6 +1,7 @@
 -- The moments of the nodes on the path of a search.
 use Rattle.std.specs.Prelude.{slice_get}
-use Rattle.std.proofs.Common.{◌≡◌, ◌⊎◌, inl, inr, ℕ, ◌-◌, ◌≤◌, Bool, List, [], ◌∷◌, ◌++◌, length, map, reverse, take, Some, sym, ◌∙◌, ap, subst, arith}
+use Rattle.std.proofs.Common.{◌≡◌, ◌⊎◌, inl, inr, ℕ, ◌-◌, ◌≤◌, Bool, List, [], ◌∷◌, ◌++◌, length, map, reverse, take}
+use Rattle.std.proofs.Common.{Some, sym, ◌∙◌, ap, subst, arith}
 use Rattle.std.proofs.lemmas.List.{length-map, length-reverse, map-append, reverse-append, take-append-le}
 use Rattle.std.proofs.lemmas.Option.{slice_get_within}
 use Rattle.std.proofs.Math.Seq.{take-length}
@@ -20,7 +21,7 @@ use Rattle.hp_agenda.specs.Frames.{LeadTo, level_of}
 use Rattle.hp_search.specs.declared.search.Search.{Search}
 use Rattle.hp_search.specs.Planned.{HasMarks, planned}
 use Rattle.hp_search.specs.Searches.{IsSearch, rules_in_search, stack_of, tree_in}
-use Rattle.hp_search.proofs.SearchSteps.{path_length}
+use Rattle.hp_search.proofs.FrameLevels.{path_length}
 
 -- the moments of frames, the nearest first, in the order of the path
 abbrev moments : List Frame → List Mark
@@ -38,10 +39,12 @@ many gs = length-map (reverse gs) (λ (f : Frame). f.mark) ∙ length-reverse gs
 -- a moment of one more frame is one of the others, or its own
 one_or_last : (g : Frame) (gs : List Frame) (k : ℕ) (m : Mark) → slice_get (moments (g ∷ gs)) k ≡ Some m
     → (slice_get (moments gs) k ≡ Some m) ⊎ ((k ≡ length gs) × (g.mark ≡ m))
-one_or_last g gs k m e = elim (before_or_last (moments gs) g.mark k m (sym (ap (λ xs. slice_get xs k) (moments_next g gs)) ∙ e)) [
-  | inl h ↦ inl h
-  | inr h ↦ inr (h.0 ∙ many gs, h.1)
-]
+one_or_last g gs k m e =
+    let there = sym (ap (λ xs. slice_get xs k) (moments_next g gs)) ∙ e in
+    elim (before_or_last (moments gs) g.mark k m there) [
+      | inl h ↦ inl h
+      | inr h ↦ inr (h.0 ∙ many gs, h.1)
+    ]
 
 module _ (site : Site) (nest : ℕ) (terms : List Term) where
   -- frames lead to a moment that none of theirs is behind

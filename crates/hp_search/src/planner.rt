@@ -30,7 +30,8 @@ impl<'a> Model for Planner<'a> {
 
     ghost Value = { Planned };
 
-    ghost coded = { Prim.hlevel (codes, (sites.the_row (static_lft)).coded, (frames.the_row (static_lft)).coded, terms_code) };
+    ghost coded = { Prim.hlevel
+        (codes, (sites.the_row (static_lft)).coded, (frames.the_row (static_lft)).coded, terms_code) };
 
     ghost use Rattle.hp_search.specs.Planned.{planned, IsPlanned};
 

@@ -5,7 +5,8 @@ ghost use Rattle.hp_site.specs.Sites.{IsMark, IsSite, held_now};
 ghost use Rattle.hp_tree.specs.SearchNodes.{node_of};
 ghost use Rattle.hp_agenda.specs.Frames.{rules_at};
 ghost use Rattle.hp_search.specs.Planned.{DropsFloor, StepCells, planned};
-ghost use Rattle.hp_search.specs.Searches.{BeginsAt, GivesBack, Goes, IsEntered, IsRested, IsRisen, IsSearch, IsTaken, Moves, base_in, stands_in, tree_in};
+ghost use Rattle.hp_search.specs.Searches.{BeginsAt, GivesBack, Goes, IsEntered, IsRested, IsRisen, IsSearch, IsTaken};
+ghost use Rattle.hp_search.specs.Searches.{Moves, base_in, stands_in, tree_in};
 
 use hp_agenda::{Frame, Successor};
 use hp_cells::Cells;

@@ -7,4 +7,5 @@ pub returns-clause-marks : goal.returns-clause-marks
 returns-clause-marks c =
     let is = c.self.view_is in
     subst HasMarks is
-    (has_marks c.self.inside.search c.self.inside.live (c.self.invariant (ap (λ (p : Planned). p.live) is ∙ c.requires.live)))
+    (has_marks c.self.inside.search c.self.inside.live
+    (c.self.invariant (ap (λ (p : Planned). p.live) is ∙ c.requires.live)))

@@ -4,7 +4,7 @@ use Rattle.std.proofs.lemmas.List.Elements.{All-head, All-same}
 use Rattle.hp_laws.proofs.JoinLemmas.{all_right}
 use Rattle.hp_search.specs.Searches.{HasCell}
 use Rattle.hp_search.proofs.CellSteps.{back_cells}
-use Rattle.hp_search.proofs.SearchSteps.{back_at_root, goes_back, lead_first}
+use Rattle.hp_search.proofs.BackSteps.{back_at_root, goes_back, lead_first}
 use Rattle.hp_search.proofs.search.Search.back.Goals as goal
 
 pub rise-requires-clause-mark : goal.rise-requires-clause-mark

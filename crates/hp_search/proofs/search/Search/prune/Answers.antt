@@ -1,4 +1,4 @@
-use Rattle.hp_search.proofs.SearchSteps.{goes_pruned}
+use Rattle.hp_search.proofs.BackSteps.{goes_pruned}
 use Rattle.hp_search.proofs.search.Search.prune.Goals as goal
 
 pub returns : goal.returns

@@ -1,7 +1,9 @@
 use Rattle.std.proofs.Common.{◌∙◌}
 use Rattle.std.proofs.lemmas.Result.{IfOk-weaker}
 use Rattle.hp_search.proofs.CellSteps.{over_cells, taken_cells}
-use Rattle.hp_search.proofs.SearchSteps.{Leaves, base_alike, gives_back, gives_back_over, moves_on, moves_over, of_each, on_err, tree_is}
+use Rattle.hp_search.proofs.FrameLevels.{base_alike}
+use Rattle.hp_search.proofs.SearchSteps.{Leaves, gives_back, gives_back_over, moves_on, moves_over, of_each, on_err}
+use Rattle.hp_search.proofs.SearchSteps.{tree_is}
 use Rattle.hp_search.proofs.search.Search.step.Goals as goal
 
 pub returns-then-self-clause-moves : goal.returns-then-self-clause-moves
