@@ -2,6 +2,7 @@
 //! look-ups, and of whole runs. What each call gives is printed, and the gate compares it with what is wanted.
 #![tactic(auto)]
 
+mod both;
 mod events;
 mod fixtures;
 mod laws;
@@ -35,5 +36,6 @@ fn print_calls(rt: &(impl Files + Print + AllocGlobal)) -> io::Result<()> {
 fn main(rt: HostRuntime) -> io::Result<()> {
     laws::cite_all();
     print_calls(&rt)?;
-    runs::print_all(&rt)
+    runs::print_all(&rt)?;
+    both::print_all(&rt)
 }

@@ -2,6 +2,7 @@
 //! told otherwise than by what a command writes.
 
 mod cases;
+mod failing;
 mod generated;
 mod made;
 mod rereads;
@@ -27,6 +28,7 @@ fn try_made(alloc: Global, out: &mut Vec<u8>) -> Result<(), AllocError> {
 pub fn print_all(rt: &(impl Files + Print + AllocGlobal)) -> io::Result<()> {
     let mut out = Vec::from_slice(rt.alloc(), b"\n== runs\n")?;
     cases::try_all(rt, &mut out)?;
+    failing::try_all(rt, &mut out)?;
     try_made(rt.alloc(), &mut out)?;
     io::writer(rt).write_all(out.as_slice())
 }

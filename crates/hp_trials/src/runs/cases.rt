@@ -44,7 +44,7 @@ fn try_line(
 ) -> io::Result<()> {
     tell(out, line)?;
     if line.starts_with('$') {
-        return try_command(rt, out, given.as_slice(), line, ROOM);
+        return try_engines(rt, out, given.as_slice(), line);
     }
     match line.split_once(" =") {
         Some((name, text)) => Ok(give(rt.alloc(), given, name, text)?),
@@ -72,6 +72,40 @@ fn try_command(
     let mut folder = MemFolder::new(rt.alloc());
     put_words(rt, given, &mut folder, words.as_slice())?;
     Ok(try_words(rt.alloc(), out, &mut folder, words.as_slice(), room)?)
+}
+
+/// Runs a command, and one that makes a plan in place by the engine of copies too.
+fn try_engines(
+    rt: &(impl Files + AllocGlobal),
+    out: &mut Vec<u8>,
+    given: &[Given],
+    line: &str,
+) -> io::Result<()> {
+    let mut told = Vec::new(rt.alloc());
+    try_command(rt, &mut told, given, line, ROOM)?;
+    out.extend_from_slice(told.as_slice())?;
+    if line.starts_with("$ plan ") && !line.contains("--plain") {
+        try_copies(rt, out, given, line, told.as_slice())?;
+    }
+    Ok(())
+}
+
+/// Runs a command by the engine of copies, and tells what it writes and its status where they aren't as told.
+fn try_copies(
+    rt: &(impl Files + AllocGlobal),
+    out: &mut Vec<u8>,
+    given: &[Given],
+    line: &str,
+    told: &[u8],
+) -> io::Result<()> {
+    let line = format!(in rt.alloc(); "{line} --plain")?;
+    let mut copied = Vec::new(rt.alloc());
+    try_command(rt, &mut copied, given, line.as_str(), ROOM)?;
+    if copied.as_slice() != told {
+        tell(out, "# by the engine of copies it differs")?;
+        out.extend_from_slice(copied.as_slice())?;
+    }
+    Ok(())
 }
 
 fn put_words(

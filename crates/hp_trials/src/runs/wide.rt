@@ -19,8 +19,9 @@ type Row = (
     &'static str,
 );
 
-// A list of a hundred thousand parts in a step, and nine hundred tasks in any order, of which the first order is asked.
-const ROWS: [Row; 2] = [
+// A list of a hundred thousand parts in a step; nine hundred tasks in any order, of which the first order is asked; and
+// a million million satisfiers of one precondition, which the engine of copies would list before it took one.
+const ROWS: [Row; 3] = [
     (
         "# a step with a list of 100000 parts",
         "(defdomain d ((:operator (!do ?x) () () ()) (:method (m ?x) () ((!do ?x)))))",
@@ -34,6 +35,14 @@ const ROWS: [Row; 2] = [
         "(defproblem p d () (:unordered {900 (!do a)}))",
         "$ plan d p 1 1000",
         "plan 1 cost 900 steps 900\n{900 (!do a)\n}stopped plans 1 expansions 900\n",
+    ),
+    (
+        "# a precondition with 2^40 satisfiers, of which two are asked",
+        "(defdomain d ((:operator (!do ?x) () () ()) \
+         (:method (m) ({39 (or (w ?x 1) (w ?x 1)) }(or (w ?x 1) (w ?x 1))) ((!do ?x)))))",
+        "(defproblem p d ((w a 3) (w b 1) (w c 3)) ((m)))",
+        "$ plan d p 2 5",
+        "plan 1 cost 1 steps 1\n(!do b)\nplan 2 cost 1 steps 1\n(!do b)\nstopped plans 2 expansions 4\n",
     ),
 ];
 
@@ -51,12 +60,13 @@ fn try_row(
     (shows, domain, problem, line, wanted): &Row,
 ) -> Result<(), AllocError> {
     tell(out, shows)?;
+    let domain = with_repeats(alloc, domain)?;
     let problem = with_repeats(alloc, problem)?;
     let wanted = with_repeats(alloc, wanted)?;
     compare(
         alloc,
         out,
-        (domain, problem.as_str()),
+        (domain.as_str(), problem.as_str()),
         line,
         wanted.as_str(),
     )
