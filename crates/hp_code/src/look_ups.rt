@@ -46,10 +46,10 @@ impl Code {
     }
 }
 
-/// The parts of atoms that the goals of a code ask for, in order, each once: 0 where there is a goal, since each asks for
-/// its name, and the places of the arguments that a goal may know when it is come to, up to the first that it surely
-/// knows, none above `LAST_PART`. Atoms are found by the first argument that is known, so none behind that one serves. A
-/// world may keep indexes by the parts.
+/// The parts of atoms that the goals of a code ask for, in order, each once: 0 where there is a goal, since each asks
+/// for its name, and the places of the arguments that a goal may know when it is come to, up to the first that it surely
+/// knows, none above `LAST_PART`. Atoms are found by the first argument that is known, so none behind that one serves.
+/// A world may keep indexes by the parts.
 pub fn asked_parts(alloc: Global, code: &Code) -> Result<Vec<usize>, AllocError>
     ensures { IfOk result (λ parts. parts.items ≡ asked_parts (code_of code.now).nodes) }
 {

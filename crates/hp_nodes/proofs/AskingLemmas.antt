@@ -41,9 +41,11 @@ module _ (args : List Pat) (i : ℕ) (arg : Pat) (sure : ℕ → Bool) (seen ask
   unfolding known_arguments
   argument_serves put whole left =
       let rest = patterns_of (drop (i + 1) args) in
-      let behind = λ (s : ℕ → Bool). cond (is_sure sure (pattern_of arg)) [] (known_arguments sure s (i + 1 + 1) rest) in
+      let behind =
+      λ (s : ℕ → Bool). cond (is_sure sure (pattern_of arg)) [] (known_arguments sure s (i + 1 + 1) rest) in
       ap₂ (λ s. also (behind s)) shown put
-      ∙ also_both (cond (is_known (marked seen) (pattern_of arg)) ((i + 1) ∷ []) []) (behind (also (variables (pattern_of arg)) (marked seen)))
+      ∙ also_both (cond (is_known (marked seen) (pattern_of arg)) ((i + 1) ∷ []) [])
+      (behind (also (variables (pattern_of arg)) (marked seen)))
       (marked asked)
       ∙ ap (λ as'. also (known_arguments sure (marked seen) (i + 1) (patterns_of as')) (marked asked))
       (sym (here args i arg below at))

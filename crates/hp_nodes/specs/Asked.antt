@@ -1,6 +1,6 @@
--- The parts of atoms that goals ask for. Part 0 is the name, and the arguments are those behind it. Atoms are found by a
--- goal's name and its first argument that has a value when the goal is come to. So a goal asks for its name, and for the
--- arguments that may have a value, up to the first that surely has one: behind that none serves.
+-- The parts of atoms that goals ask for. Part 0 is the name, and the arguments are those behind it. Atoms are found by
+-- a goal's name and its first argument that has a value when the goal is come to. So a goal asks for its name, and for
+-- the arguments that may have a value, up to the first that surely has one: behind that none serves.
 use Rattle.std.specs.Prelude.{ℕ, ◌+◌, ◌==◌, Bool, true, false, cond, ◌||◌, List, [], ◌∷◌, ◌++◌, Option, Some, None}
 use Rattle.std.specs.List.{filter, list_any, range_with_len}
 use Rattle.hp_syntax.specs.declared.pattern.Tail.{Tail}
@@ -58,8 +58,8 @@ abbrev pub is_known : (ℕ → Bool) → Pattern → Bool
 is_known seen (Variable s v) = seen v
 is_known seen _ = true
 
--- whether a pattern surely has a value when its goal is come to; no list counts, since it has none while a variable in it
--- is free
+-- whether a pattern surely has a value when its goal is come to; no list counts, since it has none while a variable
+-- in it is free
 abbrev pub is_sure : (ℕ → Bool) → Pattern → Bool
 is_sure sure (Variable s v) = sure v
 is_sure sure (Listing s parts tail) = false

@@ -1,6 +1,6 @@
 //! The parts of atoms that the goals among nodes ask for: the name, and the arguments that may have a value when a goal
-//! is come to, up to the first that surely has one. Atoms are found by a goal's first argument that has a value, so those
-//! behind that one never serve.
+//! is come to, up to the first that surely has one. Atoms are found by a goal's first argument that has a value, so
+//! those behind that one never serve.
 ghost use Rattle.std.specs.Prelude.{◌≡◌, ◌+◌, ◌^◌, ◌<◌, [], ◌∷◌, ◌++◌, ◌&&◌, not, cond, IfOk, OnOk, map};
 ghost use Rattle.std.specs.List.{filter, range_with_len};
 ghost use Rattle.hp_syntax.specs.Views.{atom_of, pattern_of, patterns_of};
@@ -104,7 +104,8 @@ impl Asking {
         self.begin_branch()
     }
 
-    /// A rule for tasks begins, with this head: its variables are sure, since a task has none when a rule is tried for it.
+    /// A rule for tasks begins, with this head: its variables are sure, since a task has none when a rule is tried for
+    /// it.
     fn begin_task_rule(&mut self, head: &AtomPat) -> Result<(), AllocError>
         ensures known { OnOk result (known_of self.new
             ≡ behind_head (atom_of head.now) (also (atom_variables (atom_of head.now)) none)) }
@@ -214,8 +215,8 @@ fn marked_parts(alloc: Global, marks: &[bool]) -> Result<Vec<usize>, AllocError>
     Ok(parts)
 }
 
-/// The parts that the goals among nodes ask for, in order, each once: the name, and the arguments that may be known when a
-/// goal is come to, up to the first that surely is.
+/// The parts that the goals among nodes ask for, in order, each once: the name, and the arguments that may be known when
+/// a goal is come to, up to the first that surely is.
 pub fn asked_by_nodes(alloc: Global, nodes: &[CodeNode]) -> Result<Vec<usize>, AllocError>
     ensures { IfOk result (λ parts. parts.items ≡ asked_parts (map laid_of nodes.now)) }
 {

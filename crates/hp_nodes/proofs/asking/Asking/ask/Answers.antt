@@ -21,6 +21,7 @@ returns-clause-asked c =
     let sure = marked c.args.self.now.sure.items in
     let seen = marked c.args.self.now.seen.items in
     on_ok_weaker c.mark_tail.result
-    (λ tail. marks_both (0 ∷ []) (known_arguments sure seen 1 arguments) c.args.self.now.asked.items c.mark.new.marks.items
+    (λ tail. marks_both (0 ∷ []) (known_arguments sure seen 1 arguments) c.args.self.now.asked.items
+    c.mark.new.marks.items
     c.ask_arguments.new.self.asked.items c.in_ok-mark.ensures
     (rw c.as_slice.ensures.value at c.in_ok-ask_arguments.ensures.asked)) c.mark_tail.ensures
