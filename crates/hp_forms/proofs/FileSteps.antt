@@ -36,7 +36,6 @@ file-alone what node len f n rest at =
 pub alone_refused : {A : Type 0} (e : FormRefusal) (r : Result A Misform) (rest : Forest)
     → Refuses e r → Refuses e (alone r rest)
 alone_refused (refusals.Expected what span) r rest h = ap (λ x. alone x rest) h
-alone_refused (refusals.SeveralPairs span) r rest h = ap (λ x. alone x rest) h
 alone_refused refusals.NoMemory r rest h = h
 
 -- a refusal of a second node is one of the file
@@ -48,8 +47,6 @@ alone_left e r x rest names at h = refused_same e (alone r rest) (alone (Ok x) r
           → Refuses e (ended rest names) → Refuses e (alone (Ok x) rest)
       left (refusals.Expected what span) x Bare names h = cc
       left (refusals.Expected what span) x (Grow n rest) names h = cc
-      left (refusals.SeveralPairs span) x Bare names h = cc
-      left (refusals.SeveralPairs span) x (Grow n rest) names h = cc
       left refusals.NoMemory x rest names h = h
 
 -- where nothing follows the value is the file's
@@ -79,8 +76,6 @@ module _ {A : Type 0} (what : What) (key : List ℕ) (parts : Span → Forest �
   unfolding file_list
   list_refused (refusals.Expected w t) Bare h = cc
   list_refused (refusals.Expected w t) (Grow n rest) h = cc
-  list_refused (refusals.SeveralPairs t) Bare h = cc
-  list_refused (refusals.SeveralPairs t) (Grow n rest) h = cc
   list_refused refusals.NoMemory f h = h
 
   -- a list that begins with the word is its parts
@@ -146,5 +141,4 @@ list_behind what key parts (Group s (Grow (Word t text) rest)) names = elim (byt
 pub value_refused : {A : Type 0} (e : FormRefusal) (r : Result (A × Names) Misform) → Refuses e r
     → Refuses e (value_in r)
 value_refused (refusals.Expected what span) r h = ap value_in h
-value_refused (refusals.SeveralPairs span) r h = ap value_in h
 value_refused refusals.NoMemory r h = h

@@ -2,7 +2,8 @@
 //! that many of them are never there whole beside what is formed of them. The task list of a problem is one node, which
 //! is let go when it is formed whole.
 
-ghost use Rattle.std.specs.Prelude.{◌≡◌, ◌∷◌, [], codes, map, IfOk};
+ghost use Rattle.std.specs.Prelude.{◌≡◌, ◌<◌, codes, map, true, IfOk};
+ghost use Rattle.std.specs.Vec.Iter.{into_iter_items, into_iter_len};
 ghost use Rattle.hp_syntax.specs.declared.form.What.TheVariants as wants;
 ghost use Rattle.hp_syntax.specs.Steps as steps;
 ghost use Rattle.hp_syntax.specs.Steps.{Names, pure};
@@ -10,16 +11,18 @@ ghost use Rattle.hp_syntax.specs.Grammar as grammar;
 ghost use Rattle.hp_syntax.specs.Views.{atom_of, domain_of, pair_of, problem_of, rule_of};
 ghost use Rattle.hp_text.specs.Nodes.{node_of, nodes_of, forest_of};
 ghost use Rattle.hp_terms.specs.FormReads.{Reads, Gives};
+ghost use Rattle.hp_forms.specs.Pairs as pairs;
 
 use hp_rules::rules::rule;
 use hp_rules::tasks::tasks;
 use hp_syntax::{AtomPat, Domain, Name, Pair, Problem, Rule, Span, What};
 use hp_terms::FormRefusal;
-use hp_terms::nodes::{closing, ended, expected, is_word, list, name, next};
-use hp_terms::scope::{Scope, only};
+use hp_terms::nodes::{closing, ended, expected, is_word, list, name};
+use hp_terms::scope::Scope;
 use hp_terms::terms::{Setting, atom};
 use hp_text::{Forest, Node};
 use std::alloc::{AllocError, Global};
+use std::vec::IntoIter;
 
 /// The empty span at the end of a file.
 fn end_of(forest: &Forest) -> Span
@@ -129,16 +132,6 @@ pub fn domain(alloc: Global, forest: Forest) -> Result<Domain, FormRefusal>
     Ok(domain)
 }
 
-/// A problem has one pair of a state and a task list.
-fn no_more_pairs(nodes: &[Node]) -> Result<(), FormRefusal>
-    ensures { (names : Names) → Reads (λ _. tt) result (grammar.no_more_pairs (nodes_of nodes.now)) names names }
-{
-    match nodes {
-        [] => Ok(()),
-        [first, ..] => Err(FormRefusal::SeveralPairs { span: first.span }),
-    }
-}
-
 /// The atoms that nodes are.
 fn atoms(scope: &mut Scope, nodes: Vec<Node>) -> Result<Vec<AtomPat>, FormRefusal>
     ensures { Reads (λ v. map atom_of v.items) result
@@ -152,38 +145,74 @@ fn atoms(scope: &mut Scope, nodes: Vec<Node>) -> Result<Vec<AtomPat>, FormRefusa
     Ok(atoms)
 }
 
-/// The pair of a problem, of the nodes behind its names.
-#[tactic(auto, unfolding(hp_syntax::specs::Grammar::pair, hp_syntax::specs::Grammar::atoms))]
-fn pair(scope: &mut Scope, end: Span, mut nodes: Vec<Node>) -> Result<Pair, FormRefusal>
-    ensures { Reads pair_of result (grammar.pair end (nodes_of nodes.items))
+/// The atoms of a state.
+#[tactic(auto, unfolding(hp_syntax::specs::Grammar::atoms))]
+fn state(scope: &mut Scope, node: Node) -> Result<Vec<AtomPat>, FormRefusal>
+    ensures { Reads (λ v. map atom_of v.items) result (grammar.atoms grammar.InProblem (node_of node))
         scope.old.names.keys scope.new.names.keys }
 {
-    let first = take_next(What::Atoms, end, &mut nodes)?;
-    let state = into_list(scope.alloc, What::Atoms, first)?;
-    let state = atoms(scope, state)?;
-    let (second, rest) = next(What::Tasks, end, nodes.as_slice())?;
-    let tasks = tasks(scope, Setting::Problem, second)?;
-    no_more_pairs(rest)?;
+    let nodes = into_list(scope.alloc, What::Atoms, node)?;
+    atoms(scope, nodes)
+}
+
+/// The next of the nodes that are left; where there is none, this is wanted there.
+fn next_left(what: What, end: Span, left: &mut IntoIter<Node>) -> Result<Node, FormRefusal>
+    ensures reads { (names : Names) → Reads (λ first. (node_of first, nodes_of (into_iter_items left.new))) result
+        (steps.next what end (nodes_of (into_iter_items left.old))) names names }
+    ensures fewer { IfOk result (λ _. into_iter_len left.new < into_iter_len left.old) }
+{
+    match left.next() {
+        Some(node) => Ok(node),
+        None => expected(what, end),
+    }
+}
+
+/// A pair of a problem, of the nodes that are left.
+#[tactic(auto, unfolding(crate::specs::Pairs::pair))]
+fn pair(scope: &mut Scope, end: Span, left: &mut IntoIter<Node>) -> Result<Pair, FormRefusal>
+    ensures reads { Reads (λ p. (pair_of p, nodes_of (into_iter_items left.new))) result
+        (pairs.pair end (nodes_of (into_iter_items left.old))) scope.old.names.keys scope.new.names.keys }
+    ensures fewer { IfOk result (λ _. into_iter_len left.new < into_iter_len left.old) }
+{
+    let first = next_left(What::Atoms, end, left)?;
+    let state = state(scope, first)?;
+    let second = next_left(What::Tasks, end, left)?;
+    let tasks = tasks(scope, Setting::Problem, &second)?;
     Ok(Pair { state, tasks })
 }
 
-/// The problem of these names and its one pair, whose variables have the names of the scope.
+/// The pairs of a problem, one or more, of the nodes behind its names.
+fn pairs(scope: &mut Scope, end: Span, nodes: Vec<Node>) -> Result<Vec<Pair>, FormRefusal>
+    ensures { Reads (λ v. map pair_of v.items) result (grammar.pairs end true (nodes_of nodes.items))
+        scope.old.names.keys scope.new.names.keys }
+{
+    let mut pairs = Vec::with_capacity(scope.alloc, nodes.len() / 2)?;
+    let mut left = nodes.into_iter();
+    loop {
+        let next = pair(scope, end, &mut left)?;
+        pairs.push(next)?;
+        if left.len() == 0 {
+            return Ok(pairs);
+        }
+    }
+}
+
+/// The problem of these names and pairs, whose variables have the names of the scope.
 fn named_problem(
     scope: &Scope,
     own: &Name,
     domain: &Name,
     domain_span: Span,
-    pair: Pair,
+    pairs: Vec<Pair>,
 ) -> Result<Problem, AllocError>
     ensures { IfOk result (λ p. problem_of p ≡ record {
       name = own.now;
       domain = domain.now;
       domain_span = domain_span;
       vars = scope.now.names.keys;
-      pairs = pair_of pair ∷ [];
+      pairs = map pair_of pairs.items;
     }) }
 {
-    let pairs = only(scope.alloc, pair)?;
     let vars = scope.all_names()?;
     let name = own.copy(scope.alloc)?;
     let domain = domain.copy(scope.alloc)?;
@@ -196,7 +225,7 @@ fn named_problem(
     })
 }
 
-/// `(defproblem NAME NAME atoms tasks)`, by what follows the word.
+/// `(defproblem NAME NAME atoms tasks ..)`, by what follows the word.
 #[tactic(auto, unfolding(hp_syntax::specs::Grammar::problem_list))]
 fn problem_list(alloc: Global, span: Span, mut rest: Vec<Node>) -> Result<Problem, FormRefusal>
     ensures { Gives problem_of result (steps.from_no_names (grammar.problem_list span (nodes_of rest.items))) }
@@ -206,8 +235,8 @@ fn problem_list(alloc: Global, span: Span, mut rest: Vec<Node>) -> Result<Proble
     let second = take_next(What::Name, closing(span), &mut rest)?;
     let domain = name(&second)?;
     let mut scope = Scope::new(alloc);
-    let pair = pair(&mut scope, closing(span), rest)?;
-    Ok(named_problem(&scope, own, domain, second.span, pair)?)
+    let pairs = pairs(&mut scope, closing(span), rest)?;
+    Ok(named_problem(&scope, own, domain, second.span, pairs)?)
 }
 
 /// The problem that a node is.

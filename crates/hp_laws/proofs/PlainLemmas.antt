@@ -1,5 +1,5 @@
 -- The reading of a forest for a problem is plain: it holds no call, and nests hardly deeper than the forest.
-use Rattle.std.proofs.Common.{◌≡◌, ℕ, ◌+◌, ◌-◌, ◌<◌, ◌≤◌, Bool, true, false, List, [], length, Option, bytes_eq, codes, refl, arith}
+use Rattle.std.proofs.Common.{◌≡◌, ℕ, ◌+◌, ◌-◌, ◌<◌, ◌≤◌, Bool, true, false, List, Option, bytes_eq, codes, arith}
 use Rattle.std.specs.Prelude.{Ok}
 use Rattle.std.specs.List.{All}
 use Rattle.std.proofs.lemmas.List.Elements.{All-nil, All-cons}
@@ -11,9 +11,9 @@ use Rattle.hp_syntax.specs.declared.form.What.TheVariants as wants
 use Rattle.hp_syntax.specs.Forest.{Node, Word, Numeral, Group, Forest, Bare, Grow, span_of, nesting, nesting_of_node}
 use Rattle.hp_syntax.specs.GroundPatterns.{term_said, terms_said}
 use Rattle.hp_syntax.specs.Names.{is_variable, is_plain}
-use Rattle.hp_syntax.specs.Steps.{closing, ended, is_word, names_so_far, next, numbered}
+use Rattle.hp_syntax.specs.Steps.{closing, ended, is_word, names_so_far, numbered}
 use Rattle.hp_syntax.specs.Grammar as grammar
-use Rattle.hp_syntax.specs.Syntax.{Patterns, Variable, Task, Ordered, Unordered, NoTasks, Then, Problem}
+use Rattle.hp_syntax.specs.Syntax.{Atom, Patterns, Variable, Task, Ordered, Unordered, NoTasks, Then, Problem}
 use Rattle.hp_syntax.specs.TextForms.{IsRead}
 use Rattle.hp_syntax.proofs.LimitLemmas.{forest_keeps_limits}
 use Rattle.hp_laws.specs.Plain.{IsPlain, ArePlain, IsPlainAtom, ArePlainTasks, IsPlainTaskList, IsPlainPair}
@@ -190,18 +190,26 @@ module _ (most : ℕ) where
 
   -- ---- problems
 
-  -- the pair of a problem is plain
-  pair_is_plain : (end : Span) (f : Forest) → nesting f < most → Gives (IsPlainPair most) (grammar.pair end f)
-  unfolding grammar.pair
-  pair_is_plain end f l =
-      gives_chain (gives_next {most = most - 1} wants.Atoms end f (omega arith)) (λ x h.
-      let a = h.first in
-      gives_chain (atoms_are_plain x.0 (omega arith)) (λ state s.
-      let b = h.rest in
-      gives_chain (gives_next {most = most - 1} wants.Tasks end x.1 b) (λ y k.
-      let c = k.first in
-      gives_chain (tasks_are_plain y.0 (omega arith)) (λ ts t.
-      gives_then (grammar.no_more_pairs y.1) (λ z. gives_pure (record { state = s; tasks = t }))))))
+  mutual
+    unfolding grammar.pairs grammar.pair_tasks
+
+    -- nodes are read as plain pairs
+    pairs_are_plain : (end : Span) (is_first : Bool) (f : Forest) → nesting f < most
+        → Gives (All (IsPlainPair most)) (grammar.pairs end is_first f)
+    pairs_are_plain end is_first Bare l = gives_choice is_first (gives_refusal _)
+        (gives_pure (All-nil (IsPlainPair most)))
+    pairs_are_plain end is_first (Grow n rest) l =
+        gives_chain (atoms_are_plain n (omega arith)) (λ state s. pair_tasks_are_plain end state s rest (omega arith))
+
+    -- behind plain atoms nodes are read as plain pairs
+    pair_tasks_are_plain : (end : Span) (state : List Atom) → All (IsPlainAtom most) state → (f : Forest)
+        → nesting f < most → Gives (All (IsPlainPair most)) (grammar.pair_tasks end state f)
+    pair_tasks_are_plain end state s Bare l = gives_refusal _
+    pair_tasks_are_plain end state s (Grow n rest) l =
+        gives_chain (tasks_are_plain n (omega arith)) (λ ts t.
+        gives_chain (pairs_are_plain end false rest (omega arith)) (λ others k.
+        gives_pure (All-cons (IsPlainPair most) (grammar.make_pair state ts) others
+        (record { state = s; tasks = t }) k)))
 
   -- the pairs of a problem are plain
   problem_is_plain : (s : Span) (f : Forest) → nesting f < most
@@ -213,9 +221,8 @@ module _ (most : ℕ) where
       gives_chain (gives_next {most = most - 1} wants.Name (closing s) x.1 h.rest) (λ y k.
       let b = k.rest in
       gives_then (grammar.name y.0) (λ domain.
-      gives_chain (pair_is_plain (closing s) y.1 (omega arith)) (λ only q.
-      gives_then names_so_far (λ vars.
-      gives_pure (All-cons (IsPlainPair most) only [] q (All-nil (IsPlainPair most)))))))))
+      gives_chain (pairs_are_plain (closing s) true y.1 (omega arith)) (λ ps q.
+      gives_then names_so_far (λ vars. gives_pure q))))))
 
   -- the pairs are plain of the problem that a node is read as
   node_is_plain : (n : Node) → nesting_of_node n ≤ most
@@ -250,43 +257,3 @@ pub read_problem_is_plain : (text : List ℕ) (p : Problem) → IsRead grammar.p
     → All (IsPlainPair DEEPEST_TERM) p.pairs
 read_problem_is_plain text p h =
     problem_form_is_plain DEEPEST_TERM _ h.forest p (forest_keeps_limits text h.forest h.spelled).2 h.form_is
-
--- ---- the pairs of a problem
-
--- a problem has one pair
-abbrev HasOnePair : Problem → Type 0
-HasOnePair p = length p.pairs ≡ 1
-
-list_has_one_pair : (s : Span) (f : Forest) → Gives HasOnePair (grammar.problem_list s f)
-unfolding grammar.problem_list
-list_has_one_pair s f =
-    gives_then (next wants.Name (closing s) f) (λ x.
-    gives_then (grammar.name x.0) (λ text.
-    gives_then (next wants.Name (closing s) x.1) (λ y.
-    gives_then (grammar.name y.0) (λ domain.
-    gives_then (grammar.pair (closing s) y.1) (λ only.
-    gives_then names_so_far (λ vars. gives_pure refl))))))
-
-node_has_one_pair : (n : Node) → Gives HasOnePair (grammar.file_list wants.Problem
-    (codes "defproblem") grammar.problem_list n)
-unfolding grammar.file_list
-node_has_one_pair n =
-    gives_begun n
-    (λ text rest m. gives_choice (bytes_eq text (codes "defproblem")) (list_has_one_pair (span_of n) rest)
-    (gives_refusal _))
-    (gives_refusal _)
-
-file_has_one_pair : (len : ℕ) (f : Forest)
-    → Gives HasOnePair (grammar.file wants.Problem (grammar.file_list wants.Problem
-    (codes "defproblem") grammar.problem_list) len f)
-unfolding grammar.file
-file_has_one_pair len f =
-    gives_then (next wants.Problem (grammar.end_of_file len) f) (λ x.
-    gives_chain (node_has_one_pair x.0) (λ p q. gives_then (ended x.1) (λ y. gives_pure q)))
-
--- the problem that a text is read as has one pair
-pub read_problem_has_one_pair : (text : List ℕ) (p : Problem) → IsRead grammar.problem_form text p → length p.pairs ≡ 1
-read_problem_has_one_pair text p h =
-    given_value HasOnePair (grammar.file wants.Problem (grammar.file_list wants.Problem
-    (codes "defproblem") grammar.problem_list) _ h.forest) p
-    (file_has_one_pair _ h.forest) h.form_is

@@ -3,7 +3,7 @@
 //! Each function does nothing, and its contract is the law.
 
 ghost use Rattle.std.specs.List.{All};
-ghost use Rattle.std.specs.Prelude.{◌≡◌, ℕ, List, ◌++◌, None, length};
+ghost use Rattle.std.specs.Prelude.{◌≡◌, ℕ, List, ◌++◌, None};
 ghost use Rattle.hp_laws.specs.Plain.{IsPlainPair};
 ghost use Rattle.hp_laws.specs.Sayings.{PairSaysItself};
 ghost use Rattle.hp_syntax.specs.declared.limits.TheConstants.{DEEPEST_TERM};
@@ -42,9 +42,4 @@ pub fn accepted_pairs_are_ground()
 pub fn accepted_pairs_say_themselves()
     ensures { (text : List ℕ) (d : Domain) (p : Problem) → IsRead problem_form text p
         → first_of (domain_faults d ++ problem_faults d p) ≡ None → All PairSaysItself p.pairs }
-{}
-
-/// A problem that a text is read as has one pair of a state and tasks.
-pub fn problems_have_one_pair()
-    ensures { (text : List ℕ) (p : Problem) → IsRead problem_form text p → length p.pairs ≡ 1 }
 {}

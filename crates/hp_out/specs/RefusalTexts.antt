@@ -1,8 +1,7 @@
 -- The line of each refusal.
-use Rattle.std.specs.Prelude.{ℕ, List, codes}
-use Rattle.hp_io.specs.declared.folder.Input.TheVariants as inputs
+use Rattle.std.specs.Prelude.{ℕ, List}
 use Rattle.hp_out.specs.declared.refusal.Refusal.{Refusal}
-use Rattle.hp_out.specs.declared.refusal.Refusal.TheVariants.{Usage, Read, Text, Form, Several, Check}
+use Rattle.hp_out.specs.declared.refusal.Refusal.TheVariants.{Usage, Read, Text, Form, Check}
 use Rattle.hp_syntax.specs.PlaceTexts.{at_offset, at_span}
 use Rattle.hp_out.specs.Lines.{kind_word, check_word, text_of, expected_text, refused_usage, refused_read, refused_line}
 
@@ -11,5 +10,4 @@ refusal_text Usage = refused_usage
 refusal_text (Read which) = refused_read which
 refusal_text (Text which kind offset) = refused_line which (at_offset (kind_word kind) offset)
 refusal_text (Form which what span) = refused_line which (expected_text what span)
-refusal_text (Several span) = refused_line inputs.Problem (at_span (codes "SeveralPairs") span)
 refusal_text (Check fault) = refused_line (text_of fault.in_problem) (at_span (check_word fault.kind) fault.span)

@@ -10,7 +10,7 @@ ghost use Rattle.hp_out.specs.Lines.{kind_word, refused_line, refused_read, note
 ghost use Rattle.hp_out.specs.RefusalTexts.{refusal_text};
 ghost use Rattle.hp_out.specs.Writing.{Writes};
 ghost use Rattle.hp_syntax.specs.PlaceTexts.{at_offset, at_span, span_text};
-ghost use Rattle.hp_syntax.specs.Report.{ending_text, plan_line, told_plan};
+ghost use Rattle.hp_syntax.specs.Report.{ending_text, pair_line, plan_line, told_plan};
 
 use crate::ending::Ending;
 use crate::endings::push_ending;
@@ -125,6 +125,26 @@ impl<'a, K: Sink> Pen<'a, K> {
         }
     }
 
+    /// Writes the line of one of several pairs: its number, from 1 on, and how many there are.
+    #[tactic(auto, unfolding(hp_syntax::specs::Report::pair_line))]
+    pub fn pair_line(&mut self, number: u64, count: u64) -> Result<(), Failed>
+        ensures same_reference { self.new.sink.ghost_name ≡ self.old.sink.ghost_name }
+        ensures writes { Writes result (pair_line number count)
+            (K.bytes self.old.sink.now) (K.bytes self.new.sink.now) }
+        ensures later { K.faults self.old.sink.now ≤ K.faults self.new.sink.now }
+        ensures cause { OnErr result (Rose (K.faults self.old.sink.now) (K.faults self.new.sink.now)) }
+    {
+        let mut first = Buffer::new();
+        let mut second = Buffer::new();
+        self.pieces(&[
+            b"problem ",
+            first.format(number).as_bytes(),
+            b" of ",
+            second.format(count).as_bytes(),
+            b"\n",
+        ])
+    }
+
     /// Writes the one line of a refusal.
     pub fn refusal_line(&mut self, refusal: &Refusal) -> Result<(), Failed>
         ensures same_reference { self.new.sink.ghost_name ≡ self.old.sink.ghost_name }
@@ -143,7 +163,6 @@ impl<'a, K: Sink> Pen<'a, K> {
                 what_word(what),
                 span,
             ),
-            Refusal::Several(span) => self.span_line(Input::Problem, b"", b"SeveralPairs", span),
             Refusal::Check(fault) => self.span_line(
                 text_of(fault.in_problem),
                 b"",

@@ -14,8 +14,6 @@ pub enum Refusal {
     Text(Input, TextKind, u32),
     /// The forest of the text has no form: something else was wanted at the span.
     Form(Input, What, Span),
-    /// The problem has a second pair of a state and a task list, which stands there.
-    Several(Span),
     /// A check finds a fault.
     Check(CheckFault),
 }

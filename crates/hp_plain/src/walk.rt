@@ -37,7 +37,7 @@ impl<'a> Model for PlainWalk<'a> {
 
 impl<'a> PlainWalk<'a> {
     ghost use Rattle.std.specs.Prelude.{◌≡◌, ◌≤◌, [], true, false, None, IfOk};
-    ghost use Rattle.hp_syntax.specs.declared.limits.TheConstants.{DEEPEST_WALK, MOST_LEVELS};
+    ghost use Rattle.hp_syntax.specs.declared.limits.TheConstants.{GREATEST_PLAIN_DEPTH, MOST_LEVELS};
     ghost use Rattle.hp_syntax.specs.Checks.{domain_faults, first_of};
     ghost use Rattle.hp_syntax.specs.GroundPatterns.{IsGroundPair};
     ghost use Rattle.hp_syntax.specs.Views.{domain_of, pair_of};
@@ -56,7 +56,7 @@ impl<'a> PlainWalk<'a> {
     ) -> Result<PlainWalk<'a>, AllocError>
         requires checked { first_of (domain_faults (domain_of domain.now)) ≡ None }
         requires pair { IsGroundPair (pair_of pair.now) }
-        requires depth { depth ≤ DEEPEST_WALK }
+        requires depth { depth ≤ GREATEST_PLAIN_DEPTH }
         requires nest { nest ≤ MOST_LEVELS }
         ensures tree { IfOk result (λ w. tree_walked w ≡ record {
           rules = (domain_of domain.now).rules;

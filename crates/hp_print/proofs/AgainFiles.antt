@@ -1,13 +1,13 @@
 -- Written domains and problems are read as these again, up to spans.
-use Rattle.std.proofs.Common.{◌≡◌, ℕ, List, [], map, Ok, refl, subst, ap, bytes_eq, codes}
+use Rattle.std.proofs.Common.{◌≡◌, ℕ, Bool, true, false, List, [], ◌∷◌, map, Ok, refl, subst, sym, ap, bytes_eq, codes}
 use Rattle.std.proofs.lemmas.Slice.Eq.{bytes_eq-Decides}
 use Rattle.hp_syntax.specs.declared.pattern.Span.{Span}
 use Rattle.hp_syntax.specs.declared.form.What.{What}
 use Rattle.hp_syntax.specs.declared.form.What.TheVariants as wants
 use Rattle.hp_syntax.specs.Forest.{Node, Forest, Bare, Grow, span_of}
 use Rattle.hp_syntax.specs.Steps.{Parse, Names, ◌>>=◌, closing, each, value_in}
-use Rattle.hp_syntax.specs.Grammar.{InProblem, list, atoms, rule, domain_list, no_more_pairs, pair, problem_list, file_list, file, end_of_file, domain_form, problem_form}
-use Rattle.hp_syntax.specs.Syntax.{Domain, Problem}
+use Rattle.hp_syntax.specs.Grammar.{InProblem, list, atoms, rule, domain_list, make_pair, pairs, pair_tasks, problem_list, file_list, file, end_of_file, domain_form, problem_form}
+use Rattle.hp_syntax.specs.Syntax.{Atom, Domain, Pair, Problem, Tasks}
 use Rattle.hp_syntax.specs.Written as written
 use Rattle.hp_syntax.specs.Written.{nowhere, word, group, worded, one, two}
 use Rattle.hp_syntax.specs.Unplaced as unplaced
@@ -38,10 +38,20 @@ abbrev FileAgain : {A : Type 0} → What → (Node → Parse A) → (A → A) �
 FileAgain what read u f names P w x end =
     P x end × again_steps.Again (file what read 0) CanSpellAll u (CanSpellAll f) names (one (w x)) x end
 
--- that no pair follows leaves the names
-still_no_more : {names : Names} (f : Forest) → again_steps.Still names (λ x. Unit {0}) (no_more_pairs f)
-still_no_more Bare = again_steps.still_pure tt
-still_no_more (Grow n f) = again_steps.still_refusal _
+-- the tasks of a pair and the pairs behind them are read again
+record PairTasksAgain (H : Type 0) (names all : Names) (state : List Atom) (ps : List Pair) (end : Names) : Type 0 where
+  first : Tasks
+  others : List Pair
+  is : ps ≡ make_pair state first ∷ others
+  reads : pair_tasks nowhere (map unplaced.atom state)
+      (Grow (written.tasks all first) (written.pairs all others)) names
+      ≡ Ok (map unplaced.pair (make_pair state first ∷ others), end)
+  spells : H → CanSpell (written.tasks all first) × CanSpellAll (written.pairs all others)
+
+-- pairs are read again
+abbrev PairsAgain : Bool → Type 0 → Names → Names → List Pair → Names → Type 0
+PairsAgain is_first H names all ps end =
+    again_steps.Again (pairs nowhere is_first) CanSpellAll (map unplaced.pair) H names (written.pairs all ps) ps end
 
 module _ {all : Names} where
   -- rules are read again from a list
@@ -75,23 +85,38 @@ module _ {all : Names} where
         spells = λ c. (text'.1 (x' c).0, (h.spells (y' (x' c).1).0, tt));
       }))))))
 
-  -- the pair of a problem is read again
-  again_pair : {names : Names} (end : Span) (f : Forest)
-      → again_steps.After all names
-      (λ p end. again_steps.Again (pair nowhere) CanSpellAll unplaced.pair (CanSpellAll f) names
-      (written.pair all p) p end)
-      (pair end f)
-  unfolding pair atoms list
-  again_pair end f =
-      again_steps.after_still (again_steps.still_next wants.Atoms end f) (λ x.
-      again_steps.after_chain (again_atoms InProblem x.0) (λ state mid.
-      again_steps.after_still (again_steps.still_next wants.Tasks end x.1) (λ y.
-      again_steps.after_chain (again_tasks InProblem y.0) (λ ts end.
-      again_steps.after_still (still_no_more y.1) (λ z.
-      again_steps.after_pure (λ u ts' y' state' x'. record {
-        reads = again_steps.reads_chain _ state'.reads (again_steps.reads_chain _ ts'.reads refl);
-        spells = λ c. (state'.spells (x' c).0, (ts'.spells (y' (x' c).1).0, tt));
-      }))))))
+  mutual
+    unfolding pairs pair_tasks atoms list
+
+    -- the pairs of a problem are read again
+    again_pairs : {names : Names} (end : Span) (is_first : Bool) (f : Forest)
+        → again_steps.After all names (PairsAgain is_first (CanSpellAll f) names all) (pairs end is_first f)
+    again_pairs end is_first Bare =
+        again_steps.after_choice is_first (λ e. again_steps.after_refusal _)
+        (λ e. again_steps.after_pure (record { reads = again_steps.reads_false _ _ e refl; spells = λ c. tt }))
+    again_pairs {names} end is_first (Grow n rest) =
+        again_steps.after_chain (again_atoms InProblem n) (λ state mid.
+        again_steps.after_so (again_pair_tasks end state rest) (λ ps end h k.
+        subst (λ (x : List Pair). PairsAgain is_first (CanSpellAll (Grow n rest)) names all x end) (sym h.is)
+        (record {
+          reads = again_steps.reads_chain _ k.reads h.reads;
+          spells = λ c. (k.spells c.0, h.spells c.1);
+        })))
+
+    -- the tasks of a pair and the pairs behind them are read again
+    again_pair_tasks : {names : Names} (end : Span) (state : List Atom) (f : Forest)
+        → again_steps.After all names (PairTasksAgain (CanSpellAll f) names all state) (pair_tasks end state f)
+    again_pair_tasks end state Bare = again_steps.after_refusal _
+    again_pair_tasks end state (Grow n rest) =
+        again_steps.after_chain (again_tasks InProblem n) (λ ts mid.
+        again_steps.after_chain (again_pairs end false rest) (λ others end.
+        again_steps.after_pure (λ k h. record {
+          first = ts;
+          others = others;
+          is = refl;
+          reads = again_steps.reads_chain _ h.reads (again_steps.reads_chain _ k.reads refl);
+          spells = λ c. (h.spells c.0, k.spells c.1);
+        })))
 
   -- a problem is read again
   again_problem_list : {names : Names} (s : Span) (rest : Forest)
@@ -103,7 +128,7 @@ module _ {all : Names} where
       again_steps.after_still (still_name x.0) (λ text.
       again_steps.after_still (again_steps.still_next wants.Name (closing s) x.1) (λ y.
       again_steps.after_still (still_name y.0) (λ domain.
-      again_steps.after_chain (again_pair (closing s) y.1) (λ only end.
+      again_steps.after_chain (again_pairs (closing s) true y.1) (λ ps end.
       again_steps.after_names (λ h domain' y' text' x'. record {
         own = refl;
         again = record {

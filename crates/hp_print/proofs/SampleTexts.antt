@@ -27,7 +27,8 @@ basic_text = refl
 -- the text of the problem of the sample swap
 pub swap_text : option_map problem_text (result_ok (grammar.problem_form 0 swap_forest))
     ≡ Some (codes "(defproblem p1 basic\n((have kiwi))\n(:ordered (swap banjo kiwi))\n)\n")
-unfolding grammar.file grammar.file_list grammar.problem_list grammar.pair grammar.atoms grammar.tasks
+unfolding grammar.file grammar.file_list grammar.problem_list grammar.pairs grammar.pair_tasks grammar.atoms
+    grammar.tasks
     grammar.list_tasks grammar.task_list grammar.named_atom grammar.term
     grammar.items grammar.word_term grammar.word_tail grammar.name grammar.list grammar.headed problem_text node_text
     written.tasks written.pattern

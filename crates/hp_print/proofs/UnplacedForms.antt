@@ -666,26 +666,27 @@ moved_domain_list s rest =
     unplaced_steps.moves_chain _ (unplaced_steps.moves_ended y.1) (λ z.
     unplaced_steps.moves_pure (record { name = text; rules = rules }))))))
 
--- that no pair follows doesn't turn on places
-moved_no_more : (f : Forest) → unplaced_steps.Moves (λ x. x) (grammar.no_more_pairs f)
-    (grammar.no_more_pairs (unplaced.forest f))
-unfolding unplaced.forest unplaced.node
-moved_no_more Bare = unplaced_steps.moves_pure tt
-moved_no_more (Grow (Word s text) f) = unplaced_steps.moves_refusal _
-moved_no_more (Grow (Numeral s n) f) = unplaced_steps.moves_refusal _
-moved_no_more (Grow (Group s parts) f) = unplaced_steps.moves_refusal _
+mutual
+  unfolding grammar.pairs grammar.pair_tasks unplaced.forest
 
--- the pair of a problem is the same without places
-moved_pair : (end : Span) (f : Forest) → unplaced_steps.Moves unplaced.pair (grammar.pair end f)
-    (grammar.pair nowhere (unplaced.forest f))
-unfolding grammar.pair
-moved_pair end f =
-    unplaced_steps.moves_chain _ (unplaced_steps.moves_next wants.Atoms end f) (λ x.
-    unplaced_steps.moves_chain _ (moved_atoms grammar.InProblem x.0) (λ state.
-    unplaced_steps.moves_chain _ (unplaced_steps.moves_next wants.Tasks end x.1) (λ y.
-    unplaced_steps.moves_chain _ (moved_tasks grammar.InProblem y.0) (λ ts.
-    unplaced_steps.moves_chain _ (moved_no_more y.1) (λ z.
-    unplaced_steps.moves_pure (grammar.make_pair state ts))))))
+  -- the pairs of a problem are the same without places
+  moved_pairs : (end : Span) (is_first : Bool) (f : Forest)
+      → unplaced_steps.Moves (map unplaced.pair) (grammar.pairs end is_first f)
+      (grammar.pairs nowhere is_first (unplaced.forest f))
+  moved_pairs end is_first Bare = unplaced_steps.moves_choice is_first (unplaced_steps.moves_refusal _)
+      (unplaced_steps.moves_pure [])
+  moved_pairs end is_first (Grow n rest) =
+      unplaced_steps.moves_chain _ (moved_atoms grammar.InProblem n) (λ state. moved_pair_tasks end state rest)
+
+  -- the tasks of a pair and what follows are the same without places
+  moved_pair_tasks : (end : Span) (state : List syntax.Atom) (f : Forest)
+      → unplaced_steps.Moves (map unplaced.pair) (grammar.pair_tasks end state f)
+      (grammar.pair_tasks nowhere (map unplaced.atom state) (unplaced.forest f))
+  moved_pair_tasks end state Bare = unplaced_steps.moves_refusal _
+  moved_pair_tasks end state (Grow n rest) =
+      unplaced_steps.moves_chain _ (moved_tasks grammar.InProblem n) (λ ts.
+      unplaced_steps.moves_chain _ (moved_pairs end false rest) (λ others.
+      unplaced_steps.moves_pure (grammar.make_pair state ts ∷ others)))
 
 -- a problem is the same without places
 moved_problem_list : (s : Span) (f : Forest)
@@ -697,9 +698,9 @@ moved_problem_list s rest =
     unplaced_steps.moves_chain _ (moved_name x.0) (λ text.
     unplaced_steps.moves_chain _ (unplaced_steps.moves_next wants.Name (closing s) x.1) (λ y.
     unplaced_steps.moves_chain _ (moved_name y.0) (λ domain.
-    unplaced_steps.moves_chain _ (moved_pair (closing s) y.1) (λ only.
+    unplaced_steps.moves_chain _ (moved_pairs (closing s) true y.1) (λ ps.
     unplaced_steps.moves_made
-    (λ vars. record { name = text; domain = domain; domain_span = span_of y.0; vars = vars; pairs = only ∷ [] }) _
+    (λ vars. record { name = text; domain = domain; domain_span = span_of y.0; vars = vars; pairs = ps }) _
     unplaced_steps.moves_names (λ vars. rw (unplaced_steps.span_nowhere y.0) refl))))))
 
 -- a list that begins with a certain word is the same without places where its parts are

@@ -12,7 +12,6 @@ use Rattle.hp_syntax.specs.Unplaced as unplaced
 -- a refusal without its place
 abbrev pub misform : steps.Misform → steps.Misform
 misform (steps.Expected what s) = steps.Expected what nowhere
-misform (steps.SeveralPairs s) = steps.SeveralPairs nowhere
 
 -- the result of a step, with the value made another and a refusal without its place
 abbrev pub moved : {A : Type 0} → (A → A) → Result (A × steps.Names) steps.Misform

@@ -5,7 +5,7 @@ use Rattle.hp_syntax.specs.declared.pattern.Span.{Span}
 use Rattle.hp_syntax.specs.declared.form.What.{What}
 use Rattle.hp_syntax.specs.declared.form.What.TheVariants as wants
 use Rattle.hp_syntax.specs.Forest.{Node, Forest, Bare, Grow}
-use Rattle.hp_syntax.specs.Steps.{Misform, Expected, SeveralPairs, Names, Parse, and_then, pure, next, ◌>>=◌, value_in, by_itself}
+use Rattle.hp_syntax.specs.Steps.{Misform, Expected, Names, Parse, and_then, pure, next, ◌>>=◌, value_in, by_itself}
 use Rattle.hp_syntax.specs.Syntax.{Precondition, Branch, Clause}
 use Rattle.hp_syntax.specs.Grammar.{InRule, precondition, tasks, expression, branches, named_branch, branch_tasks, branch_name, begins_named, make_branch, clauses, named_clause, make_clause}
 use Rattle.hp_rules.specs.Branches.{start, branch, clause, behind_name}
@@ -149,8 +149,6 @@ pub turn_refused : {A : Type 0} (why : FormRefusal) (one : Parse (A × Forest)) 
     → Refuses why (one before) → Refuses why all
 turn_refused (refusals.Expected what span) one later prefix before all whole e turn r =
     e ∙ ap (prepend prefix) (turn ∙ ap (λ o. and_then o (λ y. later y.1 >>= (λ others. pure (y.0 ∷ others)))) r)
-turn_refused (refusals.SeveralPairs span) one later prefix before all whole e turn r =
-    e ∙ ap (prepend prefix) (turn ∙ ap (λ o. and_then o (λ y. later y.1 >>= (λ others. pure (y.0 ∷ others)))) r)
 turn_refused refusals.NoMemory one later prefix before all whole e turn r = r
 
 -- where no node is left, the branches that were read are all
@@ -198,5 +196,4 @@ pub reads_by_itself : {X A : Type 0} (view : X → A) (r : Result X FormRefusal)
     → Gives view r (value_in (p [])) → Reads view r (by_itself p) names names
 reads_by_itself view (Ok x) p names h = own_value (p []) (view x) names h
 reads_by_itself view (Err (refusals.Expected what span)) p names h = own_refusal (p []) (Expected what span) names h
-reads_by_itself view (Err (refusals.SeveralPairs span)) p names h = own_refusal (p []) (SeveralPairs span) names h
 reads_by_itself view (Err refusals.NoMemory) p names h = h

@@ -25,7 +25,8 @@ unfolding digits grammar.assigned grammar.atoms grammar.axiom_rule grammar.branc
     grammar.for_each grammar.headed grammar.immediate grammar.items grammar.keyed_effect grammar.keyed_rule
     grammar.list grammar.list_expression grammar.list_precondition grammar.list_tail grammar.list_tasks
     grammar.list_term grammar.method grammar.name grammar.named_atom grammar.named_branch grammar.named_clause
-    grammar.one_expression grammar.operator grammar.order grammar.pair grammar.precondition grammar.problem_list
+    grammar.one_expression grammar.operator grammar.order grammar.pair_tasks grammar.pairs grammar.precondition
+    grammar.problem_list
     grammar.protection grammar.quantified grammar.rule grammar.sorted grammar.tail grammar.task_list
     grammar.tasks grammar.term grammar.terms grammar.two_expressions grammar.variable grammar.variables
     grammar.word_tail grammar.word_term calls.call values.value values.values matching.match_pattern
@@ -37,7 +38,7 @@ unfolding digits grammar.assigned grammar.atoms grammar.axiom_rule grammar.branc
     networks.candidates networks.finish networks.expand changes.apply changes.effects ground_patterns.term_said
     ground_patterns.terms_said ground_patterns.network_said ground_patterns.networks_said walk.children
     walk.visits_within walk.visits walk.root walk.walk walk.node_at report.plan_line report.state_text
-    report.ending_text report.plan_report
+    report.ending_text report.plan_report report.pair_line
 the_language = tt
 
 -- a run writes what is computed of the forests that its texts spell

@@ -64,6 +64,31 @@ pub nothing_problem_spelled : IsForest texts.nothing_problem nothing_problem_for
 unfolding spelling_of
 nothing_problem_spelled = tested texts.nothing_problem nothing_problem_forest refl
 
+abbrev pub two_pairs_problem_forest : Forest
+two_pairs_problem_forest =
+    grown ((list 0 60 ((word 1 11 (codes "defproblem")) ∷ (word 12 13 (codes "p")) ∷ (word 14 19 (codes
+    "basic")) ∷ (list 20 33 ((list 21 32 ((word 22 26 (codes "have")) ∷ (word 27 31 (codes "kiwi")) ∷ [])) ∷
+    [])) ∷ (list 34 53 ((list 35 52 ((word 36 40 (codes "swap")) ∷ (word 41 46 (codes "banjo")) ∷ (word 47 51
+    (codes "kiwi")) ∷ [])) ∷ [])) ∷ (list 54 56 ([])) ∷ (list 57 59 ([])) ∷ [])) ∷ [])
+
+-- the text spells this forest
+pub two_pairs_problem_spelled : IsForest texts.two_pairs_problem two_pairs_problem_forest
+unfolding spelling_of
+two_pairs_problem_spelled = tested texts.two_pairs_problem two_pairs_problem_forest refl
+
+abbrev pub second_fails_problem_forest : Forest
+second_fails_problem_forest =
+    grown ((list 0 68 ((word 1 11 (codes "defproblem")) ∷ (word 12 13 (codes "p")) ∷ (word 14 19 (codes
+    "basic")) ∷ (list 20 33 ((list 21 32 ((word 22 26 (codes "have")) ∷ (word 27 31 (codes "kiwi")) ∷ [])) ∷
+    [])) ∷ (list 34 53 ((list 35 52 ((word 36 40 (codes "swap")) ∷ (word 41 46 (codes "banjo")) ∷ (word 47 51
+    (codes "kiwi")) ∷ [])) ∷ [])) ∷ (list 54 56 ([])) ∷ (list 57 67 ((list 58 66 ((word 59 65 (codes "juggle"))
+    ∷ [])) ∷ [])) ∷ [])) ∷ [])
+
+-- the text spells this forest
+pub second_fails_problem_spelled : IsForest texts.second_fails_problem second_fails_problem_forest
+unfolding spelling_of
+second_fails_problem_spelled = tested texts.second_fails_problem second_fails_problem_forest refl
+
 abbrev pub focus_domain_forest : Forest
 focus_domain_forest =
     grown ((list 0 147 ((word 1 10 (codes "defdomain")) ∷ (word 11 12 (codes "f")) ∷ (list 13 146 ((list 15 40
@@ -232,6 +257,23 @@ either_domain_forest =
 pub either_domain_spelled : IsForest texts.either_domain either_domain_forest
 unfolding spelling_of
 either_domain_spelled = tested texts.either_domain either_domain_forest refl
+
+abbrev pub weights_twice_problem_forest : Forest
+weights_twice_problem_forest =
+    grown ((list 0 80 ((word 1 11 (codes "defproblem")) ∷ (word 12 13 (codes "p")) ∷ (word 14 15 (codes "d")) ∷
+    (list 16 41 ((list 17 24 ((word 18 19 (codes "w")) ∷ (word 20 21 (codes "a")) ∷ (number 22 23 (pos 3)) ∷
+    [])) ∷ (list 25 32 ((word 26 27 (codes "w")) ∷ (word 28 29 (codes "b")) ∷ (number 30 31 (pos 1)) ∷ [])) ∷
+    (list 33 40 ((word 34 35 (codes "w")) ∷ (word 36 37 (codes "c")) ∷ (number 38 39 (pos 3)) ∷ [])) ∷ [])) ∷
+    (list 42 47 ((list 43 46 ((word 44 45 (codes "m")) ∷ [])) ∷ [])) ∷ (list 48 73 ((list 49 56 ((word 50 51
+    (codes "w")) ∷ (word 52 53 (codes "a")) ∷ (number 54 55 (pos 3)) ∷ [])) ∷ (list 57 64 ((word 58 59 (codes
+    "w")) ∷ (word 60 61 (codes "b")) ∷ (number 62 63 (pos 1)) ∷ [])) ∷ (list 65 72 ((word 66 67 (codes "w")) ∷
+    (word 68 69 (codes "c")) ∷ (number 70 71 (pos 3)) ∷ [])) ∷ [])) ∷ (list 74 79 ((list 75 78 ((word 76 77
+    (codes "m")) ∷ [])) ∷ [])) ∷ [])) ∷ [])
+
+-- the text spells this forest
+pub weights_twice_problem_spelled : IsForest texts.weights_twice_problem weights_twice_problem_forest
+unfolding spelling_of
+weights_twice_problem_spelled = tested texts.weights_twice_problem weights_twice_problem_forest refl
 
 abbrev pub weights_problem_forest : Forest
 weights_problem_forest =

@@ -1,8 +1,8 @@
 -- The outcome of a run on two texts by the definitions alone.
-use Rattle.std.specs.Prelude.{◌≡◌, ℕ, Bool, List, [], ◌∷◌, length, Result, Ok, Err}
+use Rattle.std.specs.Prelude.{◌≡◌, ℕ, Bool, List, [], length, map, Result, Ok, Err}
 use Rattle.hp_syntax.specs.Forest.{Forest, IsForest}
 use Rattle.hp_syntax.specs.Grammar.{domain_form, problem_form}
-use Rattle.hp_syntax.specs.Report.{plan_report}
+use Rattle.hp_syntax.specs.Report.{Answer, plan_report, told_pairs}
 use Rattle.hp_syntax.specs.Steps.{Misform}
 use Rattle.hp_syntax.specs.Syntax.{Domain, Pair, Problem, Rule}
 use Rattle.hp_syntax.specs.Walk.{walk}
@@ -17,10 +17,13 @@ pub record Asked : Type 0 where
 abbrev pub asked : ℕ → ℕ → ℕ → Bool → Asked
 asked k d n s = record { plans = k; depth = d; nest = n; states = s }
 
--- the report of the walk of the first pair
+-- the report of the walk of a pair
+abbrev pub report_of_pair : Asked → List Rule → Pair → Answer
+report_of_pair a rules pair = plan_report a.plans a.states (walk rules a.nest pair a.depth)
+
+-- the reports of the walks of pairs, one behind the other
 abbrev pub text_of_pairs : Asked → List Rule → List Pair → List ℕ
-text_of_pairs a rules [] = []
-text_of_pairs a rules (pair ∷ more) = (plan_report a.plans a.states (walk rules a.nest pair a.depth)).0
+text_of_pairs a rules pairs = (told_pairs (map (report_of_pair a rules) pairs)).0
 
 -- the text of a run, where the domain and the problem have forms
 abbrev pub text_of_forms : Asked → Result Domain Misform → Result Problem Misform → List ℕ

@@ -15,6 +15,14 @@ abbrev pub nothing_problem : List ℕ
 nothing_problem =
     codes "(defproblem p basic () ())\n"
 
+abbrev pub two_pairs_problem : List ℕ
+two_pairs_problem =
+    codes "(defproblem p basic ((have kiwi)) ((swap banjo kiwi)) () ())"
+
+abbrev pub second_fails_problem : List ℕ
+second_fails_problem =
+    codes "(defproblem p basic ((have kiwi)) ((swap banjo kiwi)) () ((juggle)))"
+
 abbrev pub focus_domain : List ℕ
 focus_domain =
     codes "(defdomain f (\n(:operator (!a) () () ())\n(:operator (!b) () () ())\n(:operator (!c) () () "
@@ -68,6 +76,10 @@ abbrev pub either_domain : List ℕ
 either_domain =
     codes "(defdomain d ((:operator (!do ?x) () () ()) (:method (m) ((or (w ?x 1) (w ?x 1))) ((!do "
     ++ codes "?x)))))"
+
+abbrev pub weights_twice_problem : List ℕ
+weights_twice_problem =
+    codes "(defproblem p d ((w a 3) (w b 1) (w c 3)) ((m)) ((w a 3) (w b 1) (w c 3)) ((m)))"
 
 abbrev pub weights_problem : List ℕ
 weights_problem =

@@ -20,6 +20,20 @@ pub fn the_second_branch_is_used()
         (codes "plan 1 cost 0 steps 0\nend plans 1 expansions 0\n") }
 {}
 
+/// Each pair of a problem is planned by itself, from its own state. A pair without a plan, or with a fault, doesn't
+/// keep the later ones from being planned.
+pub fn pairs_are_planned_one_by_one()
+    ensures both { Writes (asked 5 10 64 false) texts.basic_domain texts.two_pairs_problem
+        (codes "problem 1 of 2\nplan 1 cost 2 steps 2\n(!drop kiwi)\n(!pickup banjo)\nend plans 1 expansions 3\n"
+        ++ codes "problem 2 of 2\nplan 1 cost 0 steps 0\nend plans 1 expansions 0\n") }
+    ensures second_fails { Writes (asked 5 10 64 false) texts.basic_domain texts.second_fails_problem
+        (codes "problem 1 of 2\nplan 1 cost 2 steps 2\n(!drop kiwi)\n(!pickup banjo)\nend plans 1 expansions 3\n"
+        ++ codes "problem 2 of 2\nend plans 0 expansions 0\n") }
+    ensures faults { Writes (asked 5 5 64 false) texts.sorted_unbound_domain texts.weights_twice_problem
+        (codes "problem 1 of 2\nfault NotGround at 67-69 plans 0 expansions 0\nproblem 2 of 2\n"
+        ++ codes "fault NotGround at 67-69 plans 0 expansions 0\n") }
+{}
+
 /// After a decomposition the choice is among the newest subtasks, and among all tasks again once one is done. An
 /// immediate task is alone among the candidates.
 pub fn newest_subtasks_come_first()

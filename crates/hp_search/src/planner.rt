@@ -42,7 +42,7 @@ impl<'a> Model for Planner<'a> {
 
 impl<'a> Planner<'a> {
     ghost use Rattle.std.specs.Prelude.{◌≡◌, ◌≤◌, [], true, false, IfOk, MatchOption};
-    ghost use Rattle.hp_syntax.specs.declared.limits.TheConstants.{DEEPEST_WALK, MOST_LEVELS};
+    ghost use Rattle.hp_syntax.specs.declared.limits.TheConstants.{GREATEST_DEPTH, MOST_LEVELS};
     ghost use Rattle.hp_syntax.specs.GroundPatterns.{IsGroundPair};
     ghost use Rattle.hp_syntax.specs.Views.{pair_of};
     ghost use Rattle.hp_syntax.specs.Walk.{root, visits};
@@ -62,7 +62,7 @@ impl<'a> Planner<'a> {
         nest: u32,
     ) -> Result<Planner<'a>, AllocError>
         requires pair { IsGroundPair (pair_of pair.now) }
-        requires depth { depth ≤ DEEPEST_WALK }
+        requires depth { depth ≤ GREATEST_DEPTH }
         requires nest { nest ≤ MOST_LEVELS }
         ensures tree { IfOk result (λ p. tree_planned p ≡ record {
           rules = rules_in (code_of code.now);

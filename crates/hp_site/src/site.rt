@@ -1,6 +1,6 @@
 //! The search node that is reached, with its pasts.
 ghost use Rattle.std.specs.Prelude.{◌≡◌, ◌<◌, ◌≤◌, pos, neg_ℤ, ◌≤ℤ◌, Ok, IfOk, OnOk, List, length};
-ghost use Rattle.hp_syntax.specs.declared.limits.TheConstants.{DEEPEST_WALK};
+ghost use Rattle.hp_syntax.specs.declared.limits.TheConstants.{GREATEST_DEPTH};
 ghost use Rattle.hp_syntax.specs.Applying.{Now};
 ghost use Rattle.hp_syntax.specs.Changes as plain;
 ghost use Rattle.hp_syntax.specs.Terms.{Term};
@@ -82,7 +82,7 @@ impl Site<'_> {
     fn finish(&mut self, id: TaskId, task: Cell, cost: i64) -> Result<(), AllocError>
         requires candidate { IsCandidate self.old.net.now id }
         requires deep { 0 < self.old.depth }
-        requires depth { self.old.depth ≤ DEEPEST_WALK }
+        requires depth { self.old.depth ≤ GREATEST_DEPTH }
         requires low { neg_ℤ (pos (most_cost self.old.depth)) ≤ℤ self.old.cost }
         requires high { self.old.cost ≤ℤ pos (most_cost self.old.depth) }
         ensures child { OnOk result ((terms : List Term) → let n = node_of terms (held_now self.old) in

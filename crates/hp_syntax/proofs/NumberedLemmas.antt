@@ -1,8 +1,8 @@
 -- The forms of domains and problems are numbered.
-use Rattle.std.proofs.Common.{◌≡◌, ℕ, ◌<◌, Bool, true, false, List, [], length, Option, Some, None, refl, sym, subst, bytes_eq, codes}
+use Rattle.std.proofs.Common.{◌≡◌, ℕ, ◌<◌, Bool, true, false, List, length, Option, Some, None, refl, sym, subst, bytes_eq, codes}
 use Rattle.std.specs.Prelude.{Ok}
 use Rattle.std.specs.List.{All}
-use Rattle.std.proofs.lemmas.List.Elements.{All-nil, All-cons}
+use Rattle.std.proofs.lemmas.List.Elements.{All-cons}
 use Rattle.hp_syntax.specs.declared.pattern.Span.{Span}
 use Rattle.hp_syntax.specs.declared.pattern.Tail.{Tail}
 use Rattle.hp_syntax.specs.declared.form.What.{What}
@@ -571,21 +571,27 @@ module _ (most : ℕ) where
 
   -- ---- problems
 
-  -- that no pair follows keeps the names of variables
-  numbered_no_more : (f : Forest) → numbered_steps.Keeps most (λ x. Unit {0}) (grammar.no_more_pairs f)
-  numbered_no_more Bare = numbered_steps.keeps_pure tt
-  numbered_no_more (Grow n f) = numbered_steps.keeps_refusal _
+  mutual
+    unfolding grammar.pairs grammar.pair_tasks
 
-  -- the pair of a problem is numbered
-  numbered_pair : (end : Span) (f : Forest) → numbered_steps.Keeps most (numbered.PairBelow most) (grammar.pair end f)
-  unfolding grammar.pair
-  numbered_pair end f =
-      numbered_steps.keeps_then (numbered_steps.keeps_next wants.Atoms end f) (λ x.
-      numbered_steps.keeps_chain (numbered_atoms grammar.InProblem x.0) (λ state.
-      numbered_steps.keeps_then (numbered_steps.keeps_next wants.Tasks end x.1) (λ y.
-      numbered_steps.keeps_chain (numbered_tasks grammar.InProblem y.0) (λ ts.
-      numbered_steps.keeps_then (numbered_no_more y.1) (λ z.
-      numbered_steps.keeps_pure (λ h k. (k, h)))))))
+    -- the pairs of a problem are numbered
+    numbered_pairs : (end : Span) (is_first : Bool) (f : Forest)
+        → numbered_steps.Keeps most (All (numbered.PairBelow most)) (grammar.pairs end is_first f)
+    numbered_pairs end is_first Bare = numbered_steps.keeps_choice is_first (numbered_steps.keeps_refusal _)
+        (numbered_steps.keeps_none (numbered.PairBelow most))
+    numbered_pairs end is_first (Grow n rest) =
+        numbered_steps.keeps_chain (numbered_atoms grammar.InProblem n) (λ state. numbered_pair_tasks end state rest)
+
+    -- the tasks of a pair and the pairs behind them are numbered
+    numbered_pair_tasks : (end : Span) (state : List syntax.Atom) (f : Forest)
+        → numbered_steps.Keeps most (λ ps. All (numbered.AtomBelow most) state → All (numbered.PairBelow most) ps)
+        (grammar.pair_tasks end state f)
+    numbered_pair_tasks end state Bare = numbered_steps.keeps_refusal _
+    numbered_pair_tasks end state (Grow n rest) =
+        numbered_steps.keeps_chain (numbered_tasks grammar.InProblem n)
+        (λ ts. numbered_steps.keeps_chain (numbered_pairs end false rest) (λ others.
+        numbered_steps.keeps_pure (λ h k l. All-cons (numbered.PairBelow most) (grammar.make_pair state ts) others
+        (l, k) h)))
 
   -- a problem is numbered by the names at its end
   numbered_problem_list : (s : Span) (f : Forest) → numbered_steps.Leaves most (IsProblemAt most)
@@ -596,12 +602,8 @@ module _ (most : ℕ) where
       numbered_steps.keeps_then (numbered_name x.0) (λ text.
       numbered_steps.keeps_then (numbered_steps.keeps_next wants.Name (closing s) x.1) (λ y.
       numbered_steps.keeps_then (numbered_name y.0) (λ domain.
-      numbered_steps.keeps_chain (numbered_pair (closing s) y.1) (λ only.
-      numbered_steps.leaves_names (λ names h. (
-        refl,
-        All-cons (numbered.PairBelow most) only [] h
-            (All-nil (numbered.PairBelow most)),
-      )))))))
+      numbered_steps.keeps_chain (numbered_pairs (closing s) true y.1) (λ ps.
+      numbered_steps.leaves_names (λ names h. (refl, h)))))))
 
   -- ---- files
 

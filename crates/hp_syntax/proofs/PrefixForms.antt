@@ -6,9 +6,9 @@ use Rattle.hp_syntax.specs.declared.form.What.{What}
 use Rattle.hp_syntax.specs.declared.form.What.TheVariants as wants
 use Rattle.hp_syntax.specs.Forest.{Node, Word, Numeral, Group, Forest, Bare, Grow, span_of, IsForest}
 use Rattle.hp_syntax.specs.Names.{is_variable, is_plain, is_primitive, is_compound, is_branch_name}
-use Rattle.hp_syntax.specs.Steps.{Misform, Parse, Names, ◌>>=◌, ◌<$>◌, pure, Expected, SeveralPairs, expected, by_itself, closing, is_word, value_in, from_no_names}
+use Rattle.hp_syntax.specs.Steps.{Misform, Parse, Names, ◌>>=◌, ◌<$>◌, pure, Expected, expected, by_itself, closing, is_word, value_in, from_no_names}
 use Rattle.hp_syntax.specs.Grammar as grammar
-use Rattle.hp_syntax.specs.Syntax.{Variable, Expression, And, Also, Order, Up, Precondition, Plain, Tasks, Ordered, Then}
+use Rattle.hp_syntax.specs.Syntax.{Atom, Variable, Expression, And, Also, Order, Up, Precondition, Plain, Tasks, Ordered, Then}
 use Rattle.hp_syntax.specs.Misforms.{misform_span}
 use Rattle.std.proofs.lemmas.Bool.{cases_lt}
 use Rattle.hp_syntax.proofs.ForestLemmas.{one_forest}
@@ -608,18 +608,26 @@ module _ {at : ℕ} where
       (reads_list wants.Rules (prefix_steps.reads_each reads_rule) y) (λ rules.
       prefix_steps.reads_last _ _ (prefix_steps.reads_ended f) (λ z. prefix_steps.late_pure))) f))
 
-  -- that no pair follows is read alike
-  reads_no_more_pairs : (f : Forest) → prefix_steps.ReadsAlike at f grammar.no_more_pairs grammar.no_more_pairs
-  reads_no_more_pairs Bare = prefix_steps.reads_late prefix_steps.late_pure
-  reads_no_more_pairs (Grow n f) = prefix_steps.reads_grow (prefix_steps.both_refused SeveralPairs (λ s. refl))
+  mutual
+    unfolding grammar.pairs grammar.pair_tasks
 
-  -- the pair of a problem is read alike
-  reads_pair : (s t : Span) → at < s.to → (f : Forest) → prefix_steps.ReadsAlike at f (grammar.pair s) (grammar.pair t)
-  unfolding grammar.pair
-  reads_pair s t l =
-      prefix_steps.reads_next wants.Atoms l (λ x f. prefix_steps.both_then (reads_atoms grammar.InProblem x) (λ state.
-      prefix_steps.reads_next wants.Tasks l (λ y f. prefix_steps.both_then (reads_tasks grammar.InProblem y) (λ ts.
-      prefix_steps.reads_last _ _ (reads_no_more_pairs f) (λ z. prefix_steps.late_pure))) f))
+    -- the pairs of a problem are read alike
+    reads_pairs : (s t : Span) (is_first : Bool) → at < s.to → (f : Forest)
+        → prefix_steps.ReadsAlike at f (grammar.pairs s is_first) (grammar.pairs t is_first)
+    reads_pairs s t is_first l Bare = prefix_steps.reads_late (prefix_steps.late_choice is_first
+        (prefix_steps.late_refusal l) prefix_steps.late_pure)
+    reads_pairs s t is_first l (Grow n f) =
+        prefix_steps.reads_grow
+        (prefix_steps.both_then (reads_atoms grammar.InProblem n) (λ state. reads_pair_tasks s t state l f))
+
+    -- the tasks of a pair and the pairs behind them are read alike
+    reads_pair_tasks : (s t : Span) (state : List Atom) → at < s.to → (f : Forest)
+        → prefix_steps.ReadsAlike at f (grammar.pair_tasks s state) (grammar.pair_tasks t state)
+    reads_pair_tasks s t state l Bare = prefix_steps.reads_late (prefix_steps.late_refusal l)
+    reads_pair_tasks s t state l (Grow n f) =
+        prefix_steps.reads_grow
+        (prefix_steps.both_then (reads_tasks grammar.InProblem n) (λ ts.
+        prefix_steps.reads_last _ _ (reads_pairs s t false l f) (λ others. prefix_steps.late_pure)))
 
   -- a problem is read alike
   reads_problem_list : (s t : Span) → at < s.to → (f : Forest)
@@ -628,7 +636,7 @@ module _ {at : ℕ} where
   reads_problem_list s t l =
       prefix_steps.reads_next wants.Name l (λ x f. prefix_steps.both_then (reads_name x) (λ text.
       prefix_steps.reads_next wants.Name l (λ y f. prefix_steps.both_by _ _ (reads_name y) (λ domain.
-      prefix_steps.reads_last _ _ (reads_pair (closing s) (closing t) l f) (λ only. prefix_steps.late_names))) f))
+      prefix_steps.reads_last _ _ (reads_pairs (closing s) (closing t) true l f) (λ ps. prefix_steps.late_names))) f))
 
   -- a list that begins with a certain word is read alike
   reads_file_list : {A : Type 0} (what : What) (key : List ℕ) (parts : Span → Forest → Parse A)

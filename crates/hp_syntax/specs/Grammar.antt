@@ -478,38 +478,37 @@ domain_list s rest = do
   steps.ended y.1
   steps.pure (record { name = text; rules = rules })
 
--- nothing stands behind the one pair of a problem
-abbrev pub no_more_pairs : Forest → steps.Parse (Unit {0})
-no_more_pairs Bare = steps.pure tt
-no_more_pairs (Grow n rest) = steps.refuse (steps.SeveralPairs (span_of n))
-
 abbrev pub make_pair : List syntax.Atom → syntax.Tasks → syntax.Pair
 make_pair state ts = record { state = state; tasks = ts }
 
-unfoldable pub pair : Span → Forest → steps.Parse syntax.Pair
-pair end f = do
-  x ← steps.next wants.Atoms end f
-  state ← atoms InProblem x.0
-  y ← steps.next wants.Tasks end x.1
-  ts ← tasks InProblem y.0
-  no_more_pairs y.1
-  steps.pure (make_pair state ts)
+unfoldable mutual
+  -- the pairs of a problem, one or more: atoms, and tasks behind them
+  pub pairs : Span → Bool → Forest → steps.Parse (List syntax.Pair)
+  pairs end is_first Bare = cond is_first (steps.expected wants.Atoms end) (steps.pure [])
+  pairs end is_first (Grow n rest) = atoms InProblem n >>= (λ state. pair_tasks end state rest)
 
--- `(defproblem NAME NAME atoms tasks)`
+  pub pair_tasks : Span → List syntax.Atom → Forest → steps.Parse (List syntax.Pair)
+  pair_tasks end state Bare = steps.expected wants.Tasks end
+  pair_tasks end state (Grow n rest) = do
+    ts ← tasks InProblem n
+    others ← pairs end false rest
+    steps.pure (make_pair state ts ∷ others)
+
+-- `(defproblem NAME NAME atoms tasks ..)`
 unfoldable pub problem_list : Span → Forest → steps.Parse syntax.Problem
 problem_list s rest = do
   x ← steps.next wants.Name (steps.closing s) rest
   text ← name x.0
   y ← steps.next wants.Name (steps.closing s) x.1
   domain ← name y.0
-  only ← pair (steps.closing s) y.1
+  ps ← pairs (steps.closing s) true y.1
   vars ← steps.names_so_far
   steps.pure (record {
     name = text;
     domain = domain;
     domain_span = span_of y.0;
     vars = vars;
-    pairs = only ∷ [];
+    pairs = ps;
   })
 
 -- a list that begins with this word

@@ -156,3 +156,44 @@ plan_of states i v = told_plan states i v.node
 -- the report of a walk for k plans, with their states or without
 unfoldable pub plan_report : ℕ → Bool → List Visit → Answer
 plan_report k states walk = report (plan_of states) k nothing_seen walk
+
+-- the report of a walk for one plan, told by its line
+unfoldable pub line_report : List Visit → Answer
+line_report walk = report line_of 1 nothing_seen walk
+
+-- ---- several pairs
+
+-- how bad a status is: a run fault is worse than a walk that was cut short, that is worse than no plan, and no walk
+-- ends with another one
+abbrev pub badness : Status → ℕ
+badness status.Done = 0
+badness status.NoPlan = 1
+badness status.CutShort = 2
+badness status.RunFault = 3
+badness _ = 4
+
+-- the worse of two statuses
+abbrev pub worse : Status → Status → Status
+worse s t = cond (nat_lt (badness s) (badness t)) t s
+
+-- two answers one behind the other: both texts, and the worse status
+abbrev pub joined : Answer → Answer → Answer
+joined a b = (a.0 ++ b.0, worse a.1 b.1)
+
+-- the line of one of so many pairs
+unfoldable pub pair_line : ℕ → ℕ → List ℕ
+pair_line number count = codes "problem " ++ decimal number ++ codes " of " ++ decimal count ++ codes "\n"
+
+-- the line of a pair, where there are several
+abbrev pub pair_header : ℕ → ℕ → List ℕ
+pair_header number count = cond (nat_lt 1 count) (pair_line number count) []
+
+-- what is told of pairs, the first of which has this number among so many
+abbrev pub told_from : ℕ → ℕ → List Answer → Answer
+told_from count number [] = ([], status.Done)
+told_from count number (first ∷ others) =
+    joined (behind (pair_header number count) first) (told_from count (number + 1) others)
+
+-- what is told of all pairs of a problem, by what is told of each
+abbrev pub told_pairs : List Answer → Answer
+told_pairs parts = told_from (length parts) 1 parts

@@ -6,10 +6,9 @@ use Rattle.hp_syntax.specs.declared.form.What.{What}
 use Rattle.hp_syntax.specs.declared.form.What.TheVariants as wants
 use Rattle.hp_syntax.specs.Forest.{Node, Word, Numeral, Group, Forest, Bare, Grow, span_of}
 
--- why a forest has no form: something else is wanted at a span, or a problem has a second pair
+-- why a forest has no form: something else is wanted at a span
 pub data Misform : Type 0 where
   Expected : (what : What) → (span : Span) → Misform
-  SeveralPairs : (span : Span) → Misform
 
 -- the names of a rule's variables so far, by number
 abbrev pub Names : Type 0

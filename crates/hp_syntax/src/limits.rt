@@ -21,11 +21,11 @@ pub const DEEPEST_TERM: usize = 64;
 /// The most plans that may be asked for.
 pub const MOST_PLANS: u64 = 1_000_000_000;
 
-/// The greatest depth of plans that may be asked for.
-pub const GREATEST_DEPTH: u32 = 1_000;
+/// The greatest depth of plans that may be asked for, and to which a tree may be walked in place.
+pub const GREATEST_DEPTH: u32 = 20_000;
 
-/// The greatest depth to which a tree may be walked by the engine that copies.
-pub const DEEPEST_WALK: u32 = 1_000;
+/// The same by the engine of copies.
+pub const GREATEST_PLAIN_DEPTH: u32 = 1_000;
 
 /// The depth to which a problem that is made is walked.
 pub const MADE_DEPTH: u32 = 1_000;

@@ -4,7 +4,7 @@ ghost use Rattle.hp_syntax.specs.Codes.{code_of};
 /// How a run ended.
 #[derive(Clone, Copy, Debug, PartialEq, Eq)]
 pub enum Status {
-    /// What was asked for was written; of plans, at least one.
+    /// What was asked for was written; of plans, at least one for each pair.
     Done = 0,
     /// Memory ran out. What was written is a part of the text.
     NoMemory = 1,
@@ -16,13 +16,13 @@ pub enum Status {
     DomainRefused = 4,
     /// The problem's text is no problem of the language, or one of another domain.
     ProblemRefused = 5,
-    /// A value that was wanted couldn't be had: the run met a fault before its last plan.
+    /// A value that was wanted couldn't be had: a fault was met in some pair, before its last plan.
     RunFault = 6,
     /// What was to be written couldn't be written whole.
     WriteFault = 7,
-    /// There is no plan, at any depth.
+    /// For some pair there is no plan, at any depth, and no pair was cut short without one.
     NoPlan = 10,
-    /// There is no plan down to the depth that was asked.
+    /// For some pair there is no plan down to the depth that was asked.
     CutShort = 11,
 }
 

@@ -55,7 +55,6 @@ put_before_more prefix x (Err e) = refl
 
 refused_below : (e : FormRefusal) (prefix : List Pattern) (r : Read) → Refuses e r → Refuses e (put_before prefix r)
 refused_below (refusals.Expected what span) prefix r h = ap (put_before prefix) h
-refused_below (refusals.SeveralPairs span) prefix r h = ap (put_before prefix) h
 refused_below refusals.NoMemory prefix r h = h
 
 -- Parts were added to a list, and are the result of a step but for that of another step from here on.

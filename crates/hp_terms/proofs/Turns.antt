@@ -34,19 +34,16 @@ prepend_more prefix x (Err e) = refl
 pub refused_next : {A B : Type 0} (e : FormRefusal) (r : Result (A × Names) Misform) (f : A → Parse B)
     → Refuses e r → Refuses e (and_then r f)
 refused_next (refusals.Expected what span) r f h = ap (λ x. and_then x f) h
-refused_next (refusals.SeveralPairs span) r f h = ap (λ x. and_then x f) h
 refused_next refusals.NoMemory r f h = h
 
 refused_behind : {A : Type 0} (e : FormRefusal) (prefix : List A) (r : Result (List A × Names) Misform)
     → Refuses e r → Refuses e (prepend prefix r)
 refused_behind (refusals.Expected what span) prefix r h = ap (prepend prefix) h
-refused_behind (refusals.SeveralPairs span) prefix r h = ap (prepend prefix) h
 refused_behind refusals.NoMemory prefix r h = h
 
 -- a refusal of a result is one of an equal result
 pub refused_same : {A : Type 0} (e : FormRefusal) (r s : Result A Misform) → r ≡ s → Refuses e s → Refuses e r
 refused_same (refusals.Expected what span) r s same h = same ∙ h
-refused_same (refusals.SeveralPairs span) r s same h = same ∙ h
 refused_same refusals.NoMemory r s same h = h
 
 -- each item, from one on

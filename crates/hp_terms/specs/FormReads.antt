@@ -2,7 +2,7 @@
 use Rattle.std.specs.Prelude.{◌≡◌, List, ◌++◌, Option, Result, Ok, Err}
 use Rattle.hp_syntax.specs.declared.pattern.Pat.{Pat}
 use Rattle.hp_syntax.specs.declared.pattern.Tail.{Tail}
-use Rattle.hp_syntax.specs.Steps.{Misform, Expected, SeveralPairs, Names, Parse}
+use Rattle.hp_syntax.specs.Steps.{Misform, Expected, Names, Parse}
 use Rattle.hp_syntax.specs.Syntax.{Patterns}
 use Rattle.hp_syntax.specs.Views.{patterns_of}
 use Rattle.hp_syntax.specs.Grammar as grammar
@@ -14,7 +14,6 @@ use Rattle.hp_terms.specs.declared.terms.Setting.TheVariants as settings
 -- a refusal is the one that is given; without memory nothing is known
 abbrev pub Refuses : {Y : Type 0} → FormRefusal → Result Y Misform → Type 0
 Refuses (refusals.Expected what span) r = r ≡ Err (Expected what span)
-Refuses (refusals.SeveralPairs span) r = r ≡ Err (SeveralPairs span)
 Refuses refusals.NoMemory r = Unit {0}
 
 -- a result, as it is seen through a view, is what is given

@@ -10,8 +10,6 @@ use std::alloc::{AllocError, AllocFailed};
 pub enum FormRefusal {
     /// Something else is wanted here.
     Expected { what: What, span: Span },
-    /// A problem has a further item behind its state and its tasks.
-    SeveralPairs { span: Span },
     /// Memory ran out.
     NoMemory,
 }

@@ -6,7 +6,7 @@ use Rattle.std.specs.Option.{option_and_then}
 use Rattle.std.proofs.lemmas.Int.{ints, to_z-of_z}
 use Rattle.std.proofs.lemmas.List.{map-append}
 use Rattle.std.proofs.lemmas.List.Elements.{All-append, All-cons, All-nil, All-same, All-weaker}
-use Rattle.hp_syntax.specs.declared.limits.TheConstants.{DEEPEST_WALK}
+use Rattle.hp_syntax.specs.declared.limits.TheConstants.{GREATEST_DEPTH}
 use Rattle.hp_syntax.specs.Terms.{Term}
 use Rattle.hp_syntax.specs.Networks.{Network, Place}
 use Rattle.hp_syntax.specs.Events.{State}
@@ -104,27 +104,27 @@ steps_below n new old task e h l =
 -- ---- costs
 
 -- one step more costs no less than so many can
-pub low_after : (d : ℕ) (a b : ℤ) → 0 < d → d ≤ DEEPEST_WALK → neg_ℤ (pos (most_cost d)) ≤ℤ a → SFits w64 b
+pub low_after : (d : ℕ) (a b : ℤ) → 0 < d → d ≤ GREATEST_DEPTH → neg_ℤ (pos (most_cost d)) ≤ℤ a → SFits w64 b
     → neg_ℤ (pos (most_cost (d - 1))) ≤ℤ (a +ℤ b)
 low_after d a b p l h s = omega (arith, ints)
 
 -- one step more costs no more than so many can
-pub high_after : (d : ℕ) (a b : ℤ) → 0 < d → d ≤ DEEPEST_WALK → a ≤ℤ pos (most_cost d) → SFits w64 b
+pub high_after : (d : ℕ) (a b : ℤ) → 0 < d → d ≤ GREATEST_DEPTH → a ≤ℤ pos (most_cost d) → SFits w64 b
     → (a +ℤ b) ≤ℤ pos (most_cost (d - 1))
 high_after d a b p l h s = omega (arith, ints)
 
 -- a cost within the bound from below stays so where one decomposition less may follow
-pub low_stays : (d : ℕ) (a : ℤ) → 0 < d → d ≤ DEEPEST_WALK → neg_ℤ (pos (most_cost d)) ≤ℤ a
+pub low_stays : (d : ℕ) (a : ℤ) → 0 < d → d ≤ GREATEST_DEPTH → neg_ℤ (pos (most_cost d)) ≤ℤ a
     → neg_ℤ (pos (most_cost (d - 1))) ≤ℤ a
 low_stays d a p l h = omega (arith, ints)
 
 -- so does a cost within the bound from above
-pub high_stays : (d : ℕ) (a : ℤ) → 0 < d → d ≤ DEEPEST_WALK → a ≤ℤ pos (most_cost d)
+pub high_stays : (d : ℕ) (a : ℤ) → 0 < d → d ≤ GREATEST_DEPTH → a ≤ℤ pos (most_cost d)
     → a ≤ℤ pos (most_cost (d - 1))
 high_stays d a p l h = omega (arith, ints)
 
 -- a cost that is added in so many bits is added
-pub cost_added : (d : ℕ) (a b r : ℤ) → d ≤ DEEPEST_WALK → neg_ℤ (pos (most_cost d)) ≤ℤ a → a ≤ℤ pos (most_cost d)
+pub cost_added : (d : ℕ) (a b r : ℤ) → d ≤ GREATEST_DEPTH → neg_ℤ (pos (most_cost d)) ≤ℤ a → a ≤ℤ pos (most_cost d)
     → r ≡ b → SFits w64 b
     → to_z w128 (of_z w128 (to_z w128 (of_z w128 a) +ℤ to_z w128 (of_z w128 r))) ≡ a +ℤ b
 cost_added d a b r l low high e s =
@@ -135,6 +135,6 @@ cost_added d a b r l low high e s =
     ∙ (to_z-of_z w128 (a +ℤ r) fs ∙ ap (λ z. a +ℤ z) e)
 
 -- a cost within the bounds is told in so many bits
-pub cost_kept : (d : ℕ) (a : ℤ) → d ≤ DEEPEST_WALK → neg_ℤ (pos (most_cost d)) ≤ℤ a → a ≤ℤ pos (most_cost d)
+pub cost_kept : (d : ℕ) (a : ℤ) → d ≤ GREATEST_DEPTH → neg_ℤ (pos (most_cost d)) ≤ℤ a → a ≤ℤ pos (most_cost d)
     → to_z w128 (of_z w128 a) ≡ a
 cost_kept d a l low high = let fa : SFits w128 a = search (arith, ints) in to_z-of_z w128 a fa

@@ -1,6 +1,6 @@
 -- The root of a pair in memory.
 use Rattle.std.specs.Prelude.{◌≡◌, ℕ, ◌≤◌, List, pos, [], length}
-use Rattle.hp_syntax.specs.declared.limits.TheConstants.{DEEPEST_WALK}
+use Rattle.hp_syntax.specs.declared.limits.TheConstants.{GREATEST_DEPTH}
 use Rattle.hp_syntax.specs.Terms.{Term}
 use Rattle.hp_syntax.specs.Walk.{Node}
 use Rattle.hp_tree.specs.declared.root.Root.{Root}
@@ -31,7 +31,7 @@ held_root r depth = record {
 -- a root is this node at each depth, where cells name these terms, and the indexes of its world know their atoms
 pub record IsRoot (terms : List Term) (at : ℕ → Node) (r : Root) : Type 0 where
   pub node : (depth : ℕ) → node_of terms (held_root r depth) ≡ at depth
-  pub below : (depth : ℕ) → depth ≤ DEEPEST_WALK → IsHeldNode (length terms) (held_root r depth)
+  pub below : (depth : ℕ) → depth ≤ GREATEST_DEPTH → IsHeldNode (length terms) (held_root r depth)
   pub knows : Knows terms r.world
   pub stood : IndexesStood r.world
   pub pasts : PastsBelow (length terms) (history_in r.world)

@@ -1,7 +1,7 @@
 -- The nodes of the tree as they stand in memory, whatever engine holds them.
 use Rattle.std.specs.Prelude.{ℕ, ◌-◌, ◌*◌, ◌^◌, ◌≤◌, ℤ, pos, neg_ℤ, ◌≤ℤ◌, List}
 use Rattle.std.specs.List.{All}
-use Rattle.hp_syntax.specs.declared.limits.TheConstants.{DEEPEST_WALK}
+use Rattle.hp_syntax.specs.declared.limits.TheConstants.{GREATEST_DEPTH}
 use Rattle.hp_syntax.specs.Terms.{Term}
 use Rattle.hp_syntax.specs.Walk.{Node}
 use Rattle.hp_world.specs.Stages.{Stage, AllBelow, StageBelow, terms_at, state_of, guards_of}
@@ -30,13 +30,13 @@ node_of terms h = record {
 
 -- the most that the steps can cost where so many decompositions may follow
 abbrev pub most_cost : ℕ → ℕ
-most_cost depth = (DEEPEST_WALK - depth) * 2 ^ 63
+most_cost depth = (GREATEST_DEPTH - depth) * 2 ^ 63
 
 -- each cell of a node is below a count, and its steps cost no more than they can
 pub record IsHeldNode (n : ℕ) (h : HeldNode) : Type 0 where
   pub stage : StageBelow n h.stage
   pub network : All (PartBelow n) h.network.parts
   pub steps : AllBelow n h.steps
-  pub depth : h.depth ≤ DEEPEST_WALK
+  pub depth : h.depth ≤ GREATEST_DEPTH
   pub low : neg_ℤ (pos (most_cost h.depth)) ≤ℤ h.cost
   pub high : h.cost ≤ℤ pos (most_cost h.depth)

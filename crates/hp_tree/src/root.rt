@@ -1,7 +1,7 @@
 //! The root of a pair, in memory.
 ghost use Rattle.std.specs.Prelude.{◌≡◌, ℕ, ◌≤◌, List, [], IfOk, OnOk, length};
 ghost use Rattle.std.specs.List.{All};
-ghost use Rattle.hp_syntax.specs.declared.limits.TheConstants.{DEEPEST_WALK};
+ghost use Rattle.hp_syntax.specs.declared.limits.TheConstants.{GREATEST_DEPTH};
 ghost use Rattle.hp_syntax.specs.Changes.{added};
 ghost use Rattle.hp_syntax.specs.GroundPatterns.{IsGroundAtom, IsGroundPair, atoms_said};
 ghost use Rattle.hp_syntax.specs.Terms.{Term};
@@ -67,7 +67,7 @@ impl Root {
         requires pair { IsGroundPair (pair_of pair.now) }
         ensures node { IfOk result (λ r. (depth : ℕ)
             → node_of cells.new (held_root r depth) ≡ root (pair_of pair.now) depth) }
-        ensures below { IfOk result (λ r. (depth : ℕ) → depth ≤ DEEPEST_WALK
+        ensures below { IfOk result (λ r. (depth : ℕ) → depth ≤ GREATEST_DEPTH
             → IsHeldNode (length cells.new) (held_root r depth)) }
         ensures cells { Grows cells.old cells.new }
     {
@@ -84,7 +84,7 @@ impl Root {
         requires pair { IsGroundPair (pair_of pair.now) }
         ensures node { IfOk result (λ r. (depth : ℕ)
             → node_of cells.new (held_root r depth) ≡ root (pair_of pair.now) depth) }
-        ensures below { IfOk result (λ r. (depth : ℕ) → depth ≤ DEEPEST_WALK
+        ensures below { IfOk result (λ r. (depth : ℕ) → depth ≤ GREATEST_DEPTH
             → IsHeldNode (length cells.new) (held_root r depth)) }
         ensures indexes { IfOk result (λ r. parts_of r.world.parts ≡ parts.now) }
         ensures knows { IfOk result (λ r. Knows cells.new r.world) }

@@ -1,6 +1,7 @@
-use Rattle.std.proofs.Common.{◌≡◌, ◌<◌, [], length}
+use Rattle.std.proofs.Common.{◌≡◌, ◌<◌, ◌≤◌, [], length, arith}
 use Rattle.std.specs.Prelude.{pos}
 use Rattle.std.proofs.lemmas.List.Elements.{All-same}
+use Rattle.hp_syntax.specs.declared.limits.TheConstants.{GREATEST_DEPTH}
 use Rattle.hp_syntax.specs.Views.{domain_of, pair_of}
 use Rattle.hp_syntax.specs.Walk.{root}
 use Rattle.hp_plain.specs.SearchNodes.{node_in}
@@ -16,7 +17,8 @@ new-requires-4-clause-few c = λ k r l.
 pub new-requires-4-clause-node : goal.new-requires-4-clause-node
 new-requires-4-clause-node c =
     let n = length c.new-2.new.cells in
-    let root = c.in_ok-world.ensures.below c.args.depth c.requires.depth in
+    let shallow : c.args.depth ≤ GREATEST_DEPTH = omega (arith, c.requires.depth) in
+    let root = c.in_ok-world.ensures.below c.args.depth shallow in
     record {
       stage = root.stage;
       network = root.network;
