@@ -25,7 +25,7 @@ fn write_plans(rt: &impl Print, alloc: Global) -> io::Result<()> {
     io::writer(rt).write_all(text.as_slice())
 }
 
-/// Shows something of the walk of two texts.
+/// Shows something of the walk of each pair of two texts.
 fn show_walk(
     rt: &impl Print,
     alloc: Global,
@@ -34,8 +34,11 @@ fn show_walk(
     what: Shown,
 ) -> anyhow::Result<()> {
     let (domain, problem) = accepted(alloc, domain, problem)?;
-    let mut walk = walk(alloc, &domain, &problem, DEPTH)?;
-    show(rt, alloc, &mut walk, what)
+    for pair in &problem.pairs {
+        let mut walk = walk(alloc, &domain, pair, DEPTH)?;
+        show(rt, alloc, &mut walk, what)?;
+    }
+    Ok(())
 }
 
 fn main(rt: HostRuntime) -> anyhow::Result<()> {

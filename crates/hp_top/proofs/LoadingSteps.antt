@@ -33,8 +33,6 @@ module _ {A : Type 0} (which : Input) (form : Form A) where
       → Refuses e (form (length bytes) f) → IsRefusedFor which form bytes (of_form which e)
   form_refused bytes f (forms.Expected what span) s r =
       loading.IsRefusedFor.Unreadable (InForm (steps.Expected what span)) refl (outcome.ByForm f _ s r refl)
-  form_refused bytes f (forms.SeveralPairs span) s r =
-      loading.IsRefusedFor.Unreadable (InForm (steps.SeveralPairs span)) refl (outcome.ByForm f _ s r refl)
   form_refused bytes f forms.NoMemory s r = loading.IsRefusedFor.WithoutMemory refl
 
 module _ (refused_whole : (text : List ℕ) (r : Refusal) → IsRefused (take (LARGEST_TEXT + 1) text) r → IsRefused text r)

@@ -3,8 +3,8 @@ use Rattle.std.proofs.Common.{◌≡◌, ℕ, ◌+◌, ◌-◌, ◌*◌, ◌<◌
 use Rattle.std.proofs.lemmas.List.{take_all}
 use Rattle.std.proofs.lemmas.Bool.{lt-leb}
 use Rattle.std.proofs.lemmas.Bool.Decides.{nat_tests}
-use Rattle.hp_syntax.specs.declared.limits.TheConstants.{MOST_PLANS, GREATEST_DEPTH}
-use Rattle.hp_top.specs.Command.{Job, Options, Planning, on_files, plan_options, Request, only_if, is_number, number_from, number_within, planning, making, asked_by_three, accepts}
+use Rattle.hp_syntax.specs.declared.limits.TheConstants.{MOST_PLANS}
+use Rattle.hp_top.specs.Command.{Job, Options, Planning, greatest_depth, on_files, plan_options, Request, only_if, is_number, number_from, number_within, planning, making, asked_by_three, accepts}
 use Rattle.hp_top.specs.declared.words.TheConstants.{LARGEST_SEED, MOST_PACKAGES}
 
 -- more digits spell no smaller number
@@ -81,7 +81,7 @@ is_other b false t f = refl
 pub accepts_planned : (ws : List (String Global)) (w d p k n : String Global) (u : List ℕ) (b : Bool)
     (o : Option Job) → 5 ≤ length ws → w ≡ get_or ws 0 w → d ≡ get_or ws 1 d → p ≡ get_or ws 2 p
     → k ≡ get_or ws 3 k → n ≡ get_or ws 4 n → u ≡ string_bytes w → b ≡ not (bytes_eq u (codes "plan")) → b ≡ false
-    → o ≡ planning (number_within 1 MOST_PLANS (string_bytes k)) (number_within 0 GREATEST_DEPTH (string_bytes n))
+    → o ≡ planning (number_within 1 MOST_PLANS (string_bytes k)) (string_bytes n)
     (plan_options (map string_bytes (take (length ws - 5) (drop 5 ws))))
     → option_map (on_files (string_bytes d) (string_bytes p)) o ≡ accepts (map string_bytes ws)
 accepts_planned [] w d p k n u b o a h i j l m s t f e = absurd (omega arith)
@@ -92,10 +92,10 @@ accepts_planned (v ∷ x ∷ y ∷ z ∷ []) w d p k n u b o a h i j l m s t f e
 accepts_planned (v ∷ x ∷ y ∷ z ∷ r ∷ ws) w d p k n u b o a h i j l m s t f e =
     let all : take (length (v ∷ x ∷ y ∷ z ∷ r ∷ ws) - 5) ws ≡ ws = take_all _ ws (omega arith) in
     let plan : bytes_eq (string_bytes v) (codes "plan") ≡ true = rw (← h, ← s) (is_plan b _ t f) in
-    let job : o ≡ planning (number_within 1 MOST_PLANS (string_bytes z))
-    (number_within 0 GREATEST_DEPTH (string_bytes r)) (plan_options (map string_bytes ws)) =
-    rw (← l, ← m) (subst (λ more. o ≡ planning (number_within 1 MOST_PLANS (string_bytes k))
-    (number_within 0 GREATEST_DEPTH (string_bytes n)) (plan_options (map string_bytes more))) all e) in
+    let job : o ≡ planning (number_within 1 MOST_PLANS (string_bytes z)) (string_bytes r)
+    (plan_options (map string_bytes ws)) =
+    rw (← l, ← m) (subst (λ more. o ≡ planning (number_within 1 MOST_PLANS (string_bytes k)) (string_bytes n)
+    (plan_options (map string_bytes more))) all e) in
     rw (job, plan, i, j) refl
 
 -- five words and more of which the first is another than `plan` are no command
@@ -110,10 +110,11 @@ accepts_other (v ∷ x ∷ y ∷ z ∷ []) w u b a h s t f = absurd (omega arith
 accepts_other (v ∷ x ∷ y ∷ z ∷ r ∷ ws) w u b a h s t f =
     let other : bytes_eq (string_bytes v) (codes "plan") ≡ false = rw (← h, ← s) (is_other b _ t f) in rw other refl
 
--- two numbers and options that are spelled are planned
-pub planned : (k n : ℕ) (o : Options) (plans depth : Option ℕ) (spelled : Option Options) → Some k ≡ plans
-    → Some n ≡ depth → Some o ≡ spelled → Some (Planning k n o) ≡ planning plans depth spelled
-planned k n o plans depth spelled a b e = rw (← a, ← b, ← e) refl
+-- a number, a depth and options that are spelled are planned
+pub planned : (k n : ℕ) (o : Options) (plans : Option ℕ) (depth : List ℕ) (spelled : Option Options) → Some k ≡ plans
+    → Some n ≡ number_within 0 (greatest_depth o) depth → Some o ≡ spelled
+    → Some (Planning k n o) ≡ planning plans depth spelled
+planned k n o plans depth spelled a b e = rw (← a, ← e, ← b) refl
 
 -- `make` asks for what its two numbers ask for
 pub make_by_three : (word x y : List ℕ) (b : Bool) (o : Option Request) → b ≡ bytes_eq word (codes "make") → b ≡ true

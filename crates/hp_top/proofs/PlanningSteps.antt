@@ -10,12 +10,10 @@ use Rattle.hp_out.proofs.WritingLemmas.{wrote_nothing}
 use Rattle.hp_syntax.specs.Report as base
 use Rattle.hp_syntax.specs.Report.{Tally, tally, ended, ending_text, status_of, answer_at, behind, plan_texts, end_of}
 use Rattle.hp_syntax.specs.Walk.{Did, Plan, Visit}
-use Rattle.hp_syntax.specs.declared.status.Status.{Status}
 use Rattle.hp_top.specs.declared.planning.Detail.{Detail}
 use Rattle.hp_top.specs.declared.planning.Progress.{Progress}
 use Rattle.hp_top.specs.declared.telling.Halt.{Halt}
-use Rattle.hp_top.specs.declared.telling.Halt.TheVariants.{NoMemory, Failed}
-use Rattle.hp_top.specs.Telling.{left, telling, tally_of, Goes, Closes, Visited, Halts, counted, stop_at, Tells, WithoutMemory, Unwritten, Written, status_told}
+use Rattle.hp_top.specs.Telling.{left, telling, tally_of, Goes, Closes, Visited, Halts, counted, stop_at}
 use Rattle.hp_top.proofs.TellingLemmas.{halts_longer, halts_after}
 use Rattle.hp_top.proofs.ReportLemmas.{did_reported, plan_reported, last_reported, texts_first, report_saturates}
 
@@ -158,10 +156,3 @@ module _ (detail : Detail) (k : ℕ) where
       let first = plan_first p v ws s in
       subst (λ t. Halts h t r) (sym (ap (λ us. (left detail k p us).0) e ∙ first.1))
       (halts_longer h (telling detail (p.plans + 1) v) first.0 r y)
-
--- a run whose answer was told, or whose telling stopped, tells the answer
-pub tells_told : (a : base.Answer) (o : Result Status Halt) (r : SinkRun) → OnOk o (Wrote a.0 r.before r.after)
-    → IfOk o (λ s. s ≡ a.1) → IfErr o (λ h. Halts h a.0 r) → Tells a (status_told o) r
-tells_told a (Ok s) r w e h = Written e w
-tells_told a (Err NoMemory) r w e h = WithoutMemory refl h
-tells_told a (Err Failed) r w e h = Unwritten refl h.0 h.1

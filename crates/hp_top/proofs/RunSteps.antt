@@ -1,5 +1,5 @@
 -- From how a run ends to what the top call promises.
-use Rattle.std.proofs.Common.{◌≡◌, ◌≢◌, ◌⊎◌, inl, inr, ℕ, List, [], Bool, true, false, cond, nat_lt, Option, Some, None, Result, Ok, Err, codes, arith, refl, ap, sym, ◌∙◌, subst}
+use Rattle.std.proofs.Common.{◌≡◌, ◌≢◌, ◌⊎◌, inl, inr, ℕ, List, [], ◌∷◌, Bool, true, false, cond, nat_lt, Option, Some, None, Result, Ok, Err, codes, arith, refl, ap, sym, ◌∙◌, subst, map, length, ◌+◌}
 use Rattle.hp_code.specs.CodeViews.{compiled}
 use Rattle.hp_code.specs.Listing.{listing_text}
 use Rattle.hp_io.specs.declared.folder.Input.{Input}
@@ -18,11 +18,11 @@ use Rattle.hp_syntax.specs.declared.status.Status.{Status}
 use Rattle.hp_syntax.specs.declared.status.Status.TheVariants as status
 use Rattle.hp_syntax.specs.Grammar.{domain_form, problem_form}
 use Rattle.hp_syntax.specs.Checks.{first_of, domain_faults}
-use Rattle.hp_syntax.specs.Report.{Answer, Ending, Stopped, AtFault, AtCut, AtEnd, end_of, line_of, nothing_seen, plan_of, plan_report, report, status_of}
-use Rattle.hp_syntax.specs.Steps.{Expected, SeveralPairs}
-use Rattle.hp_syntax.specs.Syntax.{Domain, Problem}
+use Rattle.hp_syntax.specs.Report.{Answer, Ending, Stopped, AtFault, AtCut, AtEnd, badness, end_of, line_of, line_report, nothing_seen, plan_of, plan_report, report, status_of, told_from, worse}
+use Rattle.hp_syntax.specs.Steps.{Expected}
+use Rattle.hp_syntax.specs.Syntax.{Domain, Pair, Problem, Rule}
 use Rattle.hp_syntax.specs.TextForms.{Form, IsRead}
-use Rattle.hp_syntax.specs.Walk.{Visit}
+use Rattle.hp_syntax.specs.Walk.{Visit, walk}
 use Rattle.hp_top.specs.declared.loading.LoadError.{LoadError}
 use Rattle.hp_top.specs.declared.loading.LoadError.TheVariants as causes
 use Rattle.hp_top.specs.Command.{Command, Job, Planning, Checking, Showing, Summing, Request, OnFiles, Listing, accepts, named, file_named, on_files}
@@ -70,6 +70,27 @@ plan_answers : (k : ℕ) (states : Bool) (vs : List Visit) → IsAnswer (plan_re
 unfolding plan_report
 plan_answers k states vs = report_answers (plan_of states) k vs
 
+line_answers : (vs : List Visit) → IsAnswer (line_report vs).1
+unfolding line_report
+line_answers vs = report_answers line_of 1 vs
+
+worse_answers : (s t : Status) → IsAnswer s → IsAnswer t → IsAnswer (worse s t)
+worse_answers s t h k = chosen (nat_lt (badness s) (badness t)) t s k h
+
+module _ (tell : List Visit → Answer) (each : (vs : List Visit) → IsAnswer (tell vs).1) (rules : List Rule)
+    (nest depth : ℕ) where
+  -- pairs have the status of an answer where each has
+  pairs_answers_from : (count n : ℕ) (ps : List Pair)
+      → IsAnswer (told_from count n (map (λ p. tell (walk rules nest p depth)) ps)).1
+  pairs_answers_from count n [] = tt
+  pairs_answers_from count n (p ∷ ps) =
+      worse_answers (tell (walk rules nest p depth)).1
+      (told_from count (n + 1) (map (λ p. tell (walk rules nest p depth)) ps)).1 (each (walk rules nest p depth))
+      (pairs_answers_from count (n + 1) ps)
+
+  pairs_answers : (ps : List Pair) → IsAnswer (outcome.pairs_answer tell rules nest depth ps).1
+  pairs_answers ps = pairs_answers_from (length (map (λ p. tell (walk rules nest p depth)) ps)) 1 ps
+
 refused_answers : (which : Input) → IsAnswer (outcome.refused_status which)
 refused_answers inputs.Domain = tt
 refused_answers inputs.Problem = tt
@@ -77,14 +98,13 @@ refused_answers inputs.Problem = tt
 why_answers : (which : Input) (why : outcome.Why) → IsAnswer (outcome.refusal_status (outcome.refusal_of which why))
 why_answers which (outcome.InText r) = refused_answers which
 why_answers which (outcome.InForm (Expected what s)) = refused_answers which
-why_answers which (outcome.InForm (SeveralPairs s)) = tt
 
 job_answers : (j : Job) (d : Domain) (p : Problem) → IsAnswer (outcome.job_answer j d p).1
-job_answers (Planning k n o) d p = plan_answers k o.states (outcome.walk_of_pairs d.rules o.levels p.pairs n)
+job_answers (Planning k n o) d p =
+    pairs_answers (plan_report k o.states) (plan_answers k o.states) d.rules o.levels n p.pairs
 job_answers Checking d p = tt
 job_answers Showing d p = tt
-job_answers (Summing seed n) d p = report_answers line_of 1 (outcome.walk_of_pairs d.rules USUAL_LEVELS p.pairs
-    MADE_DEPTH)
+job_answers (Summing seed n) d p = pairs_answers line_report line_answers d.rules USUAL_LEVELS MADE_DEPTH p.pairs
 
 checks_answer : (f : Option CheckFault) (a : Answer) → IsAnswer a.1 → IsAnswer (outcome.unless_faulty f a).1
 checks_answer (Some f) a h = refused_answers (text_of f.in_problem)
@@ -378,7 +398,6 @@ same_refusal loaded p q e f = let x : Err (causes.Refused p) ≡ Err (causes.Ref
 why_unread : (which w : Input) (why : outcome.Why) → outcome.refusal_of which why ≡ refusals.Read w → ⊥
 why_unread which w (outcome.InText r) e = cc
 why_unread which w (outcome.InForm (Expected what s)) e = cc
-why_unread which w (outcome.InForm (SeveralPairs s)) e = cc
 
 -- served requests
 module _ {X : Type 0} (folder : FolderRun) (names : Input → Option (List ℕ)) (loads : Result X LoadError → Type 0)

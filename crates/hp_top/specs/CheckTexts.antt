@@ -1,5 +1,5 @@
 -- The text of `check` on an accepted domain and problem.
-use Rattle.std.specs.Prelude.{ℕ, ◌+◌, Bool, true, false, List, [], ◌∷◌, ◌++◌, length, codes, decimal}
+use Rattle.std.specs.Prelude.{ℕ, ◌+◌, Bool, true, false, cond, nat_lt, List, [], ◌∷◌, ◌++◌, length, codes, decimal}
 use Rattle.std.specs.List.{flat_map, count_by}
 use Rattle.hp_syntax.specs.Notes.{Note, notes}
 use Rattle.hp_syntax.specs.Syntax.{Rule, Does, Refines, Concludes, Domain, Pair, Problem}
@@ -34,8 +34,14 @@ counts_text rules =
 unfoldable pub domain_line : Domain → List ℕ
 domain_line d = codes "domain " ++ d.name ++ counts_text d.rules ++ codes "\n"
 
+-- how many pairs there are, where there are several
+unfoldable pub pairs_text : ℕ → List ℕ
+pairs_text count = cond (nat_lt 1 count) (codes " pairs " ++ decimal count) []
+
 unfoldable pub problem_line : Problem → List ℕ
-problem_line p = codes "problem " ++ p.name ++ codes " atoms " ++ decimal (atoms_written p.pairs) ++ codes "\n"
+problem_line p =
+    codes "problem " ++ p.name ++ pairs_text (length p.pairs)
+    ++ codes " atoms " ++ decimal (atoms_written p.pairs) ++ codes "\n"
 
 abbrev pub count_lines : Domain → Problem → List ℕ
 count_lines d p = domain_line d ++ problem_line p

@@ -4,7 +4,7 @@ use Rattle.std.specs.List.{list_all, list_any}
 use Rattle.std.specs.Option.{option_and_then}
 use Rattle.hp_io.specs.declared.folder.Input.{Input}
 use Rattle.hp_io.specs.declared.folder.Input.TheVariants as inputs
-use Rattle.hp_syntax.specs.declared.limits.TheConstants.{MOST_PLANS, GREATEST_DEPTH, MOST_LEVELS, USUAL_LEVELS}
+use Rattle.hp_syntax.specs.declared.limits.TheConstants.{MOST_PLANS, GREATEST_DEPTH, GREATEST_PLAIN_DEPTH, MOST_LEVELS, USUAL_LEVELS}
 use Rattle.hp_syntax.specs.Text.{is_digit}
 use Rattle.hp_top.specs.declared.words.TheConstants.{LARGEST_SEED, MOST_PACKAGES}
 
@@ -149,12 +149,15 @@ abbrev pub job_by_word : List ℕ → Option Job
 job_by_word word =
     cond (bytes_eq word (codes "check")) (Some Checking) (cond (bytes_eq word (codes "show")) (Some Showing) None)
 
--- the job of two numbers and options
-abbrev pub planning : Option ℕ → Option ℕ → Option Options → Option Job
-planning (Some k) (Some n) (Some o) = Some (Planning k n o)
-planning (Some k) (Some n) None = None
-planning (Some k) None o = None
-planning None n o = None
+-- the greatest depth that may be asked for: less by the engine of copies
+abbrev pub greatest_depth : Options → ℕ
+greatest_depth o = cond o.plain GREATEST_PLAIN_DEPTH GREATEST_DEPTH
+
+-- the job of a number of plans, of a depth in words, and of options
+abbrev pub planning : Option ℕ → List ℕ → Option Options → Option Job
+planning (Some k) depth (Some o) = option_map (λ n. Planning k n o) (number_within 0 (greatest_depth o) depth)
+planning (Some k) depth None = None
+planning None depth o = None
 
 -- the request of a job over two files
 abbrev pub on_files : List ℕ → List ℕ → Job → Request
@@ -180,5 +183,5 @@ accepts (word ∷ x ∷ y ∷ []) = asked_by_three word x y
 accepts (word ∷ d ∷ p ∷ k ∷ n ∷ more) =
     option_map (on_files d p)
     (only_if (bytes_eq word (codes "plan"))
-    (planning (number_within 1 MOST_PLANS k) (number_within 0 GREATEST_DEPTH n) (plan_options more)))
+    (planning (number_within 1 MOST_PLANS k) n (plan_options more)))
 accepts _ = None

@@ -1,5 +1,6 @@
 pub mod CheckTexts
 pub mod Command
+pub mod Engines
 pub mod Loading
 pub mod Making
 pub mod Outcome

@@ -69,7 +69,6 @@ of_text which texts.NoMemory = causes.NoMemory
 
 abbrev pub of_form : Input → FormRefusal → LoadError
 of_form which (forms.Expected what span) = causes.Refused (refusals.Form which what span)
-of_form which (forms.SeveralPairs span) = causes.Refused (refusals.Several span)
 of_form which forms.NoMemory = causes.NoMemory
 
 -- bytes are read as nothing for this cause, or there is too little memory to know

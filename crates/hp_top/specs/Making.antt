@@ -1,9 +1,7 @@
 -- Problems that are made: their files, and what is told of their first plan.
 use Rattle.std.specs.Prelude.{ℕ, cond, List, ◌++◌, Option, Some, None, bytes_eq, codes, decimal}
 use Rattle.hp_make.specs.Texts.{domain_text, problem_text}
-use Rattle.hp_syntax.specs.Report.{Answer, behind, line_of, nothing_seen, report}
 use Rattle.hp_syntax.specs.Syntax.{Problem}
-use Rattle.hp_syntax.specs.Walk.{Visit}
 use Rattle.hp_top.specs.CheckTexts.{atoms_written}
 use Rattle.hp_top.specs.Command.{Command, make_command, Summing}
 
@@ -22,7 +20,3 @@ unfoldable pub made_lines : ℕ → ℕ → Problem → List ℕ
 made_lines seed packages p =
     codes "made seed " ++ decimal seed ++ codes " packages " ++ decimal packages
     ++ codes "\nstate atoms " ++ decimal (atoms_written p.pairs) ++ codes "\n"
-
--- the answer to a made problem and the walk of which one plan is asked: their lines and the ending line
-abbrev pub made_answer : ℕ → ℕ → Problem → List Visit → Answer
-made_answer seed packages p walk = behind (made_lines seed packages p) (report line_of 1 nothing_seen walk)

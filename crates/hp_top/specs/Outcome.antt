@@ -1,5 +1,5 @@
 -- The outcome of the words and the files of a run: the text that is written, and the status.
-use Rattle.std.specs.Prelude.{◌≡◌, ℕ, List, [], ◌∷◌, ◌++◌, length, Option, Some, None, Result, Ok, Err}
+use Rattle.std.specs.Prelude.{◌≡◌, ℕ, List, ◌++◌, length, map, Option, Some, None, Result, Ok, Err}
 use Rattle.hp_io.specs.declared.folder.Input.{Input}
 use Rattle.hp_io.specs.declared.folder.Input.TheVariants as inputs
 use Rattle.hp_code.specs.CodeViews.{compiled}
@@ -18,15 +18,15 @@ use Rattle.hp_syntax.specs.Forest.{Forest, IsForest}
 use Rattle.hp_syntax.specs.Grammar.{domain_form, problem_form}
 use Rattle.hp_syntax.specs.Refusal as texts
 use Rattle.hp_syntax.specs.Refusal.{IsRefused}
-use Rattle.hp_syntax.specs.Report.{Answer, plan_report}
-use Rattle.hp_syntax.specs.Steps.{Misform, Expected, SeveralPairs}
+use Rattle.hp_syntax.specs.Report.{Answer, behind, line_report, plan_report, told_pairs}
+use Rattle.hp_syntax.specs.Steps.{Misform, Expected}
 use Rattle.hp_syntax.specs.Syntax.{Domain, Pair, Problem, Rule}
 use Rattle.hp_syntax.specs.TextForms.{Form, IsRead}
 use Rattle.hp_syntax.specs.Walk.{Visit, walk}
 use Rattle.hp_syntax.specs.Written.{domain_text, problem_text}
 use Rattle.hp_top.specs.CheckTexts.{check_text}
 use Rattle.hp_top.specs.Command.{Command, Job, Options, Planning, Checking, Showing, Summing, OnFiles, Listing, Making, accepts}
-use Rattle.hp_top.specs.Making.{made_files, made_command, made_answer}
+use Rattle.hp_top.specs.Making.{made_files, made_command, made_lines}
 
 -- the bytes of each file, by its name; there may be no such file
 abbrev pub Files : Type 0
@@ -45,11 +45,10 @@ pub data IsUnreadable {A : Type 0} (form : Form A) (text : List ℕ) (why : Why)
   ByForm : (f : Forest) (m : Misform) → IsForest text f → form (length text) f ≡ Err m → why ≡ InForm m
       → IsUnreadable form text why
 
--- the refusal that tells why; only a problem has pairs
+-- the refusal that tells why
 abbrev pub refusal_of : Input → Why → Refusal
 refusal_of which (InText r) = refusals.Text which r.kind r.offset
 refusal_of which (InForm (Expected what s)) = refusals.Form which what s
-refusal_of which (InForm (SeveralPairs s)) = refusals.Several s
 
 -- ---- refusals
 
@@ -63,7 +62,6 @@ refusal_status refusals.Usage = status.Usage
 refusal_status (refusals.Read which) = status.ReadFault
 refusal_status (refusals.Text which kind offset) = refused_status which
 refusal_status (refusals.Form which what span) = refused_status which
-refusal_status (refusals.Several span) = ProblemRefused
 refusal_status (refusals.Check fault) = refused_status (text_of fault.in_problem)
 
 -- the line of a refusal, and its status
@@ -72,14 +70,13 @@ refusal_answer r = (refusal_text r, refusal_status r)
 
 -- ---- plans
 
--- the walk of the one pair that a problem has
-abbrev pub walk_of_pairs : List Rule → ℕ → List Pair → ℕ → List Visit
-walk_of_pairs rules nest [] depth = []
-walk_of_pairs rules nest (pair ∷ more) depth = walk rules nest pair depth
+-- what is told of pairs, by what is told of the walk of each
+abbrev pub pairs_answer : (List Visit → Answer) → List Rule → ℕ → ℕ → List Pair → Answer
+pairs_answer tell rules nest depth pairs = told_pairs (map (λ pair. tell (walk rules nest pair depth)) pairs)
 
--- the answer to a request for so many plans down to a depth
+-- the answer to a request for so many plans of each pair, down to a depth
 abbrev pub plan_answer : ℕ → ℕ → Options → Domain → Problem → Answer
-plan_answer k n o d p = plan_report k o.states (walk_of_pairs d.rules o.levels p.pairs n)
+plan_answer k n o d p = pairs_answer (plan_report k o.states) d.rules o.levels n p.pairs
 
 -- ---- a domain and a problem that are read
 
@@ -89,7 +86,7 @@ job_answer (Planning k n o) d p = plan_answer k n o d p
 job_answer Checking d p = (check_text d p, Done)
 job_answer Showing d p = (domain_text d ++ problem_text p, Done)
 job_answer (Summing seed packages) d p =
-    made_answer seed packages p (walk_of_pairs d.rules USUAL_LEVELS p.pairs MADE_DEPTH)
+    behind (made_lines seed packages p) (pairs_answer line_report d.rules USUAL_LEVELS MADE_DEPTH p.pairs)
 
 -- the first fault that the checks find, or else this
 abbrev pub unless_faulty : Option CheckFault → Answer → Answer

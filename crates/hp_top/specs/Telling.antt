@@ -77,6 +77,11 @@ pub data Tells (a : Answer) (s : Status) (r : SinkRun) : Type 0 where
       → WroteProperPrefix a.0 r.before r.after → Tells a s r
   Written : s ≡ a.1 → Wrote a.0 r.before r.after → Tells a s r
 
+-- an answer was told: its text was written and its status answered, or the telling stopped in it
+abbrev pub IsTold : Answer → Result Status Halt → SinkRun → Type 0
+IsTold a (Ok s) r = (s ≡ a.1) × Wrote a.0 r.before r.after
+IsTold a (Err h) r = Halts h a.0 r
+
 -- the status of a run whose answer was told, or whose telling stopped
 abbrev pub status_told : Result Status Halt → Status
 status_told (Ok s) = s

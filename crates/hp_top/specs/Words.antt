@@ -1,8 +1,8 @@
 -- The views of requests.
 use Rattle.std.specs.Prelude.{ℕ, ◌<◌, ◌≤◌}
-use Rattle.hp_syntax.specs.declared.limits.TheConstants.{GREATEST_DEPTH, MOST_LEVELS}
+use Rattle.hp_syntax.specs.declared.limits.TheConstants.{MOST_LEVELS}
 use Rattle.hp_top.specs.declared.words.TheConstants.{LARGEST_SEED, MOST_PACKAGES}
-use Rattle.hp_top.specs.Command.{Job, Options, Planning, Checking, Showing, Summing, Request, Listing, Making, on_files, options}
+use Rattle.hp_top.specs.Command.{Job, Options, Planning, Checking, Showing, Summing, Request, Listing, Making, greatest_depth, on_files, options}
 use Rattle.hp_top.specs.declared.words.Asked.{Asked}
 use Rattle.hp_top.specs.declared.words.Job as asked
 use Rattle.hp_top.specs.declared.words.Options as asked_options
@@ -23,7 +23,7 @@ job_of (jobs.Sum seed packages) = Summing seed packages
 -- at least one plan is asked for, down to a depth and with so many axiom levels as may be asked
 pub record IsPlanned (a : Asked) : Type 0 where
   pub plans : 0 < a.plans
-  pub depth : a.depth ≤ GREATEST_DEPTH
+  pub depth : a.depth ≤ greatest_depth (options_of a.options)
   pub levels : a.options.levels ≤ MOST_LEVELS
 
 -- a seed and a number of packages of which a problem can be made

@@ -6,7 +6,7 @@ ghost use Rattle.hp_check.specs.NoteViews.{note_of};
 ghost use Rattle.hp_out.specs.Writing.{Wrote, sink_run};
 ghost use Rattle.hp_syntax.specs.Notes as plain;
 ghost use Rattle.hp_syntax.specs.Views.{rule_of, domain_of, pair_of, problem_of};
-ghost use Rattle.hp_top.specs.CheckTexts.{is_operator, is_method, is_axiom, atoms_written, counts_text, domain_line, problem_line, count_lines, notes_text, check_text};
+ghost use Rattle.hp_top.specs.CheckTexts.{is_operator, is_method, is_axiom, atoms_written, counts_text, domain_line, pairs_text, problem_line, count_lines, notes_text, check_text};
 ghost use Rattle.hp_top.specs.Telling.{Halts};
 
 use crate::telling::{Halt, write, write_notes};
@@ -86,6 +86,17 @@ pub fn atoms_written(pairs: &[Pair]) -> u128
     count
 }
 
+/// How many pairs there are, where there are several.
+#[tactic(auto, unfolding(crate::specs::CheckTexts::pairs_text))]
+fn push_pairs(text: &mut Vec<u8>, count: usize) -> Result<(), AllocError>
+    ensures { OnOk result (text.new.items ≡ text.old.items ++ pairs_text count) }
+{
+    if count < 2 {
+        return Ok(());
+    }
+    push_count(text, b" pairs ", count as u128)
+}
+
 /// The line of a problem.
 #[tactic(auto, unfolding(crate::specs::CheckTexts::problem_line))]
 fn push_problem_line(text: &mut Vec<u8>, problem: &Problem) -> Result<(), AllocError>
@@ -93,6 +104,7 @@ fn push_problem_line(text: &mut Vec<u8>, problem: &Problem) -> Result<(), AllocE
 {
     text.extend_from_slice(b"problem ")?;
     text.extend_from_slice(problem.name.bytes())?;
+    push_pairs(text, problem.pairs.len())?;
     push_count(text, b" atoms ", atoms_written(problem.pairs.as_slice()))?;
     text.extend_from_slice(b"\n")
 }

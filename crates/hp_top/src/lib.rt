@@ -7,6 +7,7 @@ mod command;
 pub mod laws;
 mod loading;
 mod making;
+mod pairs;
 mod planning;
 mod reading;
 mod refusing;

@@ -63,7 +63,6 @@ fn of_form(which: Input, refusal: FormRefusal) -> LoadError
         FormRefusal::Expected { what, span } => LoadError::Refused(Refusal::Form(
             which, what, span,
         )),
-        FormRefusal::SeveralPairs { span } => LoadError::Refused(Refusal::Several(span)),
         FormRefusal::NoMemory => LoadError::NoMemory,
     }
 }

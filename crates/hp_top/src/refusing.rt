@@ -30,7 +30,6 @@ fn refusal_status(refusal: &Refusal) -> Status
         Refusal::Read(_) => Status::ReadFault,
         Refusal::Text(which, _, _) => refused_status(which),
         Refusal::Form(which, _, _) => refused_status(which),
-        Refusal::Several(_) => Status::ProblemRefused,
         Refusal::Check(fault) => refused_status(text_of(fault.in_problem)),
     }
 }

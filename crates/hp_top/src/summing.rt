@@ -1,17 +1,25 @@
-//! The summary of a problem that was made, and of its first plan.
+//! The summary of a problem that was made, and of the first plan of each of its pairs.
 
 ghost use Rattle.std.specs.List.{All};
-ghost use Rattle.std.specs.Prelude.{◌≡◌, ◌≤◌, ◌++◌, IfErr, IfOk, OnOk, codes, decimal, true};
+ghost use Rattle.std.specs.Prelude.{◌≡◌, ◌≤◌, ◌++◌, List, IfErr, OnOk, codes, decimal};
+ghost use Rattle.hp_code.specs.CodeViews.{IsCodeOf};
+ghost use Rattle.hp_code.specs.Codes.{code_of};
 ghost use Rattle.hp_out.specs.Writing.{Wrote, sink_run};
+ghost use Rattle.hp_syntax.specs.GroundPatterns.{IsGroundPair};
+ghost use Rattle.hp_syntax.specs.Report.{behind, line_report};
+ghost use Rattle.hp_syntax.specs.Syntax.{Rule};
 ghost use Rattle.hp_syntax.specs.Views.{problem_of};
-ghost use Rattle.hp_top.specs.Making.{made_answer, made_lines};
-ghost use Rattle.hp_top.specs.Telling.{Halts, IsAtItsNode};
+ghost use Rattle.hp_top.specs.Making.{made_lines};
+ghost use Rattle.hp_top.specs.Outcome.{pairs_answer};
+ghost use Rattle.hp_top.specs.Telling.{Halts, IsTold};
 
 use crate::checking::{atoms_written, push_count};
-use crate::planning::{Detail, tell};
+use crate::pairs::{Engine, Wanted, tell_pairs};
+use crate::planning::Detail;
 use crate::telling::{Halt, write};
+use hp_code::Code;
 use hp_io::Sink;
-use hp_net::Walk;
+use hp_syntax::limits::{MADE_DEPTH, USUAL_LEVELS};
 use hp_syntax::{Problem, Status};
 use std::alloc::{AllocError, Global};
 
@@ -64,28 +72,37 @@ fn tell_made<K: Sink>(
     }
 }
 
-/// Writes what was made, and of the walk the line of its first plan and the ending line.
-pub fn sum_up<W: Walk, K: Sink>(
+/// Writes what was made, and of the walk of each pair, by the code of the domain, the line of its first plan and the
+/// ending line.
+pub fn sum_up<K: Sink>(
     alloc: Global,
     seed: u32,
     packages: u32,
     problem: &Problem,
-    walk: &mut W,
+    code: &Code,
     out: &mut K,
 ) -> Result<Status, Halt>
-    requires live { W.is_live walk.old ≡ true }
-    requires at { All (IsAtItsNode (W.tree walk.old)) (W.stands walk.old).rest }
-    ensures written { OnOk result (Wrote (made_answer seed packages (problem_of problem.now) (W.stands walk.old).rest).0
-        (K.bytes out.old) (K.bytes out.new)) }
-    ensures status { IfOk result (λ s. s
-        ≡ (made_answer seed packages (problem_of problem.now) (W.stands walk.old).rest).1) }
-    ensures err { IfErr result (λ h. Halts h
-        (made_answer seed packages (problem_of problem.now) (W.stands walk.old).rest).0
-        (sink_run (K.faults out.old) (K.faults out.new) (K.bytes out.old) (K.bytes out.new))) }
+    requires { All IsGroundPair (problem_of problem.now).pairs }
+    ensures told { (rules : List Rule) → IsCodeOf rules (code_of code.now)
+        → IsTold (behind (made_lines seed packages (problem_of problem.now))
+        (pairs_answer line_report rules USUAL_LEVELS MADE_DEPTH (problem_of problem.now).pairs)) result
+        (sink_run (K.faults out.old) (K.faults out.new) (K.bytes out.old) (K.bytes out.new)) }
     ensures later { K.faults out.old ≤ K.faults out.new }
 {
+    let wanted = Wanted {
+        plans: 1,
+        depth: MADE_DEPTH,
+        levels: USUAL_LEVELS,
+        detail: Detail::Line,
+    };
     match tell_made(alloc, seed, packages, problem, out) {
-        Ok(()) => tell(walk, 1, Detail::Line, out),
+        Ok(()) => tell_pairs(
+            alloc,
+            Engine::InPlace(code),
+            problem.pairs.as_slice(),
+            wanted,
+            out,
+        ),
         Err(halt) => Err(halt),
     }
 }

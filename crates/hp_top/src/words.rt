@@ -3,10 +3,12 @@
 ghost use Rattle.std.specs.List.{list_all};
 ghost use Rattle.std.specs.Prelude.{true, false, nat_le, IfSome, ◌≡◌, ◌≢◌, ◌^◌, ◌<◌, ◌≤◌, None, Some, length, map, string_bytes, unwrap_or, [], ◌∷◌, option_map};
 ghost use Rattle.hp_top.specs.Words.{IsPlanned, IsAsked, IsRequested, job_of, options_of, request_of};
-ghost use Rattle.hp_top.specs.Command.{accepts, only_if, planning, making, plan_options, job_by_word, asked_by_three, number_within, number_from, is_number};
+ghost use Rattle.hp_top.specs.Command.{accepts, greatest_depth, only_if, planning, making, plan_options, job_by_word, asked_by_three, number_within, number_from, is_number};
 ghost use Rattle.hp_syntax.specs.Text.{is_digit};
 
-use hp_syntax::limits::{GREATEST_DEPTH, MOST_LEVELS, MOST_PLANS, USUAL_LEVELS};
+use hp_syntax::limits::{
+    GREATEST_DEPTH, GREATEST_PLAIN_DEPTH, MOST_LEVELS, MOST_PLANS, USUAL_LEVELS,
+};
 
 /// The largest seed of which a problem can be made.
 pub const LARGEST_SEED: u32 = 2_147_483_647;
@@ -158,15 +160,26 @@ fn plan_options(words: &[String]) -> Option<Options>
     })
 }
 
+/// The greatest depth that may be asked for with these options.
+fn greatest_depth(options: Options) -> u64
+    ensures { result ≡ greatest_depth (options_of options) }
+{
+    if options.plain {
+        u64::from(GREATEST_PLAIN_DEPTH)
+    } else {
+        u64::from(GREATEST_DEPTH)
+    }
+}
+
 /// How many plans, which depth and which options words ask for.
 fn planned(plans: &[u8], depth: &[u8], more: &[String]) -> Option<Asked>
     ensures spelled { option_map job_of (option_map Job.Plan result) ≡ planning (number_within 1 MOST_PLANS plans.now)
-        (number_within 0 GREATEST_DEPTH depth.now) (plan_options (map string_bytes more.now)) }
+        depth.now (plan_options (map string_bytes more.now)) }
     ensures some { IfSome result IsPlanned }
 {
     let plans = number_within(plans, 1, MOST_PLANS)?;
-    let depth = number_within(depth, 0, u64::from(GREATEST_DEPTH))?;
     let options = plan_options(more)?;
+    let depth = number_within(depth, 0, greatest_depth(options))?;
     Some(Asked {
         plans,
         depth: depth as u32,

@@ -1,11 +1,7 @@
-use Rattle.std.proofs.Common.{ap, refl}
+use Rattle.std.proofs.Common.{refl}
 use Rattle.hp_out.specs.Writing.{sink_run}
-use Rattle.hp_out.proofs.WritingLemmas.{nothing_written}
-use Rattle.hp_top.specs.Telling.{WithoutMemory}
-use Rattle.hp_syntax.specs.Report.{behind, line_of}
-use Rattle.hp_syntax.specs.Views.{problem_of}
-use Rattle.hp_top.specs.Making.{made_lines}
-use Rattle.hp_top.proofs.PlanEnds.{report_left, tells_equal}
+use Rattle.hp_syntax.specs.Views.{domain_of, problem_of}
+use Rattle.hp_top.proofs.PlanEnds.{tells_equal}
 use Rattle.hp_top.proofs.serving.serve_sum.Goals as goal
 
 pub returns-clause-tells : goal.returns-clause-tells
@@ -13,10 +9,10 @@ returns-clause-tells g c =
     tells_equal _ _ c.sum_up.result c.status_told.result
     (sink_run (g.K.Sink.faults c.args.out.now) (g.K.Sink.faults c.sum_up.new.out) (g.K.Sink.bytes c.args.out.now)
     (g.K.Sink.bytes c.sum_up.new.out))
-    (ap (behind (made_lines c.args.seed c.args.packages (problem_of c.args.loaded.now.problem)))
-    (report_left line_of 1 _ _ c.in-Ok-planner_of.ensures.walk))
-    c.status_told.ensures c.sum_up.ensures.written c.sum_up.ensures.status c.sum_up.ensures.err
+    refl c.status_told.ensures
+    (c.sum_up.ensures.told (domain_of c.args.loaded.now.domain).rules c.in-Ok.ensures)
 
-pub returns-in_default-planner_of-clause-tells : goal.returns-in_default-planner_of-clause-tells
-returns-in_default-planner_of-clause-tells g c =
-    WithoutMemory refl (nothing_written _ (g.K.Sink.bytes c.args.out.now))
+pub sum_up-requires : goal.sum_up-requires
+sum_up-requires g c =
+    c.accepted_pairs_are_ground.ensures c.requires.text.0 (domain_of c.args.loaded.now.domain)
+    (problem_of c.args.loaded.now.problem) c.requires.text.1 c.requires.checked

@@ -1,0 +1,270 @@
+//! The pairs of an accepted problem, planned one by one, each by itself.
+
+ghost use Rattle.std.specs.List.{All};
+ghost use Rattle.std.specs.Prelude.{◌≡◌, ◌≤◌, ◌<◌, List, IfOk, IfErr, OnOk, None, map, true};
+ghost use Rattle.hp_code.specs.CodeViews.{IsCodeOf};
+ghost use Rattle.hp_code.specs.Codes.{code_of};
+ghost use Rattle.hp_out.specs.Writing.{Wrote, sink_run};
+ghost use Rattle.hp_plain.specs.Walked.{stands_walked, tree_walked};
+ghost use Rattle.hp_search.specs.Planned.{stands_planned, tree_planned};
+ghost use Rattle.hp_syntax.specs.Checks.{domain_faults, first_of};
+ghost use Rattle.hp_syntax.specs.GroundPatterns.{IsGroundPair};
+ghost use Rattle.hp_syntax.specs.Report.{badness, behind, pair_header, worse};
+ghost use Rattle.hp_syntax.specs.Syntax.{Rule};
+ghost use Rattle.hp_syntax.specs.Views.{domain_of, pair_of};
+ghost use Rattle.hp_syntax.specs.Walk.{heard_visits, walk};
+ghost use Rattle.hp_top.specs.Engines.{CanPlan, IsWanted, PlansBy, told_walk};
+ghost use Rattle.hp_top.specs.Outcome.{pairs_answer};
+ghost use Rattle.hp_top.specs.Telling.{Halts, IsAtItsNode, IsTold};
+
+use crate::planning::{Detail, tell};
+use crate::telling::Halt;
+use hp_code::Code;
+use hp_code::laws::{compiled_rules_are_a_code, lowered_rules_have_the_tree};
+use hp_io::Sink;
+use hp_laws::tree_laws::visits_are_in_the_tree;
+use hp_net::Walk;
+use hp_out::Pen;
+use hp_plain::PlainWalk;
+use hp_search::Planner;
+use hp_syntax::limits::{GREATEST_DEPTH, GREATEST_PLAIN_DEPTH, MOST_LEVELS};
+use hp_syntax::{Domain, Pair, Status};
+use std::alloc::{AllocError, Global};
+
+/// What plans are looked for in each pair, and how each is told.
+#[derive(Clone, Copy)]
+pub struct Wanted {
+    pub plans: u64,
+    pub depth: u32,
+    /// How deep axioms may call one another.
+    pub levels: u32,
+    pub detail: Detail,
+}
+
+/// The engine that looks for plans.
+#[derive(Clone, Copy)]
+pub enum Engine<'a> {
+    /// The engine of copies, by the rules of a domain.
+    Copies(&'a Domain),
+    /// The search in place, by the code of a domain.
+    InPlace(&'a Code),
+}
+
+/// The walk of a pair from its root, by the engine of copies.
+fn walk_of<'a>(
+    alloc: Global,
+    domain: &'a Domain,
+    pair: &Pair,
+    depth: u32,
+    levels: u32,
+) -> Result<PlainWalk<'a>, AllocError>
+    requires checked { first_of (domain_faults (domain_of domain.now)) ≡ None }
+    requires pair { IsGroundPair (pair_of pair.now) }
+    requires depth { depth ≤ GREATEST_PLAIN_DEPTH }
+    requires levels { levels ≤ MOST_LEVELS }
+    ensures live { IfOk result (λ w. w.live ≡ true) }
+    ensures at { IfOk result (λ w. All (IsAtItsNode (tree_walked w)) (stands_walked w).rest) }
+    ensures walk { IfOk result (λ w. heard_visits (stands_walked w).rest
+        ≡ walk (domain_of domain.now).rules levels (pair_of pair.now) depth) }
+{
+    // Nothing runs here: the law makes known that each visit's path reaches its node.
+    visits_are_in_the_tree();
+    PlainWalk::new(alloc, domain, pair, depth, levels)
+}
+
+/// The walk of a pair from its root, in place.
+fn planner_of<'a>(
+    alloc: Global,
+    code: &'a Code,
+    pair: &Pair,
+    depth: u32,
+    levels: u32,
+) -> Result<Planner<'a>, AllocError>
+    requires pair { IsGroundPair (pair_of pair.now) }
+    requires depth { depth ≤ GREATEST_DEPTH }
+    requires levels { levels ≤ MOST_LEVELS }
+    ensures live { IfOk result (λ p. p.live ≡ true) }
+    ensures at { IfOk result (λ p. All (IsAtItsNode (tree_planned p)) (stands_planned p).rest) }
+    ensures walk { IfOk result (λ p. (rules : List Rule) → IsCodeOf rules (code_of code.now)
+        → heard_visits (stands_planned p).rest ≡ walk rules levels (pair_of pair.now) depth) }
+{
+    // Nothing runs here: the laws make known that the tree by a code is the tree by its rules.
+    compiled_rules_are_a_code();
+    lowered_rules_have_the_tree();
+    visits_are_in_the_tree();
+    Planner::new(alloc, code, pair, depth, levels)
+}
+
+/// Tells what is wanted of a walk.
+fn tell_walk<W: Walk, K: Sink>(walk: &mut W, wanted: Wanted, out: &mut K) -> Result<Status, Halt>
+    requires live { W.is_live walk.old ≡ true }
+    requires at { All (IsAtItsNode (W.tree walk.old)) (W.stands walk.old).rest }
+    requires plans { 0 < wanted.plans }
+    ensures told { IsTold (told_walk wanted (heard_visits (W.stands walk.old).rest)) result
+        (sink_run (K.faults out.old) (K.faults out.new) (K.bytes out.old) (K.bytes out.new)) }
+    ensures later { K.faults out.old ≤ K.faults out.new }
+{
+    tell(walk, wanted.plans, wanted.detail, out)
+}
+
+/// Tells what is wanted of a pair, by the engine of copies.
+fn tell_by_copies<K: Sink>(
+    alloc: Global,
+    domain: &Domain,
+    pair: &Pair,
+    wanted: Wanted,
+    out: &mut K,
+) -> Result<Status, Halt>
+    requires checked { first_of (domain_faults (domain_of domain.now)) ≡ None }
+    requires pair { IsGroundPair (pair_of pair.now) }
+    requires plans { 0 < wanted.plans }
+    requires depth { wanted.depth ≤ GREATEST_PLAIN_DEPTH }
+    requires levels { wanted.levels ≤ MOST_LEVELS }
+    ensures told { IsTold (told_walk wanted (walk (domain_of domain.now).rules wanted.levels (pair_of pair.now)
+        wanted.depth)) result
+        (sink_run (K.faults out.old) (K.faults out.new) (K.bytes out.old) (K.bytes out.new)) }
+    ensures later { K.faults out.old ≤ K.faults out.new }
+{
+    let Ok(mut walk) = walk_of(alloc, domain, pair, wanted.depth, wanted.levels) else {
+        return Err(Halt::NoMemory);
+    };
+    tell_walk(&mut walk, wanted, out)
+}
+
+/// Tells what is wanted of a pair, in place.
+fn tell_in_place<K: Sink>(
+    alloc: Global,
+    code: &Code,
+    pair: &Pair,
+    wanted: Wanted,
+    out: &mut K,
+) -> Result<Status, Halt>
+    requires pair { IsGroundPair (pair_of pair.now) }
+    requires plans { 0 < wanted.plans }
+    requires depth { wanted.depth ≤ GREATEST_DEPTH }
+    requires levels { wanted.levels ≤ MOST_LEVELS }
+    ensures told { (rules : List Rule) → IsCodeOf rules (code_of code.now)
+        → IsTold (told_walk wanted (walk rules wanted.levels (pair_of pair.now) wanted.depth)) result
+        (sink_run (K.faults out.old) (K.faults out.new) (K.bytes out.old) (K.bytes out.new)) }
+    ensures later { K.faults out.old ≤ K.faults out.new }
+{
+    let Ok(mut walk) = planner_of(alloc, code, pair, wanted.depth, wanted.levels) else {
+        return Err(Halt::NoMemory);
+    };
+    tell_walk(&mut walk, wanted, out)
+}
+
+/// Tells what is wanted of a pair, by an engine.
+fn tell_pair<K: Sink>(
+    alloc: Global,
+    engine: Engine,
+    pair: &Pair,
+    wanted: Wanted,
+    out: &mut K,
+) -> Result<Status, Halt>
+    requires engine { CanPlan engine }
+    requires pair { IsGroundPair (pair_of pair.now) }
+    requires wanted { IsWanted engine wanted }
+    ensures told { (rules : List Rule) → PlansBy rules engine.entry
+        → IsTold (told_walk wanted (walk rules wanted.levels (pair_of pair.now) wanted.depth)) result
+        (sink_run (K.faults out.old) (K.faults out.new) (K.bytes out.old) (K.bytes out.new)) }
+    ensures later { K.faults out.old ≤ K.faults out.new }
+{
+    match engine {
+        Engine::Copies(domain) => tell_by_copies(alloc, domain, pair, wanted, out),
+        Engine::InPlace(code) => tell_in_place(alloc, code, pair, wanted, out),
+    }
+}
+
+/// Writes the line of a pair, where there are several.
+fn write_header<K: Sink>(number: u64, count: u64, out: &mut K) -> Result<(), Halt>
+    ensures written { OnOk result (Wrote (pair_header number count) (K.bytes out.old) (K.bytes out.new)) }
+    ensures err { IfErr result (λ h. Halts h (pair_header number count)
+        (sink_run (K.faults out.old) (K.faults out.new) (K.bytes out.old) (K.bytes out.new))) }
+    ensures later { K.faults out.old ≤ K.faults out.new }
+{
+    if count < 2 {
+        return Ok(());
+    }
+    let mut pen = Pen::new(out);
+    match pen.pair_line(number, count) {
+        Ok(()) => Ok(()),
+        Err(_) => Err(Halt::Failed),
+    }
+}
+
+/// Tells what is wanted of one of so many pairs, by its number, from 1 on.
+fn tell_numbered<K: Sink>(
+    alloc: Global,
+    engine: Engine,
+    pair: &Pair,
+    number: u64,
+    count: u64,
+    wanted: Wanted,
+    out: &mut K,
+) -> Result<Status, Halt>
+    requires engine { CanPlan engine }
+    requires pair { IsGroundPair (pair_of pair.now) }
+    requires wanted { IsWanted engine wanted }
+    ensures told { (rules : List Rule) → PlansBy rules engine.entry → IsTold (behind (pair_header number count)
+        (told_walk wanted (walk rules wanted.levels (pair_of pair.now) wanted.depth))) result
+        (sink_run (K.faults out.old) (K.faults out.new) (K.bytes out.old) (K.bytes out.new)) }
+    ensures later { K.faults out.old ≤ K.faults out.new }
+{
+    match write_header(number, count, out) {
+        Ok(()) => tell_pair(alloc, engine, pair, wanted, out),
+        Err(halt) => Err(halt),
+    }
+}
+
+/// How bad a status is.
+fn badness(status: Status) -> u8
+    ensures { result ≡ badness status }
+{
+    match status {
+        Status::Done => 0,
+        Status::NoPlan => 1,
+        Status::CutShort => 2,
+        Status::RunFault => 3,
+        _ => 4,
+    }
+}
+
+/// The worse of two statuses.
+fn worse(first: Status, second: Status) -> Status
+    ensures { result ≡ worse first second }
+{
+    if badness(first) < badness(second) {
+        second
+    } else {
+        first
+    }
+}
+
+/// Tells what is wanted of each pair in order, by an engine, and answers the worst status. What stops one pair's plans,
+/// a fault or a cut, doesn't keep the later ones from being planned; only want of memory and a failed write do.
+pub fn tell_pairs<K: Sink>(
+    alloc: Global,
+    engine: Engine,
+    pairs: &[Pair],
+    wanted: Wanted,
+    out: &mut K,
+) -> Result<Status, Halt>
+    requires engine { CanPlan engine }
+    requires pairs { All IsGroundPair (map pair_of pairs.now) }
+    requires wanted { IsWanted engine wanted }
+    ensures told { (rules : List Rule) → PlansBy rules engine.entry → IsTold (pairs_answer (told_walk wanted) rules
+        wanted.levels wanted.depth (map pair_of pairs.now)) result
+        (sink_run (K.faults out.old) (K.faults out.new) (K.bytes out.old) (K.bytes out.new)) }
+    ensures later { K.faults out.old ≤ K.faults out.new }
+{
+    let count = pairs.len() as u64;
+    let mut status = Status::Done;
+    for (number, pair) in pairs.iter().enumerate() {
+        match tell_numbered(alloc, engine, pair, number as u64 + 1, count, wanted, out) {
+            Ok(other) => status = worse(status, other),
+            Err(halt) => return Err(halt),
+        }
+    }
+    Ok(status)
+}
