@@ -1,11 +1,10 @@
--- Domains and problems that can be walked.
-use Rattle.std.specs.Prelude.{◌≡◌, ℕ, List, None}
-use Rattle.hp_syntax.specs.Grammar.{problem_form}
-use Rattle.hp_syntax.specs.Syntax.{Domain, Problem}
-use Rattle.hp_top.specs.Loading.{HasText}
-use Rattle.hp_top.specs.Outcome.{first_fault}
+-- Domains and pairs that can be walked.
+use Rattle.std.specs.Prelude.{◌≡◌, None}
+use Rattle.hp_syntax.specs.Checks.{domain_faults, first_of}
+use Rattle.hp_syntax.specs.GroundPatterns.{IsGroundPair}
+use Rattle.hp_syntax.specs.Syntax.{Domain, Pair}
 
--- the problem is read of a text, and the checks of both find nothing
-pub record IsAccepted (d : Domain) (p : Problem) : Type 0 where
-  pub text : HasText problem_form p
-  pub checked : first_fault d p ≡ None
+-- the checks find nothing in the domain, and no variable and no call stands in the pair
+pub record IsAccepted (d : Domain) (p : Pair) : Type 0 where
+  pub checked : first_of (domain_faults d) ≡ None
+  pub ground : IsGroundPair p

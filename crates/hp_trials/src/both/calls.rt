@@ -1,6 +1,6 @@
 //! Calls of a walk that are made one by one.
 ghost use Rattle.std.specs.Prelude.{◌≡◌, true, OnOk};
-ghost use Rattle.hp_syntax.specs.Views.{domain_of, problem_of};
+ghost use Rattle.hp_syntax.specs.Views.{domain_of, pair_of};
 ghost use Rattle.hp_trials.specs.Accepted.{IsAccepted};
 
 use crate::both::loading::{Loaded, load, walk_by_copies, walk_in_place};
@@ -145,7 +145,7 @@ fn show_in_place(
     loaded: &Loaded,
     trial: Trial,
 ) -> Result<(), AllocError>
-    requires { IsAccepted (domain_of loaded.now.domain) (problem_of loaded.now.problem) }
+    requires { IsAccepted (domain_of loaded.now.domain) (pair_of loaded.now.pair) }
 {
     let mut walk = walk_in_place(alloc, loaded, DEPTH, USUAL_LEVELS)?;
     show(page, alloc, &mut walk, trial)
@@ -157,7 +157,7 @@ fn show_by_copies(
     loaded: &Loaded,
     trial: Trial,
 ) -> Result<(), AllocError>
-    requires { IsAccepted (domain_of loaded.now.domain) (problem_of loaded.now.problem) }
+    requires { IsAccepted (domain_of loaded.now.domain) (pair_of loaded.now.pair) }
 {
     let mut walk = walk_by_copies(alloc, loaded, DEPTH, USUAL_LEVELS)?;
     show(page, alloc, &mut walk, trial)

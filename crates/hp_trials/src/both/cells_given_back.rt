@@ -1,6 +1,6 @@
 //! Terms that a walk in place makes are given back on its way.
 ghost use Rattle.std.specs.Prelude.{◌≡◌, true, OnOk};
-ghost use Rattle.hp_syntax.specs.Views.{domain_of, problem_of};
+ghost use Rattle.hp_syntax.specs.Views.{domain_of, pair_of};
 ghost use Rattle.hp_trials.specs.Accepted.{IsAccepted};
 
 use crate::both::calls::{step_or_back, visit_alone, visit_on};
@@ -113,21 +113,21 @@ fn stops_of_way_back<W: Walk>(alloc: Global, walk: &mut W) -> Result<Stops, Allo
 }
 
 fn all_stops(alloc: Global, loaded: &Loaded) -> Result<Stops, AllocError>
-    requires { IsAccepted (domain_of loaded.now.domain) (problem_of loaded.now.problem) }
+    requires { IsAccepted (domain_of loaded.now.domain) (pair_of loaded.now.pair) }
 {
     let mut walk = walk_in_place(alloc, loaded, DEPTH, USUAL_LEVELS)?;
     stops_of_all(alloc, &mut walk)
 }
 
 fn pruned_stops(alloc: Global, loaded: &Loaded) -> Result<Stops, AllocError>
-    requires { IsAccepted (domain_of loaded.now.domain) (problem_of loaded.now.problem) }
+    requires { IsAccepted (domain_of loaded.now.domain) (pair_of loaded.now.pair) }
 {
     let mut walk = walk_in_place(alloc, loaded, DEPTH, USUAL_LEVELS)?;
     stops_of_pruned(alloc, &mut walk)
 }
 
 fn way_back_stops(alloc: Global, loaded: &Loaded) -> Result<Stops, AllocError>
-    requires { IsAccepted (domain_of loaded.now.domain) (problem_of loaded.now.problem) }
+    requires { IsAccepted (domain_of loaded.now.domain) (pair_of loaded.now.pair) }
 {
     let mut walk = walk_in_place(alloc, loaded, DEPTH, USUAL_LEVELS)?;
     stops_of_way_back(alloc, &mut walk)
@@ -141,7 +141,7 @@ fn show_stops(page: &mut Page, way: &str, stops: &Stops) {
 }
 
 fn show_ways(page: &mut Page, alloc: Global, loaded: &Loaded) -> Result<(), AllocError>
-    requires { IsAccepted (domain_of loaded.now.domain) (problem_of loaded.now.problem) }
+    requires { IsAccepted (domain_of loaded.now.domain) (pair_of loaded.now.pair) }
 {
     let all = all_stops(alloc, loaded)?;
     let pruned = pruned_stops(alloc, loaded)?;

@@ -1,14 +1,14 @@
 //! Drawn calls of both walks of many small trees.
 ghost use Rattle.std.specs.Prelude.{◌≤◌, IfSome};
-ghost use Rattle.hp_syntax.specs.declared.limits.TheConstants.{DEEPEST_WALK, MOST_LEVELS};
-ghost use Rattle.hp_syntax.specs.Views.{domain_of, problem_of};
+ghost use Rattle.hp_syntax.specs.declared.limits.TheConstants.{GREATEST_PLAIN_DEPTH, MOST_LEVELS};
+ghost use Rattle.hp_syntax.specs.Views.{domain_of, pair_of};
 ghost use Rattle.hp_trials.specs.Accepted.{IsAccepted};
 
 use crate::both::loading::{Loaded, load, walk_by_copies, walk_in_place};
 use crate::both::rounds::Rounds;
 use crate::both::walks_at_once::call_on;
 use crate::page::Page;
-use hp_syntax::limits::{DEEPEST_WALK, MOST_LEVELS};
+use hp_syntax::limits::{GREATEST_PLAIN_DEPTH, MOST_LEVELS};
 use std::alloc::{AllocError, Global};
 
 /// How often each tree is walked, each time by other calls.
@@ -38,13 +38,13 @@ fn number_up_to(word: &str, most: u32) -> Option<u32>
 
 // What stands behind a number sign: a line of two numbers, and two texts with an empty line between them.
 fn drawn_in(piece: &str) -> Option<Drawn<'_>>
-    ensures depth { IfSome result (λ d. d.depth ≤ DEEPEST_WALK) }
+    ensures depth { IfSome result (λ d. d.depth ≤ GREATEST_PLAIN_DEPTH) }
     ensures levels { IfSome result (λ d. d.levels ≤ MOST_LEVELS) }
 {
     let (numbers, texts) = piece.split_once('\n')?;
     let (domain, problem) = texts.split_once("\n\n")?;
     let (depth, levels) = numbers.trim().split_once(' ')?;
-    let depth = number_up_to(depth, DEEPEST_WALK)?;
+    let depth = number_up_to(depth, GREATEST_PLAIN_DEPTH)?;
     let levels = number_up_to(levels, MOST_LEVELS)?;
     Some(Drawn {
         domain,
@@ -61,8 +61,8 @@ fn try_round(
     depth: u32,
     levels: u32,
 ) -> Result<(), AllocError>
-    requires accepted { IsAccepted (domain_of loaded.now.domain) (problem_of loaded.now.problem) }
-    requires depth { depth ≤ DEEPEST_WALK }
+    requires accepted { IsAccepted (domain_of loaded.now.domain) (pair_of loaded.now.pair) }
+    requires depth { depth ≤ GREATEST_PLAIN_DEPTH }
     requires levels { levels ≤ MOST_LEVELS }
 {
     let mut first = walk_in_place(rounds.alloc, loaded, depth, levels)?;
@@ -76,8 +76,8 @@ fn try_rounds(
     depth: u32,
     levels: u32,
 ) -> Result<(), AllocError>
-    requires accepted { IsAccepted (domain_of loaded.now.domain) (problem_of loaded.now.problem) }
-    requires depth { depth ≤ DEEPEST_WALK }
+    requires accepted { IsAccepted (domain_of loaded.now.domain) (pair_of loaded.now.pair) }
+    requires depth { depth ≤ GREATEST_PLAIN_DEPTH }
     requires levels { levels ≤ MOST_LEVELS }
 {
     for _round in 0..ROUNDS {
@@ -88,7 +88,7 @@ fn try_rounds(
 
 // Tries a pair, if it is accepted.
 fn try_drawn(rounds: &mut Rounds, drawn: Drawn<'_>) -> Result<(), AllocError>
-    requires depth { drawn.depth ≤ DEEPEST_WALK }
+    requires depth { drawn.depth ≤ GREATEST_PLAIN_DEPTH }
     requires levels { drawn.levels ≤ MOST_LEVELS }
 {
     match load(rounds.alloc, drawn.domain, drawn.problem) {

@@ -1,41 +1,37 @@
 //! From two texts to walks of both engines.
-ghost use Rattle.std.specs.Prelude.{◌≡◌, ◌≤◌, true, IfOk, IfSome};
-ghost use Rattle.hp_syntax.specs.declared.limits.TheConstants.{DEEPEST_WALK, MOST_LEVELS};
+ghost use Rattle.std.specs.List.{All};
+ghost use Rattle.std.specs.Prelude.{◌≡◌, ◌≤◌, None, true, IfOk, IfSome};
+ghost use Rattle.hp_syntax.specs.declared.limits.TheConstants.{GREATEST_DEPTH, GREATEST_PLAIN_DEPTH, MOST_LEVELS};
+ghost use Rattle.hp_syntax.specs.Checks.{domain_faults, first_of};
 ghost use Rattle.hp_syntax.specs.Grammar.{problem_form};
+ghost use Rattle.hp_syntax.specs.GroundPatterns.{IsGroundPair};
 ghost use Rattle.hp_syntax.specs.Numbered.{IsNumberedDomain};
 ghost use Rattle.hp_syntax.specs.TextForms.{IsRead};
-ghost use Rattle.hp_syntax.specs.Views.{domain_of, problem_of};
-ghost use Rattle.hp_top.specs.Outcome.{first_fault};
+ghost use Rattle.hp_syntax.specs.Views.{domain_of, pair_of, problem_of};
 ghost use Rattle.hp_trials.specs.Accepted.{IsAccepted};
 
 use hp_check::first_fault;
 use hp_code::{Code, lower};
 use hp_forms::{into_domain, into_problem};
-use hp_laws::pair_laws::{
-    accepted_domains_are_checked, accepted_pairs_are_ground, problems_have_one_pair,
-};
+use hp_laws::pair_laws::{accepted_domains_are_checked, accepted_pairs_are_ground};
 use hp_plain::PlainWalk;
 use hp_search::Planner;
-use hp_syntax::{Domain, Problem};
+use hp_syntax::{Domain, Pair, Problem};
 use hp_text::read;
 use std::alloc::{AllocError, Global};
 
-/// An accepted domain and problem, and the code of the domain.
+/// An accepted domain, the first pair of an accepted problem, and the code of the domain.
 pub struct Loaded {
     pub domain: Domain,
-    pub problem: Problem,
+    pub pair: Pair,
     pub code: Code,
 }
 
 impl Drop for Loaded {
     fn drop(self) {
-        let Loaded {
-            domain,
-            problem,
-            code,
-        } = self;
+        let Loaded { domain, pair, code } = self;
         drop(domain);
-        drop(problem);
+        drop(pair);
         drop(code);
     }
 }
@@ -58,31 +54,42 @@ fn problem_in(alloc: Global, text: &str) -> Option<Problem>
     }
 }
 
-/// Compiles a domain that is accepted with a problem.
-fn code_in(alloc: Global, domain: &Domain, problem: &Problem) -> Option<Code>
-    requires numbered { IsNumberedDomain (domain_of domain.now) }
-    ensures { IfSome result (λ _. first_fault (domain_of domain.now) (problem_of problem.now) ≡ None) }
+/// The first pair of a problem, if it has one.
+fn first_pair(mut problem: Problem) -> Option<Pair>
+    requires { All IsGroundPair (problem_of problem).pairs }
+    ensures { IfSome result (λ p. IsGroundPair (pair_of p)) }
 {
-    if first_fault(domain, problem).is_some() {
+    if problem.pairs.is_empty() {
         return None;
     }
-    // Nothing runs here: the law makes known that the checks find nothing in the domain.
-    accepted_domains_are_checked();
-    lower(alloc, domain).ok()
+    Some(problem.pairs.remove(0))
 }
 
-/// The domain and the problem that two texts are, if they are accepted and there is memory for them.
-pub fn load(alloc: Global, domain: &str, problem: &str) -> Option<Loaded>
-    ensures { IfSome result (λ l. IsAccepted (domain_of l.domain) (problem_of l.problem)) }
+/// What is loaded of a domain and a problem that are accepted.
+fn loaded_of(alloc: Global, domain: Domain, problem: Problem) -> Option<Loaded>
+    requires numbered { IsNumberedDomain (domain_of domain) }
+    requires checked { first_of (domain_faults (domain_of domain)) ≡ None }
+    requires ground { All IsGroundPair (problem_of problem).pairs }
+    ensures { IfSome result (λ l. IsAccepted (domain_of l.domain) (pair_of l.pair)) }
 {
+    let code = lower(alloc, &domain).ok()?;
+    let pair = first_pair(problem)?;
+    Some(Loaded { domain, pair, code })
+}
+
+/// The domain and the first pair of the problem that two texts are, if they are accepted and there is memory for them.
+pub fn load(alloc: Global, domain: &str, problem: &str) -> Option<Loaded>
+    ensures { IfSome result (λ l. IsAccepted (domain_of l.domain) (pair_of l.pair)) }
+{
+    // Nothing runs here: the laws make known that what is accepted can be walked.
+    accepted_domains_are_checked();
+    accepted_pairs_are_ground();
     let domain = domain_in(alloc, domain)?;
     let problem = problem_in(alloc, problem)?;
-    let code = code_in(alloc, &domain, &problem)?;
-    Some(Loaded {
-        domain,
-        problem,
-        code,
-    })
+    match first_fault(&domain, &problem) {
+        None => loaded_of(alloc, domain, problem),
+        Some(_) => None,
+    }
 }
 
 /// A walk in place, with all visits left.
@@ -92,15 +99,12 @@ pub fn walk_in_place(
     depth: u32,
     levels: u32,
 ) -> Result<Planner<'_>, AllocError>
-    requires accepted { IsAccepted (domain_of loaded.now.domain) (problem_of loaded.now.problem) }
-    requires depth { depth ≤ DEEPEST_WALK }
+    requires accepted { IsAccepted (domain_of loaded.now.domain) (pair_of loaded.now.pair) }
+    requires depth { depth ≤ GREATEST_DEPTH }
     requires levels { levels ≤ MOST_LEVELS }
     ensures { IfOk result (λ p. p.live ≡ true) }
 {
-    problems_have_one_pair();
-    accepted_pairs_are_ground();
-    let pair = &loaded.problem.pairs[0];
-    Planner::new(alloc, &loaded.code, pair, depth, levels)
+    Planner::new(alloc, &loaded.code, &loaded.pair, depth, levels)
 }
 
 /// A walk by copies, with all visits left.
@@ -110,14 +114,10 @@ pub fn walk_by_copies(
     depth: u32,
     levels: u32,
 ) -> Result<PlainWalk<'_>, AllocError>
-    requires accepted { IsAccepted (domain_of loaded.now.domain) (problem_of loaded.now.problem) }
-    requires depth { depth ≤ DEEPEST_WALK }
+    requires accepted { IsAccepted (domain_of loaded.now.domain) (pair_of loaded.now.pair) }
+    requires depth { depth ≤ GREATEST_PLAIN_DEPTH }
     requires levels { levels ≤ MOST_LEVELS }
     ensures { IfOk result (λ w. w.live ≡ true) }
 {
-    problems_have_one_pair();
-    accepted_domains_are_checked();
-    accepted_pairs_are_ground();
-    let pair = &loaded.problem.pairs[0];
-    PlainWalk::new(alloc, &loaded.domain, pair, depth, levels)
+    PlainWalk::new(alloc, &loaded.domain, &loaded.pair, depth, levels)
 }

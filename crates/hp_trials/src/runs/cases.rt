@@ -74,6 +74,11 @@ fn try_command(
     Ok(try_words(rt.alloc(), out, &mut folder, words.as_slice(), room)?)
 }
 
+/// Whether a command makes a plan in place, down to a depth to which the engine of copies goes too.
+fn has_copy(line: &str) -> bool {
+    line.starts_with("$ plan ") && !line.contains("--plain") && !line.ends_with(" 20000")
+}
+
 /// Runs a command, and one that makes a plan in place by the engine of copies too.
 fn try_engines(
     rt: &(impl Files + AllocGlobal),
@@ -84,7 +89,7 @@ fn try_engines(
     let mut told = Vec::new(rt.alloc());
     try_command(rt, &mut told, given, line, ROOM)?;
     out.extend_from_slice(told.as_slice())?;
-    if line.starts_with("$ plan ") && !line.contains("--plain") {
+    if has_copy(line) {
         try_copies(rt, out, given, line, told.as_slice())?;
     }
     Ok(())

@@ -5,8 +5,8 @@ use crate::texts::reading::code_of;
 use hp_code::asked_parts;
 use std::alloc::Global;
 
-/// The goal knows its name, its second argument, if the axiom's goal has it, and its third one for certain, so that none
-/// behind that serves.
+/// The goal knows its name, its second argument, if the axiom's goal has it, and its third one for certain, so that
+/// none behind that serves.
 const ROADS: &str = "(defdomain roads ((:- (near ?x) ((road ?y ?x b ?x)))))";
 
 /// The parts of atoms that the goals of a domain ask for, if the text is one in which the checks find nothing.

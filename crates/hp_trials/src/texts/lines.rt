@@ -37,7 +37,6 @@ fn show_refusals(page: &mut Page, alloc: Global) {
         Refusal::Text(Input::Domain, TextKind::TooNested, 64),
         Refusal::Text(Input::Problem, TextKind::TooLarge, 4_194_304),
         Refusal::Form(Input::Domain, What::Head, SPAN),
-        Refusal::Several(SPAN),
         Refusal::Check(UNKNOWN_ORDER),
     ] {
         show_refusal(page, MemSink::new(alloc, 100), &refusal);
