@@ -16,6 +16,25 @@ use Rattle.hp_eval.specs.CallRows.{step_of, two_of, size_of, numbers_called, num
 
 -- ---- functions carried through numbers
 
+module _ (f : ℤ → ℤ → ℤ) (s : Span) (n m : ℤ) (ms : List ℤ) where
+  -- a result that fits is gone on with
+  pub goes_on : (t : ℤ) → Ok t ≡ fitted s (f n m) → in_turn f s n (m ∷ ms) ≡ in_turn f s t ms
+  goes_on t h = by_case (f n m) (fits (f n m)) h
+    where
+      by_case : (v : ℤ) (b : Bool) → Ok t ≡ cond b (Ok v) (Err (fault_at Overflow s))
+          → cond b (in_turn f s v ms) (Err (fault_at Overflow s)) ≡ in_turn f s t ms
+      by_case v true h = let same : v ≡ t = cc in ap (λ x. in_turn f s x ms) same
+      by_case v false h = absurd (cc)
+
+  -- a result that doesn't fit is the fault of all
+  pub ends_off : (e : RunFault) → Err e ≡ fitted s (f n m) → Err e ≡ in_turn f s n (m ∷ ms)
+  ends_off e h = by_case (f n m) (fits (f n m)) h
+    where
+      by_case : (v : ℤ) (b : Bool) → Err e ≡ cond b (Ok v) (Err (fault_at Overflow s))
+          → Err e ≡ cond b (in_turn f s v ms) (Err (fault_at Overflow s))
+      by_case v true h = absurd (cc)
+      by_case v false h = let same : e ≡ fault_at Overflow s = cc in ap Err same
+
 module _ (f : ℤ → ℤ → ℤ) (s : Span) (ns : List ℤ) (i : ℕ) (m n : ℤ) (lt : i < length ns)
     (is : n ≡ get_or ns i (pos 0)) where
   -- the next number is first of those that are left
@@ -23,23 +42,12 @@ module _ (f : ℤ → ℤ → ℤ) (s : Span) (ns : List ℤ) (i : ℕ) (m n : �
   next =
       ap (in_turn f s m) (drop_more ns i (pos 0) lt) ∙ ap (λ k. in_turn f s m (k ∷ drop (i + 1) ns)) (sym is)
 
-  -- a result that fits is gone on with
+  -- what fits of the numbers that are left is gone on with, and what doesn't is the fault of all
   pub turned_on : (t : ℤ) → Ok t ≡ fitted s (f m n) → in_turn f s m (drop i ns) ≡ in_turn f s t (drop (i + 1) ns)
-  turned_on t h = next ∙ by_case (f m n) (fits (f m n)) h
-    where
-      by_case : (v : ℤ) (b : Bool) → Ok t ≡ cond b (Ok v) (Err (fault_at Overflow s))
-          → cond b (in_turn f s v (drop (i + 1) ns)) (Err (fault_at Overflow s)) ≡ in_turn f s t (drop (i + 1) ns)
-      by_case v true h = let same : v ≡ t = cc in ap (λ x. in_turn f s x (drop (i + 1) ns)) same
-      by_case v false h = absurd (cc)
+  turned_on t h = next ∙ goes_on f s m n (drop (i + 1) ns) t h
 
-  -- a result that doesn't fit is the fault of all
   pub turned_off : (e : RunFault) → Err e ≡ fitted s (f m n) → Err e ≡ in_turn f s m (drop i ns)
-  turned_off e h = by_case (f m n) (fits (f m n)) h ∙ sym next
-    where
-      by_case : (v : ℤ) (b : Bool) → Err e ≡ cond b (Ok v) (Err (fault_at Overflow s))
-          → Err e ≡ cond b (in_turn f s v (drop (i + 1) ns)) (Err (fault_at Overflow s))
-      by_case v true h = absurd (cc)
-      by_case v false h = let same : e ≡ fault_at Overflow s = cc in ap Err same
+  turned_off e h = ends_off f s m n (drop (i + 1) ns) e h ∙ sym next
 
 -- a function carried from the left starts at the first number and goes on through those behind it
 pub from_left_first : (f : ℤ → ℤ → ℤ) (s : Span) (ns : List ℤ) (m : ℤ) → 1 ≤ length ns → m ≡ get_or ns 0 (pos 0)

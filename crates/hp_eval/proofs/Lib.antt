@@ -1,7 +1,8 @@
 pub mod Sizes
 pub mod Loops
-pub mod PowerSteps
+pub mod PowerTotals
 pub mod CallRowLemmas
+pub mod ProductLemmas
 pub mod CellViews
 pub mod ListViews
 pub mod GrowthLemmas

@@ -1,5 +1,5 @@
 -- The rows of the call table in code, and their values.
-use Rattle.std.specs.Prelude.{ℕ, List, Option, Some, None, bytes_eq, ℤ, ◌+ℤ◌, ◌-ℤ◌, ◌*ℤ◌, int_le, int_lt, pos, unsigned_abs, cond, not, codes, Result, Ok, Err}
+use Rattle.std.specs.Prelude.{ℕ, List, Option, Some, None, bytes_eq, ℤ, ◌+ℤ◌, ◌-ℤ◌, int_le, int_lt, pos, unsigned_abs, cond, not, codes, Result, Ok, Err}
 use Rattle.std.specs.Int.{int_min, int_max}
 use Rattle.hp_syntax.specs.declared.pattern.Span.{Span}
 use Rattle.hp_syntax.specs.declared.fault.RunFault.{RunFault}
@@ -37,7 +37,7 @@ fitted s n = cond (plain.fits n) (Ok n) (Err (plain.fault_at Overflow s))
 
 abbrev pub step_of : Carried → ℤ → ℤ → ℤ
 step_of steps.Sum = λ m n. m +ℤ n
-step_of steps.Product = λ m n. m *ℤ n
+step_of steps.Product = plain.product
 
 abbrev pub two_of : OfTwo → Span → ℤ → ℤ → Result Term RunFault
 two_of twos.Difference = λ s m n. plain.number s (m -ℤ n)

@@ -1,6 +1,6 @@
-//! Arithmetic of calls, by 64-bit steps that tell what doesn't fit.
-ghost use Rattle.std.specs.Prelude.{◌≡◌, ℤ, ◌≤◌, Ok, Err, Some, FitsSigned, pos, unsigned_abs};
-ghost use Rattle.std.specs.Int.{w64, int_pow};
+//! Arithmetic of calls on counts of thousandths, by 64-bit steps that tell what doesn't fit.
+ghost use Rattle.std.specs.Prelude.{◌≡◌, ◌≢◌, ℤ, Ok, Err, Some, FitsSigned, pos, unsigned_abs, ◌*ℤ◌, int_div, replicate};
+ghost use Rattle.std.specs.Int.{w64};
 ghost use Rattle.std.specs.Option.{SomeIff};
 ghost use Rattle.hp_syntax.specs.Calls as plain;
 ghost use Rattle.hp_eval.specs.CallRows.{step_of, two_of, numbers_called, answered, as_number, fitted};
@@ -74,12 +74,25 @@ fn number(n: Option<i64>, span: Span) -> Result<Called, RunFault>
     Ok(Called::Number(n))
 }
 
+fn narrowed(n: i128) -> Option<i64>
+    ensures { SomeIff result (FitsSigned w64 n) n }
+{
+    i64::try_from(n).ok()
+}
+
+// The product of two counts, also by 1000 in place of one of them, fits into 128 bits.
+fn product(m: i64, n: i64) -> Option<i64>
+    ensures { SomeIff result (FitsSigned w64 (plain.product m n)) (plain.product m n) }
+{
+    narrowed(i128::from(m) * i128::from(n) / 1000)
+}
+
 fn checked_step(function: Carried, m: i64, n: i64) -> Option<i64>
     ensures { SomeIff result (FitsSigned w64 (step_of function m n)) (step_of function m n) }
 {
     match function {
         Carried::Sum => m.checked_add(n),
-        Carried::Product => m.checked_mul(n),
+        Carried::Product => product(m, n),
     }
 }
 
@@ -106,13 +119,20 @@ fn from_left(function: Carried, span: Span, numbers: &[i64]) -> Result<Called, R
     }
 }
 
+fn divided(m: i64, n: i64) -> Option<i64>
+    requires divisor { n ≢ pos 0 }
+    ensures { SomeIff result (FitsSigned w64 (int_div (m *ℤ pos 1000) n)) (int_div (m *ℤ pos 1000) n) }
+{
+    narrowed(i128::from(m) * 1000 / i128::from(n))
+}
+
 fn quotient(m: i64, n: i64, span: Span) -> Result<Called, RunFault>
     ensures { answered result ≡ plain.quotient span m n }
 {
     if n == 0 {
         Err(fault(FaultKind::ZeroDivisor, span))
     } else {
-        number(m.checked_div(n), span)
+        number(divided(m, n), span)
     }
 }
 
@@ -126,39 +146,45 @@ fn remainder(m: i64, n: i64, span: Span) -> Result<Called, RunFault>
     }
 }
 
-// Of all numbers only 0, 1 and -1 have so great a power that fits.
-fn great_power(m: i64, n: u64) -> Option<i64>
-    requires great { 64 ≤ n }
-    ensures { SomeIff result (FitsSigned w64 (int_pow m n)) (int_pow m n) }
+// Where a total repeats, all further ones are the same, and that is soon. A number of less than 1 in size makes each
+// total less in size, down to 0 within 1000 turns. One of more than 1 in size makes each total greater in size, by a
+// thousandth at least and, as it grows, by about a thousandth part of it, so that it leaves 64 bits within 40,000
+// turns. 1 repeats at once. The totals of -1 alternate and never repeat, so it is answered without them.
+fn repeated(m: i64, times: u64, span: Span) -> Result<i64, RunFault>
+    ensures { as_number result ≡ plain.in_turn plain.product span (pos 1000) (replicate times m) }
 {
-    if m == 0 {
-        Some(0)
-    } else if m == 1 {
-        Some(1)
-    } else if m == -1 {
-        Some(if n % 2 == 0 { 1 } else { -1 })
-    } else {
-        None
+    let mut total = 1000;
+    for _ in 0..times {
+        let next = fitting(product(total, m), span)?;
+        if next == total {
+            break;
+        }
+        total = next;
     }
+    Ok(total)
 }
 
-fn checked_power(m: i64, n: u64) -> Option<i64>
-    ensures { SomeIff result (FitsSigned w64 (int_pow m n)) (int_pow m n) }
+fn whole_power(m: i64, times: i64, span: Span) -> Result<Called, RunFault>
+    ensures { answered result ≡ plain.whole_power span m times }
 {
-    if n < 64 {
-        m.checked_pow(n as u32)
+    if times < 0 {
+        Err(fault(FaultKind::NegativePower, span))
+    } else if m == -1000 {
+        let power = if times % 2 == 0 { 1000 } else { -1000 };
+        Ok(Called::Number(power))
     } else {
-        great_power(m, n)
+        let total = repeated(m, times as u64, span)?;
+        Ok(Called::Number(total))
     }
 }
 
 fn power(m: i64, n: i64, span: Span) -> Result<Called, RunFault>
     ensures { answered result ≡ plain.power span m n }
 {
-    if n < 0 {
-        Err(fault(FaultKind::NegativePower, span))
+    if n % 1000 != 0 {
+        Err(fault(FaultKind::FractionPower, span))
     } else {
-        number(checked_power(m, n as u64), span)
+        whole_power(m, n / 1000, span)
     }
 }
 

@@ -139,8 +139,8 @@ fn answer_cell(alloc: Global, answer: Called, cells: &mut Cells) -> Result<Cell,
     }
 }
 
-/// The cell of a call's value for its arguments, or its fault at the call's span. Whole numbers of any size are
-/// meant, and a result that leaves 64 bits is a fault.
+/// The cell of a call's value for its arguments, or its fault at the call's span. Numbers are counts of thousandths
+/// of any size, and a result whose count leaves 64 bits is a fault.
 pub fn call(
     alloc: Global,
     name: &Name,

@@ -2,12 +2,12 @@
 use Rattle.std.proofs.Common.{◌≡◌, ℕ, ◌+◌, ◌-◌, ◌<◌, ◌≤◌, true, false, List, [], ◌∷◌, ◌++◌, length, refl, sym, ◌∙◌, ap, ap₂, arith, subst, ⊎_elim}
 use Rattle.std.specs.Prelude.{slice_index, slice_range, drop, take, ◌==◌, not, ℤ}
 use Rattle.std.specs.List.{list_all}
-use Rattle.std.specs.Fmt.{signed_decimal}
 use Rattle.std.proofs.lemmas.Bool.{and_parts, and_right, ne_eqb, cases_eq, false≢true}
 use Rattle.std.proofs.lemmas.List.{append_assoc, drop_more, length-drop, take_at}
 use Rattle.hp_syntax.specs.declared.limits.TheConstants.{LONGEST_TOKEN}
 use Rattle.hp_syntax.specs.declared.pattern.Span.{Span}
 use Rattle.hp_syntax.specs.Text.{Blank, Opening, NameByte, is_name_byte, byte_kind, comment_after, in_comment, kind_at, IsOutside, IsToken, IsGap, Spelling, AName, ANumber, spelling_of}
+use Rattle.hp_syntax.specs.TermTexts.{num_text}
 use Rattle.hp_syntax.specs.Forest.{Node, Word, Numeral, Group, Forest, Bare, Grow, span_of, IsSpelled, SpellsNode, Spells, longest_token, longest_token_of_node}
 use Rattle.hp_syntax.specs.Unplaced as unplaced
 use Rattle.hp_syntax.specs.Written.{nowhere, node_text, rest_text, lines}
@@ -217,12 +217,12 @@ module _ (text : List ℕ) where
         after = (name_run xs rest a h.bytes t).1;
       }
 
-  -- the digits of a number lay it out
+  -- the text of a number lays it out
   numeral_placed : (s : Span) (n : ℤ) (rest : List ℕ) (a : ℕ) → IsNumber n → IsOutside text a
-      → Stands text a (signed_decimal n ++ rest) → Breaks rest → NodePlace text a (Numeral s n) rest
+      → Stands text a (num_text n ++ rest) → Breaks rest → NodePlace text a (Numeral s n) rest
   unfolding unplaced.node
   numeral_placed s n rest a h o t b =
-      let xs = signed_decimal n in
+      let xs = num_text n in
       let l : length xs ≤ LONGEST_TOKEN = h.short in
       record {
         node = Numeral (record { from = a; to = a + length xs }) n;

@@ -505,7 +505,7 @@ moved_effects n = unplaced_steps.moves_chain _ (moved_list wants.Effects n)
 moved_cost : (s : Span) (f : Forest) → unplaced_steps.Moves unplaced.pattern (grammar.cost s f)
     (grammar.cost nowhere (unplaced.forest f))
 unfolding grammar.cost unplaced.pattern unplaced.forest
-moved_cost s Bare = unplaced_steps.moves_pure (syntax.Number s (pos 1))
+moved_cost s Bare = unplaced_steps.moves_pure (syntax.Number s (pos 1000))
 moved_cost s (Grow n rest) =
     unplaced_steps.moves_chain _ (moved_term grammar.InRule n) (λ t. unplaced_steps.moves_chain _
     (unplaced_steps.moves_ended rest) (λ x. unplaced_steps.moves_pure t))

@@ -105,6 +105,6 @@ unfolding spelling_of
 problem_name = record { bytes = refl; some = lit< tt; short = lit≤ tt; spells = refl }
 
 -- 1 can be spelled
-pub one_number : IsNumber (pos 1)
+pub one_number : IsNumber (pos 1000)
 unfolding spelling_of digits
 one_number = record { bytes = refl; some = lit< tt; short = lit≤ tt; spells = refl }

@@ -1,21 +1,24 @@
 //! Words, names and numbers.
 
 ghost use Rattle.std.specs.Prelude.{◌≡◌, ◌++◌, OnOk, codes};
-ghost use Rattle.std.specs.Fmt.{signed_decimal};
 ghost use Rattle.std.specs.List.{flat_map};
+ghost use Rattle.hp_syntax.specs.TermTexts.{num_text};
 ghost use Rattle.hp_syntax.specs.Views.{order_of};
 ghost use Rattle.hp_syntax.specs.Written.{name_of, order_word};
 
-use hp_syntax::{Name, SortOrder};
+use hp_syntax::{Decimals, Name, SortOrder, sign};
 use itoa::Buffer;
 use std::alloc::AllocError;
 
-/// A number in decimal.
+/// A number, by its count of thousandths.
 pub fn push_number(text: &mut Vec<u8>, number: i64) -> Result<(), AllocError>
-    ensures { OnOk result (text.new.items ≡ text.old.items ++ signed_decimal number) }
+    ensures { OnOk result (text.new.items ≡ text.old.items ++ num_text number) }
 {
-    let mut buffer = Buffer::new();
-    text.extend_from_slice(buffer.format(number).as_bytes())
+    let magnitude = number.unsigned_abs();
+    let decimals = Decimals::new((magnitude % 1000) as u32);
+    let mut whole = Buffer::new();
+    let digits = whole.format(magnitude / 1000).as_bytes();
+    push_all(text, &[sign(number < 0), digits, decimals.as_bytes()])
 }
 
 /// Texts, one behind the other.

@@ -35,7 +35,7 @@ fn cost(scope: &mut Scope, span: Span, rest: &[Node]) -> Result<Pat, FormRefusal
     match rest {
         [] => Ok(Pat {
             span,
-            kind: PatKind::Num(1),
+            kind: PatKind::Num(1000),
         }),
         [only] => term(scope, Setting::Rule, only),
         [first, second, ..] => {

@@ -248,8 +248,8 @@ either_domain_forest =
     ((word 15 24 (codes ":operator")) ∷ (list 25 33 ((word 26 29 (codes "!do")) ∷ (word 30 32 (codes "?x")) ∷
     [])) ∷ (list 34 36 ([])) ∷ (list 37 39 ([])) ∷ (list 40 42 ([])) ∷ [])) ∷ (list 44 93 ((word 45 52 (codes
     ":method")) ∷ (list 53 56 ((word 54 55 (codes "m")) ∷ [])) ∷ (list 57 81 ((list 58 80 ((word 59 61 (codes
-    "or")) ∷ (list 62 70 ((word 63 64 (codes "w")) ∷ (word 65 67 (codes "?x")) ∷ (number 68 69 (pos 1)) ∷ [])) ∷
-    (list 71 79 ((word 72 73 (codes "w")) ∷ (word 74 76 (codes "?x")) ∷ (number 77 78 (pos 1)) ∷ [])) ∷ [])) ∷
+    "or")) ∷ (list 62 70 ((word 63 64 (codes "w")) ∷ (word 65 67 (codes "?x")) ∷ (number 68 69 (pos 1000)) ∷ [])) ∷
+    (list 71 79 ((word 72 73 (codes "w")) ∷ (word 74 76 (codes "?x")) ∷ (number 77 78 (pos 1000)) ∷ [])) ∷ [])) ∷
     [])) ∷ (list 82 92 ((list 83 91 ((word 84 87 (codes "!do")) ∷ (word 88 90 (codes "?x")) ∷ [])) ∷ [])) ∷ []))
     ∷ [])) ∷ [])) ∷ [])
 
@@ -261,13 +261,13 @@ either_domain_spelled = tested texts.either_domain either_domain_forest refl
 abbrev pub weights_twice_problem_forest : Forest
 weights_twice_problem_forest =
     grown ((list 0 80 ((word 1 11 (codes "defproblem")) ∷ (word 12 13 (codes "p")) ∷ (word 14 15 (codes "d")) ∷
-    (list 16 41 ((list 17 24 ((word 18 19 (codes "w")) ∷ (word 20 21 (codes "a")) ∷ (number 22 23 (pos 3)) ∷
-    [])) ∷ (list 25 32 ((word 26 27 (codes "w")) ∷ (word 28 29 (codes "b")) ∷ (number 30 31 (pos 1)) ∷ [])) ∷
-    (list 33 40 ((word 34 35 (codes "w")) ∷ (word 36 37 (codes "c")) ∷ (number 38 39 (pos 3)) ∷ [])) ∷ [])) ∷
+    (list 16 41 ((list 17 24 ((word 18 19 (codes "w")) ∷ (word 20 21 (codes "a")) ∷ (number 22 23 (pos 3000)) ∷
+    [])) ∷ (list 25 32 ((word 26 27 (codes "w")) ∷ (word 28 29 (codes "b")) ∷ (number 30 31 (pos 1000)) ∷ [])) ∷
+    (list 33 40 ((word 34 35 (codes "w")) ∷ (word 36 37 (codes "c")) ∷ (number 38 39 (pos 3000)) ∷ [])) ∷ [])) ∷
     (list 42 47 ((list 43 46 ((word 44 45 (codes "m")) ∷ [])) ∷ [])) ∷ (list 48 73 ((list 49 56 ((word 50 51
-    (codes "w")) ∷ (word 52 53 (codes "a")) ∷ (number 54 55 (pos 3)) ∷ [])) ∷ (list 57 64 ((word 58 59 (codes
-    "w")) ∷ (word 60 61 (codes "b")) ∷ (number 62 63 (pos 1)) ∷ [])) ∷ (list 65 72 ((word 66 67 (codes "w")) ∷
-    (word 68 69 (codes "c")) ∷ (number 70 71 (pos 3)) ∷ [])) ∷ [])) ∷ (list 74 79 ((list 75 78 ((word 76 77
+    (codes "w")) ∷ (word 52 53 (codes "a")) ∷ (number 54 55 (pos 3000)) ∷ [])) ∷ (list 57 64 ((word 58 59 (codes
+    "w")) ∷ (word 60 61 (codes "b")) ∷ (number 62 63 (pos 1000)) ∷ [])) ∷ (list 65 72 ((word 66 67 (codes "w")) ∷
+    (word 68 69 (codes "c")) ∷ (number 70 71 (pos 3000)) ∷ [])) ∷ [])) ∷ (list 74 79 ((list 75 78 ((word 76 77
     (codes "m")) ∷ [])) ∷ [])) ∷ [])) ∷ [])
 
 -- the text spells this forest
@@ -278,9 +278,9 @@ weights_twice_problem_spelled = tested texts.weights_twice_problem weights_twice
 abbrev pub weights_problem_forest : Forest
 weights_problem_forest =
     grown ((list 0 48 ((word 1 11 (codes "defproblem")) ∷ (word 12 13 (codes "p")) ∷ (word 14 15 (codes "d")) ∷
-    (list 16 41 ((list 17 24 ((word 18 19 (codes "w")) ∷ (word 20 21 (codes "a")) ∷ (number 22 23 (pos 3)) ∷
-    [])) ∷ (list 25 32 ((word 26 27 (codes "w")) ∷ (word 28 29 (codes "b")) ∷ (number 30 31 (pos 1)) ∷ [])) ∷
-    (list 33 40 ((word 34 35 (codes "w")) ∷ (word 36 37 (codes "c")) ∷ (number 38 39 (pos 3)) ∷ [])) ∷ [])) ∷
+    (list 16 41 ((list 17 24 ((word 18 19 (codes "w")) ∷ (word 20 21 (codes "a")) ∷ (number 22 23 (pos 3000)) ∷
+    [])) ∷ (list 25 32 ((word 26 27 (codes "w")) ∷ (word 28 29 (codes "b")) ∷ (number 30 31 (pos 1000)) ∷ [])) ∷
+    (list 33 40 ((word 34 35 (codes "w")) ∷ (word 36 37 (codes "c")) ∷ (number 38 39 (pos 3000)) ∷ [])) ∷ [])) ∷
     (list 42 47 ((list 43 46 ((word 44 45 (codes "m")) ∷ [])) ∷ [])) ∷ [])) ∷ [])
 
 -- the text spells this forest
@@ -390,8 +390,8 @@ quotient_domain_forest =
     ":method")) ∷ (list 53 56 ((word 54 55 (codes "m")) ∷ [])) ∷ (list 57 105 ((list 58 67 ((word 59 60 (codes
     "w")) ∷ (word 61 63 (codes "?x")) ∷ (word 64 66 (codes "?n")) ∷ [])) ∷ (list 68 104 ((word 69 75 (codes
     "assign")) ∷ (word 76 78 (codes "?q")) ∷ (list 79 103 ((word 80 84 (codes "call")) ∷ (word 85 86 (codes
-    "/")) ∷ (number 87 88 (pos 6)) ∷ (list 89 102 ((word 90 94 (codes "call")) ∷ (word 95 96 (codes "-")) ∷
-    (word 97 99 (codes "?n")) ∷ (number 100 101 (pos 1)) ∷ [])) ∷ [])) ∷ [])) ∷ [])) ∷ (list 106 116 ((list 107
+    "/")) ∷ (number 87 88 (pos 6000)) ∷ (list 89 102 ((word 90 94 (codes "call")) ∷ (word 95 96 (codes "-")) ∷
+    (word 97 99 (codes "?n")) ∷ (number 100 101 (pos 1000)) ∷ [])) ∷ [])) ∷ [])) ∷ [])) ∷ (list 106 116 ((list 107
     115 ((word 108 111 (codes "!do")) ∷ (word 112 114 (codes "?x")) ∷ [])) ∷ [])) ∷ [])) ∷ [])) ∷ [])) ∷ [])
 
 -- the text spells this forest
@@ -446,10 +446,10 @@ big_domain_forest =
     [])) ∷ (list 34 36 ([])) ∷ (list 37 39 ([])) ∷ (list 40 42 ([])) ∷ [])) ∷ (list 44 109 ((word 45 47 (codes
     ":-")) ∷ (list 48 56 ((word 49 52 (codes "big")) ∷ (word 53 55 (codes "?x")) ∷ [])) ∷ (list 57 82 ((list 58
     67 ((word 59 60 (codes "w")) ∷ (word 61 63 (codes "?x")) ∷ (word 64 66 (codes "?n")) ∷ [])) ∷ (list 68 81
-    ((word 69 73 (codes "call")) ∷ (word 74 75 (codes ">")) ∷ (word 76 78 (codes "?n")) ∷ (number 79 80 (pos 5))
+    ((word 69 73 (codes "call")) ∷ (word 74 75 (codes ">")) ∷ (word 76 78 (codes "?n")) ∷ (number 79 80 (pos 5000))
     ∷ [])) ∷ [])) ∷ (list 83 108 ((list 84 93 ((word 85 86 (codes "w")) ∷ (word 87 89 (codes "?x")) ∷ (word 90
     92 (codes "?n")) ∷ [])) ∷ (list 94 107 ((word 95 99 (codes "call")) ∷ (word 100 101 (codes ">")) ∷ (word 102
-    104 (codes "?n")) ∷ (number 105 106 (pos 2)) ∷ [])) ∷ [])) ∷ [])) ∷ (list 110 145 ((word 111 118 (codes
+    104 (codes "?n")) ∷ (number 105 106 (pos 2000)) ∷ [])) ∷ [])) ∷ [])) ∷ (list 110 145 ((word 111 118 (codes
     ":method")) ∷ (list 119 122 ((word 120 121 (codes "m")) ∷ [])) ∷ (list 123 133 ((list 124 132 ((word 125 128
     (codes "big")) ∷ (word 129 131 (codes "?x")) ∷ [])) ∷ [])) ∷ (list 134 144 ((list 135 143 ((word 136 139
     (codes "!do")) ∷ (word 140 142 (codes "?x")) ∷ [])) ∷ [])) ∷ [])) ∷ [])) ∷ [])) ∷ [])
@@ -466,7 +466,7 @@ hidden_domain_forest =
     [])) ∷ (list 34 36 ([])) ∷ (list 37 39 ([])) ∷ (list 40 42 ([])) ∷ [])) ∷ (list 44 95 ((word 45 47 (codes
     ":-")) ∷ (list 48 56 ((word 49 52 (codes "big")) ∷ (word 53 55 (codes "?x")) ∷ [])) ∷ (list 57 82 ((list 58
     67 ((word 59 60 (codes "w")) ∷ (word 61 63 (codes "?x")) ∷ (word 64 66 (codes "?n")) ∷ [])) ∷ (list 68 81
-    ((word 69 73 (codes "call")) ∷ (word 74 75 (codes ">")) ∷ (word 76 78 (codes "?n")) ∷ (number 79 80 (pos 2))
+    ((word 69 73 (codes "call")) ∷ (word 74 75 (codes ">")) ∷ (word 76 78 (codes "?n")) ∷ (number 79 80 (pos 2000))
     ∷ [])) ∷ [])) ∷ (list 83 94 ((list 84 93 ((word 85 86 (codes "w")) ∷ (word 87 89 (codes "?x")) ∷ (word 90 92
     (codes "?n")) ∷ [])) ∷ [])) ∷ [])) ∷ (list 96 131 ((word 97 104 (codes ":method")) ∷ (list 105 108 ((word
     106 107 (codes "m")) ∷ [])) ∷ (list 109 119 ((list 110 118 ((word 111 114 (codes "big")) ∷ (word 115 117
@@ -536,7 +536,7 @@ not_fault_domain_forest =
     ":method")) ∷ (list 53 56 ((word 54 55 (codes "m")) ∷ [])) ∷ (list 57 90 ((list 58 89 ((word 59 62 (codes
     "not")) ∷ (list 63 88 ((list 64 73 ((word 65 66 (codes "w")) ∷ (word 67 69 (codes "?x")) ∷ (word 70 72
     (codes "?n")) ∷ [])) ∷ (list 74 87 ((word 75 79 (codes "call")) ∷ (word 80 81 (codes "<")) ∷ (word 82 84
-    (codes "?x")) ∷ (number 85 86 (pos 1)) ∷ [])) ∷ [])) ∷ [])) ∷ [])) ∷ (list 91 100 ((list 92 99 ((word 93 96
+    (codes "?x")) ∷ (number 85 86 (pos 1000)) ∷ [])) ∷ [])) ∷ [])) ∷ [])) ∷ (list 91 100 ((list 92 99 ((word 93 96
     (codes "!do")) ∷ (word 97 98 (codes "b")) ∷ [])) ∷ [])) ∷ [])) ∷ [])) ∷ [])) ∷ [])
 
 -- the text spells this forest
@@ -550,7 +550,7 @@ all_above_0_domain_forest =
     ((word 15 24 (codes ":operator")) ∷ (list 25 33 ((word 26 29 (codes "!do")) ∷ (word 30 32 (codes "?x")) ∷
     [])) ∷ (list 34 36 ([])) ∷ (list 37 39 ([])) ∷ (list 40 42 ([])) ∷ [])) ∷ (list 44 121 ((word 45 52 (codes
     ":method")) ∷ (list 53 56 ((word 54 55 (codes "m")) ∷ [])) ∷ (list 57 109 ((list 58 66 ((word 59 60 (codes
-    "w")) ∷ (word 61 63 (codes "?x")) ∷ (number 64 65 (pos 1)) ∷ [])) ∷ (list 67 108 ((word 68 74 (codes
+    "w")) ∷ (word 61 63 (codes "?x")) ∷ (number 64 65 (pos 1000)) ∷ [])) ∷ (list 67 108 ((word 68 74 (codes
     "forall")) ∷ (list 75 79 ((word 76 78 (codes "?y")) ∷ [])) ∷ (list 80 91 ((list 81 90 ((word 82 83 (codes
     "w")) ∷ (word 84 86 (codes "?y")) ∷ (word 87 89 (codes "?k")) ∷ [])) ∷ [])) ∷ (list 92 107 ((list 93 106
     ((word 94 98 (codes "call")) ∷ (word 99 100 (codes ">")) ∷ (word 101 103 (codes "?k")) ∷ (number 104 105
@@ -568,11 +568,11 @@ all_above_1_domain_forest =
     ((word 15 24 (codes ":operator")) ∷ (list 25 33 ((word 26 29 (codes "!do")) ∷ (word 30 32 (codes "?x")) ∷
     [])) ∷ (list 34 36 ([])) ∷ (list 37 39 ([])) ∷ (list 40 42 ([])) ∷ [])) ∷ (list 44 121 ((word 45 52 (codes
     ":method")) ∷ (list 53 56 ((word 54 55 (codes "m")) ∷ [])) ∷ (list 57 109 ((list 58 66 ((word 59 60 (codes
-    "w")) ∷ (word 61 63 (codes "?x")) ∷ (number 64 65 (pos 1)) ∷ [])) ∷ (list 67 108 ((word 68 74 (codes
+    "w")) ∷ (word 61 63 (codes "?x")) ∷ (number 64 65 (pos 1000)) ∷ [])) ∷ (list 67 108 ((word 68 74 (codes
     "forall")) ∷ (list 75 79 ((word 76 78 (codes "?y")) ∷ [])) ∷ (list 80 91 ((list 81 90 ((word 82 83 (codes
     "w")) ∷ (word 84 86 (codes "?y")) ∷ (word 87 89 (codes "?k")) ∷ [])) ∷ [])) ∷ (list 92 107 ((list 93 106
     ((word 94 98 (codes "call")) ∷ (word 99 100 (codes ">")) ∷ (word 101 103 (codes "?k")) ∷ (number 104 105
-    (pos 1)) ∷ [])) ∷ [])) ∷ [])) ∷ [])) ∷ (list 110 120 ((list 111 119 ((word 112 115 (codes "!do")) ∷ (word
+    (pos 1000)) ∷ [])) ∷ [])) ∷ [])) ∷ [])) ∷ (list 110 120 ((list 111 119 ((word 112 115 (codes "!do")) ∷ (word
     116 118 (codes "?x")) ∷ [])) ∷ [])) ∷ [])) ∷ [])) ∷ [])) ∷ [])
 
 -- the text spells this forest
@@ -609,14 +609,25 @@ clear_problem_spelled = tested texts.clear_problem clear_problem_forest refl
 
 abbrev pub large_cost_domain_forest : Forest
 large_cost_domain_forest =
-    grown ((list 0 63 ((word 1 10 (codes "defdomain")) ∷ (word 11 12 (codes "d")) ∷ (list 13 62 ((list 14 61
+    grown ((list 0 64 ((word 1 10 (codes "defdomain")) ∷ (word 11 12 (codes "d")) ∷ (list 13 63 ((list 14 62
     ((word 15 24 (codes ":operator")) ∷ (list 25 31 ((word 26 30 (codes "!big")) ∷ [])) ∷ (list 32 34 ([])) ∷
-    (list 35 37 ([])) ∷ (list 38 40 ([])) ∷ (number 41 60 (pos 9223372036854775807)) ∷ [])) ∷ [])) ∷ [])) ∷ [])
+    (list 35 37 ([])) ∷ (list 38 40 ([])) ∷ (number 41 61 (pos 9223372036854775807)) ∷ [])) ∷ [])) ∷ [])) ∷ [])
 
 -- the text spells this forest
 pub large_cost_domain_spelled : IsForest texts.large_cost_domain large_cost_domain_forest
 unfolding spelling_of
 large_cost_domain_spelled = tested texts.large_cost_domain large_cost_domain_forest refl
+
+abbrev pub half_cost_domain_forest : Forest
+half_cost_domain_forest =
+    grown ((list 0 47 ((word 1 10 (codes "defdomain")) ∷ (word 11 12 (codes "d")) ∷ (list 13 46 ((list 14 45
+    ((word 15 24 (codes ":operator")) ∷ (list 25 31 ((word 26 30 (codes "!big")) ∷ [])) ∷ (list 32 34 ([])) ∷
+    (list 35 37 ([])) ∷ (list 38 40 ([])) ∷ (number 41 44 (pos 500)) ∷ [])) ∷ [])) ∷ [])) ∷ [])
+
+-- the text spells this forest
+pub half_cost_domain_spelled : IsForest texts.half_cost_domain half_cost_domain_forest
+unfolding spelling_of
+half_cost_domain_spelled = tested texts.half_cost_domain half_cost_domain_forest refl
 
 abbrev pub big_problem_forest : Forest
 big_problem_forest =
@@ -649,9 +660,9 @@ each_domain_spelled = tested texts.each_domain each_domain_forest refl
 abbrev pub each_problem_forest : Forest
 each_problem_forest =
     grown ((list 0 57 ((word 1 11 (codes "defproblem")) ∷ (word 12 13 (codes "p")) ∷ (word 14 15 (codes "d")) ∷
-    (list 16 41 ((list 17 24 ((word 18 19 (codes "w")) ∷ (word 20 21 (codes "a")) ∷ (number 22 23 (pos 3)) ∷
-    [])) ∷ (list 25 32 ((word 26 27 (codes "w")) ∷ (word 28 29 (codes "b")) ∷ (number 30 31 (pos 1)) ∷ [])) ∷
-    (list 33 40 ((word 34 35 (codes "w")) ∷ (word 36 37 (codes "c")) ∷ (number 38 39 (pos 3)) ∷ [])) ∷ [])) ∷
+    (list 16 41 ((list 17 24 ((word 18 19 (codes "w")) ∷ (word 20 21 (codes "a")) ∷ (number 22 23 (pos 3000)) ∷
+    [])) ∷ (list 25 32 ((word 26 27 (codes "w")) ∷ (word 28 29 (codes "b")) ∷ (number 30 31 (pos 1000)) ∷ [])) ∷
+    (list 33 40 ((word 34 35 (codes "w")) ∷ (word 36 37 (codes "c")) ∷ (number 38 39 (pos 3000)) ∷ [])) ∷ [])) ∷
     (list 42 56 ((list 43 55 ((word 44 48 (codes "each")) ∷ (list 49 54 ((word 50 51 (codes "a")) ∷ (word 52 53
     (codes "b")) ∷ [])) ∷ [])) ∷ [])) ∷ [])) ∷ [])
 
@@ -667,7 +678,7 @@ travel_domain_forest =
     "?x")) ∷ (word 71 73 (codes "?y")) ∷ [])) ∷ (list 75 84 ((list 76 83 ((word 77 79 (codes "at")) ∷ (word 80
     82 (codes "?x")) ∷ [])) ∷ [])) ∷ (list 85 94 ((list 86 93 ((word 87 89 (codes "at")) ∷ (word 90 92 (codes
     "?x")) ∷ [])) ∷ [])) ∷ (list 95 104 ((list 96 103 ((word 97 99 (codes "at")) ∷ (word 100 102 (codes "?y")) ∷
-    [])) ∷ [])) ∷ (number 105 106 (pos 3)) ∷ [])) ∷ (list 110 158 ((word 111 120 (codes ":operator")) ∷ (list
+    [])) ∷ [])) ∷ (number 105 106 (pos 3000)) ∷ [])) ∷ (list 110 158 ((word 111 120 (codes ":operator")) ∷ (list
     121 136 ((word 122 132 (codes "!call-taxi")) ∷ (word 133 135 (codes "?x")) ∷ [])) ∷ (list 137 139 ([])) ∷
     (list 140 142 ([])) ∷ (list 143 157 ((list 144 156 ((word 145 152 (codes "taxi-at")) ∷ (word 153 155 (codes
     "?x")) ∷ [])) ∷ [])) ∷ [])) ∷ (list 161 261 ((word 162 171 (codes ":operator")) ∷ (list 172 185 ((word 173
@@ -677,7 +688,7 @@ travel_domain_forest =
     217 (codes "at")) ∷ (word 218 220 (codes "?x")) ∷ [])) ∷ (list 222 234 ((word 223 230 (codes "taxi-at")) ∷
     (word 231 233 (codes "?x")) ∷ [])) ∷ [])) ∷ (list 236 258 ((list 237 244 ((word 238 240 (codes "at")) ∷
     (word 241 243 (codes "?y")) ∷ [])) ∷ (list 245 257 ((word 246 253 (codes "taxi-at")) ∷ (word 254 256 (codes
-    "?y")) ∷ [])) ∷ [])) ∷ (number 259 260 (pos 4)) ∷ [])) ∷ (list 264 339 ((word 265 274 (codes ":operator")) ∷
+    "?y")) ∷ [])) ∷ [])) ∷ (number 259 260 (pos 4000)) ∷ [])) ∷ (list 264 339 ((word 265 274 (codes ":operator")) ∷
     (list 275 291 ((word 276 280 (codes "!pay")) ∷ (word 281 285 (codes "?old")) ∷ (word 286 290 (codes "?new"))
     ∷ [])) ∷ (list 292 306 ((list 293 305 ((word 294 299 (codes "money")) ∷ (word 300 304 (codes "?old")) ∷ []))
     ∷ [])) ∷ (list 307 321 ((list 308 320 ((word 309 314 (codes "money")) ∷ (word 315 319 (codes "?old")) ∷ []))
@@ -686,7 +697,7 @@ travel_domain_forest =
     371 376 (codes "short")) ∷ (word 377 379 (codes "?x")) ∷ (word 380 382 (codes "?y")) ∷ [])) ∷ (word 384 389
     (codes "close")) ∷ (list 390 426 ((list 391 410 ((word 392 400 (codes "distance")) ∷ (word 401 403 (codes
     "?x")) ∷ (word 404 406 (codes "?y")) ∷ (word 407 409 (codes "?d")) ∷ [])) ∷ (list 411 425 ((word 412 416
-    (codes "call")) ∷ (word 417 419 (codes "<=")) ∷ (word 420 422 (codes "?d")) ∷ (number 423 424 (pos 2)) ∷
+    (codes "call")) ∷ (word 417 419 (codes "<=")) ∷ (word 420 422 (codes "?d")) ∷ (number 423 424 (pos 2000)) ∷
     [])) ∷ [])) ∷ [])) ∷ (list 430 506 ((word 431 438 (codes ":method")) ∷ (list 439 453 ((word 440 446 (codes
     "travel")) ∷ (word 447 449 (codes "?x")) ∷ (word 450 452 (codes "?y")) ∷ [])) ∷ (word 458 465 (codes
     "by-foot")) ∷ (list 466 489 ((list 467 474 ((word 468 470 (codes "at")) ∷ (word 471 473 (codes "?x")) ∷ []))
@@ -699,7 +710,7 @@ travel_domain_forest =
     (word 567 569 (codes "?y")) ∷ (word 570 572 (codes "?d")) ∷ [])) ∷ (list 574 584 ((word 575 580 (codes
     "money")) ∷ (word 581 583 (codes "?m")) ∷ [])) ∷ (list 598 626 ((word 599 605 (codes "assign")) ∷ (word 606
     611 (codes "?fare")) ∷ (list 612 625 ((word 613 617 (codes "call")) ∷ (word 618 619 (codes "+")) ∷ (number
-    620 621 (pos 2)) ∷ (word 622 624 (codes "?d")) ∷ [])) ∷ [])) ∷ (list 627 645 ((word 628 632 (codes "call"))
+    620 621 (pos 2000)) ∷ (word 622 624 (codes "?d")) ∷ [])) ∷ [])) ∷ (list 627 645 ((word 628 632 (codes "call"))
     ∷ (word 633 635 (codes ">=")) ∷ (word 636 638 (codes "?m")) ∷ (word 639 644 (codes "?fare")) ∷ [])) ∷ (list
     659 691 ((word 660 666 (codes "assign")) ∷ (word 667 672 (codes "?left")) ∷ (list 673 690 ((word 674 678
     (codes "call")) ∷ (word 679 680 (codes "-")) ∷ (word 681 683 (codes "?m")) ∷ (word 684 689 (codes "?fare"))
@@ -717,8 +728,8 @@ abbrev pub trip_problem_forest : Forest
 trip_problem_forest =
     grown ((list 0 95 ((word 1 11 (codes "defproblem")) ∷ (word 12 16 (codes "trip")) ∷ (word 17 23 (codes
     "travel")) ∷ (list 26 71 ((list 27 36 ((word 28 30 (codes "at")) ∷ (word 31 35 (codes "home")) ∷ [])) ∷
-    (list 37 47 ((word 38 43 (codes "money")) ∷ (number 44 46 (pos 10)) ∷ [])) ∷ (list 48 70 ((word 49 57 (codes
-    "distance")) ∷ (word 58 62 (codes "home")) ∷ (word 63 67 (codes "park")) ∷ (number 68 69 (pos 2)) ∷ [])) ∷
+    (list 37 47 ((word 38 43 (codes "money")) ∷ (number 44 46 (pos 10000)) ∷ [])) ∷ (list 48 70 ((word 49 57 (codes
+    "distance")) ∷ (word 58 62 (codes "home")) ∷ (word 63 67 (codes "park")) ∷ (number 68 69 (pos 2000)) ∷ [])) ∷
     [])) ∷ (list 74 94 ((list 75 93 ((word 76 82 (codes "travel")) ∷ (word 83 87 (codes "home")) ∷ (word 88 92
     (codes "park")) ∷ [])) ∷ [])) ∷ [])) ∷ [])
 

@@ -182,7 +182,11 @@ clear_problem =
 
 abbrev pub large_cost_domain : List ℕ
 large_cost_domain =
-    codes "(defdomain d ((:operator (!big) () () () 9223372036854775807)))"
+    codes "(defdomain d ((:operator (!big) () () () 9223372036854775.807)))"
+
+abbrev pub half_cost_domain : List ℕ
+half_cost_domain =
+    codes "(defdomain d ((:operator (!big) () () () 0.5)))"
 
 abbrev pub big_problem : List ℕ
 big_problem =

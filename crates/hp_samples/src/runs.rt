@@ -144,10 +144,12 @@ pub fn forall_is_two_negations()
         ++ codes "expansions 1\n") }
 {}
 
-/// Costs are added up, beyond 64 bits too.
+/// Costs are added up, parts of one and beyond 64 bits too.
 pub fn costs_are_added()
-    ensures { Writes (asked 5 5 64 false) texts.large_cost_domain texts.big_problem
-        (codes "plan 1 cost 18446744073709551614 steps 2\n(!big)\n(!big)\nend plans 1 expansions 2\n") }
+    ensures halves { Writes (asked 5 5 64 false) texts.half_cost_domain texts.big_problem
+        (codes "plan 1 cost 1 steps 2\n(!big)\n(!big)\nend plans 1 expansions 2\n") }
+    ensures large { Writes (asked 5 5 64 false) texts.large_cost_domain texts.big_problem
+        (codes "plan 1 cost 18446744073709551.614 steps 2\n(!big)\n(!big)\nend plans 1 expansions 2\n") }
 {}
 
 /// A tail stands for the remaining parts of a list.

@@ -1,11 +1,11 @@
--- The call table: what a call gives for its arguments, over whole numbers of any size.
-use Rattle.std.specs.Prelude.{ℕ, ◌-◌, ◌^◌, Bool, ◌&&◌, not, ◌==◌, nat_le, cond, ℤ, pos, negsuc, ◌+ℤ◌, ◌-ℤ◌, ◌*ℤ◌, int_le, int_lt, int_div, int_rem, unsigned_abs, List, [], ◌∷◌, Option, Some, None, option_map, Result, Ok, Err, bytes_eq, codes}
-use Rattle.std.specs.Int.{int_pow, int_min, int_max}
+-- The call table: what a call gives for its arguments, over whole numbers of any size, each a count of thousandths.
+use Rattle.std.specs.Prelude.{ℕ, ◌-◌, ◌^◌, Bool, ◌&&◌, not, ◌==◌, nat_le, cond, ℤ, pos, negsuc, ◌+ℤ◌, ◌-ℤ◌, ◌*ℤ◌, int_le, int_lt, int_div, int_rem, unsigned_abs, List, [], ◌∷◌, Option, Some, None, option_map, replicate, Result, Ok, Err, bytes_eq, codes}
+use Rattle.std.specs.Int.{int_min, int_max}
 use Rattle.std.specs.Ordering.{int_eq}
 use Rattle.hp_syntax.specs.declared.pattern.Span.{Span}
 use Rattle.hp_syntax.specs.declared.fault.RunFault.{RunFault}
 use Rattle.hp_syntax.specs.declared.fault.FaultKind.{FaultKind}
-use Rattle.hp_syntax.specs.declared.fault.FaultKind.TheVariants.{NotNumber, Overflow, ZeroDivisor, NegativePower, NotList}
+use Rattle.hp_syntax.specs.declared.fault.FaultKind.TheVariants.{NotNumber, Overflow, ZeroDivisor, NegativePower, NotList, FractionPower}
 use Rattle.hp_syntax.specs.Terms.{Term, Terms, Symbol, Number, Listed, NoTerm, More, same_term, is_part}
 
 abbrev pub fault_at : FaultKind → Span → RunFault
@@ -34,15 +34,24 @@ abbrev pub in_turn : (ℤ → ℤ → ℤ) → Span → ℤ → List ℤ → Res
 in_turn f s n [] = Ok (Number n)
 in_turn f s n (m ∷ ms) = cond (fits (f n m)) (in_turn f s (f n m) ms) (Err (fault_at Overflow s))
 
+-- thousandths that are left behind a product or a quotient are cut off, toward zero
+abbrev pub product : ℤ → ℤ → ℤ
+product m n = int_div (m *ℤ n) (pos 1000)
+
 abbrev pub quotient : Span → ℤ → ℤ → Result Term RunFault
-quotient s m n = cond (int_eq n (pos 0)) (Err (fault_at ZeroDivisor s)) (number s (int_div m n))
+quotient s m n = cond (int_eq n (pos 0)) (Err (fault_at ZeroDivisor s)) (number s (int_div (m *ℤ pos 1000) n))
 
 abbrev pub remainder : Span → ℤ → ℤ → Result Term RunFault
 remainder s m n = cond (int_eq n (pos 0)) (Err (fault_at ZeroDivisor s)) (number s (int_rem m n))
 
+-- 1 multiplied by a number so many times
+abbrev pub whole_power : Span → ℤ → ℤ → Result Term RunFault
+whole_power s m (pos k) = in_turn product s (pos 1000) (replicate k m)
+whole_power s m (negsuc k) = Err (fault_at NegativePower s)
+
 abbrev pub power : Span → ℤ → ℤ → Result Term RunFault
-power s m (pos n) = number s (int_pow m n)
-power s m (negsuc n) = Err (fault_at NegativePower s)
+power s m n =
+    cond (int_eq (int_rem n (pos 1000)) (pos 0)) (whole_power s m (int_div n (pos 1000))) (Err (fault_at FractionPower s))
 
 -- a row of the table: numbers from the left on, two numbers, one number, two terms, or a term and a list
 pub data Row : Type 0 where
@@ -56,7 +65,7 @@ pub data Row : Type 0 where
 abbrev pub row : List ℕ → Row
 row name =
     cond (bytes_eq name (codes "+")) (InTurn (λ m n. m +ℤ n)) (
-    cond (bytes_eq name (codes "*")) (InTurn (λ m n. m *ℤ n)) (
+    cond (bytes_eq name (codes "*")) (InTurn product) (
     cond (bytes_eq name (codes "-")) (OfTwo (λ s m n. number s (m -ℤ n))) (
     cond (bytes_eq name (codes "/")) (OfTwo quotient) (
     cond (bytes_eq name (codes "mod")) (OfTwo remainder) (

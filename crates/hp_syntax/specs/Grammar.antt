@@ -353,7 +353,7 @@ effects n = list wants.Effects n >>= steps.each effect
 
 -- a cost that isn't written is 1, with the operator's span
 unfoldable pub cost : Span → Forest → steps.Parse syntax.Pattern
-cost s Bare = steps.pure (syntax.Number s (pos 1))
+cost s Bare = steps.pure (syntax.Number s (pos 1000))
 cost s (Grow n rest) = do
   t ← term InRule n
   steps.ended rest

@@ -56,6 +56,7 @@ fault_word kinds.ZeroDivisor = codes "ZeroDivisor"
 fault_word kinds.NegativePower = codes "NegativePower"
 fault_word kinds.NotList = codes "NotList"
 fault_word kinds.TooDeep = codes "TooDeep"
+fault_word kinds.FractionPower = codes "FractionPower"
 
 abbrev pub ending_word : Ending → List ℕ
 ending_word Stopped = codes "stopped"

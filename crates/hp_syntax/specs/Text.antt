@@ -1,7 +1,7 @@
 -- The kind of each byte of a text, and the tokens and gaps of a text.
-use Rattle.std.specs.Prelude.{◌≡◌, ℕ, zero, suc, ◌+◌, ◌^◌, ◌<◌, ◌≤◌, Bool, false, ◌||◌, ◌&&◌, not, cond, nat_lt, nat_le, ◌==◌, ℤ, List, [], ◌∷◌, length, slice_index}
+use Rattle.std.specs.Prelude.{◌≡◌, ℕ, zero, suc, ◌+◌, ◌*◌, ◌^◌, ◌<◌, ◌≤◌, Bool, false, ◌||◌, ◌&&◌, not, cond, nat_lt, nat_le, ◌==◌, ℤ, pos, neg_ℤ, List, [], ◌∷◌, ◌++◌, length, take, slice_index, codes}
 use Rattle.std.specs.List.{list_all}
-use Rattle.std.specs.Str.Parse.{digits_value, starts_with_minus, without_leading_sign, signed_digits_value}
+use Rattle.std.specs.Str.Parse.{digits_value, starts_with_minus, without_leading_sign}
 
 -- a space, a tab, a carriage return or a line feed
 abbrev pub is_blank : ℕ → Bool
@@ -71,15 +71,38 @@ abbrev pub is_numeral : List ℕ → Bool
 is_numeral [] = false
 is_numeral (b ∷ bs) = begins_unsigned (b ∷ bs) || ((b == 43 || b == 45) && begins_unsigned bs)
 
--- a sign, where there is one, and one digit or more
-abbrev pub is_whole : List ℕ → Bool
-is_whole token =
-    nat_lt 0 (length (without_leading_sign token)) && list_all is_digit (without_leading_sign token)
+-- the bytes before the first point, and those behind it
+abbrev pub before_point : List ℕ → List ℕ
+before_point [] = []
+before_point (b ∷ bs) = cond (b == 46) [] (b ∷ before_point bs)
 
--- the number lies between -2^63 and 2^63 - 1
+abbrev pub behind_point : List ℕ → List ℕ
+behind_point [] = []
+behind_point (b ∷ bs) = cond (b == 46) bs (behind_point bs)
+
+-- digits on either side of a point or of none, at most three behind it and one at least
+abbrev pub is_decimal : List ℕ → Bool
+is_decimal bytes =
+    list_all is_digit (before_point bytes) && list_all is_digit (behind_point bytes)
+    && nat_le (length (behind_point bytes)) 3 && nat_lt 0 (length (before_point bytes) + length (behind_point bytes))
+
+-- a sign, where there is one, and a decimal
+abbrev pub is_well_spelled : List ℕ → Bool
+is_well_spelled token = is_decimal (without_leading_sign token)
+
+-- the count of thousandths of a decimal: three digits behind the point, of which those that are left out are 0
+abbrev pub thousandths : List ℕ → ℕ
+thousandths bytes = digits_value 10 (before_point bytes) * 1000 + digits_value 10 (take 3 (behind_point bytes ++ codes "000"))
+
+-- the number lies between -2^63 and 2^63 - 1 thousandths
 abbrev pub is_in_range : List ℕ → Bool
 is_in_range token =
-    nat_lt (digits_value 10 (without_leading_sign token)) (cond (starts_with_minus token) (2 ^ 63 + 1) (2 ^ 63))
+    nat_lt (thousandths (without_leading_sign token)) (cond (starts_with_minus token) (2 ^ 63 + 1) (2 ^ 63))
+
+-- the number of a well spelled token, in thousandths
+abbrev pub number_spelled : List ℕ → ℤ
+number_spelled token =
+    let n : ℕ = thousandths (without_leading_sign token) in cond (starts_with_minus token) (neg_ℤ (pos n)) (pos n)
 
 -- the spelling of a token: a name, a number, or no number though it begins like one
 pub data Spelling : Type 0 where
@@ -91,7 +114,7 @@ pub data Spelling : Type 0 where
 unfoldable pub spelling_of : List ℕ → Spelling
 spelling_of token =
     cond (is_numeral token)
-    (cond (is_whole token)
-    (cond (is_in_range token) (ANumber (signed_digits_value 10 token)) OutOfRange)
+    (cond (is_well_spelled token)
+    (cond (is_in_range token) (ANumber (number_spelled token)) OutOfRange)
     NoNumber)
     AName

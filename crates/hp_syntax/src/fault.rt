@@ -18,6 +18,8 @@ pub enum FaultKind {
     NotList = 6,
     /// A list nested deeper than 64.
     TooDeep = 7,
+    /// A power whose exponent is no whole number.
+    FractionPower = 8,
 }
 
 /// A fault of a run, at the place in the domain's text that met it.

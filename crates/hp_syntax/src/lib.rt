@@ -7,6 +7,7 @@
 
 mod check;
 mod copies;
+mod decimals;
 mod domain;
 mod expression;
 mod fault;
@@ -22,6 +23,7 @@ mod tasks;
 mod text;
 
 pub use check::{CheckFault, CheckKind};
+pub use decimals::{Decimals, sign};
 pub use domain::{
     Axiom, Branch, Clause, Domain, Effect, Method, Operator, Pair, Problem, Rule, Side,
 };

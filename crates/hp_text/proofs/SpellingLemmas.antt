@@ -1,29 +1,26 @@
--- The numbers that tokens spell, as the standard library reads them.
-use Rattle.std.proofs.Common.{◌≡◌, ℕ, ◌+◌, ◌<◌, ◌≤◌, ◌^◌, Bool, true, false, cond, List, [], ◌∷◌, length, drop, take, ℤ, pos, neg_ℤ, refl, ap, ◌∙◌, arith, w64}
-use Rattle.std.specs.Prelude.{◌==◌, nat_lt, Option, None, Result, Ok, Err, IfNone}
-use Rattle.std.specs.Result.{result_ok}
+-- The numbers that tokens spell, by the digits on either side of their point.
+use Rattle.std.proofs.Common.{◌≡◌, ℕ, zero, suc, ◌+◌, ◌*◌, ◌<◌, ◌≤◌, ◌^◌, Bool, true, false, cond, ◌&&◌, List, [], ◌∷◌, ◌++◌, length, get_or, drop, take, pos, neg_ℤ, refl, sym, ap, ap₂, ◌∙◌, arith}
+use Rattle.std.specs.Prelude.{◌==◌, nat_lt, nat_le, None, codes}
 use Rattle.std.specs.List.{list_all}
 use Rattle.std.specs.Char.{digit_value}
-use Rattle.std.specs.Str.{IsAscii, IsUtf8}
-use Rattle.std.specs.Int.RustNames.{FitsSigned}
-use Rattle.std.specs.Str.Parse.{AllDigits, IsNumeral, ParsesSigned, digits_value, starts_with_minus, without_leading_sign, signed_digits_value}
-use Rattle.std.proofs.lemmas.Bool.{and_parts, false_from_ne_true}
+use Rattle.std.specs.Str.Parse.{AllDigits, digits_value, starts_with_minus, without_leading_sign}
+use Rattle.std.proofs.lemmas.Bool.{and_parts, and_right, lt-ltb}
 use Rattle.std.proofs.Math.Nat.{le_trans, pow-le-pow_right}
-use Rattle.std.proofs.lemmas.Int.Digits.{digits_value-lt}
+use Rattle.std.proofs.lemmas.Int.Digits.{digits_value-lt, digits_value_more}
 use Rattle.std.proofs.lemmas.Str.Parse.{digits_value-take-le}
-use Rattle.std.proofs.lemmas.Bool.{lt-ltb}
-use borrow.Author.Tests.{ltb-true}
+use Rattle.std.proofs.lemmas.List.{length-take}
 use Rattle.std.proofs.lemmas.Bool.Decides.{nat_tests}
-use Rattle.std.proofs.lemmas.Fmt.{IsAscii-from_digits}
-use Rattle.std.proofs.lemmas.Int.{ints}
-use Rattle.std.proofs.lemmas.Str.{IsUtf8-from_ascii}
-use Rattle.std.proofs.lemmas.Str.Ascii.{IsAscii-cons, IsAscii-nil}
 use Rattle.hp_syntax.specs.Refusal.{numeral_refusal}
-use Rattle.hp_syntax.specs.Text.{AName, ANumber, NoNumber, OutOfRange, is_digit, is_numeral, is_whole, is_in_range, spelling_of}
+use Rattle.hp_syntax.specs.Text.{AName, ANumber, NoNumber, OutOfRange, is_digit, is_numeral, is_decimal, is_well_spelled, is_in_range, before_point, behind_point, thousandths, number_spelled, spelling_of}
+use Rattle.hp_text.specs.Spellings.{IsSplit, parts_value, spelling_by}
 
 -- a digit has a value below ten
 digit_below_ten : (b : ℕ) → is_digit b ≡ true → digit_value b < 10
 digit_below_ten b h = grind (arith, nat_tests)
+
+-- a digit is no point
+digit_no_point : (b : ℕ) → is_digit b ≡ true → b == 46 ≡ false
+digit_no_point b h = grind (arith, nat_tests)
 
 -- digits are digits in the radix ten
 pub digits_told : (ds : List ℕ) → list_all is_digit ds ≡ true → AllDigits 10 ds
@@ -31,50 +28,91 @@ digits_told [] h = tt
 digits_told (d ∷ ds) h =
     let p = and_parts (is_digit d) (list_all is_digit ds) h in (digit_below_ten d p.0, digits_told ds p.1)
 
--- a number's spelling has digits behind its sign
-pub whole_numeral : (token : List ℕ) → is_whole token ≡ true → IsNumeral 10 (without_leading_sign token)
-whole_numeral token h =
-    let ds = without_leading_sign token in
-    let p = and_parts (nat_lt 0 (length ds)) (list_all is_digit ds) h in
-    (ltb-true 0 (length ds) p.0, digits_told ds p.1)
+-- the number of digits is no less than that of the first of them with one more
+pub no_less : (ds : List ℕ) (i : ℕ) → i < length ds
+    → digits_value 10 (take i ds) * 10 + digit_value (get_or ds i 0) ≤ digits_value 10 ds
+no_less ds i l =
+    let more = digits_value_more 10 ds i l in
+    let part : digits_value 10 (take (i + 1) ds) ≤ digits_value 10 ds = digits_value-take-le 10 ds (i + 1) (omega arith) in
+    omega arith
 
--- bytes are ASCII where they are so behind a byte that is left out only if it is ASCII
-ascii_behind : (s t : Bool) (b : ℕ) (bs : List ℕ) → (s ≡ true → b < 128) → (t ≡ true → b < 128)
-    → IsAscii (cond s (drop 1 (b ∷ bs)) (drop (cond t 1 0) (b ∷ bs))) → IsAscii (b ∷ bs)
-ascii_behind true t b bs p q h = IsAscii-cons b bs (p refl) h
-ascii_behind false true b bs p q h = IsAscii-cons b bs (q refl) h
-ascii_behind false false b bs p q h = h
+-- where a point stands behind the digits that bytes begin with, it parts these from what is behind it
+pub parts_at_point : (bytes : List ℕ) (n : ℕ) → list_all is_digit (take n bytes) ≡ true → n < length bytes
+    → get_or bytes n 0 ≡ 46 → (before_point bytes ≡ take n bytes) × (behind_point bytes ≡ drop (suc n) bytes)
+parts_at_point [] n h l e = absurd (omega arith)
+parts_at_point (b ∷ bs) zero h l e = rw e (refl, refl)
+parts_at_point (b ∷ bs) (suc n) h l e =
+    let p = and_parts (is_digit b) (list_all is_digit (take n bs)) h in
+    let m = parts_at_point bs n p.1 (omega arith) e in
+    rw (digit_no_point b p.0) (ap (λ xs. b ∷ xs) m.0, m.1)
 
--- bytes are ASCII where they are so behind a sign
-ascii_behind_sign : (token : List ℕ) → IsAscii (without_leading_sign token) → IsAscii token
-ascii_behind_sign [] h = IsAscii-nil
-ascii_behind_sign (b ∷ bs) h =
-    let minus : b == 45 ≡ true → b < 128 = λ e. grind (arith, nat_tests) in
-    let plus : b == 43 ≡ true → b < 128 = λ e. grind (arith, nat_tests) in
-    ascii_behind (b == 45) (b == 43) b bs minus plus h
+-- digits have no point
+pub parts_of_digits : (bytes : List ℕ) → list_all is_digit bytes ≡ true
+    → (before_point bytes ≡ bytes) × (behind_point bytes ≡ [])
+parts_of_digits [] h = (refl, refl)
+parts_of_digits (b ∷ bs) h =
+    let p = and_parts (is_digit b) (list_all is_digit bs) h in
+    let m = parts_of_digits bs p.1 in
+    rw (digit_no_point b p.0) (ap (λ xs. b ∷ xs) m.0, m.1)
 
--- a number's spelling is text
-pub whole_text : (token : List ℕ) → is_whole token ≡ true → IsUtf8 token
-whole_text token h = IsUtf8-from_ascii token (ascii_behind_sign token (IsAscii-from_digits _ (whole_numeral token h).1))
+-- a byte that is neither a digit nor a point before the first point
+no_digits_before : (bytes : List ℕ) (n : ℕ) → list_all is_digit (take n bytes) ≡ true → n < length bytes
+    → is_digit (get_or bytes n 0) ≡ false → get_or bytes n 0 == 46 ≡ false
+    → list_all is_digit (before_point bytes) ≡ false
+no_digits_before [] n h l d e = absurd (omega arith)
+no_digits_before (b ∷ bs) zero h l d e = rw (e, d) refl
+no_digits_before (b ∷ bs) (suc n) h l d e =
+    let p = and_parts (is_digit b) (list_all is_digit (take n bs)) h in
+    let m = no_digits_before bs n p.1 (omega arith) d e in
+    rw (digit_no_point b p.0, m) (and_right (is_digit b) false refl)
 
--- a number fits 64 bits where its digits are in range
-fits_in : (minus : Bool) (n : ℕ) → nat_lt n (cond minus (2 ^ 63 + 1) (2 ^ 63)) ≡ true
-    → FitsSigned w64 (cond minus (neg_ℤ (pos n)) (pos n))
-fits_in true n h = let l : n < 2 ^ 63 + 1 = grind (arith, nat_tests) in omega (arith, ints)
-fits_in false n h = let l : n < 2 ^ 63 = grind (arith, nat_tests) in omega (arith, ints)
+-- where another byte stands behind the digits that bytes begin with, they are no decimal
+pub no_decimal : (bytes : List ℕ) (n : ℕ) → list_all is_digit (take n bytes) ≡ true → n < length bytes
+    → is_digit (get_or bytes n 0) ≡ false → get_or bytes n 0 == 46 ≡ false → is_decimal bytes ≡ false
+no_decimal bytes n h l d e = rw (no_digits_before bytes n h l d e) refl
 
--- a spelled number in range fits 64 bits
-pub fits_from_range : (token : List ℕ) → is_in_range token ≡ true → FitsSigned w64 (signed_digits_value 10 token)
-fits_from_range token h = fits_in (starts_with_minus token) (digits_value 10 (without_leading_sign token)) h
+-- of four tests that are met the first two are met
+first_two : (a b c d : Bool) → (a && b && c && d) ≡ true → (a ≡ true) × (b ≡ true)
+first_two true true c d h = (refl, refl)
+first_two true false c d h = absurd cc
+first_two false b c d h = absurd cc
 
--- digits that the standard library doesn't read are out of range
-pub out_of_range : {E : Type 0} (token digits : List ℕ) (r : Result ℤ E) (o : Option ℤ) → digits ≡ token
-    → is_whole token ≡ true → ParsesSigned w64 10 digits r → o ≡ result_ok r → IfNone o (is_in_range token ≡ false)
-out_of_range token digits (Ok n) o same h p e = rw e tt
-out_of_range token digits (Err f) o same h p e =
-    let not_both : IsNumeral 10 (without_leading_sign token) × FitsSigned w64 (signed_digits_value 10 token)
-    → ⊥ = rw same at p in
-    rw e (false_from_ne_true (is_in_range token) (λ k. not_both (whole_numeral token h, fits_from_range token k)))
+-- a decimal is split into digits
+pub split_digits : (bytes whole decimals : List ℕ) → IsSplit bytes whole decimals
+    → (list_all is_digit whole ≡ true) × (list_all is_digit decimals ≡ true)
+split_digits bytes whole decimals s =
+    let p = first_two (list_all is_digit (before_point bytes)) (list_all is_digit (behind_point bytes))
+    (nat_le (length (behind_point bytes)) 3) (nat_lt 0 (length (before_point bytes) + length (behind_point bytes)))
+    s.decimal in
+    (rw s.before at p.0, rw s.behind at p.1)
+
+-- three digits, those of the bytes first
+three_digits : (ds : List ℕ) → list_all is_digit ds ≡ true → AllDigits 10 (take 3 (ds ++ codes "000"))
+three_digits [] h = digits_told (codes "000") refl
+three_digits (a ∷ []) h = digits_told (a ∷ codes "00") h
+three_digits (a ∷ b ∷ []) h = digits_told (a ∷ b ∷ codes "0") h
+three_digits (a ∷ b ∷ c ∷ ds) h =
+    let p = and_parts (is_digit a) (list_all is_digit (b ∷ c ∷ ds)) h in
+    let q = and_parts (is_digit b) (list_all is_digit (c ∷ ds)) p.1 in
+    let r = and_parts (is_digit c) (list_all is_digit ds) q.1 in
+    digits_told (a ∷ b ∷ c ∷ []) (rw (p.0, q.0, r.0) refl)
+
+-- they are less than 1000
+pub three_digits_value : (ds : List ℕ) → list_all is_digit ds ≡ true → digits_value 10 (take 3 (ds ++ codes "000")) < 1000
+three_digits_value ds h =
+    let ts = take 3 (ds ++ codes "000") in
+    let v : digits_value 10 ts < 10 ^ length ts = digits_value-lt 10 ts (three_digits ds h) in
+    let few : length ts ≤ 3 = omega (arith, length-take 3 (ds ++ codes "000")) in
+    let most : 10 ^ length ts ≤ 10 ^ 3 = pow-le-pow_right (omega arith) few in
+    omega arith
+
+-- what stands before a point is no longer than the whole
+before_length : (bytes : List ℕ) → length (before_point bytes) ≤ length bytes
+before_length [] = omega arith
+before_length (b ∷ bs) =
+    let m = before_length bs in
+    elim (b == 46) as (λ t. length (cond t [] (b ∷ before_point bs)) ≤ length (b ∷ bs))
+    [ true ↦ omega arith | false ↦ omega arith ]
 
 -- bytes of which some are left out are no longer
 dropped_length : (s t : Bool) (b : ℕ) (bs : List ℕ)
@@ -88,19 +126,27 @@ unsigned_length : (token : List ℕ) → length (without_leading_sign token) ≤
 unsigned_length [] = omega arith
 unsigned_length (b ∷ bs) = dropped_length (b == 45) (b == 43) b bs
 
--- so few digits are in range, whatever their sign
+-- so few thousandths are in range, whatever their sign
 small_fits : (minus : Bool) (n : ℕ) → n < 10 ^ 18 → nat_lt n (cond minus (2 ^ 63 + 1) (2 ^ 63)) ≡ true
 small_fits true n h = let l : n < 2 ^ 63 + 1 = omega arith in lt-ltb _ _ l
 small_fits false n h = let l : n < 2 ^ 63 = omega arith in lt-ltb _ _ l
 
--- a sign and so few digits are in range
-pub small_in_range : (token : List ℕ) → is_whole token ≡ true → length token ≤ 18 → is_in_range token ≡ true
+-- a decimal of so few bytes is less than 10^18 thousandths
+small_value : (bytes : List ℕ) → is_decimal bytes ≡ true → length bytes ≤ 15 → thousandths bytes < 10 ^ 18
+small_value bytes h short =
+    let s = split_digits bytes (before_point bytes) (behind_point bytes) (record { decimal = h; before = refl; behind = refl }) in
+    let whole = before_point bytes in
+    let v : digits_value 10 whole < 10 ^ length whole = digits_value-lt 10 whole (digits_told whole s.0) in
+    let fewer : length whole ≤ 15 = le_trans (before_length bytes) short in
+    let most : 10 ^ length whole ≤ 10 ^ 15 = pow-le-pow_right (omega arith) fewer in
+    let r = three_digits_value (behind_point bytes) s.1 in
+    omega arith
+
+-- a sign and so short a decimal are in range
+pub small_in_range : (token : List ℕ) → is_well_spelled token ≡ true → length token ≤ 15 → is_in_range token ≡ true
 small_in_range token h short =
-    let ds = without_leading_sign token in
-    let digits : digits_value 10 ds < 10 ^ length ds = digits_value-lt 10 ds (whole_numeral token h).1 in
-    let fewer : length ds ≤ 18 = le_trans (unsigned_length token) short in
-    let most : 10 ^ length ds ≤ 10 ^ 18 = pow-le-pow_right (omega arith) fewer in
-    small_fits (starts_with_minus token) (digits_value 10 ds) (omega arith)
+    small_fits (starts_with_minus token) (thousandths (without_leading_sign token))
+    (small_value (without_leading_sign token) h (le_trans (unsigned_length token) short))
 
 -- a token that begins as no numeral is not refused
 pub no_numeral_passes : (token : List ℕ) (from : ℕ) → is_numeral token ≡ false
@@ -108,56 +154,39 @@ pub no_numeral_passes : (token : List ℕ) (from : ℕ) → is_numeral token ≡
 unfolding spelling_of
 no_numeral_passes token from h = rw h refl
 
--- a whole number in range is not refused
-pub whole_number_passes : (token : List ℕ) (from : ℕ) → is_whole token ≡ true → is_in_range token ≡ true
+-- what a token spells, by the tests on it
+spelled_by_tests : (a b c : Bool) (n : ℕ) (m : Bool) → a ≡ true → b ≡ true
+    → cond a (cond b (cond c (ANumber (cond m (neg_ℤ (pos n)) (pos n))) OutOfRange) NoNumber) AName
+    ≡ cond c (ANumber (cond m (neg_ℤ (pos n)) (pos n))) OutOfRange
+spelled_by_tests true true c n m p q = refl
+spelled_by_tests _ _ c n m p q = absurd cc
+
+-- a numeral that is a sign and a decimal spells its thousandths
+pub decimal_spelled : (token whole decimals : List ℕ) → is_numeral token ≡ true
+    → IsSplit (without_leading_sign token) whole decimals
+    → spelling_by (starts_with_minus token) (parts_value whole decimals) ≡ spelling_of token
+unfolding spelling_of
+decimal_spelled token whole decimals n s =
+    let same = ap₂ parts_value s.before s.behind in
+    ap (spelling_by (starts_with_minus token)) (sym same)
+    ∙ sym (spelled_by_tests (is_numeral token) (is_well_spelled token) (is_in_range token)
+    (thousandths (without_leading_sign token)) (starts_with_minus token) n s.decimal)
+
+-- another numeral spells no number
+pub no_decimal_spelled : (token : List ℕ) → is_numeral token ≡ true
+    → is_decimal (without_leading_sign token) ≡ false → NoNumber ≡ spelling_of token
+unfolding spelling_of
+no_decimal_spelled token n h = rw (n, h) refl
+
+-- a decimal in range is not refused
+pub decimal_passes : (token : List ℕ) (from : ℕ) → is_well_spelled token ≡ true → is_in_range token ≡ true
     → numeral_refusal (spelling_of token) from ≡ None
 unfolding spelling_of
-whole_number_passes token from whole fits =
-    let read : cond (is_whole token) (cond (is_in_range token) (ANumber (signed_digits_value 10 token)) OutOfRange)
-    NoNumber ≡ ANumber (signed_digits_value 10 token) = rw (whole, fits) refl in
-    elim (is_numeral token) as (λ b. numeral_refusal (cond b (cond (is_whole token) (cond (is_in_range token)
-    (ANumber (signed_digits_value 10 token)) OutOfRange) NoNumber) AName) from ≡ None) [
+decimal_passes token from whole fits =
+    let read : cond (is_well_spelled token) (cond (is_in_range token) (ANumber (number_spelled token)) OutOfRange)
+    NoNumber ≡ ANumber (number_spelled token) = rw (whole, fits) refl in
+    elim (is_numeral token) as (λ b. numeral_refusal (cond b (cond (is_well_spelled token) (cond (is_in_range token)
+    (ANumber (number_spelled token)) OutOfRange) NoNumber) AName) from ≡ None) [
       | true ↦ rw read refl
       | false ↦ refl
     ]
-
--- the number of so few digits is small
-pub small_value : (ds : List ℕ) → AllDigits 10 ds → length ds ≤ 18 → digits_value 10 ds < 10 ^ 18
-small_value ds digits short =
-    let whole : digits_value 10 ds < 10 ^ length ds = digits_value-lt 10 ds digits in
-    let most : 10 ^ length ds ≤ 10 ^ 18 = pow-le-pow_right (omega arith) short in
-    omega arith
-
--- and so is that of the first of them
-pub small_so_far : (ds : List ℕ) (i : ℕ) → AllDigits 10 ds → length ds ≤ 18 → digits_value 10 (take i ds) < 10 ^ 18
-small_so_far ds i digits short =
-    let whole = small_value ds digits short in
-    let part : digits_value 10 (take i ds) ≤ digits_value 10 ds = digits_value-take-le 10 ds i (omega arith) in
-    omega arith
-
--- a small number fits 64 bits
-pub small_number_fits : (n : ℕ) → n < 10 ^ 18 → FitsSigned w64 (pos n)
-small_number_fits n h = let l : n < 2 ^ 63 = omega arith in omega (arith, ints)
-
--- a digit is no sign
-digit_no_sign : (b : ℕ) → is_digit b ≡ true → (b == 45 ≡ false) × (b == 43 ≡ false)
-digit_no_sign b h = (grind (arith, nat_tests), grind (arith, nat_tests))
-
--- digits have no sign
-pub no_sign : (token : List ℕ) → list_all is_digit token ≡ true
-    → (starts_with_minus token ≡ false) × (without_leading_sign token ≡ token)
-no_sign [] h = (refl, refl)
-no_sign (b ∷ bs) h =
-    let p = and_parts (is_digit b) (list_all is_digit bs) h in
-    let n = digit_no_sign b p.0 in
-    (n.0, rw (n.0, n.1) refl)
-
--- the number of digits is what they spell
-pub digits_spell : (token : List ℕ) → list_all is_digit token ≡ true
-    → signed_digits_value 10 token ≡ pos (digits_value 10 token)
-digits_spell token h =
-    let n = no_sign token h in
-    let same : signed_digits_value 10 token
-    ≡ cond (starts_with_minus token) (neg_ℤ (pos (digits_value 10 token))) (pos (digits_value 10 token)) =
-    ap (λ ds. cond (starts_with_minus token) (neg_ℤ (pos (digits_value 10 ds))) (pos (digits_value 10 ds))) n.1 in
-    same ∙ ap (λ b. cond b (neg_ℤ (pos (digits_value 10 token))) (pos (digits_value 10 token))) n.0
