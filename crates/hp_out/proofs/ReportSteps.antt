@@ -1,5 +1,6 @@
 -- The texts of plans and endings, of the parts that are put one behind the other.
 use Rattle.std.proofs.Common.{◌≡◌, ℕ, ◌<◌, ◌^◌, ◌-◌, ℤ, FitsSigned, to_z, of_z, List, ◌++◌, Option, Some, None, Bool, true, false, cond, [], length, codes, decimal, min, refl, ap, sym, ◌∙◌, arith, append_assoc, append-nil}
+use Rattle.std.specs.Prelude.{◌/◌, ◌%◌, pos, int_lt, unsigned_abs}
 use Rattle.std.specs.Int.{w128}
 use Rattle.std.specs.Option.{MatchOption}
 use Rattle.std.proofs.lemmas.Int.{to_z-of_z}
@@ -9,7 +10,8 @@ use Rattle.hp_syntax.specs.PlaceTexts.{at_span}
 use Rattle.hp_syntax.specs.Report as report
 use Rattle.hp_syntax.specs.Report.{lines_text, plan_line, plan_text, state_text, told_plan, ending_word, ending_text}
 use Rattle.hp_syntax.specs.Terms.{Term}
-use Rattle.hp_syntax.specs.TermTexts.{num_text}
+use Rattle.hp_syntax.specs.TermTexts.{decimals_text, num_text}
+use Rattle.hp_out.proofs.TermSteps.{number_words}
 use Rattle.hp_syntax.specs.declared.pattern.Span.{Span}
 use Rattle.hp_syntax.specs.Walk.{Node}
 use Rattle.hp_world.specs.Stages.{Stage, live_atoms, terms_at, state_of, guards_of}
@@ -37,12 +39,30 @@ plan_parts n i cost terms steps s c fits =
     ap (λ t. t ++ lines_text (terms_at terms steps)) (line_part n i cost terms steps s c fits)
     ∙ ap (λ ts. plan_line i n.cost (length n.steps) ++ lines_text ts) (sym s)
 
+-- texts one behind the other, however they are put together
+pieces : (p a q b r c s : List ℕ)
+    → p ++ (a ++ (q ++ (b ++ (r ++ (c ++ s))))) ≡ p ++ a ++ q ++ b ++ r ++ c ++ s
+pieces p a q b r c s = simp append_assoc
+
 -- the words of the line of a plan
-pub plan_words : (i : ℕ) (cost : ℤ) (count : ℕ) (a b c : List ℕ) → a ≡ decimal i → b ≡ num_text cost
+line_words : (i : ℕ) (cost : ℤ) (count : ℕ) (a b c : List ℕ) → a ≡ decimal i → b ≡ num_text cost
     → c ≡ decimal count
     → codes "plan " ++ (a ++ (codes " cost " ++ (b ++ (codes " steps " ++ (c ++ codes "\n"))))) ≡ plan_line i cost count
 unfolding plan_line
-plan_words i cost count a b c p q r = rw (p, q, r) (simp append_assoc)
+line_words i cost count a b c p q r =
+    rw (p, q, r)
+    (pieces (codes "plan ") (decimal i) (codes " cost ") (num_text cost) (codes " steps ") (decimal count) (codes "\n"))
+
+-- they are these where the cost is a sign, digits and decimals
+pub plan_words : (i : ℕ) (cost : ℤ) (count : ℕ) (a b c d e : List ℕ) → a ≡ decimal i
+    → b ≡ cond (int_lt cost (pos 0)) (codes "-") [] → c ≡ decimal (unsigned_abs cost / 1000)
+    → d ≡ decimals_text (unsigned_abs cost % 1000) → e ≡ decimal count
+    → codes "plan " ++ (a ++ (codes " cost " ++ (b ++ (c ++ (d ++ (codes " steps " ++ (e ++ codes "\n")))))))
+    ≡ plan_line i cost count
+plan_words i cost count a b c d e p q r s t =
+    let rest : List ℕ = codes " steps " ++ (e ++ codes "\n") in
+    ap (λ (x : List ℕ). codes "plan " ++ (a ++ (codes " cost " ++ x))) (number_words cost b c d rest q r s)
+    ∙ line_words i cost count a (num_text cost) e p refl t
 
 -- ---- states
 

@@ -1,6 +1,7 @@
 -- The texts of terms that cells name.
-use Rattle.std.proofs.Common.{◌≡◌, ℕ, ℤ, ◌<◌, List, [], ◌∷◌, ◌++◌, Option, Some, None, length, codes, get_or, slice_get, refl, ap, sym, ◌∙◌, append-nil}
-use Rattle.std.specs.Fmt.{signed_decimal}
+use Rattle.std.proofs.Common.{◌≡◌, ℕ, ℤ, ◌<◌, List, [], ◌∷◌, ◌++◌, Option, Some, None, length, codes, get_or, slice_get, refl, ap, sym, ◌∙◌, append_assoc, append-nil}
+use Rattle.std.specs.Prelude.{◌/◌, ◌%◌, cond, pos, int_lt, unsigned_abs}
+use Rattle.std.specs.Fmt.{decimal}
 use Rattle.std.proofs.lemmas.List.{map-append}
 use Rattle.std.proofs.lemmas.List.Concat.{flat_map-append}
 use Rattle.std.proofs.lemmas.Option.{slice_get_within, get_or_from_slice_get}
@@ -15,7 +16,7 @@ use Rattle.hp_eval.specs.GoalViews.{term_at}
 use Rattle.hp_out.proofs.PageSteps.{Joins}
 use Rattle.hp_syntax.specs.Report.{lines_text}
 use Rattle.hp_syntax.specs.Terms.{Term, Terms, Symbol, Number, Listed, NoTerm}
-use Rattle.hp_syntax.specs.TermTexts.{term_text, terms_text}
+use Rattle.hp_syntax.specs.TermTexts.{decimals_text, num_text, term_text, terms_text}
 use Rattle.hp_world.specs.Stages.{live_atoms, terms_at}
 use Rattle.hp_world.proofs.StageLemmas.{live_joined}
 
@@ -60,8 +61,21 @@ module _ (terms : List Term) (cell head tail : ℕ) (c : IsCons terms head tail 
 pub symbol_text : (name : List ℕ) (t : Term) → t ≡ Symbol name → name ≡ term_text t
 symbol_text name t e = sym (ap term_text e)
 
--- a number has its digits as its text
-pub number_text : (n : ℤ) (t : Term) → t ≡ Number n → signed_decimal n ≡ term_text t
+-- three texts one behind the other, before a fourth
+joined : (x y z rest : List ℕ) → x ++ (y ++ (z ++ rest)) ≡ x ++ y ++ z ++ rest
+joined x y z rest = sym (append_assoc (x ++ y) z rest ∙ append_assoc x y (z ++ rest))
+
+-- a sign, digits and decimals are the text of a number
+pub number_words : (n : ℤ) (a b c rest : List ℕ) → a ≡ cond (int_lt n (pos 0)) (codes "-") []
+    → b ≡ decimal (unsigned_abs n / 1000) → c ≡ decimals_text (unsigned_abs n % 1000)
+    → a ++ (b ++ (c ++ rest)) ≡ num_text n ++ rest
+number_words n a b c rest p q r =
+    rw (p, q, r)
+    (joined (cond (int_lt n (pos 0)) (codes "-") []) (decimal (unsigned_abs n / 1000))
+    (decimals_text (unsigned_abs n % 1000)) rest)
+
+-- a number has the text of a number
+pub number_text : (n : ℤ) (t : Term) → t ≡ Number n → num_text n ≡ term_text t
 number_text n t e = sym (ap term_text e)
 
 -- where the cell of a list names no more parts, the closing bracket follows

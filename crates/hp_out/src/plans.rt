@@ -13,10 +13,11 @@ use crate::terms::{push_atoms, push_lines};
 use hp_cells::{Cell, Cells};
 use hp_io::{Failed, Sink};
 use hp_net::Walk;
+use hp_syntax::{Decimals, sign};
 use hp_world::World;
 use itoa::Buffer;
 
-/// Puts the line of a plan on a page.
+/// Puts the line of a plan on a page, whose cost is a count of thousandths.
 #[tactic(auto, unfolding(hp_syntax::specs::Report::plan_line))]
 fn push_line<K: Sink>(
     page: &mut Page,
@@ -30,6 +31,8 @@ fn push_line<K: Sink>(
     ensures later { K.faults sink.old ≤ K.faults sink.new }
     ensures cause { OnErr result (Rose (K.faults sink.old) (K.faults sink.new)) }
 {
+    let magnitude = cost.unsigned_abs();
+    let decimals = Decimals::new((magnitude % 1000) as u32);
     let mut first = Buffer::new();
     let mut second = Buffer::new();
     let mut third = Buffer::new();
@@ -39,7 +42,9 @@ fn push_line<K: Sink>(
             b"plan ",
             first.format(number).as_bytes(),
             b" cost ",
-            second.format(cost).as_bytes(),
+            sign(cost < 0),
+            second.format(magnitude / 1000).as_bytes(),
+            decimals.as_bytes(),
             b" steps ",
             third.format(steps).as_bytes(),
             b"\n",

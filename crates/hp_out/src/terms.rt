@@ -7,14 +7,29 @@ ghost use Rattle.hp_eval.specs.GoalViews.{term_at};
 ghost use Rattle.hp_io.specs.Rules.{Rose};
 ghost use Rattle.hp_out.specs.Pages.{desk, Puts};
 ghost use Rattle.hp_syntax.specs.Report.{lines_text};
-ghost use Rattle.hp_syntax.specs.TermTexts.{term_text, terms_text};
+ghost use Rattle.hp_syntax.specs.TermTexts.{num_text, term_text, terms_text};
 ghost use Rattle.hp_world.specs.Stages.{AllBelow, StageBelow, live_atoms, state_of, terms_at};
 
 use crate::page::Page;
 use hp_cells::{Cell, Cells, View};
 use hp_io::{Failed, Sink};
+use hp_syntax::{Decimals, sign};
 use hp_world::World;
 use itoa::Buffer;
+
+// Puts a number on a page, by its count of thousandths.
+fn push_number<K: Sink>(page: &mut Page, sink: &mut K, number: i64) -> Result<(), Failed>
+    ensures puts { Puts result (num_text number)
+        (desk (K.bytes sink.old) page.old) (desk (K.bytes sink.new) page.new) }
+    ensures later { K.faults sink.old ≤ K.faults sink.new }
+    ensures cause { OnErr result (Rose (K.faults sink.old) (K.faults sink.new)) }
+{
+    let magnitude = number.unsigned_abs();
+    let decimals = Decimals::new((magnitude % 1000) as u32);
+    let mut whole = Buffer::new();
+    let digits = whole.format(magnitude / 1000).as_bytes();
+    page.push_all(sink, &[sign(number < 0), digits, decimals.as_bytes()])
+}
 
 /// Puts the text of a term on a page.
 #[cycle(term)]
@@ -33,10 +48,7 @@ pub fn push_term<K: Sink>(
     match cells.get(cell) {
         View::Nil => page.push(sink, b"()"),
         View::Sym(name) => page.push(sink, name.bytes()),
-        View::Num(n) => {
-            let mut number = Buffer::new();
-            page.push(sink, number.format(n).as_bytes())
-        }
+        View::Num(n) => push_number(page, sink, n),
         View::Cons(head, tail) => {
             page.push(sink, b"(")?;
             push_term(page, sink, cells, head)?;

@@ -72,6 +72,7 @@ pub fn fault_word(kind: FaultKind) -> &'static [u8]
         FaultKind::NegativePower => b"NegativePower",
         FaultKind::NotList => b"NotList",
         FaultKind::TooDeep => b"TooDeep",
+        FaultKind::FractionPower => b"FractionPower",
     }
 }
 

@@ -1,11 +1,10 @@
 use Rattle.std.proofs.Common.{◌≡◌, ◌<◌, ◌++◌, FitsSigned, w64, ap, arith, codes, length, refl, rules, ◌∙◌}
-use Rattle.std.specs.Fmt.{signed_decimal}
 use Rattle.std.proofs.lemmas.Int.{to_z-of_z}
 use Rattle.hp_cells.specs.Cells.{NamesList}
 use Rattle.hp_cells.specs.declared.keys.View.TheVariants.{Sym, Num, Cons}
 use Rattle.hp_eval.specs.GoalViews.{term_at}
 use Rattle.hp_syntax.specs.Terms.{Symbol, Number}
-use Rattle.hp_syntax.specs.TermTexts.{term_text}
+use Rattle.hp_syntax.specs.TermTexts.{num_text, term_text}
 use Rattle.hp_out.proofs.PageSteps.{first_not_put, rest_put, rest_of_whole, part_not_put, less_left, puts_same}
 use Rattle.hp_out.proofs.TermSteps.{shown_at, cons_shown, rest_at, head_within, tail_list, cons_text, parts_text, symbol_text, number_text, end_text}
 use Rattle.hp_out.proofs.terms.+term.Goals as goal
@@ -130,10 +129,9 @@ push_term-returns-in-Num-clause-puts g t c =
     let fits : FitsSigned w64 n = search rules in
     let shown : term_at terms c.args.cell ≡ Number n =
     shown_at terms c.args.cell (Num n) c.requires c.in-Num.ensures.shows in
-    puts_same c.push-in-Num.result _ _ _ _
-    (c.as_bytes.ensures.value ∙ c.format.ensures.text ∙ ap signed_decimal (to_z-of_z w64 n fits)
-    ∙ number_text n (term_at terms c.args.cell) shown)
-    c.push-in-Num.ensures.puts
+    puts_same c.push_number.result _ _ _ _
+    (ap num_text (to_z-of_z w64 n fits) ∙ number_text n (term_at terms c.args.cell) shown)
+    c.push_number.ensures.puts
 
 pub push_term-returns-in_ok-push_term-in-Cons-clause-puts : goal.push_term-returns-in_ok-push_term-in-Cons-clause-puts
 push_term-returns-in_ok-push_term-in-Cons-clause-puts g t c =
