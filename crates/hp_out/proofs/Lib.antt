@@ -1,5 +1,6 @@
 pub mod WritingLemmas
 pub mod PageSteps
+pub mod PagedSteps
 pub mod ReportSteps
 pub mod TermSteps
 pub mod WriteSteps

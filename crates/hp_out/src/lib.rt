@@ -4,6 +4,7 @@
 mod ending;
 mod endings;
 mod page;
+mod paged;
 mod pen;
 mod plans;
 mod refusal;
@@ -12,6 +13,7 @@ mod words;
 mod writing;
 
 pub use ending::Ending;
+pub use paged::{Origin, Paged};
 pub use pen::Pen;
 pub use refusal::Refusal;
 pub use words::text_of;

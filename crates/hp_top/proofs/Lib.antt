@@ -6,6 +6,7 @@ pub mod NoteSteps
 pub mod NumberSteps
 pub mod OptionSteps
 pub mod Outcomes
+pub mod PagingSteps
 pub mod PairSteps
 pub mod PlanEnds
 pub mod ReportLemmas

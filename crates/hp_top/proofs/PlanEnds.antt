@@ -83,6 +83,10 @@ pub tells_equal : (a b : Answer) (o : Result Status Halt) (s : Status) (r : Sink
 tells_equal a b o s r e same h =
     subst (λ s. Tells b s r) (sym same) (subst (λ a. Tells a (status_told o) r) e (tells_what_is_told a o r h))
 
+-- a run tells an answer that is equal to one that it tells
+pub tells_same : (a b : Answer) (s : Status) (r : SinkRun) → a ≡ b → Tells a s r → Tells b s r
+tells_same a b s r e h = subst (λ a. Tells a s r) e h
+
 -- where the checks find no fault, telling the answer of the job is telling that of the command
 pub tells_read : (d : plain.Domain) (p : plain.Problem) (job j : Job) (s : Status) (r : SinkRun)
     → first_fault d p ≡ None → job ≡ j → Tells (job_answer j d p) s r

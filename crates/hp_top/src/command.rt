@@ -79,10 +79,10 @@ fn serve<F: Folder, K: Sink>(alloc: Global, words: &[String], folder: &mut F, ou
     }
 }
 
-/// Runs a command. `plan DOMAIN PROBLEM K DEPTH` writes the first K plans down to that depth, each
-/// as soon as it is found, and one ending line. Behind these words `--nest N` says how deep axioms may
-/// call one another (else 64), `--states` has each plan told with the state that it leads to, and
-/// `--plain` has the plans looked for by the engine of copies.
+/// Runs a command. `plan DOMAIN PROBLEM K DEPTH` writes the first K plans down to that depth, the
+/// first thousands as soon as they are found and later ones by pages, and one ending line. Behind these
+/// words `--nest N` says how deep axioms may call one another (else 64), `--states` has each plan told
+/// with the state that it leads to, and `--plain` has the plans looked for by the engine of copies.
 /// `check DOMAIN PROBLEM` writes how many rules and atoms there are, a note for each task that no rule
 /// serves, and `accepted`. `show DOMAIN PROBLEM` writes both in canonical text. `code DOMAIN` writes the
 /// listing of the code that the domain is compiled to. `make SEED N` reads no file: it makes a problem

@@ -7,6 +7,7 @@ mod command;
 pub mod laws;
 mod loading;
 mod making;
+mod paging;
 mod pairs;
 mod planning;
 mod reading;

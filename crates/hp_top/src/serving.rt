@@ -16,7 +16,8 @@ ghost use Rattle.hp_top.specs.Words.{IsAsked, IsPlanned, job_of};
 
 use crate::checking::tell_accepted;
 use crate::loading::Loaded;
-use crate::pairs::{Engine, Wanted, tell_pairs};
+use crate::paging::tell_in_pages;
+use crate::pairs::{Engine, Wanted};
 use crate::planning::Detail;
 use crate::refusing::refuse;
 use crate::showing::show;
@@ -96,7 +97,7 @@ fn serve_plan_by_copies<K: Sink>(
     accepted_pairs_are_ground();
     let engine = Engine::Copies(&loaded.domain);
     let pairs = loaded.problem.pairs.as_slice();
-    status_told(tell_pairs(alloc, engine, pairs, wanted_by(asked), out))
+    tell_in_pages(alloc, engine, pairs, wanted_by(asked), out)
 }
 
 /// Looks for the plans of an accepted domain and problem in place.
@@ -118,7 +119,7 @@ fn serve_plan_in_place<K: Sink>(alloc: Global, loaded: &Loaded, asked: Asked, ou
     };
     let engine = Engine::InPlace(&code);
     let pairs = loaded.problem.pairs.as_slice();
-    status_told(tell_pairs(alloc, engine, pairs, wanted_by(asked), out))
+    tell_in_pages(alloc, engine, pairs, wanted_by(asked), out)
 }
 
 /// Looks for the plans of an accepted domain and problem, by the engine that is asked for.

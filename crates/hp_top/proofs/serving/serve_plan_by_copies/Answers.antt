@@ -1,7 +1,7 @@
 use Rattle.std.proofs.Common.{refl}
 use Rattle.hp_out.specs.Writing.{sink_run}
 use Rattle.hp_syntax.specs.Views.{domain_of, problem_of}
-use Rattle.hp_top.proofs.PlanEnds.{plans_wanted, tells_equal}
+use Rattle.hp_top.proofs.PlanEnds.{plans_wanted, tells_same}
 use Rattle.hp_top.proofs.serving.serve_plan_by_copies.Goals as goal
 
 pub returns-clause-tells : goal.returns-clause-tells
@@ -9,15 +9,15 @@ returns-clause-tells g c =
     let rules = (domain_of c.args.loaded.now.domain).rules in
     let asked = c.args.asked in
     let wanted = c.wanted_by.ensures in
-    tells_equal _ _ c.tell_pairs.result c.status_told.result
-    (sink_run (g.K.Sink.faults c.args.out.now) (g.K.Sink.faults c.tell_pairs.new.out) (g.K.Sink.bytes c.args.out.now)
-    (g.K.Sink.bytes c.tell_pairs.new.out))
+    tells_same _ _ c.tell_in_pages.result
+    (sink_run (g.K.Sink.faults c.args.out.now) (g.K.Sink.faults c.tell_in_pages.new.out) (g.K.Sink.bytes c.args.out.now)
+    (g.K.Sink.bytes c.tell_in_pages.new.out))
     (plans_wanted c.wanted_by.result asked.options.states asked.plans asked.options.levels asked.depth rules
     (problem_of c.args.loaded.now.problem).pairs wanted.detail wanted.plans wanted.levels wanted.depth)
-    c.status_told.ensures (rw c.as_slice-pairs.ensures.value at (c.tell_pairs.ensures.told rules refl))
+    (rw c.as_slice-pairs.ensures.value at (c.tell_in_pages.ensures.tells rules refl))
 
-pub tell_pairs-requires-clause-pairs : goal.tell_pairs-requires-clause-pairs
-tell_pairs-requires-clause-pairs g c =
+pub tell_in_pages-requires-clause-pairs : goal.tell_in_pages-requires-clause-pairs
+tell_in_pages-requires-clause-pairs g c =
     rw c.as_slice-pairs.ensures.value
     (c.accepted_pairs_are_ground.ensures c.requires.text.0 (domain_of c.args.loaded.now.domain)
     (problem_of c.args.loaded.now.problem) c.requires.text.1 c.requires.checked)
