@@ -19,12 +19,9 @@ pub enum Shown {
     WayBack,
 }
 
-/// The cost of a plan, the place where it was found, and its lines.
+/// The place where a plan was found, and its lines, which tell its cost.
 fn print_found(rt: &impl Print, found: &CheapestPlan) -> io::Result<()> {
-    println!(rt;
-        "the cheapest costs {}, at path {:?}",
-        found.cost, found.path
-    )?;
+    println!(rt; "the cheapest is at path {:?}", found.path)?;
     io::writer(rt).write_all(found.text.as_slice())
 }
 

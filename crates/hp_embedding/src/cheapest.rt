@@ -14,6 +14,7 @@ use thiserror::Error;
 
 /// A plan that was found.
 pub struct CheapestPlan {
+    /// A count of thousandths.
     pub cost: i128,
     /// For each decomposition on the way its number among those of its parent.
     pub path: Vec<u64>,

@@ -32,7 +32,7 @@ go = record {
   pre = Plain (Or nowhere (Also truth (Also truth NoExpression)));
   dels = [];
   adds = [];
-  cost = syntax.Number nowhere (pos 1);
+  cost = syntax.Number nowhere (pos 1000);
 }
 
 abbrev pub root_node : Node
@@ -53,7 +53,7 @@ leaf = record {
   network = Empty;
   focus = None;
   steps = task ∷ [];
-  cost = pos 1;
+  cost = pos 1000;
   depth = 0;
 }
 

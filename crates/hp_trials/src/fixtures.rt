@@ -25,7 +25,7 @@ pub fn symbol(alloc: Global, cells: &mut Cells, word: &[u8]) -> Result<Cell, All
     cells.sym(&name)
 }
 
-/// The number that a cell names, if there is a cell and it names one.
+/// The number that a cell names, by its thousandths, if there is a cell and it names one.
 pub fn number(cells: &Cells, cell: Option<Cell>) -> Option<i64> {
     match cell {
         Some(cell) if cell.index() < cells.len() => match cells.get(cell) {

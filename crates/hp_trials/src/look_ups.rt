@@ -44,7 +44,7 @@ fn show_rounds(page: &mut Page, alloc: Global, cells: &mut Cells) -> Result<(), 
     let table = make_table(alloc, cells)?;
     page.told("symbols that are found", &found_symbols(alloc, cells));
     page.line("atoms that are found by their parts", &found(cells, &table));
-    let number = cells.find_num(7);
+    let number = cells.find_num(7_000);
     page.line("a number that stands nowhere is found", &number.is_some());
     show_differing(page, alloc, cells, &table)?;
     let compared = compared_satisfiers(alloc, &table, cells);

@@ -52,7 +52,7 @@ impl Page {
         }
     }
 
-    /// What a call of two numbers gave.
+    /// What a call of two numbers gave, each by its thousandths.
     pub fn call<T: Debug>(&mut self, name: &str, m: i64, n: i64, given: &T) {
         if writeln!(self.text, "  ({name} {m} {n}): {given:?}").is_err() {
             self.is_whole = false;

@@ -29,7 +29,7 @@ fn by_argument(
     let mut replacements = Vec::new(alloc);
     let mut number = 0;
     for _round in 0..count {
-        let argument = Some(cells.num(i64::from(number))?);
+        let argument = Some(cells.num(i64::from(number) * 1_000)?);
         if let Some(atom) = atoms.get(number as usize) {
             let atom = *atom;
             replacements.push(Replacement { argument, atom })?;

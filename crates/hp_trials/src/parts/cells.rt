@@ -27,7 +27,7 @@ fn show_terms(page: &mut Page, cells: &mut Cells, name: &Name) -> Result<(), All
     page.title("Each term stands once");
     let a = cells.sym(name)?;
     let list = list_of(cells, a)?;
-    let three = cells.num(3)?;
+    let three = cells.num(3_000)?;
     page.line("a is neither (a) nor 3", &(a != list && a != three));
     let again = cells.sym(name)?;
     page.line("a is the same again", &(again == a));
@@ -50,7 +50,7 @@ fn is_list_of(cells: &Cells, list: Cell, part: Cell) -> bool
 // How deep 3, (3) and ((3)) nest.
 fn show_depths(page: &mut Page, cells: &mut Cells) -> Result<(), AllocError> {
     page.title("Depths and parts are told");
-    let three = cells.num(3)?;
+    let three = cells.num(3_000)?;
     page.line("depth of 3", &cells.depth(three));
     let inner = list_of(cells, three)?;
     page.line("depth of (3)", &cells.depth(inner));

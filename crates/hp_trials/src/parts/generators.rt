@@ -33,7 +33,7 @@ const DOWNWARD: SortKey = SortKey {
     order: SortOrder::Down,
 };
 
-// What a variable stands for.
+// What a variable stands for, a number by its thousandths.
 #[derive(Clone, Copy, Debug)]
 enum Value {
     Free,

@@ -41,7 +41,7 @@ fn show_filled(
 ) -> Result<(), AllocError> {
     let a = symbol(alloc, cells, b"a")?;
     let f = symbol(alloc, cells, b"f")?;
-    let three = cells.num(3)?;
+    let three = cells.num(3_000)?;
     match filled(alloc, cells, atom) {
         Ok(goal) => show_parts(page, &goal, a, f, three),
         Err(stop) => page.line("it stops", &stop),

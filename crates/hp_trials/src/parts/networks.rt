@@ -137,10 +137,10 @@ fn show_immediate(
 }
 
 fn four_tasks(cells: &mut Cells) -> Result<[Cell; 4], AllocError> {
-    let x = cells.num(1)?;
-    let y = cells.num(2)?;
-    let a = cells.num(3)?;
-    let b = cells.num(4)?;
+    let x = cells.num(1_000)?;
+    let y = cells.num(2_000)?;
+    let a = cells.num(3_000)?;
+    let b = cells.num(4_000)?;
     Ok([x, y, a, b])
 }
 

@@ -27,7 +27,7 @@ const DOWNWARD: SortKey = SortKey {
     order: SortOrder::Down,
 };
 
-// Five events, and the number that ?1 stands for after each.
+// Five events, and the number that ?1 stands for after each, by its thousandths.
 type Told = [(Event, Option<i64>); 5];
 
 // Cells of three numbers.
@@ -44,9 +44,9 @@ fn three_numbers(cells: &mut Cells) -> Result<Numbers, AllocError>
     ensures one { IfOk result (λ n. n.one < length cells.new) }
     ensures five { IfOk result (λ n. n.five < length cells.new) }
 {
-    let nine = cells.num(9)?;
-    let one = cells.num(1)?;
-    let five = cells.num(5)?;
+    let nine = cells.num(9_000)?;
+    let one = cells.num(1_000)?;
+    let five = cells.num(5_000)?;
     Ok(Numbers { nine, one, five })
 }
 

@@ -188,8 +188,8 @@ impl Walk for Twins {
     fn cost(&self) -> i128 {
         match self.at {
             At::Root => 0,
-            At::First => 1,
-            At::Second => 1,
+            At::First => 1_000,
+            At::Second => 1_000,
         }
     }
 

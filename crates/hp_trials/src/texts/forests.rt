@@ -12,7 +12,7 @@ const ACCEPTED: [&[u8]; 12] = [
     b"a (b)c\t\r\nd",
     b"()",
     b"+ - . .a -a -. +. .. ?x :m !m nil",
-    b"0 -1 +007 9223372036854775807 -9223372036854775808",
+    b"0 -1 +007 .5 +.500 5. 9223372036854775.807 -9223372036854775.808",
     b"1(2)3",
     b"a;b (\nc",
     b"a;b",
@@ -20,21 +20,25 @@ const ACCEPTED: [&[u8]; 12] = [
     b"a ; b\n;c\n\n d;",
 ];
 
-const REFUSED: [&[u8]; 25] = [
+const REFUSED: [&[u8]; 29] = [
     b"a\xc8",
     b"a\x00",
     b"\x7f",
     b"(a \"b\")",
     b"; \xc8\n \xc8",
     b" 1a",
-    b"(+.5)",
-    b"-.5",
-    b".5",
-    b"1.5 )",
+    b"(+.5000)",
+    b"-.5.",
+    b".5-",
+    b"0.5000",
+    b"1e5",
+    b"0.5.1",
+    b"1..5",
+    b"1.x )",
     b"a 1-;)",
-    b"9223372036854775808",
-    b" -9223372036854775809",
-    b"+9223372036854775808",
+    b"9223372036854775.808",
+    b" -9223372036854775.809",
+    b"+9223372036854775.808",
     b"99999999999999999999999999999999999999999",
     b"(",
     b"((a)",
@@ -48,15 +52,23 @@ const REFUSED: [&[u8]; 25] = [
     b"1a\x00",
 ];
 
-const NUMBERS: [&[u8]; 8] = [
+const NUMBERS: [&[u8]; 16] = [
     b"0",
     b"+0",
     b"-0",
     b"+007",
     b"-12",
-    b"9223372036854775807",
-    b"-9223372036854775808",
-    b"-00000000000000000000000009223372036854775808",
+    b".5",
+    b"+.500",
+    b"-0.5",
+    b"-.0",
+    b"5.",
+    b".25",
+    b".007",
+    b"999999999999999",
+    b"9223372036854775.807",
+    b"-9223372036854775.808",
+    b"-00000000000000000000000009223372036854775.808",
 ];
 
 // Brackets and tokens up to their limits and past them, and texts of 4,194,304 bytes, their limit, and of more.
@@ -88,7 +100,7 @@ fn show_sizes(page: &mut Page, alloc: Global, texts: &[&[u8]]) {
     }
 }
 
-/// The number that a text is.
+/// The number that a text is, by its thousandths.
 fn number_of(alloc: Global, text: &[u8]) -> Result<Option<i64>, TextRefusal> {
     let forest = read(alloc, text)?;
     match forest.nodes.as_slice() {
@@ -103,7 +115,7 @@ fn number_of(alloc: Global, text: &[u8]) -> Result<Option<i64>, TextRefusal> {
 }
 
 fn show_numbers(page: &mut Page, alloc: Global) {
-    page.title("Numbers are read");
+    page.title("Numbers are read, by their thousandths");
     for text in &NUMBERS {
         page.row(text, &number_of(alloc, text));
     }

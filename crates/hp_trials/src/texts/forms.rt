@@ -43,7 +43,7 @@ fn show_wide_problems(page: &mut Page, alloc: Global) -> Result<(), AllocError> 
 fn costs_one(domain: &Domain) -> bool {
     match domain.rules.as_slice() {
         [Rule::Operator(operator)] => {
-            matches!(operator.cost.kind, PatKind::Num(1)) && operator.cost.span == operator.span
+            matches!(operator.cost.kind, PatKind::Num(1_000)) && operator.cost.span == operator.span
         }
         _ => false,
     }

@@ -8,12 +8,12 @@ use std::alloc::{AllocError, Global};
 
 fn pair(alloc: Global) -> Result<Ground, AllocError> {
     let symbol = Ground::Sym(Name::new(alloc, b"a")?);
-    Ok(Ground::List(vec![in alloc; symbol, Ground::Num(3)]?))
+    Ok(Ground::List(vec![in alloc; symbol, Ground::Num(3_000)]?))
 }
 
 fn nested(alloc: Global) -> Result<Ground, AllocError> {
     let empty = Ground::List(Vec::new(alloc));
-    Ok(Ground::List(vec![in alloc; empty, Ground::Num(-7)]?))
+    Ok(Ground::List(vec![in alloc; empty, Ground::Num(-7_500)]?))
 }
 
 fn text_of(alloc: Global, ground: Result<Ground, AllocError>) -> Result<Vec<u8>, AllocError> {

@@ -11,9 +11,9 @@ returns-in-Root c =
 pub returns-in-First : goal.returns-in-First
 returns-in-First c =
     let self = c.args.self.now in
-    at_node self.at self.left self.at_did (λ n. pos 1 ≡ n.cost) (ap (λ a. (node_of a).cost) (sym c.in-First.is))
+    at_node self.at self.left self.at_did (λ n. pos 1000 ≡ n.cost) (ap (λ a. (node_of a).cost) (sym c.in-First.is))
 
 pub returns-in-Second : goal.returns-in-Second
 returns-in-Second c =
     let self = c.args.self.now in
-    at_node self.at self.left self.at_did (λ n. pos 1 ≡ n.cost) (ap (λ a. (node_of a).cost) (sym c.in-Second.is))
+    at_node self.at self.left self.at_did (λ n. pos 1000 ≡ n.cost) (ap (λ a. (node_of a).cost) (sym c.in-Second.is))
