@@ -1,3 +1,5 @@
+pub mod Counts
 pub mod NetSteps
+pub mod NextVisits
 pub mod RunLemmas
 pub mod StandingLemmas

@@ -1,8 +1,8 @@
 -- Places of a walk of a tree, and the place that each call leads to.
-use Rattle.std.specs.Prelude.{◌≡◌, ℕ, ◌-◌, ◌^◌, min, Bool, false, cond, List, [], ◌∷◌, length, map, Option, Some, None}
+use Rattle.std.specs.Prelude.{◌≡◌, ℕ, Bool, false, cond, List, [], ◌∷◌, length, Option, Some, None}
 use Rattle.hp_syntax.specs.Terms.{Term}
 use Rattle.hp_syntax.specs.Syntax.{Rule}
-use Rattle.hp_syntax.specs.Walk.{Node, Visit, Did, Plan, CutHere, FaultHere, is_did, is_fault_here, node_at, begins, skip}
+use Rattle.hp_syntax.specs.Walk.{Node, Visit, Did, Plan, CutHere, FaultHere, is_did, is_fault_here, node_at, begins, skip, visits}
 use Rattle.hp_net.specs.declared.walk.Step.{Step}
 use Rattle.hp_net.specs.declared.walk.Step.TheVariants as steps
 
@@ -11,6 +11,14 @@ pub record Tree : Type 0 where
   pub rules : List Rule
   pub nest : ℕ
   pub root : Node
+
+-- all visits of a tree
+abbrev pub tree_visits : Tree → List Visit
+tree_visits t = visits t.rules t.nest t.root []
+
+-- a visit's path reaches its node from the root of a tree
+abbrev pub IsAtItsNode : Tree → Visit → Type 0
+IsAtItsNode t v = node_at t.rules t.nest t.root v.path ≡ Some v.node
 
 -- the path of the node reached, the remaining visits, and whether the last call answered a Did
 pub record Standing : Type 0 where
@@ -82,7 +90,3 @@ gone_back s = standing (parent s.path) s.rest false
 -- without what lies at or below the node reached
 abbrev pub pruned : Standing → Standing
 pruned s = standing s.path (skip s.path s.rest) false
-
--- the numbers of a path, each as it is told
-abbrev pub told : List ℕ → List ℕ
-told p = map (λ i. min i (2 ^ 64 - 1)) p

@@ -27,7 +27,8 @@ pub trait Walk {
     ghost use Rattle.hp_syntax.specs.Terms.{Term};
     ghost use Rattle.hp_world.specs.Stages.{AllBelow, StageBelow, terms_at, state_of, guards_of};
     ghost use Rattle.hp_net.specs.Standings.{Tree, Standing, HasCells, node_reached, next_below, next_of};
-    ghost use Rattle.hp_net.specs.Standings.{step_of, step_or_end, stepped, gone_on, gone_back, pruned, told};
+    ghost use Rattle.hp_net.specs.Standings.{step_of, step_or_end, stepped, gone_on, gone_back, pruned};
+    ghost use Rattle.hp_syntax.specs.Walk.{told};
 
     /// The tree that is walked.
     ghost tree: { Self → Tree };
@@ -84,7 +85,7 @@ pub trait Walk {
             (λ n. terms_at (terms self.now) result.now ≡ n.steps) }
         ensures below { AllBelow (length (terms self.now)) result.now };
 
-    /// The sum of the costs of the steps of the node reached.
+    /// The sum of the costs of the steps of the node reached, in thousandths.
     fn cost(&self) -> i128
         requires live { is_live self.now ≡ true }
         ensures { MatchOption (node_reached (tree self.now) (stands self.now)) ⊥ (λ n. result ≡ n.cost) };

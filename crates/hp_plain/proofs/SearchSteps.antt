@@ -11,13 +11,13 @@ use Rattle.hp_syntax.specs.declared.limits.TheConstants.{MOST_VARIABLES}
 use Rattle.hp_syntax.specs.Checks.{HasFewVariables}
 use Rattle.hp_syntax.specs.Syntax.{Rule, Does, Refines, Concludes}
 use Rattle.hp_syntax.specs.Terms.{Term}
-use Rattle.hp_syntax.specs.Walk.{Node, DidChild, CutChild, FaultChild, visits, node_at}
+use Rattle.hp_syntax.specs.Walk.{Node, DidChild, CutChild, FaultChild, visits, node_at, told}
 use Rattle.hp_syntax.specs.Events.{axioms_of}
 use Rattle.hp_answers.specs.RuleIndexes.{AreFew}
 use Rattle.hp_eval.specs.Growth.{Grows}
 use Rattle.hp_net.specs.declared.walk.Step.{Step}
 use Rattle.hp_net.specs.declared.walk.Step.TheVariants as steps
-use Rattle.hp_net.specs.Standings.{gone_back, next_below, pruned, standing, step_of, told}
+use Rattle.hp_net.specs.Standings.{gone_back, next_below, pruned, standing, step_of}
 use Rattle.hp_tree.specs.Successors.{Successor, ThePlan, TheChild, successors, visits_of, dids_in}
 use Rattle.hp_tree.specs.Stacks.{Level, Stack, given_at, path_to, root_of, standing_of, told_of, with_left, taken, IsStack}
 use Rattle.hp_tree.specs.SearchNodes.{node_of}

@@ -5,9 +5,9 @@ use Rattle.hp_syntax.specs.Checks.{HasFewVariables}
 use Rattle.hp_syntax.specs.Syntax.{Rule}
 use Rattle.hp_syntax.specs.Terms.{Term}
 use Rattle.hp_syntax.specs.Views.{domain_of}
-use Rattle.hp_syntax.specs.Walk.{Node, visits}
+use Rattle.hp_syntax.specs.Walk.{Node, visits, told}
 use Rattle.hp_net.specs.declared.walk.Step.{Step}
-use Rattle.hp_net.specs.Standings.{Tree, Standing, standing, next_below, step_of, stepped, told}
+use Rattle.hp_net.specs.Standings.{Tree, Standing, standing, next_below, step_of, stepped}
 use Rattle.hp_net.specs.declared.walk.Step.TheVariants as steps
 use Rattle.hp_tree.specs.Stacks.{Level, Stack, path_to, tree_of, standing_of, IsStack}
 use Rattle.hp_plain.specs.declared.candidate.Child.TheVariants as children

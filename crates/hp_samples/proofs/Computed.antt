@@ -37,7 +37,7 @@ unfolding digits grammar.assigned grammar.atoms grammar.axiom_rule grammar.branc
     networks.firsts_from networks.part_at networks.nth_part_at networks.with_part networks.with_nth_part
     networks.candidates networks.finish networks.expand changes.apply changes.effects ground_patterns.term_said
     ground_patterns.terms_said ground_patterns.network_said ground_patterns.networks_said walk.children
-    walk.visits_within walk.visits walk.root walk.walk walk.node_at report.plan_line report.state_text
+    walk.visits_within walk.visits walk.root walk.walk walk.node_at report.plan_line report.path_line report.state_text
     report.ending_text report.plan_report report.pair_line
 the_language = tt
 

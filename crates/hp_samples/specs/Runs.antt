@@ -1,25 +1,30 @@
 -- The outcome of a run on two texts by the definitions alone.
-use Rattle.std.specs.Prelude.{◌≡◌, ℕ, Bool, List, [], length, map, Result, Ok, Err}
+use Rattle.std.specs.Prelude.{◌≡◌, ℕ, Bool, true, false, List, [], length, map, Result, Ok, Err}
 use Rattle.hp_syntax.specs.Forest.{Forest, IsForest}
 use Rattle.hp_syntax.specs.Grammar.{domain_form, problem_form}
-use Rattle.hp_syntax.specs.Report.{Answer, plan_report, told_pairs}
+use Rattle.hp_syntax.specs.Report.{Answer, Shown, shown, plan_report, told_pairs}
 use Rattle.hp_syntax.specs.Steps.{Misform}
 use Rattle.hp_syntax.specs.Syntax.{Domain, Pair, Problem, Rule}
 use Rattle.hp_syntax.specs.Walk.{walk}
 
--- a request for a run: so many plans, down to a depth, with so many axiom levels, with states or without
+-- a request for a run: so many plans, down to a depth, with so many axiom levels, and what is shown of a plan
 pub record Asked : Type 0 where
   pub plans : ℕ
   pub depth : ℕ
   pub nest : ℕ
-  pub states : Bool
+  pub shown : Shown
 
+-- with states or without
 abbrev pub asked : ℕ → ℕ → ℕ → Bool → Asked
-asked k d n s = record { plans = k; depth = d; nest = n; states = s }
+asked k d n states = record { plans = k; depth = d; nest = n; shown = shown states false }
+
+-- with paths
+abbrev pub asked_paths : ℕ → ℕ → ℕ → Asked
+asked_paths k d n = record { plans = k; depth = d; nest = n; shown = shown false true }
 
 -- the report of the walk of a pair
 abbrev pub report_of_pair : Asked → List Rule → Pair → Answer
-report_of_pair a rules pair = plan_report a.plans a.states (walk rules a.nest pair a.depth)
+report_of_pair a rules pair = plan_report a.plans a.shown (walk rules a.nest pair a.depth)
 
 -- the reports of the walks of pairs, one behind the other
 abbrev pub text_of_pairs : Asked → List Rule → List Pair → List ℕ

@@ -3,7 +3,7 @@
 //! Each function does nothing, and its contract says what runs on some texts write.
 
 ghost use Rattle.std.specs.Prelude.{true, false, ◌++◌, codes};
-ghost use Rattle.hp_samples.specs.Runs.{Writes, asked};
+ghost use Rattle.hp_samples.specs.Runs.{Writes, asked, asked_paths};
 ghost use Rattle.hp_samples.specs.Texts as texts;
 
 /// The domain `basic`: the second branch of its method is used, since the first has no satisfier.
@@ -40,6 +40,10 @@ pub fn newest_subtasks_come_first()
     ensures focus { Writes (asked 9 9 64 false) texts.focus_domain texts.any_order_problem
         (codes "plan 1 cost 3 steps 3\n(!a)\n(!b)\n(!c)\nplan 2 cost 3 steps 3\n(!a)\n(!c)\n(!b)\nplan 3 "
         ++ codes "cost 3 steps 3\n(!c)\n(!a)\n(!b)\nend plans 3 expansions 13\n") }
+    ensures paths { Writes (asked_paths 9 9 64) texts.focus_domain texts.any_order_problem
+        (codes "plan 1 cost 3 steps 3\n(!a)\n(!b)\n(!c)\npath 0.0.0.0.0\nplan 2 cost 3 steps 3\n(!a)\n(!c)\n(!b)\n"
+        ++ codes "path 0.0.1.0.0\nplan 3 cost 3 steps 3\n(!c)\n(!a)\n(!b)\npath 1.0.0.0.0\nend plans 3 "
+        ++ codes "expansions 13\n") }
     ensures immediate { Writes (asked 9 9 64 false) texts.focus_domain texts.immediate_problem
         (codes "plan 1 cost 3 steps 3\n(!c)\n(!a)\n(!b)\nend plans 1 expansions 5\n") }
 {}

@@ -10,7 +10,8 @@ use Rattle.std.proofs.Math.Seq.{take-append_seam}
 use Rattle.std.proofs.lemmas.List.Elements.{All-head, All-same, All-weaker}
 use Rattle.hp_laws.proofs.JoinLemmas.{all_left, all_right}
 use Rattle.hp_syntax.specs.Terms.{Term}
-use Rattle.hp_net.specs.Standings.{gone_back, next_below, pruned, told}
+use Rattle.hp_net.specs.Standings.{gone_back, next_below, pruned}
+use Rattle.hp_syntax.specs.Walk.{told}
 use Rattle.hp_tree.specs.Successors.{dids_in}
 use Rattle.hp_tree.specs.Stacks.{Stack, given_at, path_to, root_of, standing_of, with_left, IsStack}
 use Rattle.hp_tree.specs.SearchNodes.{HeldNode, IsHeldNode, node_of}

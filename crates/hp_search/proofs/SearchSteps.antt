@@ -8,12 +8,12 @@ use Rattle.std.proofs.Common.{length-take-le}
 use Rattle.std.proofs.lemmas.List.Elements.{All-nil, All-cons, All-append, All-same}
 use Rattle.hp_syntax.specs.Syntax.{Rule}
 use Rattle.hp_syntax.specs.Terms.{Term}
-use Rattle.hp_syntax.specs.Walk.{Node, DidChild, CutChild, FaultChild, visits, node_at}
+use Rattle.hp_syntax.specs.Walk.{Node, DidChild, CutChild, FaultChild, visits, node_at, told}
 use Rattle.hp_eval.specs.Growth.{Grows}
 use Rattle.hp_eval.proofs.GrowthLemmas.{grows_length, kept_agree}
 use Rattle.hp_net.specs.declared.walk.Step.{Step}
 use Rattle.hp_net.specs.declared.walk.Step.TheVariants as steps
-use Rattle.hp_net.specs.Standings.{standing, step_of, told}
+use Rattle.hp_net.specs.Standings.{standing, step_of}
 use Rattle.hp_tree.specs.Successors.{Successor, ThePlan, TheChild, successors, visits_of, dids_in}
 use Rattle.hp_tree.specs.Stacks.{Level, Stack, given_at, path_to, root_of, standing_of, told_of, with_left, taken}
 use Rattle.hp_tree.specs.Stacks.{AreReached, IsStack}

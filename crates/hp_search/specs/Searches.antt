@@ -4,10 +4,10 @@ use Rattle.std.specs.Prelude.{reverse, take, Option, Some, None, option_map}
 use Rattle.std.specs.List.{All}
 use Rattle.hp_syntax.specs.Syntax.{Rule}
 use Rattle.hp_syntax.specs.Terms.{Term}
-use Rattle.hp_syntax.specs.Walk.{Node, visits}
+use Rattle.hp_syntax.specs.Walk.{Node, visits, told}
 use Rattle.hp_net.specs.declared.walk.Step.{Step}
 use Rattle.hp_net.specs.declared.walk.Step.TheVariants as steps
-use Rattle.hp_net.specs.Standings.{Tree, Standing, standing, next_below, step_of, stepped, told}
+use Rattle.hp_net.specs.Standings.{Tree, Standing, standing, next_below, step_of, stepped}
 use Rattle.hp_tree.specs.Stacks.{Level, Stack, path_to, tree_of, standing_of, IsStack}
 use Rattle.hp_choice.specs.declared.choice.Given.TheVariants as given
 use Rattle.hp_site.specs.declared.site.Site.{Site}

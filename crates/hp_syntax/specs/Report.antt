@@ -1,5 +1,5 @@
 -- The report of a walk: its plans, its ending, and the status of its run.
-use Rattle.std.specs.Prelude.{ℕ, ◌+◌, ◌-◌, ◌^◌, min, Bool, true, false, cond, nat_le, nat_lt, ℤ, List, [], ◌∷◌, ◌++◌, length, codes, decimal, flat_map}
+use Rattle.std.specs.Prelude.{ℕ, ◌+◌, Bool, true, false, cond, nat_le, nat_lt, ℤ, List, [], ◌∷◌, ◌++◌, length, codes, decimal, flat_map}
 use Rattle.hp_syntax.specs.declared.fault.RunFault.{RunFault}
 use Rattle.hp_syntax.specs.declared.fault.FaultKind.{FaultKind}
 use Rattle.hp_syntax.specs.declared.fault.FaultKind.TheVariants as kinds
@@ -8,7 +8,7 @@ use Rattle.hp_syntax.specs.declared.status.Status.TheVariants as status
 use Rattle.hp_syntax.specs.Terms.{Term}
 use Rattle.hp_syntax.specs.TermTexts.{num_text, term_text}
 use Rattle.hp_syntax.specs.PlaceTexts.{at_span}
-use Rattle.hp_syntax.specs.Walk.{Node, Visit, Did, Plan, CutHere, FaultHere, is_plan, is_fault_here}
+use Rattle.hp_syntax.specs.Walk.{Node, Visit, Did, Plan, CutHere, FaultHere, is_plan, is_fault_here, count_told, told}
 
 -- ---- plans
 
@@ -31,9 +31,34 @@ state_text n =
     codes "state " ++ decimal (length n.state) ++ codes "\n" ++ lines_text n.state
     ++ codes "protections " ++ decimal (length n.guards) ++ codes "\n" ++ lines_text n.guards
 
--- a plan, with its state where states are asked for
-abbrev pub told_plan : Bool → ℕ → Node → List ℕ
-told_plan states i n = plan_text i n ++ cond states (state_text n) []
+-- the numbers of a path, joined by points; the empty path is a dash
+abbrev pub path_text : List ℕ → List ℕ
+path_text [] = codes "-"
+path_text (i ∷ is) = decimal i ++ flat_map (λ j. codes "." ++ decimal j) is
+
+-- the line of a path
+unfoldable pub path_line : List ℕ → List ℕ
+path_line p = codes "path " ++ path_text p ++ codes "\n"
+
+-- what is shown of a plan besides its steps
+pub record Shown : Type 0 where
+  pub states : Bool
+  pub paths : Bool
+
+abbrev pub shown : Bool → Bool → Shown
+shown states paths = record { states = states; paths = paths }
+
+-- a plan of a node at a path: with its path where paths are shown, and its state where states are
+abbrev pub told_plan : Shown → ℕ → List ℕ → Node → List ℕ
+told_plan s i p n = plan_text i n ++ cond s.paths (path_line (told p)) [] ++ cond s.states (state_text n) []
+
+-- the line of a cheapest plan: its cost and how many steps it has
+unfoldable pub best_line : ℤ → ℕ → List ℕ
+best_line cost steps = codes "best cost " ++ num_text cost ++ codes " steps " ++ decimal steps ++ codes "\n"
+
+-- a cheapest plan: its line, and then its steps
+abbrev pub best_text : ℤ → List Term → List ℕ
+best_text cost steps = best_line cost (length steps) ++ lines_text steps
 
 -- ---- endings
 
@@ -68,7 +93,7 @@ ending_word (AtFault f) = codes "fault " ++ at_span (fault_word f.kind) f.span
 unfoldable pub ending_text : Ending → ℕ → ℕ → List ℕ
 ending_text x p n =
     ending_word x ++ codes " plans " ++ decimal p
-    ++ codes " expansions " ++ decimal (min n (2 ^ 64 - 1)) ++ codes "\n"
+    ++ codes " expansions " ++ decimal (count_told n) ++ codes "\n"
 
 -- the status of a run that ends so, after so many plans
 abbrev pub status_of : Ending → ℕ → Status
@@ -150,13 +175,13 @@ report tell k t vs = answer_at (plan_texts tell k t.plans vs) (end_of k t vs)
 abbrev pub line_of : ℕ → Visit → List ℕ
 line_of i v = plan_line i v.node.cost (length v.node.steps)
 
--- a plan with its steps, and with its state or without
-abbrev pub plan_of : Bool → ℕ → Visit → List ℕ
-plan_of states i v = told_plan states i v.node
+-- a plan with its steps, and with what else is shown of it
+abbrev pub plan_of : Shown → ℕ → Visit → List ℕ
+plan_of s i v = told_plan s i v.path v.node
 
--- the report of a walk for k plans, with their states or without
-unfoldable pub plan_report : ℕ → Bool → List Visit → Answer
-plan_report k states walk = report (plan_of states) k nothing_seen walk
+-- the report of a walk for k plans
+unfoldable pub plan_report : ℕ → Shown → List Visit → Answer
+plan_report k s walk = report (plan_of s) k nothing_seen walk
 
 -- the report of a walk for one plan, told by its line
 unfoldable pub line_report : List Visit → Answer

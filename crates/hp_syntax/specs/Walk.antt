@@ -1,5 +1,5 @@
 -- The tree of ordered task decomposition, and its visits, depth first.
-use Rattle.std.specs.Prelude.{ℕ, zero, suc, ◌-◌, Bool, true, false, ◌&&◌, ◌==◌, cond, ℤ, pos, ◌+ℤ◌, List, [], ◌∷◌, ◌++◌, length, Option, Some, None, Result, Ok, Err, flat_map}
+use Rattle.std.specs.Prelude.{ℕ, zero, suc, ◌-◌, ◌^◌, min, Bool, true, false, ◌&&◌, ◌==◌, cond, ℤ, pos, ◌+ℤ◌, List, [], ◌∷◌, ◌++◌, length, map, Option, Some, None, Result, Ok, Err, flat_map}
 use Rattle.std.specs.Option.{option_and_then}
 use Rattle.hp_syntax.specs.declared.fault.RunFault.{RunFault}
 use Rattle.hp_syntax.specs.Syntax.{Operator, Branch, Method, Rule, Does, Refines, Concludes, Pair}
@@ -224,3 +224,13 @@ begins (i ∷ p) (j ∷ q) = (i == j) && begins p q
 abbrev pub skip : List ℕ → List Visit → List Visit
 skip p [] = []
 skip p (v ∷ vs) = cond (begins p v.path) (skip p vs) (v ∷ vs)
+
+-- ---- what is told in 64 bits
+
+-- a count stays at its end
+abbrev pub count_told : ℕ → ℕ
+count_told n = min n (2 ^ 64 - 1)
+
+-- the numbers of a path, each as it is told
+abbrev pub told : List ℕ → List ℕ
+told p = map (λ i. min i (2 ^ 64 - 1)) p

@@ -34,6 +34,7 @@ impl Drop for Pat {
 pub enum PatKind {
     Var(u32),
     Sym(Name),
+    /// A number, in thousandths.
     Num(i64),
     /// The parts, and the tail where there is one.
     List(Vec<Pat>, Option<Tail>),
@@ -60,6 +61,7 @@ impl Drop for PatKind {
 #[derive(Drop)]
 pub enum Ground {
     Sym(Name),
+    /// A number, in thousandths.
     Num(i64),
     List(Vec<Ground>),
 }

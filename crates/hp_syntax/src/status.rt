@@ -20,6 +20,10 @@ pub enum Status {
     RunFault = 6,
     /// What was to be written couldn't be written whole.
     WriteFault = 7,
+    /// The plan file's text is no plan of the language.
+    PlanRefused = 8,
+    /// There is no plan at the path.
+    NoSuchPath = 9,
     /// For some pair there is no plan, at any depth, and no pair was cut short without one.
     NoPlan = 10,
     /// For some pair there is no plan down to the depth that was asked.

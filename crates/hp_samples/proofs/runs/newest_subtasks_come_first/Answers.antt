@@ -10,3 +10,7 @@ returns-clause-focus c = run focus_domain_spelled any_order_problem_spelled refl
 pub returns-clause-immediate : goal.returns-clause-immediate
 unfolding the_language
 returns-clause-immediate c = run focus_domain_spelled immediate_problem_spelled refl
+
+pub returns-clause-paths : goal.returns-clause-paths
+unfolding the_language
+returns-clause-paths c = run focus_domain_spelled any_order_problem_spelled refl
