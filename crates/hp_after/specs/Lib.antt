@@ -1,0 +1,3 @@
+pub mod PathWords
+pub mod Reach
+pub mod Reaching

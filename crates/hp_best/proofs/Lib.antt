@@ -1,0 +1,7 @@
+pub mod BoundedSteps
+pub mod Cheapest
+pub mod ChoiceLemmas
+pub mod CostLemmas
+pub mod GroundSteps
+pub mod PriceSteps
+pub mod VisitSteps
