@@ -1,3 +1,4 @@
 pub mod FileSteps
 pub mod NumberedForms
 pub mod PairSteps
+pub mod PlanSteps

@@ -1,22 +1,25 @@
-//! The forms of files: from a forest to a domain or a problem, or to what was wanted where.
+//! The forms of files: from a forest to a domain, a problem or the steps of a plan, or to what was wanted where.
 //!
-//! Each function reads one line of the grammar (`hp_syntax`, `Grammar`), and its contract says that
-//! it gives what that line gives. Recursion goes by the nesting of brackets alone, and along the
+//! Each function reads one line of the grammar (`hp_syntax`, `Grammar`; for plans `PlanForms`), and its contract says
+//! that it gives what that line gives. Recursion goes by the nesting of brackets alone, and along the
 //! parts of a list there are loops.
 #![tactic(auto)]
 
-ghost use Rattle.std.specs.Prelude.{IfOk};
+ghost use Rattle.std.specs.Prelude.{IfOk, map};
 ghost use Rattle.hp_syntax.specs.Grammar as grammar;
+ghost use Rattle.hp_syntax.specs.GroundViews.{ground_of};
 ghost use Rattle.hp_syntax.specs.Numbered.{IsNumberedDomain, IsNumberedProblem};
 ghost use Rattle.hp_syntax.specs.Views.{domain_of, problem_of};
 ghost use Rattle.hp_text.specs.Nodes.{forest_of};
 ghost use Rattle.hp_terms.specs.FormReads.{Gives};
+ghost use Rattle.hp_forms.specs.PlanForms.{plan_form};
 
 mod files;
+mod plans;
 
 pub use hp_syntax::What;
 use hp_syntax::laws::forms_are_numbered;
-use hp_syntax::{Domain, Problem};
+use hp_syntax::{Domain, Ground, Problem};
 pub use hp_terms::FormRefusal;
 use hp_text::Forest;
 use std::alloc::Global;
@@ -56,4 +59,13 @@ pub fn into_problem(alloc: Global, forest: Forest) -> Result<Problem, FormRefusa
 {
     forms_are_numbered();
     files::problem(alloc, forest)
+}
+
+/// The steps of the plan that a forest is the form of, in order: each node is an atom without variables, and its step
+/// is the list of its name and its arguments. Else what was wanted at the first node, in reading order, that isn't so:
+/// a variable is refused as `Ground` where it stands. An empty file is the empty plan.
+pub fn plan_steps(alloc: Global, forest: &Forest) -> Result<Vec<Ground>, FormRefusal>
+    ensures form { Gives (λ v. map ground_of v.items) result (plan_form (forest_of forest.now)) }
+{
+    plans::steps(alloc, forest.nodes.as_slice())
 }
