@@ -1,5 +1,5 @@
 -- The texts of plans and endings, of the parts that are put one behind the other.
-use Rattle.std.proofs.Common.{◌≡◌, ℕ, ◌<◌, ◌^◌, ◌-◌, ℤ, FitsSigned, to_z, of_z, List, ◌++◌, Option, Some, None, Bool, true, false, cond, [], length, codes, decimal, min, refl, ap, sym, ◌∙◌, arith, append_assoc, append-nil}
+use Rattle.std.proofs.Common.{◌≡◌, ℕ, ◌<◌, ◌^◌, ◌-◌, ℤ, FitsSigned, to_z, of_z, List, ◌++◌, Option, Some, None, cond, [], length, map, codes, decimal, min, refl, ap, sym, ◌∙◌, arith, append_assoc, append-nil}
 use Rattle.std.specs.Prelude.{◌/◌, ◌%◌, pos, int_lt, unsigned_abs}
 use Rattle.std.specs.Int.{w128}
 use Rattle.std.specs.Option.{MatchOption}
@@ -8,10 +8,13 @@ use Rattle.std.proofs.lemmas.List.{length-map}
 use Rattle.hp_eval.specs.GoalViews.{term_at}
 use Rattle.hp_syntax.specs.PlaceTexts.{at_span}
 use Rattle.hp_syntax.specs.Report as report
-use Rattle.hp_syntax.specs.Report.{lines_text, plan_line, plan_text, state_text, told_plan, ending_word, ending_text}
+use Rattle.hp_syntax.specs.GroundViews.{ground_of}
+use Rattle.hp_syntax.specs.Report.{best_line, best_text, lines_text, plan_line, plan_text, state_text, ending_word, ending_text}
 use Rattle.hp_syntax.specs.Terms.{Term}
 use Rattle.hp_syntax.specs.TermTexts.{decimals_text, num_text}
+use Rattle.hp_out.proofs.GroundSteps.{grounds_text}
 use Rattle.hp_out.proofs.TermSteps.{number_words}
+use Rattle.hp_syntax.specs.declared.pattern.Ground.{Ground}
 use Rattle.hp_syntax.specs.declared.pattern.Span.{Span}
 use Rattle.hp_syntax.specs.Walk.{Node}
 use Rattle.hp_world.specs.Stages.{Stage, live_atoms, terms_at, state_of, guards_of}
@@ -39,30 +42,62 @@ plan_parts n i cost terms steps s c fits =
     ap (λ t. t ++ lines_text (terms_at terms steps)) (line_part n i cost terms steps s c fits)
     ∙ ap (λ ts. plan_line i n.cost (length n.steps) ++ lines_text ts) (sym s)
 
+-- a cost and a number of steps, and the end of their line
+abbrev pub measure_text : ℤ → ℕ → List ℕ
+measure_text cost count = codes " cost " ++ num_text cost ++ codes " steps " ++ decimal count ++ codes "\n"
+
 -- texts one behind the other, however they are put together
-pieces : (p a q b r c s : List ℕ)
-    → p ++ (a ++ (q ++ (b ++ (r ++ (c ++ s))))) ≡ p ++ a ++ q ++ b ++ r ++ c ++ s
-pieces p a q b r c s = simp append_assoc
+pieces : (p a q b r : List ℕ) → p ++ (a ++ (q ++ (b ++ r))) ≡ p ++ a ++ q ++ b ++ r
+pieces p a q b r = simp append_assoc
 
--- the words of the line of a plan
-line_words : (i : ℕ) (cost : ℤ) (count : ℕ) (a b c : List ℕ) → a ≡ decimal i → b ≡ num_text cost
-    → c ≡ decimal count
-    → codes "plan " ++ (a ++ (codes " cost " ++ (b ++ (codes " steps " ++ (c ++ codes "\n"))))) ≡ plan_line i cost count
-unfolding plan_line
-line_words i cost count a b c p q r =
-    rw (p, q, r)
-    (pieces (codes "plan ") (decimal i) (codes " cost ") (num_text cost) (codes " steps ") (decimal count) (codes "\n"))
-
--- they are these where the cost is a sign, digits and decimals
-pub plan_words : (i : ℕ) (cost : ℤ) (count : ℕ) (a b c d e : List ℕ) → a ≡ decimal i
+-- the words of a cost, which is a sign, digits and decimals, and of a number of steps
+pub measure_words : (cost : ℤ) (count : ℕ) (b c d e : List ℕ)
     → b ≡ cond (int_lt cost (pos 0)) (codes "-") [] → c ≡ decimal (unsigned_abs cost / 1000)
     → d ≡ decimals_text (unsigned_abs cost % 1000) → e ≡ decimal count
-    → codes "plan " ++ (a ++ (codes " cost " ++ (b ++ (c ++ (d ++ (codes " steps " ++ (e ++ codes "\n")))))))
-    ≡ plan_line i cost count
-plan_words i cost count a b c d e p q r s t =
+    → codes " cost " ++ (b ++ (c ++ (d ++ (codes " steps " ++ (e ++ codes "\n"))))) ≡ measure_text cost count
+measure_words cost count b c d e q r s t =
     let rest : List ℕ = codes " steps " ++ (e ++ codes "\n") in
-    ap (λ (x : List ℕ). codes "plan " ++ (a ++ (codes " cost " ++ x))) (number_words cost b c d rest q r s)
-    ∙ line_words i cost count a (num_text cost) e p refl t
+    ap (λ (x : List ℕ). codes " cost " ++ x) (number_words cost b c d rest q r s)
+    ∙ ap (λ (x : List ℕ). codes " cost " ++ (num_text cost ++ (codes " steps " ++ (x ++ codes "\n")))) t
+    ∙ pieces (codes " cost ") (num_text cost) (codes " steps ") (decimal count) (codes "\n")
+
+-- a word before a measure
+before : (x p a q b r : List ℕ) → x ++ (p ++ a ++ q ++ b ++ r) ≡ x ++ p ++ a ++ q ++ b ++ r
+before x p a q b r = simp append_assoc
+
+-- a cost as a call is passed it
+passed : (cost : ℤ) (count : ℕ) → FitsSigned w128 cost
+    → measure_text (to_z w128 (of_z w128 cost)) count ≡ measure_text cost count
+passed cost count fits = ap (λ c. measure_text c count) (to_z-of_z w128 cost fits)
+
+-- the word of a plan and its number, and then its measure
+pub numbered_measure : (i : ℕ) (cost : ℤ) (count : ℕ) (a : List ℕ) → a ≡ decimal i → FitsSigned w128 cost
+    → (codes "plan " ++ (a ++ [])) ++ measure_text (to_z w128 (of_z w128 cost)) count ≡ plan_line i cost count
+unfolding plan_line
+numbered_measure i cost count a e fits =
+    ap (λ t. (codes "plan " ++ (a ++ [])) ++ t) (passed cost count fits)
+    ∙ ap (λ t. (codes "plan " ++ t) ++ measure_text cost count) (append-nil a ∙ e)
+    ∙ before (codes "plan " ++ decimal i) (codes " cost ") (num_text cost) (codes " steps ") (decimal count)
+    (codes "\n")
+
+-- the word of a cheapest plan and then its measure
+pub best_measure : (cost : ℤ) (count : ℕ) → FitsSigned w128 cost
+    → codes "best" ++ measure_text (to_z w128 (of_z w128 cost)) count ≡ best_line cost count
+unfolding best_line
+best_measure cost count fits =
+    ap (λ t. codes "best" ++ t) (passed cost count fits)
+    ∙ before (codes "best") (codes " cost ") (num_text cost) (codes " steps ") (decimal count) (codes "\n")
+
+-- the line of a cheapest plan, its cost as a call is passed it
+abbrev pub best_line_text : ℤ → ℕ → List ℕ
+best_line_text cost count = best_line (to_z w128 (of_z w128 cost)) count
+
+-- the line of a cheapest plan and then the lines of its steps
+pub best_parts : (cost : ℤ) (steps : List Ground) → FitsSigned w128 cost
+    → best_line_text cost (length steps) ++ grounds_text steps ≡ best_text cost (map ground_of steps)
+best_parts cost steps fits =
+    ap (λ c. best_line c (length steps) ++ grounds_text steps) (to_z-of_z w128 cost fits)
+    ∙ ap (λ n. best_line cost n ++ grounds_text steps) (sym (length-map steps ground_of))
 
 -- ---- states
 
@@ -99,16 +134,6 @@ pub state_parts : (n : Node) (terms : List Term) (s : Stage) (count : ℕ) → n
 state_parts n terms s count a g k =
     state_shape n (state_of terms s) (guards_of terms s) count (length s.guards) a g
     (k ∙ sym (length-map (live_atoms s.places) (term_at terms))) (sym (length-map s.guards (term_at terms)))
-
--- a plan with its state, where states are asked for
-pub told_with_state : (states : Bool) (i : ℕ) (n : Node) → states ≡ true
-    → plan_text i n ++ state_text n ≡ told_plan states i n
-told_with_state states i n e = ap (λ b. plan_text i n ++ cond b (state_text n) []) (sym e)
-
--- a plan without its state, where states aren't asked for
-pub told_alone : (states : Bool) (i : ℕ) (n : Node) → states ≡ false → plan_text i n ≡ told_plan states i n
-told_alone states i n e =
-    sym (ap (λ b. plan_text i n ++ cond b (state_text n) []) e ∙ append-nil (plan_text i n))
 
 -- ---- endings
 

@@ -67,3 +67,8 @@ writes_both (Err e) x y a b c h w = proper_after x y a b c h w
 pub rest_written : {A E : Type 0} (r : Result A E) (x y text : List ℕ) (a b c : Option (List ℕ)) → Wrote x a b
     → Writes r y b c → x ++ y ≡ text → Writes r text a c
 rest_written r x y text a b c h w e = subst (λ t. Writes r t a c) e (writes_both r x y a b c h w)
+
+-- a call writes equal texts
+pub writes_same : {A E : Type 0} (r : Result A E) (x y : List ℕ) (a b : Option (List ℕ)) → x ≡ y → Writes r x a b
+    → Writes r y a b
+writes_same r x y a b e w = subst (λ t. Writes r t a b) e w

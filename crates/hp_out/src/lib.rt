@@ -3,8 +3,10 @@
 
 mod ending;
 mod endings;
+mod grounds;
 mod page;
 mod paged;
+mod paths;
 mod pen;
 mod plans;
 mod refusal;

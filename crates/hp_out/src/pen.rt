@@ -1,6 +1,6 @@
 //! The pen of a run.
 
-ghost use Rattle.std.specs.Prelude.{◌≡◌, ◌≤◌, ◌++◌, OnErr, MatchOption, codes, length, true};
+ghost use Rattle.std.specs.Prelude.{◌≡◌, ◌≤◌, ◌++◌, OnErr, MatchOption, codes, length, map, true};
 ghost use Rattle.std.specs.List.{flat_map};
 ghost use Rattle.hp_check.specs.NoteViews.{note_of};
 ghost use Rattle.hp_io.specs.Rules.{Rose};
@@ -9,20 +9,23 @@ ghost use Rattle.hp_out.specs.Endings.{ending_of};
 ghost use Rattle.hp_out.specs.Lines.{kind_word, refused_line, refused_read, note_place, note_text};
 ghost use Rattle.hp_out.specs.RefusalTexts.{refusal_text};
 ghost use Rattle.hp_out.specs.Writing.{Writes};
+ghost use Rattle.hp_syntax.specs.GroundViews.{ground_of};
 ghost use Rattle.hp_syntax.specs.PlaceTexts.{at_offset, at_span, span_text};
-ghost use Rattle.hp_syntax.specs.Report.{ending_text, pair_line, plan_line, told_plan};
+ghost use Rattle.hp_syntax.specs.Report.{best_text, ending_text, pair_line, path_line, path_text, plan_line, shown};
+ghost use Rattle.hp_syntax.specs.Report.{told_plan};
 
 use crate::ending::Ending;
 use crate::endings::push_ending;
 use crate::page::Page;
-use crate::plans::{push_told, push_told_line};
+use crate::paths::{push_path, push_path_line};
+use crate::plans::{push_best, push_told, push_told_line};
 use crate::refusal::Refusal;
 use crate::words::{check_word, input_word, kind_word, text_of, what_word};
 use crate::writing::{write_all, write_pieces};
 use hp_check::Note;
 use hp_io::{Failed, Input, Sink};
 use hp_net::Walk;
-use hp_syntax::{Span, TextKind};
+use hp_syntax::{Ground, Span, TextKind};
 use itoa::Buffer;
 
 /// Writes lines to a sink. It takes no memory. After Failed the sink holds a proper prefix of the text that was being
@@ -197,19 +200,26 @@ impl<'a, K: Sink> Pen<'a, K> {
         self.note_place(note.in_problem, note.span)
     }
 
-    /// Writes the plan that a walk stands at, by its number: its line, a line for each step and, where states are asked
-    /// for, what holds and what is protected at its end. A plan goes out in one piece, or in pieces of a page.
-    pub fn plan_lines<W: Walk>(&mut self, number: u64, walk: &W, states: bool) -> Result<(), Failed>
+    /// Writes the plan that a walk stands at, by its number: its line, a line for each step, where paths are asked for
+    /// the line of its path and, where states are, what holds and what is protected at its end. A plan goes out in one
+    /// piece, or in pieces of a page.
+    pub fn plan_lines<W: Walk>(
+        &mut self,
+        number: u64,
+        walk: &W,
+        states: bool,
+        paths: bool,
+    ) -> Result<(), Failed>
         requires live { W.is_live walk.now ≡ true }
         ensures same_reference { self.new.sink.ghost_name ≡ self.old.sink.ghost_name }
         ensures writes { MatchOption (node_reached (W.tree walk.now) (W.stands walk.now)) ⊥
-            (λ n. Writes result (told_plan states number n)
+            (λ n. Writes result (told_plan (shown states paths) number (W.stands walk.now).path n)
             (K.bytes self.old.sink.now) (K.bytes self.new.sink.now)) }
         ensures later { K.faults self.old.sink.now ≤ K.faults self.new.sink.now }
         ensures cause { OnErr result (Rose (K.faults self.old.sink.now) (K.faults self.new.sink.now)) }
     {
         let mut page = Page::new();
-        push_told(&mut page, self.sink, number, walk, states)?;
+        push_told(&mut page, self.sink, number, walk, states, paths)?;
         page.flush(self.sink)
     }
 
@@ -226,6 +236,47 @@ impl<'a, K: Sink> Pen<'a, K> {
         let mut line = Page::new();
         push_told_line(&mut line, self.sink, number, walk)?;
         line.flush(self.sink)
+    }
+
+    /// Writes the numbers of a path, joined by points, and a dash for the empty one. It goes out in one piece, or in
+    /// pieces of a page.
+    pub fn path_text(&mut self, path: &[u64]) -> Result<(), Failed>
+        ensures same_reference { self.new.sink.ghost_name ≡ self.old.sink.ghost_name }
+        ensures writes { Writes result (path_text path.now)
+            (K.bytes self.old.sink.now) (K.bytes self.new.sink.now) }
+        ensures later { K.faults self.old.sink.now ≤ K.faults self.new.sink.now }
+        ensures cause { OnErr result (Rose (K.faults self.old.sink.now) (K.faults self.new.sink.now)) }
+    {
+        let mut numbers = Page::new();
+        push_path(&mut numbers, self.sink, path)?;
+        numbers.flush(self.sink)
+    }
+
+    /// Writes the line of a path.
+    pub fn path_line(&mut self, path: &[u64]) -> Result<(), Failed>
+        ensures same_reference { self.new.sink.ghost_name ≡ self.old.sink.ghost_name }
+        ensures writes { Writes result (path_line path.now)
+            (K.bytes self.old.sink.now) (K.bytes self.new.sink.now) }
+        ensures later { K.faults self.old.sink.now ≤ K.faults self.new.sink.now }
+        ensures cause { OnErr result (Rose (K.faults self.old.sink.now) (K.faults self.new.sink.now)) }
+    {
+        let mut line = Page::new();
+        push_path_line(&mut line, self.sink, path)?;
+        line.flush(self.sink)
+    }
+
+    /// Writes a cheapest plan by its steps: a line with its cost, which is a count of thousandths, and a line for each
+    /// step. It goes out in one piece, or in pieces of a page.
+    pub fn best_lines(&mut self, cost: i128, steps: &[Ground]) -> Result<(), Failed>
+        ensures same_reference { self.new.sink.ghost_name ≡ self.old.sink.ghost_name }
+        ensures writes { Writes result (best_text cost (map ground_of steps.now))
+            (K.bytes self.old.sink.now) (K.bytes self.new.sink.now) }
+        ensures later { K.faults self.old.sink.now ≤ K.faults self.new.sink.now }
+        ensures cause { OnErr result (Rose (K.faults self.old.sink.now) (K.faults self.new.sink.now)) }
+    {
+        let mut plan = Page::new();
+        push_best(&mut plan, self.sink, cost, steps)?;
+        plan.flush(self.sink)
     }
 
     /// Writes the one line of an ending, with how many plans were found, and by how many expansions.

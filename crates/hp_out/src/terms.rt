@@ -17,8 +17,8 @@ use hp_syntax::{Decimals, sign};
 use hp_world::World;
 use itoa::Buffer;
 
-// Puts a number on a page, by its count of thousandths.
-fn push_number<K: Sink>(page: &mut Page, sink: &mut K, number: i64) -> Result<(), Failed>
+/// Puts a number on a page, by its count of thousandths.
+pub fn push_number<K: Sink>(page: &mut Page, sink: &mut K, number: i64) -> Result<(), Failed>
     ensures puts { Puts result (num_text number)
         (desk (K.bytes sink.old) page.old) (desk (K.bytes sink.new) page.new) }
     ensures later { K.faults sink.old ≤ K.faults sink.new }
