@@ -1,10 +1,9 @@
+pub mod BestSteps
+pub mod CheapestLemmas
 pub mod TellingLemmas
 pub mod CountSteps
 pub mod LoadingSteps
-pub mod NextVisits
 pub mod NoteSteps
-pub mod NumberSteps
-pub mod OptionSteps
 pub mod Outcomes
 pub mod PagingSteps
 pub mod PairSteps

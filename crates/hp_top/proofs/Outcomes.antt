@@ -12,7 +12,7 @@ use Rattle.hp_syntax.specs.Report.{Answer}
 use Rattle.hp_syntax.specs.Steps.{Misform}
 use Rattle.hp_syntax.specs.Syntax.{Domain, Problem}
 use Rattle.hp_syntax.specs.TextForms.{Form, IsRead}
-use Rattle.hp_top.specs.Command.{Command, Request, OnFiles, Listing, Making, accepts}
+use Rattle.hp_words.specs.Command.{Command, Request, OnFiles, Listing, Making, accepts}
 use Rattle.hp_top.specs.Making.{made_files, made_command}
 use Rattle.hp_top.specs.Outcome as outcome
 

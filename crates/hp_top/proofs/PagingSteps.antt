@@ -2,7 +2,7 @@
 use Rattle.std.proofs.Common.{◌≡◌, ℕ, ◌≤◌, ◌<◌, List, [], length, Option, Result, Ok, Err, arith, refl, sym, subst}
 use Rattle.hp_io.specs.Rules.{Rose}
 use Rattle.hp_out.specs.Paged.{IsGrown, laid}
-use Rattle.hp_out.specs.Writing.{sink_run, Wrote, WrotePrefix, WroteProperPrefix}
+use Rattle.hp_out.specs.Writing.{sink_run, Wrote, WrotePrefix}
 use Rattle.hp_out.proofs.PagedSteps.{all_behind, part_behind, prefix_behind, proper_behind}
 use Rattle.hp_syntax.specs.Report.{Answer}
 use Rattle.hp_syntax.specs.declared.status.Status.{Status}

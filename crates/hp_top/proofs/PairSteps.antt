@@ -55,6 +55,8 @@ done_first status.DomainRefused = refl
 done_first status.ProblemRefused = refl
 done_first status.RunFault = refl
 done_first status.WriteFault = refl
+done_first status.PlanRefused = refl
+done_first status.NoSuchPath = refl
 done_first status.NoPlan = refl
 done_first status.CutShort = refl
 

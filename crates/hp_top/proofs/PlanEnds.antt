@@ -1,20 +1,27 @@
 -- The reports of the walks of pairs.
-use Rattle.std.proofs.Common.{◌≡◌, ℕ, Bool, false, List, [], Some, None, Result, Ok, Err, IfOk, refl, ap, sym, ◌∙◌, subst}
+use Rattle.std.proofs.Common.{◌≡◌, ℕ, ◌≤◌, true, false, List, [], Some, None, Result, Ok, Err, IfOk, refl, ap, sym, ◌∙◌, subst}
 use Rattle.std.specs.List.{All}
+use Rattle.hp_best.specs.Bounded.{NeverFalls, is_priced}
 use Rattle.hp_code.specs.CodeViews.{CodeView, or_empty, rules_in, rules_of}
-use Rattle.hp_net.specs.Standings.{Tree, Standing, standing}
+use Rattle.hp_net.specs.Standings.{Tree, Standing, standing, IsAtItsNode, tree_visits}
 use Rattle.hp_out.specs.Writing.{SinkRun}
 use Rattle.hp_syntax.specs.declared.status.Status.{Status}
-use Rattle.hp_syntax.specs.Report.{Answer, line_of, line_report, nothing_seen, plan_of, plan_report, report}
+use Rattle.hp_syntax.specs.Report.{Answer, line_report, nothing_seen, plan_report, report}
 use Rattle.hp_syntax.specs.Syntax as plain
 use Rattle.hp_syntax.specs.Syntax.{Rule}
-use Rattle.hp_syntax.specs.Walk.{Node, Visit, heard_visits, visits, root, walk, node_at}
+use Rattle.hp_syntax.specs.Walk.{Node, Visit, heard_visits, visits, root, node_at}
+use Rattle.hp_top.specs.declared.pairs.Engine.{Engine}
+use Rattle.hp_top.specs.declared.pairs.Sought.{Sought}
+use Rattle.hp_top.specs.declared.pairs.Sought.TheVariants.{Plans, Cheapest}
 use Rattle.hp_top.specs.declared.pairs.Wanted.{Wanted}
+use Rattle.hp_top.specs.declared.planning.Detail.TheVariants as details
 use Rattle.hp_top.specs.declared.telling.Halt.{Halt}
-use Rattle.hp_top.specs.Engines.{told_walk}
-use Rattle.hp_top.specs.Outcome.{pairs_answer, first_fault, job_answer, answer_of_read}
-use Rattle.hp_top.specs.Command.{Job, make_command}
-use Rattle.hp_top.specs.Telling.{IsAtItsNode, IsTold, Tells, status_told, telling}
+use Rattle.hp_words.specs.declared.words.Asked.{Asked}
+use Rattle.hp_top.specs.Engines.{CanBeFound, IsSought, IsWanted, PlansBy, deepest, told_visits, wanted_plans}
+use Rattle.hp_top.specs.Outcome.{pair_visits, pairs_answer, plans_heard, line_heard, first_fault, job_answer, answer_of_read}
+use Rattle.hp_words.specs.Command.{Job, greatest_depth, make_command}
+use Rattle.hp_top.specs.Telling.{IsTold, Tells, status_told}
+use Rattle.hp_words.specs.Words.{IsPlanned, options_of}
 use Rattle.hp_top.proofs.ReportLemmas.{report_heard}
 use Rattle.hp_top.proofs.PairSteps.{tells_what_is_told}
 
@@ -31,49 +38,59 @@ pub ok_weaker : {T E : Type 0} (P Q : T → Type 0) (r : Result T E) → IfOk r 
 ok_weaker P Q (Ok x) p f = f x p
 ok_weaker P Q (Err e) p f = tt
 
--- the visits that are left at the root of a pair's tree are heard as its walk
-pub walk_left : (rules : List Rule) (nest depth : ℕ) (p : plain.Pair) (s : Standing)
-    → s ≡ standing [] (visits rules nest (root p depth) []) false → heard_visits s.rest ≡ walk rules nest p depth
-unfolding walk
-walk_left rules nest depth p s e = ap (λ t. heard_visits t.rest) e
+-- and one of two facts
+pub ok_both : {T E : Type 0} (P Q R : T → Type 0) (r : Result T E) → IfOk r P → IfOk r Q → ((x : T) → P x → Q x → R x)
+    → IfOk r R
+ok_both P Q R (Ok x) p q f = f x p q
+ok_both P Q R (Err e) p q f = tt
 
--- the visits of the code of rules, where it reads back as rules with the same tree, are heard as their walk
+-- at the root of a tree all its visits are left
+pub new_walk : (rules : List Rule) (nest : ℕ) (n : Node) (t : Tree) (s : Standing)
+    → t ≡ record { rules = rules; nest = nest; root = n } → s ≡ standing [] (visits rules nest n []) false
+    → s.rest ≡ tree_visits t
+new_walk rules nest n t s tree stands = ap (λ z. z.rest) stands ∙ sym (ap tree_visits tree)
+
+-- the visits by the code of rules, where it reads back as rules with the same tree, are those by the rules
 pub planned_left : (rules lowered : List Rule) (nest depth : ℕ) (p : plain.Pair) (c : CodeView) (s : Standing)
     → rules_of c ≡ Some lowered → visits lowered nest (root p depth) [] ≡ visits rules nest (root p depth) []
     → s ≡ standing [] (visits (rules_in c) nest (root p depth) []) false
-    → heard_visits s.rest ≡ walk rules nest p depth
-unfolding walk
+    → s.rest ≡ pair_visits rules nest depth p
 planned_left rules lowered nest depth p c s reads same stands =
     let read : rules_in c ≡ lowered = ap or_empty reads in
-    ap heard_visits (ap (λ t. t.rest) stands ∙ ap (λ rs. visits rs nest (root p depth) []) read ∙ same)
+    ap (λ t. t.rest) stands ∙ ap (λ rs. visits rs nest (root p depth) []) read ∙ same
 
 -- the report of visits is that of the visits that are heard
 pub report_left : (tell : ℕ → Visit → List ℕ) (k : ℕ) (vs ws : List Visit) → heard_visits vs ≡ ws
     → report tell k nothing_seen vs ≡ report tell k nothing_seen ws
 report_left tell k vs ws e = sym (report_heard tell k nothing_seen vs) ∙ ap (report tell k nothing_seen) e
 
--- what is told of pairs, each plan with its steps, is the answer to a request for plans
-pub plans_told : (tell : ℕ → Visit → List ℕ) (states : Bool) (k nest depth : ℕ) (rules : List Rule)
-    (ps : List plain.Pair) → tell ≡ plan_of states
-    → pairs_answer (report tell k nothing_seen) rules nest depth ps
-    ≡ pairs_answer (plan_report k states) rules nest depth ps
+-- what is told of pairs where the plans of a request are wanted is the answer to it
+pub plans_wanted : (w : Wanted) (a : Asked) (rules : List Rule) (ps : List plain.Pair) → w ≡ wanted_plans a
+    → pairs_answer (told_visits w.sought) rules w.levels w.depth ps
+    ≡ pairs_answer (plans_heard a.plans (options_of a.options)) rules a.options.levels a.depth ps
 unfolding plan_report
-plans_told tell states k nest depth rules ps e =
-    ap (λ t. pairs_answer (report t k nothing_seen) rules nest depth ps) e
+plans_wanted w a rules ps e = ap (λ (z : Wanted). pairs_answer (told_visits z.sought) rules z.levels z.depth ps) e
 
--- what is told of pairs where this is wanted is the answer to a request that wants it
-pub plans_wanted : (w : Wanted) (states : Bool) (k nest depth : ℕ) (rules : List Rule) (ps : List plain.Pair)
-    → telling w.detail ≡ plan_of states → w.plans ≡ k → w.levels ≡ nest → w.depth ≡ depth
-    → pairs_answer (told_walk w) rules w.levels w.depth ps ≡ pairs_answer (plan_report k states) rules nest depth ps
-plans_wanted w states k nest depth rules ps e p l d =
-    ap (λ n. pairs_answer (told_walk w) rules n w.depth ps) l
-    ∙ ap (λ n. pairs_answer (told_walk w) rules nest n ps) d
-    ∙ ap (λ n. pairs_answer (report (telling w.detail) n nothing_seen) rules nest depth ps) p
-    ∙ plans_told (telling w.detail) states k nest depth rules ps e
+-- what a request wants can be looked for by an engine that goes to the depth that may be asked for
+pub planned_wanted : (e : Engine) (w : Wanted) (a : Asked) → w ≡ wanted_plans a → IsPlanned a
+    → deepest e ≡ greatest_depth (options_of a.options) → IsWanted e w
+planned_wanted e w a same h deep =
+    subst (IsWanted e) (sym same)
+    (record { sought = h.plans; depth = subst (λ n. a.depth ≤ n) (sym deep) h.depth; levels = h.levels })
+
+-- what an engine can look for can be looked for among the visits of a pair by its rules
+pub can_be_found : (e : Engine) (s : Sought) (nest depth : ℕ) (p : plain.Pair) (vs : List Visit) → IsSought e s
+    → ((rules : List Rule) → PlansBy rules e → vs ≡ pair_visits rules nest depth p)
+    → ((rules : List Rule) (nest : ℕ) (n : Node) → is_priced rules ≡ true → NeverFalls (visits rules nest n []))
+    → CanBeFound s vs
+can_be_found e (Plans k detail) nest depth p vs h same falls = h
+can_be_found e (Cheapest priced) nest depth p vs h same falls = λ is.
+    let by = h is in
+    subst NeverFalls (sym (same by.rules by.by)) (falls by.rules nest (root p depth) by.priced)
 
 -- what is told of pairs, each by the line of its first plan, is the summary of them
 pub lines_told : (nest depth : ℕ) (rules : List Rule) (ps : List plain.Pair)
-    → pairs_answer (report line_of 1 nothing_seen) rules nest depth ps ≡ pairs_answer line_report rules nest depth ps
+    → pairs_answer (told_visits (Plans 1 details.Line)) rules nest depth ps ≡ pairs_answer line_heard rules nest depth ps
 unfolding line_report
 lines_told nest depth rules ps = refl
 

@@ -44,7 +44,7 @@ report_heard tell k t vs = rw (texts_heard tell k t.plans vs, end_heard k t vs) 
 -- ---- the count of decompositions
 
 -- the ending line shows no more than the end of the count
-ending_saturates : (x : report.Ending) (p n : ℕ) → report.ending_text x p (min n (2 ^ 64 - 1))
+pub ending_saturates : (x : report.Ending) (p n : ℕ) → report.ending_text x p (min n (2 ^ 64 - 1))
     ≡ report.ending_text x p n
 unfolding report.ending_text
 ending_saturates x p n =

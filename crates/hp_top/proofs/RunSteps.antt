@@ -18,16 +18,19 @@ use Rattle.hp_syntax.specs.declared.status.Status.{Status}
 use Rattle.hp_syntax.specs.declared.status.Status.TheVariants as status
 use Rattle.hp_syntax.specs.Grammar.{domain_form, problem_form}
 use Rattle.hp_syntax.specs.Checks.{first_of, domain_faults}
-use Rattle.hp_syntax.specs.Report.{Answer, Ending, Stopped, AtFault, AtCut, AtEnd, badness, end_of, line_of, line_report, nothing_seen, plan_of, plan_report, report, status_of, told_from, worse}
+use Rattle.hp_syntax.specs.Report.{Answer, Ending, Stopped, AtFault, AtCut, AtEnd, badness, end_of, line_of, line_report, nothing_seen, plan_of, plan_report, report, shown, status_of, told_from, worse}
 use Rattle.hp_syntax.specs.Steps.{Expected}
 use Rattle.hp_syntax.specs.Syntax.{Domain, Pair, Problem, Rule}
 use Rattle.hp_syntax.specs.TextForms.{Form, IsRead}
-use Rattle.hp_syntax.specs.Walk.{Visit, walk}
+use Rattle.hp_syntax.specs.Walk.{Visit, count_told, heard_visits}
+use Rattle.hp_best.specs.Bounded.{bounded, is_priced, last_of}
+use Rattle.hp_top.specs.BestReports.{best_report}
 use Rattle.hp_top.specs.declared.loading.LoadError.{LoadError}
 use Rattle.hp_top.specs.declared.loading.LoadError.TheVariants as causes
-use Rattle.hp_top.specs.Command.{Command, Job, Planning, Checking, Showing, Summing, Request, OnFiles, Listing, accepts, named, file_named, on_files}
+use Rattle.hp_words.specs.Command.{Command, Job, Options, Planning, Choosing, Checking, Showing, Summing, Request, OnFiles, Listing, accepts, named, file_named, on_files}
 use Rattle.hp_top.specs.Making.{made_files, made_command}
 use Rattle.hp_top.specs.Outcome as outcome
+use Rattle.hp_top.specs.Outcome.{pair_visits}
 use Rattle.hp_top.specs.Loading as loading
 use Rattle.hp_top.specs.Loading.{ToldFile, FolderRun, Holds, Reads, IsUnread, StopsAt, LoadsBoth, LoadsAlone}
 use Rattle.hp_top.specs.Run.{TellsFiles, IsOutcome, RefusesWords, IsStopped, IsReadLine, ReadFails, CouldWrite, OfOutcome, OfReading, WritesPrefix, WritesProperPrefix}
@@ -47,6 +50,8 @@ IsAnswer status.NoPlan = Unit {0}
 IsAnswer status.CutShort = Unit {0}
 IsAnswer status.DomainRefused = Unit {0}
 IsAnswer status.ProblemRefused = Unit {0}
+IsAnswer status.PlanRefused = ⊥
+IsAnswer status.NoSuchPath = ⊥
 IsAnswer status.NoMemory = ⊥
 IsAnswer status.Usage = ⊥
 IsAnswer status.ReadFault = ⊥
@@ -66,13 +71,17 @@ report_answers : (tell : ℕ → Visit → List ℕ) (k : ℕ) (vs : List Visit)
 report_answers tell k vs =
     let e = end_of k nothing_seen vs in ending_answers e.ending e.tally.plans
 
-plan_answers : (k : ℕ) (states : Bool) (vs : List Visit) → IsAnswer (plan_report k states vs).1
+plan_answers : (k : ℕ) (o : Options) (vs : List Visit) → IsAnswer (outcome.plans_heard k o vs).1
 unfolding plan_report
-plan_answers k states vs = report_answers (plan_of states) k vs
+plan_answers k o vs = report_answers (plan_of (shown o.states o.paths)) k (heard_visits vs)
 
-line_answers : (vs : List Visit) → IsAnswer (line_report vs).1
+best_answers : (priced : Bool) (vs : List Visit) → IsAnswer (best_report priced vs).1
+best_answers priced vs =
+    let e = last_of nothing_seen (bounded priced vs) in ending_answers e.ending (count_told e.tally.plans)
+
+line_answers : (vs : List Visit) → IsAnswer (outcome.line_heard vs).1
 unfolding line_report
-line_answers vs = report_answers line_of 1 vs
+line_answers vs = report_answers line_of 1 (heard_visits vs)
 
 worse_answers : (s t : Status) → IsAnswer s → IsAnswer t → IsAnswer (worse s t)
 worse_answers s t h k = chosen (nat_lt (badness s) (badness t)) t s k h
@@ -81,15 +90,15 @@ module _ (tell : List Visit → Answer) (each : (vs : List Visit) → IsAnswer (
     (nest depth : ℕ) where
   -- pairs have the status of an answer where each has
   pairs_answers_from : (count n : ℕ) (ps : List Pair)
-      → IsAnswer (told_from count n (map (λ p. tell (walk rules nest p depth)) ps)).1
+      → IsAnswer (told_from count n (map (λ p. tell (pair_visits rules nest depth p)) ps)).1
   pairs_answers_from count n [] = tt
   pairs_answers_from count n (p ∷ ps) =
-      worse_answers (tell (walk rules nest p depth)).1
-      (told_from count (n + 1) (map (λ p. tell (walk rules nest p depth)) ps)).1 (each (walk rules nest p depth))
-      (pairs_answers_from count (n + 1) ps)
+      worse_answers (tell (pair_visits rules nest depth p)).1
+      (told_from count (n + 1) (map (λ p. tell (pair_visits rules nest depth p)) ps)).1
+      (each (pair_visits rules nest depth p)) (pairs_answers_from count (n + 1) ps)
 
   pairs_answers : (ps : List Pair) → IsAnswer (outcome.pairs_answer tell rules nest depth ps).1
-  pairs_answers ps = pairs_answers_from (length (map (λ p. tell (walk rules nest p depth)) ps)) 1 ps
+  pairs_answers ps = pairs_answers_from (length (map (λ p. tell (pair_visits rules nest depth p)) ps)) 1 ps
 
 refused_answers : (which : Input) → IsAnswer (outcome.refused_status which)
 refused_answers inputs.Domain = tt
@@ -101,10 +110,12 @@ why_answers which (outcome.InForm (Expected what s)) = refused_answers which
 
 job_answers : (j : Job) (d : Domain) (p : Problem) → IsAnswer (outcome.job_answer j d p).1
 job_answers (Planning k n o) d p =
-    pairs_answers (plan_report k o.states) (plan_answers k o.states) d.rules o.levels n p.pairs
+    pairs_answers (outcome.plans_heard k o) (plan_answers k o) d.rules o.levels n p.pairs
+job_answers (Choosing n levels) d p =
+    pairs_answers (best_report (is_priced d.rules)) (best_answers (is_priced d.rules)) d.rules levels n p.pairs
 job_answers Checking d p = tt
 job_answers Showing d p = tt
-job_answers (Summing seed n) d p = pairs_answers line_report line_answers d.rules USUAL_LEVELS MADE_DEPTH p.pairs
+job_answers (Summing seed n) d p = pairs_answers outcome.line_heard line_answers d.rules USUAL_LEVELS MADE_DEPTH p.pairs
 
 checks_answer : (f : Option CheckFault) (a : Answer) → IsAnswer a.1 → IsAnswer (outcome.unless_faulty f a).1
 checks_answer (Some f) a h = refused_answers (text_of f.in_problem)

@@ -9,7 +9,7 @@ use Rattle.hp_syntax.specs.Samples.{basic_text, basic_forest, swap_text, swap_fo
 use Rattle.hp_syntax.specs.Steps.{Misform}
 use Rattle.hp_syntax.specs.Syntax.{Domain, Problem}
 use Rattle.hp_syntax.specs.TextForms.{IsRead}
-use Rattle.hp_top.specs.Command.{Command, OnFiles, Planning, accepts, make_command, options}
+use Rattle.hp_words.specs.Command.{Command, OnFiles, Planning, accepts, make_command, options}
 use Rattle.hp_top.specs.Outcome.{ByCommand, Outcome, answer_of_read}
 use Rattle.hp_top.specs.Samples.{basic_files}
 use Rattle.hp_top.proofs.Outcomes.{judged_comes}
@@ -52,7 +52,7 @@ empty_is_read h = record { forest = empty_forest; spelled = h; form_is = refl }
 
 -- the command that plans the domain `d` and the problem `p`
 abbrev pub plan_of : ℕ → ℕ → Command
-plan_of plans depth = make_command (codes "d") (codes "p") (Planning plans depth (options 64 false false))
+plan_of plans depth = make_command (codes "d") (codes "p") (Planning plans depth (options 64 false false false))
 
 -- a proof that names this on its line has unfolded what the samples are read as, the checks and the language
 unfoldable pub the_samples : Unit {0}

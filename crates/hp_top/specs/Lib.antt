@@ -1,5 +1,5 @@
+pub mod BestReports
 pub mod CheckTexts
-pub mod Command
 pub mod Engines
 pub mod Loading
 pub mod Making
@@ -10,5 +10,4 @@ pub mod Run
 pub mod Serving
 pub mod Telling
 pub mod Touching
-pub mod Words
 pub mod Samples

@@ -3,7 +3,7 @@ use Rattle.std.specs.Prelude.{ℕ, cond, List, ◌++◌, Option, Some, None, byt
 use Rattle.hp_make.specs.Texts.{domain_text, problem_text}
 use Rattle.hp_syntax.specs.Syntax.{Problem}
 use Rattle.hp_top.specs.CheckTexts.{atoms_written}
-use Rattle.hp_top.specs.Command.{Command, make_command, Summing}
+use Rattle.hp_words.specs.Command.{Command, make_command, Summing}
 
 -- the files that are made: a domain, and a problem of a seed with so many packages
 abbrev pub made_files : ℕ → ℕ → List ℕ → Option (List ℕ)

@@ -1,5 +1,5 @@
 -- The outcome of the words and the files of a run: the text that is written, and the status.
-use Rattle.std.specs.Prelude.{◌≡◌, ℕ, List, ◌++◌, length, map, Option, Some, None, Result, Ok, Err}
+use Rattle.std.specs.Prelude.{◌≡◌, ℕ, List, [], ◌++◌, length, map, Option, Some, None, Result, Ok, Err}
 use Rattle.hp_io.specs.declared.folder.Input.{Input}
 use Rattle.hp_io.specs.declared.folder.Input.TheVariants as inputs
 use Rattle.hp_code.specs.CodeViews.{compiled}
@@ -18,14 +18,16 @@ use Rattle.hp_syntax.specs.Forest.{Forest, IsForest}
 use Rattle.hp_syntax.specs.Grammar.{domain_form, problem_form}
 use Rattle.hp_syntax.specs.Refusal as texts
 use Rattle.hp_syntax.specs.Refusal.{IsRefused}
-use Rattle.hp_syntax.specs.Report.{Answer, behind, line_report, plan_report, told_pairs}
+use Rattle.hp_syntax.specs.Report.{Answer, behind, line_report, plan_report, shown, told_pairs}
 use Rattle.hp_syntax.specs.Steps.{Misform, Expected}
 use Rattle.hp_syntax.specs.Syntax.{Domain, Pair, Problem, Rule}
 use Rattle.hp_syntax.specs.TextForms.{Form, IsRead}
-use Rattle.hp_syntax.specs.Walk.{Visit, walk}
+use Rattle.hp_syntax.specs.Walk.{Visit, heard_visits, root, visits}
 use Rattle.hp_syntax.specs.Written.{domain_text, problem_text}
+use Rattle.hp_best.specs.Bounded.{is_priced}
+use Rattle.hp_top.specs.BestReports.{best_report}
 use Rattle.hp_top.specs.CheckTexts.{check_text}
-use Rattle.hp_top.specs.Command.{Command, Job, Options, Planning, Checking, Showing, Summing, OnFiles, Listing, Making, accepts}
+use Rattle.hp_words.specs.Command.{Command, Job, Options, Planning, Choosing, Checking, Showing, Summing, OnFiles, Listing, Making, accepts}
 use Rattle.hp_top.specs.Making.{made_files, made_command, made_lines}
 
 -- the bytes of each file, by its name; there may be no such file
@@ -70,23 +72,40 @@ refusal_answer r = (refusal_text r, refusal_status r)
 
 -- ---- plans
 
--- what is told of pairs, by what is told of the walk of each
+-- the visits of the tree of a pair, down to a depth
+abbrev pub pair_visits : List Rule → ℕ → ℕ → Pair → List Visit
+pair_visits rules nest depth pair = visits rules nest (root pair depth) []
+
+-- what is told of pairs, by what is told of the visits of the tree of each
 abbrev pub pairs_answer : (List Visit → Answer) → List Rule → ℕ → ℕ → List Pair → Answer
-pairs_answer tell rules nest depth pairs = told_pairs (map (λ pair. tell (walk rules nest pair depth)) pairs)
+pairs_answer tell rules nest depth pairs = told_pairs (map (λ pair. tell (pair_visits rules nest depth pair)) pairs)
+
+-- the report of the visits that are heard, for so many plans
+abbrev pub plans_heard : ℕ → Options → List Visit → Answer
+plans_heard k o vs = plan_report k (shown o.states o.paths) (heard_visits vs)
+
+-- the line of the first plan of the visits that are heard, and their ending
+abbrev pub line_heard : List Visit → Answer
+line_heard vs = line_report (heard_visits vs)
 
 -- the answer to a request for so many plans of each pair, down to a depth
 abbrev pub plan_answer : ℕ → ℕ → Options → Domain → Problem → Answer
-plan_answer k n o d p = pairs_answer (plan_report k o.states) d.rules o.levels n p.pairs
+plan_answer k n o d p = pairs_answer (plans_heard k o) d.rules o.levels n p.pairs
+
+-- the answer to a request for the cheapest plan of each pair, down to a depth
+abbrev pub best_answer : ℕ → ℕ → Domain → Problem → Answer
+best_answer n levels d p = pairs_answer (best_report (is_priced d.rules)) d.rules levels n p.pairs
 
 -- ---- a domain and a problem that are read
 
 -- the answer of a job to a domain and a problem in which the checks find no fault
 abbrev pub job_answer : Job → Domain → Problem → Answer
 job_answer (Planning k n o) d p = plan_answer k n o d p
+job_answer (Choosing n levels) d p = best_answer n levels d p
 job_answer Checking d p = (check_text d p, Done)
 job_answer Showing d p = (domain_text d ++ problem_text p, Done)
 job_answer (Summing seed packages) d p =
-    behind (made_lines seed packages p) (pairs_answer line_report d.rules USUAL_LEVELS MADE_DEPTH p.pairs)
+    behind (made_lines seed packages p) (pairs_answer line_heard d.rules USUAL_LEVELS MADE_DEPTH p.pairs)
 
 -- the first fault that the checks find, or else this
 abbrev pub unless_faulty : Option CheckFault → Answer → Answer

@@ -3,7 +3,7 @@ use Rattle.std.specs.Prelude.{◌≡◌, ◌⊎◌, ℕ, List, ◌++◌, Option,
 use Rattle.hp_io.specs.declared.folder.Input.{Input}
 use Rattle.hp_syntax.specs.declared.status.Status.{Status}
 use Rattle.hp_syntax.specs.declared.status.Status.TheVariants as status
-use Rattle.hp_top.specs.Command.{Request, OnFiles, Listing, Making, accepts, file_named}
+use Rattle.hp_words.specs.Command.{Request, OnFiles, Listing, Making, accepts, file_named}
 use Rattle.hp_top.specs.Outcome.{Files, Outcome}
 use Rattle.hp_top.specs.Loading.{ToldFile, FolderRun, IsUnread, LoadsAlone, LoadsBoth}
 use Rattle.hp_out.specs.declared.refusal.Refusal.TheVariants as refusals

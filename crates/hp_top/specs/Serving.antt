@@ -8,7 +8,7 @@ use Rattle.hp_syntax.specs.declared.status.Status.{Status}
 use Rattle.hp_syntax.specs.declared.status.Status.TheVariants as status
 use Rattle.hp_top.specs.declared.loading.LoadError.{LoadError}
 use Rattle.hp_top.specs.declared.loading.LoadError.TheVariants as causes
-use Rattle.hp_top.specs.Command.{Command, OnFiles, Listing, Making, accepts}
+use Rattle.hp_words.specs.Command.{Command, OnFiles, Listing, Making, accepts}
 use Rattle.hp_top.specs.Making.{made_files, made_command}
 use Rattle.hp_top.specs.Outcome.{refusal_answer, answer_of_pair, answer_to, listing_answer}
 use Rattle.hp_top.specs.Loading.{FolderRun, folder_run, LoadsAlone, LoadsBoth}

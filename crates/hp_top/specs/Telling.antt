@@ -1,13 +1,12 @@
 -- The report of a walk while it is told: the part that is written, and the part that is left.
-use Rattle.std.specs.Prelude.{◌≡◌, ℕ, ◌+◌, ◌<◌, ◌==◌, cond, List, Option, Some, None, Result, Ok, Err, false, true, length}
+use Rattle.std.specs.Prelude.{◌≡◌, ℕ, ◌+◌, ◌<◌, ◌==◌, cond, List, Option, Some, None, Result, Ok, Err, length}
 use Rattle.hp_io.specs.Rules.{Rose}
-use Rattle.hp_net.specs.Standings.{Tree}
 use Rattle.hp_out.specs.Endings.{ending_of}
 use Rattle.hp_out.specs.Writing.{SinkRun, Wrote, WrotePrefix, WroteProperPrefix}
 use Rattle.hp_out.specs.declared.ending.Ending.{Ending}
 use Rattle.hp_out.specs.declared.ending.Ending.TheVariants.{Stopped}
-use Rattle.hp_syntax.specs.Report.{Answer, Tally, tally, ended, answer_at, behind, report, line_of, plan_of}
-use Rattle.hp_syntax.specs.Walk.{Visit, node_at}
+use Rattle.hp_syntax.specs.Report.{Answer, Tally, tally, ended, answer_at, behind, report, line_of, plan_of, shown}
+use Rattle.hp_syntax.specs.Walk.{Visit}
 use Rattle.hp_syntax.specs.declared.status.Status.{Status}
 use Rattle.hp_syntax.specs.declared.status.Status.TheVariants as status
 use Rattle.hp_top.specs.declared.planning.Detail.{Detail}
@@ -16,15 +15,10 @@ use Rattle.hp_top.specs.declared.planning.Progress.{Progress}
 use Rattle.hp_top.specs.declared.telling.Halt.{Halt}
 use Rattle.hp_top.specs.declared.telling.Halt.TheVariants.{NoMemory, Failed}
 
--- a visit's path reaches its node from the root of a tree
-abbrev pub IsAtItsNode : Tree → Visit → Type 0
-IsAtItsNode t v = node_at t.rules t.nest t.root v.path ≡ Some v.node
-
 -- the text that tells a plan
 abbrev pub telling : Detail → ℕ → Visit → List ℕ
 telling details.Line = line_of
-telling details.Steps = plan_of false
-telling details.State = plan_of true
+telling (details.Steps states paths) = plan_of (shown states paths)
 
 -- the tally so far
 abbrev pub tally_of : Progress → Tally

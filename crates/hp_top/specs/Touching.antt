@@ -2,7 +2,7 @@
 use Rattle.std.specs.Prelude.{◌≡◌, ◌⊎◌, ℕ, ◌+◌, ◌≤◌, Bool, true, List, drop, Option, Some, None}
 use Rattle.hp_io.specs.declared.folder.Input.{Input}
 use Rattle.hp_syntax.specs.declared.limits.TheConstants.{LARGEST_TEXT}
-use Rattle.hp_top.specs.Command.{Request, accepts, file_named}
+use Rattle.hp_words.specs.Command.{Request, accepts, file_named}
 use Rattle.hp_top.specs.Loading.{ToldFile}
 
 -- the run of an input through a call: whether it was begun, and its bytes that are left, before and after

@@ -4,13 +4,13 @@ ghost use Rattle.std.specs.Prelude.{◌≡◌, ◌≢◌, ◌≤◌, ◌<◌, �
 ghost use Rattle.hp_io.specs.Rules.{Rose};
 ghost use Rattle.hp_io.specs.Inputs.{by_input};
 ghost use Rattle.hp_io.specs.declared.folder.Input.{Input};
-ghost use Rattle.hp_top.specs.Command.{accepts, make_command};
+ghost use Rattle.hp_words.specs.Command.{accepts, make_command};
 ghost use Rattle.hp_top.specs.Loading.{folder_run};
 ghost use Rattle.hp_top.specs.Outcome.{Files};
 ghost use Rattle.hp_top.specs.Run.{TellsFiles, IsOutcome, RefusesWords, ReadFails, WritesPrefix, WritesProperPrefix};
 ghost use Rattle.hp_top.specs.Serving.{ServesCommand, Ends};
 ghost use Rattle.hp_top.specs.Touching.{Touches, TouchesNamed, input_run};
-ghost use Rattle.hp_top.specs.Words.{IsAsked, job_of};
+ghost use Rattle.hp_words.specs.Words.{IsAsked, job_of};
 ghost use Rattle.hp_out.specs.Writing.{sink_run};
 
 use crate::coding::serve_code;
@@ -19,10 +19,10 @@ use crate::loading::load;
 use crate::making::serve_made;
 use crate::refusing::{refuse, refuse_files};
 use crate::serving::serve_job;
-use crate::words::{Job, Request, request_asked};
 use hp_io::{Folder, Input, Sink};
 use hp_out::Refusal;
 use hp_syntax::Status;
+use hp_words::{Job, Request, request_asked};
 use std::alloc::Global;
 
 /// Reads two files, and does the job with them.

@@ -2,6 +2,7 @@
 #![tactic(auto)]
 
 mod checking;
+mod choosing;
 mod coding;
 mod command;
 pub mod laws;
@@ -18,7 +19,6 @@ mod serving;
 mod showing;
 mod summing;
 mod telling;
-mod words;
 
 pub use command::run;
 pub use hp_syntax::Status;

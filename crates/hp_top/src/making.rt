@@ -8,15 +8,15 @@ ghost use Rattle.hp_syntax.specs.Views.{domain_of, problem_of};
 ghost use Rattle.hp_top.specs.Loading.{HasText, LoadsBoth, plain_of};
 ghost use Rattle.hp_top.specs.Making.{made_command};
 ghost use Rattle.hp_top.specs.Serving.{ServesCommand, made_run};
-ghost use Rattle.hp_top.specs.Words.{IsMakeable};
+ghost use Rattle.hp_words.specs.Words.{IsMakeable};
 
 use crate::loading::{LoadError, Loaded, domain_in, problem_in};
 use crate::refusing::refuse_files;
 use crate::serving::serve_job;
-use crate::words::Job;
 use hp_io::Sink;
 use hp_make::make;
 use hp_syntax::Status;
+use hp_words::Job;
 use std::alloc::Global;
 
 /// Makes a domain and a problem of it, and reads them.

@@ -8,7 +8,7 @@ ghost use Rattle.hp_syntax.specs.GroundPatterns.{IsGroundPair};
 ghost use Rattle.hp_syntax.specs.Report.{Answer};
 ghost use Rattle.hp_syntax.specs.Syntax.{Rule};
 ghost use Rattle.hp_syntax.specs.Views.{pair_of};
-ghost use Rattle.hp_top.specs.Engines.{CanPlan, IsWanted, PlansBy, told_walk};
+ghost use Rattle.hp_top.specs.Engines.{CanPlan, IsWanted, PlansBy, told_visits};
 ghost use Rattle.hp_top.specs.Outcome.{pairs_answer};
 ghost use Rattle.hp_top.specs.Telling.{IsTold, Tells};
 
@@ -59,7 +59,7 @@ fn tell_before<O: Origin, K: Sink>(sink: K, task: Task) -> (K, Status)
     requires pairs { All IsGroundPair (map pair_of task.pairs.now) }
     requires wanted { IsWanted task.engine task.wanted }
     ensures tells { (rules : List Rule) → PlansBy rules task.entry.engine
-        → Tells (pairs_answer (told_walk task.entry.wanted) rules task.entry.wanted.levels task.entry.wanted.depth
+        → Tells (pairs_answer (told_visits task.entry.wanted.sought) rules task.entry.wanted.levels task.entry.wanted.depth
         (map pair_of task.entry.pairs.now)) result.1
         (sink_run (K.faults sink) (K.faults result.0) (K.bytes sink) (K.bytes result.0)) }
     ensures later { K.faults sink ≤ K.faults result.0 }
@@ -76,7 +76,7 @@ fn tell_before_this<K: Sink>(sink: K, task: Task) -> (K, Status)
     requires pairs { All IsGroundPair (map pair_of task.pairs.now) }
     requires wanted { IsWanted task.engine task.wanted }
     ensures tells { (rules : List Rule) → PlansBy rules task.entry.engine
-        → Tells (pairs_answer (told_walk task.entry.wanted) rules task.entry.wanted.levels task.entry.wanted.depth
+        → Tells (pairs_answer (told_visits task.entry.wanted.sought) rules task.entry.wanted.levels task.entry.wanted.depth
         (map pair_of task.entry.pairs.now)) result.1
         (sink_run (K.faults sink) (K.faults result.0) (K.bytes sink) (K.bytes result.0)) }
     ensures later { K.faults sink ≤ K.faults result.0 }
@@ -95,7 +95,7 @@ pub fn tell_in_pages<K: Sink>(
     requires engine { CanPlan engine }
     requires pairs { All IsGroundPair (map pair_of pairs.now) }
     requires wanted { IsWanted engine wanted }
-    ensures tells { (rules : List Rule) → PlansBy rules engine.entry → Tells (pairs_answer (told_walk wanted) rules
+    ensures tells { (rules : List Rule) → PlansBy rules engine.entry → Tells (pairs_answer (told_visits wanted.sought) rules
         wanted.levels wanted.depth (map pair_of pairs.now)) result
         (sink_run (K.faults out.old) (K.faults out.new) (K.bytes out.old) (K.bytes out.new)) }
     ensures later { K.faults out.old ≤ K.faults out.new }

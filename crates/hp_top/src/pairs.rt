@@ -2,6 +2,7 @@
 
 ghost use Rattle.std.specs.List.{All};
 ghost use Rattle.std.specs.Prelude.{◌≡◌, ◌≤◌, ◌<◌, List, IfOk, IfErr, OnOk, None, map, true};
+ghost use Rattle.hp_net.specs.Standings.{IsAtItsNode, tree_visits};
 ghost use Rattle.hp_code.specs.CodeViews.{IsCodeOf};
 ghost use Rattle.hp_code.specs.Codes.{code_of};
 ghost use Rattle.hp_out.specs.Writing.{Wrote, sink_run};
@@ -12,13 +13,14 @@ ghost use Rattle.hp_syntax.specs.GroundPatterns.{IsGroundPair};
 ghost use Rattle.hp_syntax.specs.Report.{badness, behind, pair_header, worse};
 ghost use Rattle.hp_syntax.specs.Syntax.{Rule};
 ghost use Rattle.hp_syntax.specs.Views.{domain_of, pair_of};
-ghost use Rattle.hp_syntax.specs.Walk.{heard_visits, walk};
-ghost use Rattle.hp_top.specs.Engines.{CanPlan, IsWanted, PlansBy, told_walk};
-ghost use Rattle.hp_top.specs.Outcome.{pairs_answer};
-ghost use Rattle.hp_top.specs.Telling.{Halts, IsAtItsNode, IsTold};
+ghost use Rattle.hp_top.specs.Engines.{CanBeFound, CanPlan, IsWanted, PlansBy, told_visits};
+ghost use Rattle.hp_top.specs.Outcome.{pair_visits, pairs_answer};
+ghost use Rattle.hp_top.specs.Telling.{Halts, IsTold};
 
+use crate::choosing::tell_best;
 use crate::planning::{Detail, tell};
 use crate::telling::Halt;
+use hp_best::laws::priced_costs_never_fall;
 use hp_code::Code;
 use hp_code::laws::{compiled_rules_are_a_code, lowered_rules_have_the_tree};
 use hp_io::Sink;
@@ -31,14 +33,22 @@ use hp_syntax::limits::{GREATEST_DEPTH, GREATEST_PLAIN_DEPTH, MOST_LEVELS};
 use hp_syntax::{Domain, Pair, Status};
 use std::alloc::{AllocError, Global};
 
-/// What plans are looked for in each pair, and how each is told.
+/// What is looked for in each pair.
+#[derive(Clone, Copy)]
+pub enum Sought {
+    /// So many plans, each told in this detail.
+    Plans { plans: u64, detail: Detail },
+    /// The cheapest plan. Where the domain is priced, what costs too much is left out.
+    Cheapest { priced: bool },
+}
+
+/// What is looked for in each pair, and how far.
 #[derive(Clone, Copy)]
 pub struct Wanted {
-    pub plans: u64,
+    pub sought: Sought,
     pub depth: u32,
     /// How deep axioms may call one another.
     pub levels: u32,
-    pub detail: Detail,
 }
 
 /// The engine that looks for plans.
@@ -64,8 +74,9 @@ fn walk_of<'a>(
     requires levels { levels ≤ MOST_LEVELS }
     ensures live { IfOk result (λ w. w.live ≡ true) }
     ensures at { IfOk result (λ w. All (IsAtItsNode (tree_walked w)) (stands_walked w).rest) }
-    ensures walk { IfOk result (λ w. heard_visits (stands_walked w).rest
-        ≡ walk (domain_of domain.now).rules levels (pair_of pair.now) depth) }
+    ensures new { IfOk result (λ w. (stands_walked w).rest ≡ tree_visits (tree_walked w)) }
+    ensures visits { IfOk result (λ w. (stands_walked w).rest
+        ≡ pair_visits (domain_of domain.now).rules levels depth (pair_of pair.now)) }
 {
     // Nothing runs here: the law makes known that each visit's path reaches its node.
     visits_are_in_the_tree();
@@ -85,8 +96,9 @@ fn planner_of<'a>(
     requires levels { levels ≤ MOST_LEVELS }
     ensures live { IfOk result (λ p. p.live ≡ true) }
     ensures at { IfOk result (λ p. All (IsAtItsNode (tree_planned p)) (stands_planned p).rest) }
-    ensures walk { IfOk result (λ p. (rules : List Rule) → IsCodeOf rules (code_of code.now)
-        → heard_visits (stands_planned p).rest ≡ walk rules levels (pair_of pair.now) depth) }
+    ensures new { IfOk result (λ p. (stands_planned p).rest ≡ tree_visits (tree_planned p)) }
+    ensures visits { IfOk result (λ p. (rules : List Rule) → IsCodeOf rules (code_of code.now)
+        → (stands_planned p).rest ≡ pair_visits rules levels depth (pair_of pair.now)) }
 {
     // Nothing runs here: the laws make known that the tree by a code is the tree by its rules.
     compiled_rules_are_a_code();
@@ -95,16 +107,25 @@ fn planner_of<'a>(
     Planner::new(alloc, code, pair, depth, levels)
 }
 
-/// Tells what is wanted of a walk.
-fn tell_walk<W: Walk, K: Sink>(walk: &mut W, wanted: Wanted, out: &mut K) -> Result<Status, Halt>
+/// Tells what is sought of a new walk.
+fn tell_walk<W: Walk, K: Sink>(
+    alloc: Global,
+    walk: &mut W,
+    sought: Sought,
+    out: &mut K,
+) -> Result<Status, Halt>
     requires live { W.is_live walk.old ≡ true }
     requires at { All (IsAtItsNode (W.tree walk.old)) (W.stands walk.old).rest }
-    requires plans { 0 < wanted.plans }
-    ensures told { IsTold (told_walk wanted (heard_visits (W.stands walk.old).rest)) result
+    requires new { (W.stands walk.old).rest ≡ tree_visits (W.tree walk.old) }
+    requires found { CanBeFound sought (W.stands walk.old).rest }
+    ensures told { IsTold (told_visits sought (W.stands walk.old).rest) result
         (sink_run (K.faults out.old) (K.faults out.new) (K.bytes out.old) (K.bytes out.new)) }
     ensures later { K.faults out.old ≤ K.faults out.new }
 {
-    tell(walk, wanted.plans, wanted.detail, out)
+    match sought {
+        Sought::Plans { plans, detail } => tell(walk, plans, detail, out),
+        Sought::Cheapest { priced } => tell_best(alloc, walk, priced, out),
+    }
 }
 
 /// Tells what is wanted of a pair, by the engine of copies.
@@ -117,18 +138,18 @@ fn tell_by_copies<K: Sink>(
 ) -> Result<Status, Halt>
     requires checked { first_of (domain_faults (domain_of domain.now)) ≡ None }
     requires pair { IsGroundPair (pair_of pair.now) }
-    requires plans { 0 < wanted.plans }
-    requires depth { wanted.depth ≤ GREATEST_PLAIN_DEPTH }
-    requires levels { wanted.levels ≤ MOST_LEVELS }
-    ensures told { IsTold (told_walk wanted (walk (domain_of domain.now).rules wanted.levels (pair_of pair.now)
-        wanted.depth)) result
+    requires wanted { IsWanted (Engine.Copies domain) wanted }
+    ensures told { IsTold (told_visits wanted.sought
+        (pair_visits (domain_of domain.now).rules wanted.levels wanted.depth (pair_of pair.now))) result
         (sink_run (K.faults out.old) (K.faults out.new) (K.bytes out.old) (K.bytes out.new)) }
     ensures later { K.faults out.old ≤ K.faults out.new }
 {
+    // Nothing runs here: the law makes known that costs never fall by priced rules.
+    priced_costs_never_fall();
     let Ok(mut walk) = walk_of(alloc, domain, pair, wanted.depth, wanted.levels) else {
         return Err(Halt::NoMemory);
     };
-    tell_walk(&mut walk, wanted, out)
+    tell_walk(alloc, &mut walk, wanted.sought, out)
 }
 
 /// Tells what is wanted of a pair, in place.
@@ -140,18 +161,18 @@ fn tell_in_place<K: Sink>(
     out: &mut K,
 ) -> Result<Status, Halt>
     requires pair { IsGroundPair (pair_of pair.now) }
-    requires plans { 0 < wanted.plans }
-    requires depth { wanted.depth ≤ GREATEST_DEPTH }
-    requires levels { wanted.levels ≤ MOST_LEVELS }
+    requires wanted { IsWanted (Engine.InPlace code) wanted }
     ensures told { (rules : List Rule) → IsCodeOf rules (code_of code.now)
-        → IsTold (told_walk wanted (walk rules wanted.levels (pair_of pair.now) wanted.depth)) result
+        → IsTold (told_visits wanted.sought (pair_visits rules wanted.levels wanted.depth (pair_of pair.now))) result
         (sink_run (K.faults out.old) (K.faults out.new) (K.bytes out.old) (K.bytes out.new)) }
     ensures later { K.faults out.old ≤ K.faults out.new }
 {
+    // Nothing runs here: the law makes known that costs never fall by priced rules.
+    priced_costs_never_fall();
     let Ok(mut walk) = planner_of(alloc, code, pair, wanted.depth, wanted.levels) else {
         return Err(Halt::NoMemory);
     };
-    tell_walk(&mut walk, wanted, out)
+    tell_walk(alloc, &mut walk, wanted.sought, out)
 }
 
 /// Tells what is wanted of a pair, by an engine.
@@ -166,7 +187,7 @@ fn tell_pair<K: Sink>(
     requires pair { IsGroundPair (pair_of pair.now) }
     requires wanted { IsWanted engine wanted }
     ensures told { (rules : List Rule) → PlansBy rules engine.entry
-        → IsTold (told_walk wanted (walk rules wanted.levels (pair_of pair.now) wanted.depth)) result
+        → IsTold (told_visits wanted.sought (pair_visits rules wanted.levels wanted.depth (pair_of pair.now))) result
         (sink_run (K.faults out.old) (K.faults out.new) (K.bytes out.old) (K.bytes out.new)) }
     ensures later { K.faults out.old ≤ K.faults out.new }
 {
@@ -207,7 +228,7 @@ fn tell_numbered<K: Sink>(
     requires pair { IsGroundPair (pair_of pair.now) }
     requires wanted { IsWanted engine wanted }
     ensures told { (rules : List Rule) → PlansBy rules engine.entry → IsTold (behind (pair_header number count)
-        (told_walk wanted (walk rules wanted.levels (pair_of pair.now) wanted.depth))) result
+        (told_visits wanted.sought (pair_visits rules wanted.levels wanted.depth (pair_of pair.now)))) result
         (sink_run (K.faults out.old) (K.faults out.new) (K.bytes out.old) (K.bytes out.new)) }
     ensures later { K.faults out.old ≤ K.faults out.new }
 {
@@ -253,7 +274,7 @@ pub fn tell_pairs<K: Sink>(
     requires engine { CanPlan engine }
     requires pairs { All IsGroundPair (map pair_of pairs.now) }
     requires wanted { IsWanted engine wanted }
-    ensures told { (rules : List Rule) → PlansBy rules engine.entry → IsTold (pairs_answer (told_walk wanted) rules
+    ensures told { (rules : List Rule) → PlansBy rules engine.entry → IsTold (pairs_answer (told_visits wanted.sought) rules
         wanted.levels wanted.depth (map pair_of pairs.now)) result
         (sink_run (K.faults out.old) (K.faults out.new) (K.bytes out.old) (K.bytes out.new)) }
     ensures later { K.faults out.old ≤ K.faults out.new }

@@ -2,12 +2,12 @@
 
 ghost use Rattle.std.specs.Prelude.{◌≡◌, ◌≤◌, ◌<◌, ◌+◌, true, false, MatchOption, IfOk, IfErr, OnOk, length};
 ghost use Rattle.std.specs.List.{All};
-ghost use Rattle.hp_net.specs.Standings.{node_reached};
+ghost use Rattle.hp_net.specs.Standings.{node_reached, IsAtItsNode};
 ghost use Rattle.hp_out.specs.Endings.{ending_of};
 ghost use Rattle.hp_out.specs.Writing.{Wrote, sink_run};
-ghost use Rattle.hp_syntax.specs.Report.{ending_text, nothing_seen, plan_line, quiet_ending, report, status_of, told_plan};
+ghost use Rattle.hp_syntax.specs.Report.{ending_text, nothing_seen, plan_line, quiet_ending, report, shown, status_of, told_plan};
 ghost use Rattle.hp_syntax.specs.Walk.{Plan, visit};
-ghost use Rattle.hp_top.specs.Telling.{IsAtItsNode, Visited, Halts, counted, left, stop_at, telling};
+ghost use Rattle.hp_top.specs.Telling.{Visited, Halts, counted, left, stop_at, telling};
 
 use crate::telling::Halt;
 use hp_io::Sink;
@@ -20,10 +20,8 @@ use hp_syntax::Status;
 pub enum Detail {
     /// Its line alone.
     Line,
-    /// Its line and its steps.
-    Steps,
-    /// Its line, its steps and the state that it leads to.
-    State,
+    /// Its line and its steps, with its path and the state that it leads to where these are shown.
+    Steps { states: bool, paths: bool },
 }
 
 /// How far a walk was told.
@@ -74,23 +72,25 @@ fn write_line<W: Walk, K: Sink>(number: u64, walk: &W, out: &mut K) -> Result<()
     }
 }
 
-/// Writes the plan of the node that is reached, with its steps.
+/// Writes the plan of the node that is reached, with its steps and what else is shown of it.
 fn write_steps<W: Walk, K: Sink>(
     number: u64,
     walk: &W,
     states: bool,
+    paths: bool,
     out: &mut K,
 ) -> Result<(), Halt>
     requires live { W.is_live walk.now ≡ true }
     ensures written { MatchOption (node_reached (W.tree walk.now) (W.stands walk.now)) ⊥
-        (λ n. OnOk result (Wrote (told_plan states number n) (K.bytes out.old) (K.bytes out.new))) }
+        (λ n. OnOk result (Wrote (told_plan (shown states paths) number (W.stands walk.now).path n)
+        (K.bytes out.old) (K.bytes out.new))) }
     ensures err { MatchOption (node_reached (W.tree walk.now) (W.stands walk.now)) ⊥
-        (λ n. IfErr result (λ h. Halts h (told_plan states number n)
+        (λ n. IfErr result (λ h. Halts h (told_plan (shown states paths) number (W.stands walk.now).path n)
         (sink_run (K.faults out.old) (K.faults out.new) (K.bytes out.old) (K.bytes out.new)))) }
     ensures later { K.faults out.old ≤ K.faults out.new }
 {
     let mut pen = Pen::new(out);
-    match pen.plan_lines(number, walk, states) {
+    match pen.plan_lines(number, walk, states, paths) {
         Ok(()) => Ok(()),
         Err(_) => Err(Halt::Failed),
     }
@@ -114,8 +114,7 @@ fn write_plan<W: Walk, K: Sink>(
 {
     match detail {
         Detail::Line => write_line(number, walk, out),
-        Detail::Steps => write_steps(number, walk, false, out),
-        Detail::State => write_steps(number, walk, true, out),
+        Detail::Steps { states, paths } => write_steps(number, walk, states, paths, out),
     }
 }
 
@@ -184,7 +183,7 @@ fn visit<W: Walk, K: Sink>(
 }
 
 /// Writes the ending line.
-fn close<K: Sink>(ending: Ending, progress: Progress, out: &mut K) -> Result<Status, Halt>
+pub fn close<K: Sink>(ending: Ending, progress: Progress, out: &mut K) -> Result<Status, Halt>
     ensures written { OnOk result (Wrote (ending_text (ending_of ending) progress.plans progress.expansions)
         (K.bytes out.old) (K.bytes out.new)) }
     ensures status { IfOk result (λ s. s ≡ status_of (ending_of ending) progress.plans) }

@@ -6,30 +6,31 @@ ghost use Rattle.hp_code.specs.Codes.{code_of};
 ghost use Rattle.hp_out.specs.Writing.{Wrote, sink_run};
 ghost use Rattle.hp_syntax.specs.Grammar.{problem_form};
 ghost use Rattle.hp_syntax.specs.Numbered.{IsNumberedDomain};
-ghost use Rattle.hp_syntax.specs.Report.{plan_of};
 ghost use Rattle.hp_syntax.specs.Views.{domain_of, problem_of};
-ghost use Rattle.hp_top.specs.Command.{Summing, make_command};
+ghost use Rattle.hp_words.specs.Command.{Choosing, Summing, make_command};
 ghost use Rattle.hp_top.specs.Loading.{HasText};
 ghost use Rattle.hp_top.specs.Outcome.{first_fault, job_answer, answer_of_read};
-ghost use Rattle.hp_top.specs.Telling.{Tells, status_told, telling};
-ghost use Rattle.hp_top.specs.Words.{IsAsked, IsPlanned, job_of};
+ghost use Rattle.hp_top.specs.Telling.{Tells, status_told};
+ghost use Rattle.hp_top.specs.Engines.{wanted_plans};
+ghost use Rattle.hp_words.specs.Words.{IsAsked, IsPlanned, IsSearchable, job_of};
 
 use crate::checking::tell_accepted;
 use crate::loading::Loaded;
 use crate::paging::tell_in_pages;
-use crate::pairs::{Engine, Wanted};
+use crate::pairs::{Engine, Sought, Wanted};
 use crate::planning::Detail;
 use crate::refusing::refuse;
 use crate::showing::show;
 use crate::summing::sum_up;
 use crate::telling::Halt;
-use crate::words::{Asked, Job};
+use hp_best::priced;
 use hp_check::{first_fault, unserved_tasks};
 use hp_code::{Code, lower};
 use hp_io::Sink;
 use hp_laws::pair_laws::{accepted_domains_are_checked, accepted_pairs_are_ground};
 use hp_out::Refusal;
 use hp_syntax::Status;
+use hp_words::{Asked, Job};
 use std::alloc::{AllocError, Global};
 
 /// The status of a run whose text was told, or whose telling stopped.
@@ -54,25 +55,21 @@ fn code_in(alloc: Global, loaded: &Loaded) -> Result<Code, AllocError>
     lower(alloc, &loaded.domain)
 }
 
-/// The detail in which a plan is told, with its state or without.
-fn detail_of(states: bool) -> Detail
-    ensures { telling result ≡ plan_of states }
-{
-    if states { Detail::State } else { Detail::Steps }
-}
-
 /// What a request for plans wants.
 fn wanted_by(asked: Asked) -> Wanted
-    ensures plans { result.plans ≡ asked.plans }
-    ensures depth { result.depth ≡ asked.depth }
-    ensures levels { result.levels ≡ asked.options.levels }
-    ensures detail { telling result.detail ≡ plan_of asked.options.states }
+    ensures { result ≡ wanted_plans asked }
 {
-    Wanted {
+    let sought = Sought::Plans {
         plans: asked.plans,
+        detail: Detail::Steps {
+            states: asked.options.states,
+            paths: asked.options.paths,
+        },
+    };
+    Wanted {
+        sought,
         depth: asked.depth,
         levels: asked.options.levels,
-        detail: detail_of(asked.options.states),
     }
 }
 
@@ -138,6 +135,39 @@ fn serve_plan<K: Sink>(alloc: Global, loaded: &Loaded, asked: Asked, out: &mut K
     } else {
         serve_plan_in_place(alloc, loaded, asked, out)
     }
+}
+
+/// Looks for the cheapest plan of each pair of an accepted domain and problem.
+fn serve_best<K: Sink>(
+    alloc: Global,
+    loaded: &Loaded,
+    depth: u32,
+    levels: u32,
+    out: &mut K,
+) -> Status
+    requires asked { IsSearchable depth levels }
+    requires numbered { IsNumberedDomain (domain_of loaded.now.domain) }
+    requires text { HasText problem_form (problem_of loaded.now.problem) }
+    requires checked { first_fault (domain_of loaded.now.domain) (problem_of loaded.now.problem) ≡ None }
+    ensures tells { Tells (job_answer (Choosing depth levels) (domain_of loaded.now.domain)
+        (problem_of loaded.now.problem)) result
+        (sink_run (K.faults out.old) (K.faults out.new) (K.bytes out.old) (K.bytes out.new)) }
+    ensures later { K.faults out.old ≤ K.faults out.new }
+{
+    // Nothing runs here: the law makes known that what is accepted can be walked.
+    accepted_pairs_are_ground();
+    let Ok(code) = code_in(alloc, loaded) else {
+        return Status::NoMemory;
+    };
+    let wanted = Wanted {
+        sought: Sought::Cheapest {
+            priced: priced(&loaded.domain),
+        },
+        depth,
+        levels,
+    };
+    let engine = Engine::InPlace(&code);
+    tell_in_pages(alloc, engine, loaded.problem.pairs.as_slice(), wanted, out)
 }
 
 /// Sums up the first plan of an accepted domain and problem that were made.
@@ -216,6 +246,7 @@ pub fn serve_job<K: Sink>(alloc: Global, loaded: Loaded, job: Job, out: &mut K) 
     }
     match job {
         Job::Plan(asked) => serve_plan(alloc, &loaded, asked, out),
+        Job::Best { depth, levels } => serve_best(alloc, &loaded, depth, levels, out),
         Job::Check => serve_check(alloc, &loaded, out),
         Job::Show => serve_show(alloc, &loaded, out),
         Job::Sum { seed, packages } => serve_sum(alloc, &loaded, seed, packages, out),

@@ -6,15 +6,15 @@ ghost use Rattle.hp_code.specs.CodeViews.{IsCodeOf};
 ghost use Rattle.hp_code.specs.Codes.{code_of};
 ghost use Rattle.hp_out.specs.Writing.{Wrote, sink_run};
 ghost use Rattle.hp_syntax.specs.GroundPatterns.{IsGroundPair};
-ghost use Rattle.hp_syntax.specs.Report.{behind, line_report};
+ghost use Rattle.hp_syntax.specs.Report.{behind};
 ghost use Rattle.hp_syntax.specs.Syntax.{Rule};
 ghost use Rattle.hp_syntax.specs.Views.{problem_of};
 ghost use Rattle.hp_top.specs.Making.{made_lines};
-ghost use Rattle.hp_top.specs.Outcome.{pairs_answer};
+ghost use Rattle.hp_top.specs.Outcome.{line_heard, pairs_answer};
 ghost use Rattle.hp_top.specs.Telling.{Halts, IsTold};
 
 use crate::checking::{atoms_written, push_count};
-use crate::pairs::{Engine, Wanted, tell_pairs};
+use crate::pairs::{Engine, Sought, Wanted, tell_pairs};
 use crate::planning::Detail;
 use crate::telling::{Halt, write};
 use hp_code::Code;
@@ -85,15 +85,18 @@ pub fn sum_up<K: Sink>(
     requires { All IsGroundPair (problem_of problem.now).pairs }
     ensures told { (rules : List Rule) → IsCodeOf rules (code_of code.now)
         → IsTold (behind (made_lines seed packages (problem_of problem.now))
-        (pairs_answer line_report rules USUAL_LEVELS MADE_DEPTH (problem_of problem.now).pairs)) result
+        (pairs_answer line_heard rules USUAL_LEVELS MADE_DEPTH (problem_of problem.now).pairs)) result
         (sink_run (K.faults out.old) (K.faults out.new) (K.bytes out.old) (K.bytes out.new)) }
     ensures later { K.faults out.old ≤ K.faults out.new }
 {
-    let wanted = Wanted {
+    let sought = Sought::Plans {
         plans: 1,
+        detail: Detail::Line,
+    };
+    let wanted = Wanted {
+        sought,
         depth: MADE_DEPTH,
         levels: USUAL_LEVELS,
-        detail: Detail::Line,
     };
     match tell_made(alloc, seed, packages, problem, out) {
         Ok(()) => tell_pairs(

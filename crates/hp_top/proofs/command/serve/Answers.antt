@@ -1,8 +1,8 @@
 use Rattle.std.proofs.Common.{◌≡◌, Some, refl, subst, sym, map, string_bytes}
-use Rattle.hp_top.specs.Command.{accepts, make_command}
+use Rattle.hp_words.specs.Command.{accepts, make_command}
 use Rattle.hp_top.specs.Serving.{ByCommand, ByListing, ByMaking}
 use Rattle.hp_top.specs.Touching.{Touches, input_run}
-use Rattle.hp_top.specs.Words.{job_of, request_of}
+use Rattle.hp_words.specs.Words.{job_of, request_of}
 use Rattle.hp_top.proofs.RunSteps.{refused_words, touched_by_command, touched_by_listing}
 use Rattle.hp_top.proofs.command.serve.Goals as goal
 

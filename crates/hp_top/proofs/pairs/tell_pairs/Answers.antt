@@ -4,16 +4,15 @@ use Rattle.hp_syntax.specs.GroundPatterns.{IsGroundPair}
 use Rattle.hp_syntax.specs.Report.{Answer, behind, pair_header}
 use Rattle.hp_syntax.specs.Syntax.{Pair, Rule}
 use Rattle.hp_syntax.specs.Views.{pair_of}
-use Rattle.hp_syntax.specs.Walk.{walk}
-use Rattle.hp_top.specs.Engines.{told_walk}
-use Rattle.hp_top.specs.Outcome.{pairs_answer}
+use Rattle.hp_top.specs.Engines.{told_visits}
+use Rattle.hp_top.specs.Outcome.{pair_visits, pairs_answer}
 use Rattle.hp_top.specs.declared.pairs.Wanted.{Wanted}
 use Rattle.hp_top.proofs.PairSteps.{IsLeft, all_left, from_pair, from_the_first, halts_in_all, held_at, less_left, next_pair, no_pair, none_left}
 use Rattle.hp_top.proofs.pairs.tell_pairs.Goals as goal
 
 -- what is told of a pair
 abbrev told : Wanted → List Rule → Pair → Answer
-told wanted rules pair = told_walk wanted (walk rules wanted.levels pair wanted.depth)
+told wanted rules pair = told_visits wanted.sought (pair_visits rules wanted.levels wanted.depth pair)
 
 pub loop-number-init : goal.loop-number-init
 loop-number-init g c =
@@ -21,10 +20,10 @@ loop-number-init g c =
     record {
       left = λ rules by.
           subst
-          (λ x. IsLeft (pairs_answer (told_walk w) rules w.levels w.depth (map pair_of c.args.pairs.now)) x
+          (λ x. IsLeft (pairs_answer (told_visits w.sought) rules w.levels w.depth (map pair_of c.args.pairs.now)) x
           status.Done (g.K.Sink.bytes c.args.out.now) (g.K.Sink.bytes c.args.out.now))
           (from_the_first (told w rules) c.args.pairs.now)
-          (all_left (pairs_answer (told_walk w) rules w.levels w.depth (map pair_of c.args.pairs.now))
+          (all_left (pairs_answer (told_visits w.sought) rules w.levels w.depth (map pair_of c.args.pairs.now))
           (g.K.Sink.bytes c.args.out.now));
       later = omega arith;
     }
@@ -46,7 +45,7 @@ loop-number-preserved g c =
     c.tell_numbered.ensures.later in
     record {
       left = λ rules by.
-          let all = pairs_answer (told_walk w) rules w.levels w.depth (map pair_of ps) in
+          let all = pairs_answer (told_visits w.sought) rules w.levels w.depth (map pair_of ps) in
           let one = behind (pair_header (i + 1) (length ps)) (told w rules (pair_of p)) in
           let others = from_pair (told w rules) ps (i + 1) in
           let next = next_pair (told w rules) ps i p c.loop-number-test.true c.index-pairs-number.is in
@@ -66,7 +65,7 @@ returns-in-Err-clause-told g c = λ rules by.
     let ps = c.args.pairs.now in
     let i = c.loop-number.number in
     let p = c.index-pairs-number.result in
-    let all = pairs_answer (told_walk w) rules w.levels w.depth (map pair_of ps) in
+    let all = pairs_answer (told_visits w.sought) rules w.levels w.depth (map pair_of ps) in
     let one = behind (pair_header (i + 1) (length ps)) (told w rules (pair_of p)) in
     let others = from_pair (told w rules) ps (i + 1) in
     let next = next_pair (told w rules) ps i p c.loop-number-test.true c.index-pairs-number.is in
@@ -88,7 +87,7 @@ returns-in-Err-clause-later g c =
 pub returns-clause-told : goal.returns-clause-told
 returns-clause-told g c = λ rules by.
     let w = c.args.wanted in
-    none_left (pairs_answer (told_walk w) rules w.levels w.depth (map pair_of c.args.pairs.now))
+    none_left (pairs_answer (told_visits w.sought) rules w.levels w.depth (map pair_of c.args.pairs.now))
     (from_pair (told w rules) c.args.pairs.now c.loop-number.number) c.loop-number.status
     (g.K.Sink.faults c.args.out.now) (g.K.Sink.faults c.loop-number.out) (g.K.Sink.bytes c.args.out.now)
     (g.K.Sink.bytes c.loop-number.out) (no_pair (told w rules) c.args.pairs.now c.loop-number.number

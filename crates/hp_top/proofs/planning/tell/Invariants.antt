@@ -1,6 +1,7 @@
 use Rattle.std.proofs.Common.{◌≡◌, ◌≤◌, ◌<◌, true, false, length}
 use Rattle.std.specs.List.{All}
-use Rattle.hp_top.specs.Telling.{Goes, IsAtItsNode}
+use Rattle.hp_net.specs.Standings.{IsAtItsNode}
+use Rattle.hp_top.specs.Telling.{Goes}
 use Rattle.hp_top.proofs.planning.tell.Given as goal
 
 abbrev pub invariant-loop-ending : goal.invariant-loop-ending

@@ -4,7 +4,7 @@ use Rattle.hp_net.specs.Standings.{next_of, step_or_end}
 use Rattle.hp_syntax.specs.Walk.{Did, Plan}
 use Rattle.hp_out.specs.Writing.{Wrote, sink_run}
 use Rattle.hp_top.specs.Telling.{Halts, telling}
-use Rattle.hp_top.proofs.NextVisits.{IsNext, did_next, plan_next, at_kept, at_visit}
+use Rattle.hp_net.proofs.NextVisits.{IsNext, did_next, plan_next, at_kept, at_visit}
 use Rattle.hp_top.proofs.PlanningSteps.{goes_on, plan_visited, halted_plan, holds_on_ok}
 use Rattle.hp_top.proofs.planning.visit.Goals as goal
 

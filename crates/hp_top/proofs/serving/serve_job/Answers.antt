@@ -1,13 +1,17 @@
 use Rattle.std.proofs.Common.{◌≡◌, ◌∙◌, None, ap, sym}
 use Rattle.hp_out.specs.Writing.{sink_run}
 use Rattle.hp_syntax.specs.Views.{domain_of, problem_of}
-use Rattle.hp_top.specs.Words.{job_of}
+use Rattle.hp_words.specs.Words.{job_of}
 use Rattle.hp_top.proofs.PlanEnds.{tells_read}
 use Rattle.hp_top.proofs.serving.serve_job.Goals as goal
 
 -- behind the checks it is at hand that they found no fault
 pub serve_plan-requires-clause-checked : goal.serve_plan-requires-clause-checked
 serve_plan-requires-clause-checked g c =
+    let none : c.first_fault.result ≡ None = assumption in sym c.first_fault.ensures ∙ none
+
+pub serve_best-requires-clause-checked : goal.serve_best-requires-clause-checked
+serve_best-requires-clause-checked g c =
     let none : c.first_fault.result ≡ None = assumption in sym c.first_fault.ensures ∙ none
 
 pub serve_sum-requires-clause-checked : goal.serve_sum-requires-clause-checked
@@ -22,6 +26,15 @@ returns-in-Plan-clause-tells g c =
     (sink_run (g.K.Sink.faults c.args.out.now) (g.K.Sink.faults c.serve_plan.new.out) (g.K.Sink.bytes c.args.out.now)
     (g.K.Sink.bytes c.serve_plan.new.out))
     (sym c.first_fault.ensures ∙ none) (ap job_of c.in-Plan.is) c.serve_plan.ensures.tells
+
+pub returns-in-Best-clause-tells : goal.returns-in-Best-clause-tells
+returns-in-Best-clause-tells g c =
+    let none : c.first_fault.result ≡ None = assumption in
+    tells_read (domain_of c.args.loaded.domain) (problem_of c.args.loaded.problem) (job_of c.args.job) _
+    c.serve_best.result
+    (sink_run (g.K.Sink.faults c.args.out.now) (g.K.Sink.faults c.serve_best.new.out) (g.K.Sink.bytes c.args.out.now)
+    (g.K.Sink.bytes c.serve_best.new.out))
+    (sym c.first_fault.ensures ∙ none) (ap job_of c.in-Best.is) c.serve_best.ensures.tells
 
 pub returns-in-Check-clause-tells : goal.returns-in-Check-clause-tells
 returns-in-Check-clause-tells g c =

@@ -1,10 +1,10 @@
 use Rattle.std.proofs.Common.{subst}
 use Rattle.hp_out.specs.Writing.{sink_run}
 use Rattle.hp_syntax.specs.declared.limits.TheConstants.{MADE_DEPTH, USUAL_LEVELS}
-use Rattle.hp_syntax.specs.Report.{Answer, line_report}
+use Rattle.hp_syntax.specs.Report.{Answer}
 use Rattle.hp_syntax.specs.Views.{problem_of}
 use Rattle.hp_top.specs.Making.{made_lines}
-use Rattle.hp_top.specs.Outcome.{pairs_answer}
+use Rattle.hp_top.specs.Outcome.{line_heard, pairs_answer}
 use Rattle.hp_top.specs.Telling.{IsTold}
 use Rattle.hp_top.proofs.PairSteps.{told_behind}
 use Rattle.hp_top.proofs.PlanEnds.{lines_told}
@@ -16,7 +16,7 @@ pub returns-in-Ok-clause-told : goal.returns-in-Ok-clause-told
 returns-in-Ok-clause-told g c = λ rules is.
     let p = problem_of c.args.problem.now in
     told_behind (made_lines c.args.seed c.args.packages p)
-    (pairs_answer line_report rules USUAL_LEVELS MADE_DEPTH p.pairs) c.tell_pairs.result
+    (pairs_answer line_heard rules USUAL_LEVELS MADE_DEPTH p.pairs) c.tell_pairs.result
     (g.K.Sink.faults c.args.out.now) (g.K.Sink.faults c.tell_made.new.out) (g.K.Sink.faults c.tell_pairs.new.out)
     (g.K.Sink.bytes c.args.out.now) (g.K.Sink.bytes c.tell_made.new.out) (g.K.Sink.bytes c.tell_pairs.new.out)
     c.tell_made.ensures.later c.in-Ok.ensures.written
@@ -32,7 +32,7 @@ pub returns-in-Err-clause-told : goal.returns-in-Err-clause-told
 returns-in-Err-clause-told g c = λ rules is.
     let p = problem_of c.args.problem.now in
     halts_longer c.in-Err.halt (made_lines c.args.seed c.args.packages p)
-    (pairs_answer line_report rules USUAL_LEVELS MADE_DEPTH p.pairs).0
+    (pairs_answer line_heard rules USUAL_LEVELS MADE_DEPTH p.pairs).0
     (sink_run (g.K.Sink.faults c.args.out.now) (g.K.Sink.faults c.tell_made.new.out) (g.K.Sink.bytes c.args.out.now)
     (g.K.Sink.bytes c.tell_made.new.out))
     c.in-Err.ensures.err
