@@ -13,9 +13,12 @@ pub const DOMAIN: &str = "(defdomain courier (
 
 pub const PROBLEM: &str = "(defproblem parcel courier
   ((at depot) (seen depot)
-   (street depot mill 9) (street mill station 8) (street depot bridge 4) (street bridge station 5)
-   (street bridge mill 1) (street station harbour 2) (street mill harbour 20))
+   (street depot mill 9) (street mill station 8) (street depot bridge 4) (street bridge mill 1)
+   (street bridge station 5) (street station harbour 2) (street mill harbour 20))
   ((go harbour)))";
+
+/// A quarter of an hour, in thousandths of a minute.
+pub const BUDGET: i128 = 15_000;
 
 /// The words of a line, with one space between each two.
 fn words_of(alloc: Global, line: &str) -> Result<Vec<String>, AllocError> {

@@ -1,7 +1,7 @@
 //! From two texts to the walks of their pairs.
 ghost use Rattle.std.specs.Prelude.{◌≡◌, ◌≤◌, [], true, false, None, IfOk};
 ghost use Rattle.std.specs.List.{All};
-ghost use Rattle.hp_net.specs.Standings.{standing};
+ghost use Rattle.hp_net.specs.Standings.{standing, IsAtItsNode};
 ghost use Rattle.hp_plain.specs.Walked.{stands_walked, tree_walked};
 ghost use Rattle.hp_syntax.specs.Checks.{domain_faults, first_of};
 ghost use Rattle.hp_syntax.specs.Grammar.{domain_form, problem_form};
@@ -9,7 +9,6 @@ ghost use Rattle.hp_syntax.specs.GroundPatterns.{IsGroundPair};
 ghost use Rattle.hp_syntax.specs.TextForms.{IsRead};
 ghost use Rattle.hp_syntax.specs.Views.{domain_of, pair_of, problem_of};
 ghost use Rattle.hp_syntax.specs.Walk.{root, visits};
-ghost use Rattle.hp_top.specs.Telling.{IsAtItsNode};
 
 use hp_check::{CheckFault, first_fault};
 use hp_forms::{FormRefusal, into_domain, into_problem};

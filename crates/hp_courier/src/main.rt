@@ -1,6 +1,6 @@
 //! An example: a program of one's own over the planner's crates. It runs a command over a folder and a sink of its
-//! own, and it walks the tree itself, call by call and to find the cheapest plan. Both, and the search for that plan,
-//! stand in `hp_embedding`.
+//! own, and it walks the tree itself, call by call and to find the first plan within a budget. Both, and the search for
+//! that plan, stand in `hp_embedding`.
 #![tactic(auto)]
 
 mod courier;
@@ -49,7 +49,7 @@ fn main(rt: HostRuntime) -> anyhow::Result<()> {
         alloc,
         courier::DOMAIN,
         courier::PROBLEM,
-        Shown::Cheapest,
+        Shown::Within(courier::BUDGET),
     )?;
     for what in [Shown::Visits, Shown::Pruned, Shown::WayBack] {
         show_walk(&rt, alloc, swap::DOMAIN, swap::PROBLEM, what)?;

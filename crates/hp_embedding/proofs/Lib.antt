@@ -1,1 +1,1 @@
-pub mod CheapestSteps
+pub mod BudgetSteps

@@ -1,2 +1,2 @@
-pub mod Search
+pub mod Budgets
 pub mod Shelves

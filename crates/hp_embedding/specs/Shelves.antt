@@ -2,11 +2,10 @@
 use Rattle.std.specs.Prelude.{ℕ, Bool, cond, List, Option, Some, None, option_map, is_some, bytes_eq, codes}
 use Rattle.hp_io.specs.Inputs.{by_input}
 use Rattle.hp_io.specs.declared.folder.Input.{Input}
-use Rattle.hp_top.specs.Outcome.{Files}
 use Rattle.hp_embedding.specs.declared.shelf.Shelf.{Shelf}
 
 -- two texts by their names
-abbrev pub texts : List ℕ → List ℕ → Files
+abbrev pub texts : List ℕ → List ℕ → List ℕ → Option (List ℕ)
 texts domain problem n =
     cond (bytes_eq n (codes "domain")) (Some domain) (cond (bytes_eq n (codes "problem")) (Some problem) None)
 

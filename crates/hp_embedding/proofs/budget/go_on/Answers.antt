@@ -1,11 +1,13 @@
-use Rattle.std.proofs.Common.{◌≡◌, ◌⊎◌, ◌∙◌, refl, subst, cond, IfSome}
-use Rattle.hp_embedding.specs.Search.{IsAt, cost_of, lower, reaches}
-use Rattle.hp_net.specs.Standings.{next_of, pruned, step_or_end}
-use Rattle.hp_top.specs.Telling.{IsAtItsNode}
-use Rattle.hp_top.proofs.NextVisits.{IsNext, at_kept, at_visit, cut_next, did_next, plan_next}
-use Rattle.hp_embedding.proofs.CheapestSteps.{at_left, fault_left, goes_cut, goes_down, goes_plan}
-use Rattle.hp_syntax.specs.Walk.{CutHere, Did, Plan}
-use Rattle.hp_embedding.proofs.cheapest.visit.Goals as goal
+use Rattle.std.proofs.Common.{◌≡◌, ◌∙◌, FitsSigned, refl, rules, subst, cond, MatchOption}
+use Rattle.std.specs.Int.{w128}
+use Rattle.std.specs.Int.Signed.{lt_z}
+use Rattle.std.proofs.lemmas.Int.{to_z-of_z}
+use Rattle.hp_embedding.specs.Budgets.{Judges}
+use Rattle.hp_net.specs.Standings.{next_of, node_reached, pruned, step_or_end, IsAtItsNode}
+use Rattle.hp_net.proofs.NextVisits.{IsNext, at_kept, at_visit, cut_next, did_next, fault_next, plan_next}
+use Rattle.hp_embedding.proofs.BudgetSteps.{at_left, cut_beyond, fault_first, passes_did, passes_one, turned_plan}
+use Rattle.hp_syntax.specs.Walk.{CutHere, Did, FaultHere, Plan, visit}
+use Rattle.hp_embedding.proofs.budget.go_on.Goals as goal
 
 pub returns-in-Ok-Did-clause-turned : goal.returns-in-Ok-Did-clause-turned
 returns-in-Ok-Did-clause-turned g c =
@@ -15,10 +17,12 @@ returns-in-Ok-Did-clause-turned g c =
     let next : IsNext s t Did =
     did_next _ _ c.in-Ok-Did.ensures.stands
     (subst (λ x. x ≡ step_or_end (next_of s.rest)) c.in-Ok-Did.field-0-is c.in-Ok-Did.ensures.answer) in
-    goes_down c.args.best.now next.visit s.rest t r next.rest next.sight next.path _ refl
+    let fits : FitsSigned w128 c.args.budget = search rules in
+    passes_did c.args.budget next.visit s.rest t r next.rest next.sight next.path _ refl
     (at_visit (g.W.Walk.tree c.args.walk.now) (g.W.Walk.tree c.next.new.self) s t Did next
-    (λ v. r ≡ cond (reaches (cost_of c.args.best.now) v.node.cost) (pruned t) t) c.next.ensures.tree c.requires.at
-    c.leave_out.ensures.stands)
+    (λ v. r ≡ cond (lt_z c.args.budget v.node.cost) (pruned t) t) c.next.ensures.tree c.requires.at
+    (subst (λ b. MatchOption (node_reached (g.W.Walk.tree c.next.new.self) t) ⊥
+    (λ n. r ≡ cond (lt_z b n.cost) (pruned t) t)) (to_z-of_z w128 c.args.budget fits) c.leave_out.ensures.stands))
 
 pub returns-in-Ok-Did-clause-at : goal.returns-in-Ok-Did-clause-at
 returns-in-Ok-Did-clause-at g c =
@@ -28,10 +32,12 @@ returns-in-Ok-Did-clause-at g c =
     let next : IsNext s t Did =
     did_next _ _ c.in-Ok-Did.ensures.stands
     (subst (λ x. x ≡ step_or_end (next_of s.rest)) c.in-Ok-Did.field-0-is c.in-Ok-Did.ensures.answer) in
+    let fits : FitsSigned w128 c.args.budget = search rules in
     at_left (IsAtItsNode (g.W.Walk.tree c.leave_out.new.walk)) t r _
     (at_visit (g.W.Walk.tree c.args.walk.now) (g.W.Walk.tree c.next.new.self) s t Did next
-    (λ v. r ≡ cond (reaches (cost_of c.args.best.now) v.node.cost) (pruned t) t) c.next.ensures.tree c.requires.at
-    c.leave_out.ensures.stands)
+    (λ v. r ≡ cond (lt_z c.args.budget v.node.cost) (pruned t) t) c.next.ensures.tree c.requires.at
+    (subst (λ b. MatchOption (node_reached (g.W.Walk.tree c.next.new.self) t) ⊥
+    (λ n. r ≡ cond (lt_z b n.cost) (pruned t) t)) (to_z-of_z w128 c.args.budget fits) c.leave_out.ensures.stands))
     (at_kept (g.W.Walk.tree c.args.walk.now) (g.W.Walk.tree c.leave_out.new.walk) s t
     (c.leave_out.ensures.tree ∙ c.next.ensures.tree) c.in-Ok-Did.ensures.stands c.requires.at)
 
@@ -42,14 +48,12 @@ returns-in-Ok-clause-turned g c =
     let next : IsNext s t Plan =
     plan_next _ _ c.in-Ok-Plan.ensures.stands
     (subst (λ x. x ≡ step_or_end (next_of s.rest)) c.in-Ok-Plan.field-0-is c.in-Ok-Plan.ensures.answer) in
-    goes_plan c.args.best.now c.keep.new.best next.visit s.rest t.rest next.rest next.sight
+    let fits : FitsSigned w128 c.args.budget = search rules in
+    turned_plan c.args.budget c.in-Ok.progress next.visit s.rest t.rest next.rest
     (at_visit (g.W.Walk.tree c.args.walk.now) (g.W.Walk.tree c.next.new.self) s t Plan next
-    (λ v. cost_of c.keep.new.best ≡ lower (cost_of c.args.best.now) v.node.cost) c.next.ensures.tree c.requires.at
-    c.in-Ok.ensures.lower)
-    (subst (λ p. (c.keep.new.best ≡ c.args.best.now) ⊎ IfSome c.keep.new.best (λ f. IsAt f next.visit.node p)) next.path
-    (at_visit (g.W.Walk.tree c.args.walk.now) (g.W.Walk.tree c.next.new.self) s t Plan next
-    (λ v. (c.keep.new.best ≡ c.args.best.now) ⊎ IfSome c.keep.new.best (λ f. IsAt f v.node t.path)) c.next.ensures.tree
-    c.requires.at c.in-Ok.ensures.kept))
+    (λ v. Judges c.args.budget c.in-Ok.progress v) c.next.ensures.tree c.requires.at
+    (subst (λ b. MatchOption (node_reached (g.W.Walk.tree c.next.new.self) t) ⊥
+    (λ n. Judges b c.in-Ok.progress (visit t.path n Plan))) (to_z-of_z w128 c.args.budget fits) c.in-Ok.ensures))
 
 pub returns-in-Ok-clause-at : goal.returns-in-Ok-clause-at
 returns-in-Ok-clause-at g c =
@@ -63,7 +67,7 @@ returns-in-Ok-Cut-clause-turned g c =
     let next : IsNext s t CutHere =
     cut_next _ _ c.in-Ok-Cut.ensures.stands
     (subst (λ x. x ≡ step_or_end (next_of s.rest)) c.in-Ok-Cut.field-0-is c.in-Ok-Cut.ensures.answer) in
-    goes_cut c.args.best.now next.visit s.rest t.rest next.rest next.sight
+    passes_one c.args.budget next.visit s.rest t.rest next.rest (cut_beyond c.args.budget next.visit next.sight)
 
 pub returns-in-Ok-Cut-clause-at : goal.returns-in-Ok-Cut-clause-at
 returns-in-Ok-Cut-clause-at g c =
@@ -72,6 +76,8 @@ returns-in-Ok-Cut-clause-at g c =
 
 pub returns-in-Ok-Fault-clause-err : goal.returns-in-Ok-Fault-clause-err
 returns-in-Ok-Fault-clause-err g c =
-    fault_left c.in-Ok-Fault.fault (g.W.Walk.stands c.args.walk.now).rest
-    (subst (λ x. x ≡ step_or_end (next_of (g.W.Walk.stands c.args.walk.now).rest)) c.in-Ok-Fault.field-0-is
-    c.in-Ok-Fault.ensures.answer)
+    let s = g.W.Walk.stands c.args.walk.now in
+    let next =
+    fault_next c.in-Ok-Fault.fault s.rest
+    (subst (λ x. x ≡ step_or_end (next_of s.rest)) c.in-Ok-Fault.field-0-is c.in-Ok-Fault.ensures.answer) in
+    fault_first (λ v. v.sight ≡ FaultHere c.in-Ok-Fault.fault) s.rest next.1 next.0 next.2 next.3
