@@ -16,7 +16,7 @@ pub fn node_text<W: Walk>(alloc: Global, walk: &W) -> Result<MemSink, AllocError
     requires { W.is_live walk.now ≡ true }
 {
     let mut sink = MemSink::new(alloc, ROOM)?;
-    match Pen::new(&mut sink).plan_lines(1, walk, true) {
+    match Pen::new(&mut sink).plan_lines(1, walk, true, false) {
         Ok(()) => Ok(sink),
         Err(_) => Err(AllocError),
     }
