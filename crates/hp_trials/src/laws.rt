@@ -1,5 +1,6 @@
 //! Laws and samples. A law does nothing, and so can always be cited.
 
+use hp_best::laws::{bounded_walks_choose_the_cheapest, priced_costs_never_fall};
 use hp_check::laws::{no_fault_is_left_out, the_first_fault_is_told};
 use hp_make::samples::two_packages_are_made;
 use hp_syntax::laws::{
@@ -9,8 +10,9 @@ use hp_syntax::laws::{
     texts_spell_one_forest,
 };
 use hp_syntax::samples::samples_are_spelled;
-use hp_top::laws::{every_run_has_an_outcome, outcomes_are_one};
-use hp_top::samples::{basic_comes_to_its_plan, makings_are_read};
+use hp_top::laws::{cheapest_plans_are_told, every_run_has_an_outcome, outcomes_are_one};
+use hp_top::samples::basic_comes_to_its_plan;
+use hp_words::samples::{makings_are_read, options_are_read, searches_are_read};
 
 /// Cites all of them.
 pub fn cite_all() {
@@ -29,8 +31,13 @@ pub fn cite_all() {
     no_fault_is_left_out();
     outcomes_are_one();
     every_run_has_an_outcome();
+    priced_costs_never_fall();
+    bounded_walks_choose_the_cheapest();
+    cheapest_plans_are_told();
     samples_are_spelled();
     two_packages_are_made();
     basic_comes_to_its_plan();
+    options_are_read();
     makings_are_read();
+    searches_are_read();
 }

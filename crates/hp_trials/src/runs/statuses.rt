@@ -4,7 +4,7 @@ use crate::runs::trial::{tell, tell_status};
 use hp_top::Status;
 use std::alloc::{AllocError, Global};
 
-const STATUSES: [(&str, Status); 10] = [
+const STATUSES: [(&str, Status); 12] = [
     ("# done", Status::Done),
     ("# no memory", Status::NoMemory),
     ("# usage", Status::Usage),
@@ -13,6 +13,8 @@ const STATUSES: [(&str, Status); 10] = [
     ("# problem refused", Status::ProblemRefused),
     ("# run fault", Status::RunFault),
     ("# write fault", Status::WriteFault),
+    ("# plan refused", Status::PlanRefused),
+    ("# no such path", Status::NoSuchPath),
     ("# no plan", Status::NoPlan),
     ("# cut short", Status::CutShort),
 ];
