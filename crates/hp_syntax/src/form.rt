@@ -31,7 +31,7 @@ pub enum What {
     Effects,
     /// A task or a list of tasks.
     Tasks,
-    /// A term without a call.
+    /// A term without a call; in a plan file also without a variable.
     Ground,
     /// The end of a list or of the file.
     End,
