@@ -14,8 +14,10 @@ text_named s n = texts s.domain.now s.problem.now n
 
 -- the bytes of a begun input that are left to read
 abbrev pub left_of : Shelf → Input → Option (List ℕ)
-left_of s which = by_input which (option_map (λ t. t.now) s.domain_left) (option_map (λ t. t.now) s.problem_left)
+left_of s which =
+    by_input which (option_map (λ t. t.now) s.domain_left) (option_map (λ t. t.now) s.problem_left)
+    (option_map (λ t. t.now) s.plan_left)
 
 -- whether an input was begun
 abbrev pub is_begun : Shelf → Input → Bool
-is_begun s which = by_input which (is_some s.domain_left) (is_some s.problem_left)
+is_begun s which = by_input which (is_some s.domain_left) (is_some s.problem_left) (is_some s.plan_left)

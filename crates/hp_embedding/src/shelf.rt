@@ -14,6 +14,7 @@ pub struct Shelf<'a> {
     /// The bytes of each input that are left to read, once it was begun.
     domain_left: Option<&'a [u8]>,
     problem_left: Option<&'a [u8]>,
+    plan_left: Option<&'a [u8]>,
 }
 
 impl<'a> Shelf<'a> {
@@ -27,6 +28,7 @@ impl<'a> Shelf<'a> {
             problem: problem.as_bytes(),
             domain_left: None,
             problem_left: None,
+            plan_left: None,
         }
     }
 
@@ -50,6 +52,7 @@ impl<'a> Shelf<'a> {
         match which {
             Input::Domain => self.domain_left.unwrap(),
             Input::Problem => self.problem_left.unwrap(),
+            Input::Plan => self.plan_left.unwrap(),
         }
     }
 
@@ -63,6 +66,7 @@ impl<'a> Shelf<'a> {
         match which {
             Input::Domain => self.domain_left = Some(left),
             Input::Problem => self.problem_left = Some(left),
+            Input::Plan => self.plan_left = Some(left),
         }
     }
 }

@@ -33,7 +33,7 @@ bytes_at (Some f) at' = drop at' f.bytes.items
 
 -- the record of an input
 abbrev pub input_of : MemFolder → Input → MemInput
-input_of folder which = by_input which folder.domain folder.problem
+input_of folder which = by_input which folder.domain folder.problem folder.plan
 
 -- the bytes of the files from a place on
 abbrev pub rest_from : List File → Option Place → Option (List ℕ)

@@ -4,11 +4,12 @@ ghost use Rattle.hp_io.specs.Rules.{Rose, Begins, Taken};
 
 use thiserror::Error;
 
-/// The two files that a run reads.
+/// The files that a run reads: a plan by the one command that is given one.
 #[derive(Clone, Copy, Debug, PartialEq, Eq)]
 pub enum Input {
     Domain,
     Problem,
+    Plan,
 }
 
 /// A call failed, and the fault was counted.

@@ -81,6 +81,7 @@ pub struct HostFolder<'a, R: Files> {
     rt: &'a R,
     domain: HostInput<R::File>,
     problem: HostInput<R::File>,
+    plan: HostInput<R::File>,
 }
 
 impl<'a, R: Files> HostFolder<'a, R> {
@@ -92,6 +93,7 @@ impl<'a, R: Files> HostFolder<'a, R> {
             rt,
             domain: HostInput::new(),
             problem: HostInput::new(),
+            plan: HostInput::new(),
         }
     }
 }
@@ -101,9 +103,9 @@ impl<'a, R: Files> Folder for HostFolder<'a, R> {
 
     ghost rest = { λ s w. None };
 
-    ghost begun = { λ s w. by_input w (is_some s.domain.file) (is_some s.problem.file) };
+    ghost begun = { λ s w. by_input w (is_some s.domain.file) (is_some s.problem.file) (is_some s.plan.file) };
 
-    ghost faults = { λ s w. by_input w s.domain.faults s.problem.faults };
+    ghost faults = { λ s w. by_input w s.domain.faults s.problem.faults s.plan.faults };
 
     /// Where the system has no memory to open the file, no count rises.
     fn begin(&mut self, which: Input, name: &str) -> Result<(), BeginError> {
@@ -111,6 +113,7 @@ impl<'a, R: Files> Folder for HostFolder<'a, R> {
         match which {
             Input::Domain => self.domain.begin(opened),
             Input::Problem => self.problem.begin(opened),
+            Input::Plan => self.plan.begin(opened),
         }
     }
 
@@ -118,6 +121,7 @@ impl<'a, R: Files> Folder for HostFolder<'a, R> {
         match which {
             Input::Domain => self.domain.read(buf),
             Input::Problem => self.problem.read(buf),
+            Input::Plan => self.plan.read(buf),
         }
     }
 }

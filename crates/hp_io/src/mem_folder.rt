@@ -52,6 +52,7 @@ pub struct MemFolder {
     files: Vec<File>,
     domain: MemInput,
     problem: MemInput,
+    plan: MemInput,
     schedule: Schedule,
 }
 
@@ -61,6 +62,7 @@ impl Drop for MemFolder {
             files,
             domain: _,
             problem: _,
+            plan: _,
             schedule,
         } = self;
         drop(files);
@@ -81,6 +83,7 @@ impl MemFolder {
             files: Vec::new(alloc),
             domain: MemInput::new(),
             problem: MemInput::new(),
+            plan: MemInput::new(),
             schedule: Schedule::new(alloc),
         }
     }
@@ -108,7 +111,7 @@ impl MemFolder {
         Ok(())
     }
 
-    /// Makes the begin or read of that number fail. Both count in one row, for both inputs.
+    /// Makes the begin or read of that number fail. Both count in one row, for all inputs.
     pub fn fail_at(&mut self, call: u64) -> Result<(), AllocError>
         ensures set { OnOk result (fails_at self.new call ≡ true) }
         ensures others { (n : ℕ) → n ≢ call → fails_at self.new n ≡ fails_at self.old n }
@@ -126,6 +129,7 @@ impl MemFolder {
         match which {
             Input::Domain => self.domain,
             Input::Problem => self.problem,
+            Input::Plan => self.plan,
         }
     }
 
@@ -138,6 +142,7 @@ impl MemFolder {
         match which {
             Input::Domain => self.domain = input,
             Input::Problem => self.problem = input,
+            Input::Plan => self.plan = input,
         }
     }
 
