@@ -1,7 +1,7 @@
 -- Numbers of a command.
 use Rattle.std.proofs.Common.{◌≡◌, ℕ, ◌+◌, ◌-◌, ◌*◌, ◌<◌, ◌≤◌, nat_le, drop, add-one, drop-cons, ◌∙◌, List, [], ◌∷◌, length, Some, None, get_or, arith, refl, sym}
 use Rattle.std.proofs.lemmas.Bool.{lt-leb}
-use Rattle.hp_words.specs.Command.{only_if, number_from}
+use Rattle.hp_words.specs.Numbers.{only_if, number_from}
 
 -- more digits spell no smaller number
 number_from_grows : (n : ℕ) (bs : List ℕ) → n ≤ number_from n bs

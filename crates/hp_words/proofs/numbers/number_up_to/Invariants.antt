@@ -1,7 +1,7 @@
 use Rattle.std.proofs.Common.{◌≡◌, ◌≤◌, true, drop}
 use Rattle.std.specs.List.{list_all}
 use Rattle.hp_syntax.specs.Text.{is_digit}
-use Rattle.hp_words.specs.Command.{number_from}
+use Rattle.hp_words.specs.Numbers.{number_from}
 use Rattle.hp_words.proofs.numbers.number_up_to.Given as goal
 
 abbrev pub invariant-loop-digit : goal.invariant-loop-digit

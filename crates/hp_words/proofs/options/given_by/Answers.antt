@@ -32,5 +32,5 @@ loop-rest-preserved c = record {
       (options_spelled (map string_bytes c.in_ok-option.behind.now))
       (options_spelled (map string_bytes c.loop-rest.rest.now)) (given_by (map string_bytes c.args.words.now))
       c.in_ok-given.ensures.given c.in_ok-option.ensures.spelled c.loop-rest.invariant.left;
-  levels = c.in_ok-given.ensures.levels;
+  within = c.in_ok-given.ensures.within;
 }

@@ -8,7 +8,7 @@ abbrev pub invariant-loop-rest : goal.invariant-loop-rest
 invariant-loop-rest l = record {
   left : option_and_then (given_all (given_of l.given)) (options_spelled (map string_bytes l.rest))
       ≡ given_by (map string_bytes l.words);
-  levels : IsGiven l.given;
+  within : IsGiven l.given;
 }
 
 abbrev pub decreases-loop-rest : goal.decreases-loop-rest

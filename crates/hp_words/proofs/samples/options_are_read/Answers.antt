@@ -42,3 +42,6 @@ returns-clause-plan c = refl
 
 pub returns-clause-no_plan : goal.returns-clause-no_plan
 returns-clause-no_plan c = refl
+
+pub returns-clause-pair : goal.returns-clause-pair
+returns-clause-pair c = refl

@@ -21,3 +21,6 @@ returns-clause-copies c = refl
 
 pub returns-clause-no_depth : goal.returns-clause-no_depth
 returns-clause-no_depth c = refl
+
+pub returns-clause-pair : goal.returns-clause-pair
+returns-clause-pair c = refl

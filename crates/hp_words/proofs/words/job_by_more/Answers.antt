@@ -8,14 +8,19 @@ fails : (b : Bool) → b ≢ true → b ≡ false
 fails true n = absurd (n refl)
 fails false n = refl
 
--- a word that is neither `plan` nor `best` has no job with more words
-no_job : (word : List ℕ) (more : List (List ℕ)) → word ≢ codes "plan" → word ≢ codes "best"
-    → None ≡ job_by_more word more
-no_job word more p b =
+-- a word that is none of `plan`, `best`, `after` and `shallow` has no job with more words
+no_job : (word : List ℕ) (more : List (List ℕ)) → word ≢ codes "plan" → word ≢ codes "best" → word ≢ codes "after"
+    → word ≢ codes "shallow" → None ≡ job_by_more word more
+no_job word more p b a s =
     let plan : bytes_eq word (codes "plan") ≡ false = fails _ (λ e. p ((bytes_eq-Decides word (codes "plan")).0 e)) in
     let best : bytes_eq word (codes "best") ≡ false = fails _ (λ e. b ((bytes_eq-Decides word (codes "best")).0 e)) in
-    rw (plan, best) refl
+    let after : bytes_eq word (codes "after") ≡ false =
+    fails _ (λ e. a ((bytes_eq-Decides word (codes "after")).0 e)) in
+    let shallow : bytes_eq word (codes "shallow") ≡ false =
+    fails _ (λ e. s ((bytes_eq-Decides word (codes "shallow")).0 e)) in
+    rw (plan, best, after, shallow) refl
 
 pub returns-in_default-clause-spelled : goal.returns-in_default-clause-spelled
 returns-in_default-clause-spelled c =
     no_job c.args.word.now (map string_bytes c.args.more.now) c.in_default.not-plan c.in_default.not-best
+    c.in_default.not-after c.in_default.not-shallow
