@@ -1,3 +1,4 @@
+pub mod AnswerSteps
 pub mod WritingLemmas
 pub mod GroundSteps
 pub mod PageSteps

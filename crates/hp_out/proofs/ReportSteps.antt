@@ -42,24 +42,35 @@ plan_parts n i cost terms steps s c fits =
     ap (λ t. t ++ lines_text (terms_at terms steps)) (line_part n i cost terms steps s c fits)
     ∙ ap (λ ts. plan_line i n.cost (length n.steps) ++ lines_text ts) (sym s)
 
+-- a word and a count
+abbrev pub count_line : List ℕ → ℕ → List ℕ
+count_line word count = word ++ decimal count ++ codes "\n"
+
+-- a text and then three others are put together from the left
+behind : (x p a r : List ℕ) → x ++ (p ++ a ++ r) ≡ x ++ p ++ a ++ r
+behind x p a r = simp append_assoc
+
 -- a cost and a number of steps, and the end of their line
 abbrev pub measure_text : ℤ → ℕ → List ℕ
 measure_text cost count = codes " cost " ++ num_text cost ++ codes " steps " ++ decimal count ++ codes "\n"
 
--- texts one behind the other, however they are put together
-pieces : (p a q b r : List ℕ) → p ++ (a ++ (q ++ (b ++ r))) ≡ p ++ a ++ q ++ b ++ r
-pieces p a q b r = simp append_assoc
+-- a word, and a sign, digits and decimals, are a word and a cost
+pub cost_words : (word : List ℕ) (cost : ℤ) (a b c : List ℕ) → a ≡ cond (int_lt cost (pos 0)) (codes "-") []
+    → b ≡ decimal (unsigned_abs cost / 1000) → c ≡ decimals_text (unsigned_abs cost % 1000)
+    → word ++ (a ++ (b ++ (c ++ []))) ≡ word ++ num_text cost
+cost_words word cost a b c q r s =
+    ap (λ t. word ++ t) (number_words cost a b c [] q r s ∙ append-nil (num_text cost))
 
--- the words of a cost, which is a sign, digits and decimals, and of a number of steps
-pub measure_words : (cost : ℤ) (count : ℕ) (b c d e : List ℕ)
-    → b ≡ cond (int_lt cost (pos 0)) (codes "-") [] → c ≡ decimal (unsigned_abs cost / 1000)
-    → d ≡ decimals_text (unsigned_abs cost % 1000) → e ≡ decimal count
-    → codes " cost " ++ (b ++ (c ++ (d ++ (codes " steps " ++ (e ++ codes "\n"))))) ≡ measure_text cost count
-measure_words cost count b c d e q r s t =
-    let rest : List ℕ = codes " steps " ++ (e ++ codes "\n") in
-    ap (λ (x : List ℕ). codes " cost " ++ x) (number_words cost b c d rest q r s)
-    ∙ ap (λ (x : List ℕ). codes " cost " ++ (num_text cost ++ (codes " steps " ++ (x ++ codes "\n")))) t
-    ∙ pieces (codes " cost ") (num_text cost) (codes " steps ") (decimal count) (codes "\n")
+-- a word and a cost as a call is passed it
+abbrev pub cost_text : List ℕ → ℤ → List ℕ
+cost_text word cost = word ++ num_text (to_z w128 (of_z w128 cost))
+
+-- a cost and then a number of steps are the measure of a plan
+pub measure_words : (cost : ℤ) (count : ℕ) → FitsSigned w128 cost
+    → cost_text (codes " cost ") cost ++ count_line (codes " steps ") count ≡ measure_text cost count
+measure_words cost count fits =
+    ap (λ (c : ℤ). (codes " cost " ++ num_text c) ++ count_line (codes " steps ") count) (to_z-of_z w128 cost fits)
+    ∙ behind (codes " cost " ++ num_text cost) (codes " steps ") (decimal count) (codes "\n")
 
 -- a word before a measure
 before : (x p a q b r : List ℕ) → x ++ (p ++ a ++ q ++ b ++ r) ≡ x ++ p ++ a ++ q ++ b ++ r
@@ -100,10 +111,6 @@ best_parts cost steps fits =
     ∙ ap (λ n. best_line cost n ++ grounds_text steps) (sym (length-map steps ground_of))
 
 -- ---- states
-
--- a word and a count
-abbrev pub count_line : List ℕ → ℕ → List ℕ
-count_line word count = word ++ decimal count ++ codes "\n"
 
 -- a line for each atom
 abbrev pub atoms_text : List Term → Stage → List ℕ

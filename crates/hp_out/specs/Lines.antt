@@ -1,5 +1,5 @@
 -- The lines of refusals and notes, and the words of which they are made.
-use Rattle.std.specs.Prelude.{ℕ, Bool, cond, List, ◌++◌, codes}
+use Rattle.std.specs.Prelude.{ℕ, Bool, cond, ℤ, List, ◌++◌, codes, decimal}
 use Rattle.hp_io.specs.declared.folder.Input.{Input}
 use Rattle.hp_io.specs.declared.folder.Input.TheVariants as inputs
 use Rattle.hp_syntax.specs.declared.check.CheckKind.{CheckKind}
@@ -11,6 +11,8 @@ use Rattle.hp_syntax.specs.declared.text.TextKind.{TextKind}
 use Rattle.hp_syntax.specs.declared.text.TextKind.TheVariants as texts
 use Rattle.hp_syntax.specs.Notes.{Note}
 use Rattle.hp_syntax.specs.PlaceTexts.{span_text, at_span}
+use Rattle.hp_syntax.specs.Report.{path_text}
+use Rattle.hp_syntax.specs.TermTexts.{num_text}
 
 -- ---- words
 
@@ -56,6 +58,7 @@ check_word checks.UnknownOrder = codes "UnknownOrder"
 abbrev pub input_word : Input → List ℕ
 input_word inputs.Domain = codes "domain"
 input_word inputs.Problem = codes "problem"
+input_word inputs.Plan = codes "plan"
 
 -- the text of the problem, or of the domain
 abbrev pub text_of : Bool → Input
@@ -76,6 +79,7 @@ refused_usage = codes "refused usage\n"
 abbrev pub refused_read : Input → List ℕ
 refused_read inputs.Domain = codes "refused read domain\n"
 refused_read inputs.Problem = codes "refused read problem\n"
+refused_read inputs.Plan = codes "refused read plan\n"
 
 -- a text that is refused, and why
 abbrev pub refused_line : Input → List ℕ → List ℕ
@@ -88,3 +92,31 @@ note_place in_problem s = codes " in " ++ input_word (text_of in_problem) ++ cod
 -- a task that no rule serves
 abbrev pub note_text : Note → List ℕ
 note_text n = codes "note NoRule " ++ n.name ++ note_place n.in_problem n.span
+
+-- there is no pair of this number
+unfoldable pub no_pair_line : ℕ → ℕ → List ℕ
+no_pair_line number count =
+    codes "refused problem NoPair " ++ decimal number ++ codes " of " ++ decimal count ++ codes "\n"
+
+-- there is no plan at a path
+unfoldable pub absent_text : ℕ → List ℕ
+absent_text expansions = codes "no plan at path expansions " ++ decimal expansions ++ codes "\n"
+
+-- a plan was derived: its cost, its path, and the decompositions on the way
+unfoldable pub derived_text : ℤ → List ℕ → ℕ → List ℕ
+derived_text cost path expansions =
+    codes "derived cost " ++ num_text cost ++ codes " path " ++ path_text path
+    ++ codes " expansions " ++ decimal expansions ++ codes "\n"
+
+-- the word for what keeps a plan from being derived: a limit cut the tree somewhere, or all of it was seen
+abbrev pub underived_word : Bool → List ℕ
+underived_word is_cut = cond is_cut (codes "cut") (codes "end")
+
+-- a plan wasn't derived
+unfoldable pub underived_text : Bool → ℕ → List ℕ
+underived_text is_cut expansions =
+    codes "not derived " ++ underived_word is_cut ++ codes " expansions " ++ decimal expansions ++ codes "\n"
+
+-- the depth that decides
+unfoldable pub depth_text : ℕ → List ℕ
+depth_text depth = codes "depth " ++ decimal depth ++ codes "\n"

@@ -1,6 +1,7 @@
 //! The lines of a run, written through a sink.
 #![tactic(auto)]
 
+mod derived;
 mod ending;
 mod endings;
 mod grounds;

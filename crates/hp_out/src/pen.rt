@@ -6,7 +6,8 @@ ghost use Rattle.hp_check.specs.NoteViews.{note_of};
 ghost use Rattle.hp_io.specs.Rules.{Rose};
 ghost use Rattle.hp_net.specs.Standings.{node_reached};
 ghost use Rattle.hp_out.specs.Endings.{ending_of};
-ghost use Rattle.hp_out.specs.Lines.{kind_word, refused_line, refused_read, note_place, note_text};
+ghost use Rattle.hp_out.specs.Lines.{absent_text, depth_text, derived_text, kind_word, no_pair_line, refused_line};
+ghost use Rattle.hp_out.specs.Lines.{refused_read, note_place, note_text, underived_text};
 ghost use Rattle.hp_out.specs.RefusalTexts.{refusal_text};
 ghost use Rattle.hp_out.specs.Writing.{Writes};
 ghost use Rattle.hp_syntax.specs.GroundViews.{ground_of};
@@ -14,13 +15,14 @@ ghost use Rattle.hp_syntax.specs.PlaceTexts.{at_offset, at_span, span_text};
 ghost use Rattle.hp_syntax.specs.Report.{best_text, ending_text, pair_line, path_line, path_text, plan_line, shown};
 ghost use Rattle.hp_syntax.specs.Report.{told_plan};
 
+use crate::derived::push_derived;
 use crate::ending::Ending;
 use crate::endings::push_ending;
 use crate::page::Page;
 use crate::paths::{push_path, push_path_line};
 use crate::plans::{push_best, push_told, push_told_line};
 use crate::refusal::Refusal;
-use crate::words::{check_word, input_word, kind_word, text_of, what_word};
+use crate::words::{check_word, input_word, kind_word, text_of, underived_word, what_word};
 use crate::writing::{write_all, write_pieces};
 use hp_check::Note;
 use hp_io::{Failed, Input, Sink};
@@ -115,6 +117,7 @@ impl<'a, K: Sink> Pen<'a, K> {
         self.span_end(span)
     }
 
+    /// The line of a file that isn't there or couldn't be read.
     fn read_line(&mut self, which: Input) -> Result<(), Failed>
         ensures same_reference { self.new.sink.ghost_name ≡ self.old.sink.ghost_name }
         ensures writes { Writes result (refused_read which)
@@ -125,6 +128,7 @@ impl<'a, K: Sink> Pen<'a, K> {
         match which {
             Input::Domain => self.text(b"refused read domain\n"),
             Input::Problem => self.text(b"refused read problem\n"),
+            Input::Plan => self.text(b"refused read plan\n"),
         }
     }
 
@@ -172,7 +176,89 @@ impl<'a, K: Sink> Pen<'a, K> {
                 check_word(fault.kind),
                 fault.span,
             ),
+            Refusal::NoPair(number, count) => self.no_pair_line(number, count),
         }
+    }
+
+    /// Writes that there is no pair of this number, by how many there are.
+    fn no_pair_line(&mut self, number: u64, count: u64) -> Result<(), Failed>
+        ensures same_reference { self.new.sink.ghost_name ≡ self.old.sink.ghost_name }
+        ensures writes { Writes result (no_pair_line number count)
+            (K.bytes self.old.sink.now) (K.bytes self.new.sink.now) }
+        ensures later { K.faults self.old.sink.now ≤ K.faults self.new.sink.now }
+        ensures cause { OnErr result (Rose (K.faults self.old.sink.now) (K.faults self.new.sink.now)) }
+    {
+        let mut first = Buffer::new();
+        let mut second = Buffer::new();
+        self.pieces(&[
+            b"refused problem NoPair ",
+            first.format(number).as_bytes(),
+            b" of ",
+            second.format(count).as_bytes(),
+            b"\n",
+        ])
+    }
+
+    /// Writes that there is no plan at a path, with the decompositions on the way.
+    pub fn absent_line(&mut self, expansions: u64) -> Result<(), Failed>
+        ensures same_reference { self.new.sink.ghost_name ≡ self.old.sink.ghost_name }
+        ensures writes { Writes result (absent_text expansions)
+            (K.bytes self.old.sink.now) (K.bytes self.new.sink.now) }
+        ensures later { K.faults self.old.sink.now ≤ K.faults self.new.sink.now }
+        ensures cause { OnErr result (Rose (K.faults self.old.sink.now) (K.faults self.new.sink.now)) }
+    {
+        let mut number = Buffer::new();
+        self.pieces(&[
+            b"no plan at path expansions ",
+            number.format(expansions).as_bytes(),
+            b"\n",
+        ])
+    }
+
+    /// Writes that a plan was derived: its cost, which is a count of thousandths, its path, and the decompositions on
+    /// the way. It goes out in one piece, or in pieces of a page.
+    pub fn derived_line(&mut self, cost: i128, path: &[u64], expansions: u64) -> Result<(), Failed>
+        ensures same_reference { self.new.sink.ghost_name ≡ self.old.sink.ghost_name }
+        ensures writes { Writes result (derived_text cost path.now expansions)
+            (K.bytes self.old.sink.now) (K.bytes self.new.sink.now) }
+        ensures later { K.faults self.old.sink.now ≤ K.faults self.new.sink.now }
+        ensures cause { OnErr result (Rose (K.faults self.old.sink.now) (K.faults self.new.sink.now)) }
+    {
+        let mut line = Page::new();
+        push_derived(&mut line, self.sink, cost, path, expansions)?;
+        line.flush(self.sink)
+    }
+
+    /// Writes that a plan wasn't derived, with the decompositions on the way: all of the tree was seen, or a limit cut
+    /// it.
+    pub fn underived_line(&mut self, is_cut: bool, expansions: u64) -> Result<(), Failed>
+        ensures same_reference { self.new.sink.ghost_name ≡ self.old.sink.ghost_name }
+        ensures writes { Writes result (underived_text is_cut expansions)
+            (K.bytes self.old.sink.now) (K.bytes self.new.sink.now) }
+        ensures later { K.faults self.old.sink.now ≤ K.faults self.new.sink.now }
+        ensures cause { OnErr result (Rose (K.faults self.old.sink.now) (K.faults self.new.sink.now)) }
+    {
+        let mut number = Buffer::new();
+        self.pieces(&[
+            b"not derived ",
+            underived_word(is_cut),
+            b" expansions ",
+            number.format(expansions).as_bytes(),
+            b"\n",
+        ])
+    }
+
+    /// Writes the depth that decides.
+    #[tactic(auto, unfolding(crate::specs::Lines::depth_text))]
+    pub fn depth_line(&mut self, depth: u32) -> Result<(), Failed>
+        ensures same_reference { self.new.sink.ghost_name ≡ self.old.sink.ghost_name }
+        ensures writes { Writes result (depth_text depth)
+            (K.bytes self.old.sink.now) (K.bytes self.new.sink.now) }
+        ensures later { K.faults self.old.sink.now ≤ K.faults self.new.sink.now }
+        ensures cause { OnErr result (Rose (K.faults self.old.sink.now) (K.faults self.new.sink.now)) }
+    {
+        let mut number = Buffer::new();
+        self.pieces(&[b"depth ", number.format(depth).as_bytes(), b"\n"])
     }
 
     /// Where the task of a note stands, and the end of its line.

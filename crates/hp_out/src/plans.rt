@@ -22,6 +22,25 @@ use hp_syntax::{Decimals, Ground, sign};
 use hp_world::World;
 use itoa::Buffer;
 
+/// Puts a word and a cost, which is a count of thousandths, on a page.
+pub fn push_cost<K: Sink>(
+    page: &mut Page,
+    sink: &mut K,
+    word: &'static [u8],
+    cost: i128,
+) -> Result<(), Failed>
+    ensures puts { Puts result (word.now ++ num_text cost)
+        (desk (K.bytes sink.old) page.old) (desk (K.bytes sink.new) page.new) }
+    ensures later { K.faults sink.old ≤ K.faults sink.new }
+    ensures cause { OnErr result (Rose (K.faults sink.old) (K.faults sink.new)) }
+{
+    let magnitude = cost.unsigned_abs();
+    let decimals = Decimals::new((magnitude % 1000) as u32);
+    let mut whole = Buffer::new();
+    let digits = whole.format(magnitude / 1000).as_bytes();
+    page.push_all(sink, &[word, sign(cost < 0), digits, decimals.as_bytes()])
+}
+
 /// Puts a cost, which is a count of thousandths, and a number of steps on a page, and the end of their line.
 fn push_measure<K: Sink>(
     page: &mut Page,
@@ -34,22 +53,8 @@ fn push_measure<K: Sink>(
     ensures later { K.faults sink.old ≤ K.faults sink.new }
     ensures cause { OnErr result (Rose (K.faults sink.old) (K.faults sink.new)) }
 {
-    let magnitude = cost.unsigned_abs();
-    let decimals = Decimals::new((magnitude % 1000) as u32);
-    let mut whole = Buffer::new();
-    let mut count = Buffer::new();
-    page.push_all(
-        sink,
-        &[
-            b" cost ",
-            sign(cost < 0),
-            whole.format(magnitude / 1000).as_bytes(),
-            decimals.as_bytes(),
-            b" steps ",
-            count.format(steps).as_bytes(),
-            b"\n",
-        ],
-    )
+    push_cost(page, sink, b" cost ", cost)?;
+    push_count(page, sink, b" steps ", steps)
 }
 
 /// Puts the line of a plan on a page, whose cost is a count of thousandths.

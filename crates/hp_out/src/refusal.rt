@@ -16,4 +16,6 @@ pub enum Refusal {
     Form(Input, What, Span),
     /// A check finds a fault.
     Check(CheckFault),
+    /// There is no pair of this number; told with how many there are.
+    NoPair(u64, u64),
 }

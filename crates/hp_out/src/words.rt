@@ -1,7 +1,7 @@
 //! The words of which lines are made.
 
 ghost use Rattle.std.specs.Prelude.{◌≡◌};
-ghost use Rattle.hp_out.specs.Lines.{what_word, kind_word, check_word, input_word, text_of};
+ghost use Rattle.hp_out.specs.Lines.{what_word, kind_word, check_word, input_word, text_of, underived_word};
 ghost use Rattle.hp_syntax.specs.Report.{fault_word};
 
 use hp_io::Input;
@@ -82,6 +82,7 @@ pub fn input_word(which: Input) -> &'static [u8]
     match which {
         Input::Domain => b"domain",
         Input::Problem => b"problem",
+        Input::Plan => b"plan",
     }
 }
 
@@ -94,4 +95,11 @@ pub fn text_of(in_problem: bool) -> Input
     } else {
         Input::Domain
     }
+}
+
+/// The word for what keeps a plan from being derived.
+pub fn underived_word(is_cut: bool) -> &'static [u8]
+    ensures { result.now ≡ underived_word is_cut }
+{
+    if is_cut { b"cut" } else { b"end" }
 }

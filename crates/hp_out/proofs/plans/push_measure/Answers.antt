@@ -1,25 +1,20 @@
-use Rattle.std.proofs.Common.{◌≡◌, ◌∙◌, ◌/◌, ◌%◌, ℕ, ℤ, [], FitsSigned, to_z, of_z, cond, pos, codes, ap, rules}
-use Rattle.std.specs.Prelude.{decimal, int_lt, unsigned_abs}
+use Rattle.std.proofs.Common.{FitsSigned, codes, rules}
 use Rattle.std.specs.Int.{w128}
-use Rattle.std.proofs.lemmas.Int.{to_z-of_z}
-use Rattle.hp_syntax.specs.TermTexts.{decimals_text}
-use Rattle.hp_out.proofs.PageSteps.{puts_same}
-use Rattle.hp_out.proofs.ReportSteps.{measure_words}
+use Rattle.hp_out.proofs.PageSteps.{first_not_put, rest_put}
+use Rattle.hp_out.proofs.ReportSteps.{cost_text, count_line, measure_words}
 use Rattle.hp_out.proofs.plans.push_measure.Goals as goal
 
--- the words and the numbers, one behind the other
+-- the cost couldn't be put
+pub returns-in_err-push_cost-clause-puts : goal.returns-in_err-push_cost-clause-puts
+returns-in_err-push_cost-clause-puts g c =
+    let fits : FitsSigned w128 c.args.cost = search rules in
+    first_not_put _ _ _ (cost_text (codes " cost ") c.args.cost) (count_line (codes " steps ") c.args.steps) _ _ _
+    c.from_residual.ensures.0 c.in_err-push_cost.was c.push_cost.ensures.puts
+    (measure_words c.args.cost c.args.steps fits)
+
+-- the cost and then the number of steps
 pub returns-clause-puts : goal.returns-clause-puts
 returns-clause-puts g c =
-    let n = c.args.cost in
-    let fits : FitsSigned w128 n = search rules in
-    let same : to_z w128 (of_z w128 n) ≡ n = to_z-of_z w128 n fits in
-    let size : c.unsigned_abs-magnitude.result ≡ unsigned_abs n =
-    c.unsigned_abs-magnitude.ensures.value ∙ ap unsigned_abs same in
-    puts_same c.push_all.result _ _ _ _
-    (measure_words n c.args.steps c.sign.result.now c.as_bytes.result.now c.as_bytes-2.result.now
-    c.as_bytes-3.result.now
-    (c.sign.ensures ∙ ap (λ (m : ℤ). cond (int_lt m (pos 0)) (codes "-") []) same)
-    (c.as_bytes.ensures.value ∙ c.format.ensures.text ∙ ap (λ (m : ℕ). decimal (m / 1000)) size)
-    (c.as_bytes-2.ensures ∙ c.new-decimals.ensures ∙ ap (λ (m : ℕ). decimals_text (m % 1000)) size)
-    (c.as_bytes-3.ensures.value ∙ c.format-2.ensures.text))
-    c.push_all.ensures.puts
+    let fits : FitsSigned w128 c.args.cost = search rules in
+    rest_put c.push_count.result (cost_text (codes " cost ") c.args.cost) (count_line (codes " steps ") c.args.steps)
+    _ _ _ _ c.in_ok-push_cost.ensures.puts c.push_count.ensures.puts (measure_words c.args.cost c.args.steps fits)
