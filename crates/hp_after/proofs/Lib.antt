@@ -1,6 +1,6 @@
 pub mod Arrivals
-pub mod NumberSteps
-pub mod PieceLemmas
+pub mod ContinueLemmas
+pub mod HeardLemmas
 pub mod PlanLemmas
 pub mod SideLemmas
 pub mod TurnSteps

@@ -1,20 +1,21 @@
--- A walk to a path comes to the plan there, where it meets no fault.
-use Rattle.std.proofs.Common.{◌≡◌, ◌≢◌, ◌⊎◌, ◌↔◌, ℕ, Bool, true, false, ◌||◌, cond, List, [], ◌∷◌, ◌++◌, Option, Some, None, refl, sym, ap, ◌∙◌, subst, inl, inr}
+-- A walk to a path comes to the plan there, where no fault comes before it.
+use Rattle.std.proofs.Common.{◌≡◌, ◌≢◌, ◌⊎◌, ℕ, Bool, true, false, ◌||◌, cond, List, [], ◌∷◌, ◌++◌, Option, Some, None, refl, sym, ap, ◌∙◌, subst, inl, inr}
 use Rattle.std.specs.List.{All, AllPairs}
 use Rattle.std.proofs.lemmas.List.Elements.{All-nil, All-cons, All-head, All-tail}
-use Rattle.hp_laws.proofs.JoinLemmas.{all_left, pairs_head, pairs_tail}
+use Rattle.hp_laws.proofs.JoinLemmas.{pairs_head, pairs_tail}
 use Rattle.hp_laws.proofs.OrderLemmas.{visits_in_order}
 use Rattle.hp_laws.specs.TreeLaws.{IsFaultless, IsReached, IsPlanOf, PlanOf, ComesBefore, IsBefore}
 use Rattle.hp_net.specs.Standings.{Tree, tree_visits}
 use Rattle.hp_passes.specs.Passes.{Turn, On, Past, Last, Passed, pass, is_out, with_made}
 use Rattle.hp_syntax.specs.Syntax.{Rule}
-use Rattle.hp_syntax.specs.Walk.{Node, Sight, Did, Plan, CutHere, FaultHere, Visit, visit, visits, begins, is_did, is_plan, is_fault_here}
+use Rattle.hp_syntax.specs.Walk.{Node, Sight, Did, Plan, CutHere, FaultHere, Visit, visit, visits, begins, is_did, is_plan, is_fault_here, heard_visits}
 use Rattle.hp_after.specs.declared.reaching.Arrival.{Arrival}
 use Rattle.hp_after.specs.declared.reaching.Reached.TheVariants as reached
 use Rattle.hp_after.specs.declared.reaching.Side.{Side}
 use Rattle.hp_after.specs.declared.reaching.Side.TheVariants as sides
 use Rattle.hp_after.specs.Reach.{Coming, ComesToPlan, HoldsPlan, IsArrival, did_turn, nothing_met, plan_turn, reach_turn, reaching, side_of, with_did}
 use Rattle.hp_after.proofs.Arrivals.{in_midst}
+use Rattle.hp_after.proofs.HeardLemmas.{heard_stands}
 use Rattle.hp_after.proofs.SideLemmas.{before_apart, earlier_side, here_same, side_same}
 use Rattle.hp_after.proofs.TurnSteps.{behind, not_fault, turn_cut, turn_did, turn_fault, turn_plan}
 
@@ -218,33 +219,35 @@ in_front R (v ∷ before) w after h =
     (in_midst (R v) before w after (pairs_head R v (before ++ w ∷ after) h))
     (in_front R before w after (pairs_tail R v (before ++ w ∷ after) h))
 
-found : (p : List ℕ) (vs : List Visit) → AllPairs InOrder vs → All (λ v. IsFaultless v.sight) vs → (n : Node)
-    (before after : List Visit) → vs ≡ before ++ visit p n Plan ∷ after
+found : (p : List ℕ) (vs : List Visit) → AllPairs InOrder vs → (n : Node) (before after : List Visit)
+    → vs ≡ before ++ visit p n Plan ∷ after → All (λ v. IsFaultless v.sight) before
     → ((reaching p vs).knows.answer ≡ reached.At) × ((reaching p vs).left ≡ after)
-found p vs order f n before after e =
+found p vs order n before after e faultless =
     let w = visit p n Plan in
     let ordered : All (λ v. InOrder v w) before = in_front InOrder before w after (subst (AllPairs InOrder) e order) in
-    let faultless : All (λ v. IsFaultless v.sight) before =
-    all_left (λ v. IsFaultless v.sight) before (w ∷ after) (subst (All (λ v. IsFaultless v.sight)) e f) in
     subst (λ us. ((reaching p us).knows.answer ≡ reached.At) × ((reaching p us).left ≡ after)) (sym e)
     (ends p w refl refl after before (all_lead p w refl refl before ordered faultless) None nothing_met refl)
 
--- so where there is no fault, a walk to a path comes to a plan exactly where a tree holds one there
+-- so a walk to a path comes to the plan that a tree holds there, where no fault comes before it
 pub comes_to_plan : (rules : List Rule) (nest : ℕ) (root : Node) (p : List ℕ)
-    → All (λ v. IsFaultless v.sight) (visits rules nest root []) → ComesToPlan p (visits rules nest root [])
-comes_to_plan rules nest root p f = record {
+    → ComesToPlan p (visits rules nest root [])
+comes_to_plan rules nest root p = record {
   found =
-      λ n before after e.
-      found p (visits rules nest root []) (visits_in_order rules nest root) f n before after e;
+      λ n before after e f.
+      found p (visits rules nest root []) (visits_in_order rules nest root) n before after e f;
   only = λ h. holds p (visits rules nest root []) None nothing_met refl h;
 }
 
--- so what is told is that the walk is at a plan exactly where the tree holds one at the path
-pub told_exactly : (t : Tree) (p : List ℕ) (a : Arrival) → IsArrival a p (tree_visits t)
-    → All (λ v. IsFaultless v.sight) (tree_visits t) → (a.answer ≡ reached.At) ↔ HoldsPlan p (tree_visits t)
-told_exactly t p a arrival f =
-    let comes : ComesToPlan p (tree_visits t) = comes_to_plan t.rules t.nest t.root p f in (
-      λ h. let plan = comes.only (sym arrival.answer ∙ h) in
-          (plan.0, plan.1, (reaching p (tree_visits t)).left, plan.2),
-      λ h. arrival.answer ∙ (comes.found h.0 h.1 h.2 h.3).0,
-    )
+module _ (t : Tree) (p : List ℕ) (a : Arrival) (arrival : IsArrival a p (tree_visits t)) where
+  -- so it is told to be at the plan that is heard there
+  pub told_found : HoldsPlan p (heard_visits (tree_visits t)) → a.answer ≡ reached.At
+  told_found h =
+      let m = heard_stands (tree_visits t) h.1 (visit p h.0 Plan) h.2 h.3 in
+      arrival.answer
+      ∙ ((comes_to_plan t.rules t.nest t.root p).found h.0 h.1 m.after m.whole m.faultless).0
+
+  -- and what it is told to be at is a plan
+  pub told_only : a.answer ≡ reached.At → HoldsPlan p (tree_visits t)
+  told_only h =
+      let plan = (comes_to_plan t.rules t.nest t.root p).only (sym arrival.answer ∙ h) in
+      (plan.0, plan.1, (reaching p (tree_visits t)).left, plan.2)

@@ -1,3 +1,3 @@
-pub mod PathWords
+pub mod Enumerations
 pub mod Reach
 pub mod Reaching

@@ -1,8 +1,10 @@
 -- A walk to a plan whose path is known, and what is left behind it.
-use Rattle.std.specs.Prelude.{◌≡◌, ℕ, ◌+◌, ◌-◌, ◌^◌, min, nat_lt, cond, List, [], ◌∷◌, ◌++◌, Some, None}
+use Rattle.std.specs.Prelude.{◌≡◌, ℕ, ◌+◌, nat_lt, cond, List, [], ◌∷◌, ◌++◌, Some, None}
+use Rattle.std.specs.List.{All}
+use Rattle.hp_laws.specs.TreeLaws.{IsFaultless}
 use Rattle.hp_net.specs.Standings.{Tree, Standing, node_reached, tree_visits}
 use Rattle.hp_passes.specs.Passes.{Turn, On, Past, Last, Passed, pass}
-use Rattle.hp_syntax.specs.Walk.{Node, Visit, Did, Plan, CutHere, FaultHere, visit, visits, count_told}
+use Rattle.hp_syntax.specs.Walk.{Node, Visit, Did, Plan, CutHere, FaultHere, visit, count_told}
 use Rattle.hp_after.specs.declared.reaching.Arrival.{Arrival}
 use Rattle.hp_after.specs.declared.reaching.Reached.{Reached}
 use Rattle.hp_after.specs.declared.reaching.Reached.TheVariants as reached
@@ -87,9 +89,11 @@ pub record IsThere (t : Tree) (s : Standing) (p : List ℕ) : Type 0 where
 abbrev pub HoldsPlan : List ℕ → List Visit → Type 0
 HoldsPlan p vs = (n : Node) × (before : List Visit) × (after : List Visit) × (vs ≡ before ++ visit p n Plan ∷ after)
 
--- the walk to a path comes to a plan exactly where visits hold one there, and leaves the visits that follow it
+-- the walk to a path comes to a plan where visits hold one there and no fault before it, whatever follows, and leaves
+-- what follows; and where it comes to a plan, visits hold that one
 pub record ComesToPlan (p : List ℕ) (vs : List Visit) : Type 0 where
   pub found : (n : Node) (before after : List Visit) → vs ≡ before ++ visit p n Plan ∷ after
+      → All (λ v. IsFaultless v.sight) before
       → ((reaching p vs).knows.answer ≡ reached.At) × ((reaching p vs).left ≡ after)
   pub only : (reaching p vs).knows.answer ≡ reached.At
       → (n : Node) × (before : List Visit) × (vs ≡ before ++ visit p n Plan ∷ (reaching p vs).left)

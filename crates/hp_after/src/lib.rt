@@ -7,7 +7,6 @@
 
 pub mod laws;
 mod reaching;
-mod words;
 
+pub use hp_words::{is_path, path};
 pub use reaching::{Arrival, Reached, reach};
-pub use words::{is_path, path};

@@ -1,9 +1,8 @@
 //! The plan of a path, by a walk that leaves out what lies before it.
-ghost use Rattle.std.specs.Prelude.{◌≡◌, ◌↔◌, ◌<◌, ◌-◌, ◌^◌, true, IfOk, OnOk};
+ghost use Rattle.std.specs.Prelude.{◌≡◌, ◌<◌, ◌-◌, ◌^◌, true, IfOk, OnOk};
 ghost use Rattle.std.specs.List.{All};
-ghost use Rattle.hp_laws.specs.TreeLaws.{IsFaultless};
 ghost use Rattle.hp_net.specs.Standings.{tree_visits};
-ghost use Rattle.hp_syntax.specs.Walk.{told};
+ghost use Rattle.hp_syntax.specs.Walk.{heard_visits, told};
 ghost use Rattle.hp_after.specs.Reach.{Coming, HoldsPlan, IsArrival, IsThere, side_of};
 ghost use Rattle.hp_after.specs.Reaching.{Knows, Turned, did_answer, did_left, plan_answer};
 
@@ -126,8 +125,10 @@ pub fn reach<W: Walk>(walk: &mut W, target: &[u64]) -> Result<Arrival, AllocErro
     ensures arrival { IfOk result (λ a. IsArrival a target.now (tree_visits (W.tree walk.old))) }
     ensures at { IfOk result (λ a. a.answer ≡ Reached.At
         → IsThere (W.tree walk.old) (W.stands walk.new) target.now) }
-    ensures exact { IfOk result (λ a. All (λ v. IsFaultless v.sight) (tree_visits (W.tree walk.old))
-        → ((a.answer ≡ Reached.At) ↔ HoldsPlan target.now (tree_visits (W.tree walk.old)))) }
+    ensures found { IfOk result (λ a. HoldsPlan target.now (heard_visits (tree_visits (W.tree walk.old)))
+        → a.answer ≡ Reached.At) }
+    ensures only { IfOk result (λ a. a.answer ≡ Reached.At
+        → HoldsPlan target.now (tree_visits (W.tree walk.old))) }
     ensures live { OnOk result (W.is_live walk.new ≡ true) }
     ensures tree { W.tree walk.new ≡ W.tree walk.old }
 {

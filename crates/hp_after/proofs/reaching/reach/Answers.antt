@@ -1,7 +1,7 @@
 use Rattle.std.proofs.Common.{◌∙◌, refl, subst}
 use Rattle.hp_net.specs.Standings.{tree_visits}
 use Rattle.hp_after.proofs.Arrivals.{arrives, searched_from, searched_on, stands_there}
-use Rattle.hp_after.proofs.PlanLemmas.{told_exactly}
+use Rattle.hp_after.proofs.PlanLemmas.{told_found, told_only}
 use Rattle.hp_after.specs.Reach.{Coming}
 use Rattle.hp_after.specs.Reaching.{Knows, Turned}
 use Rattle.hp_after.proofs.reaching.reach.Goals as goal
@@ -46,6 +46,10 @@ returns-in-Some-clause-at g c =
     (subst (λ o. (k : Coming) → Knows c.loop-answer.expansions k
     → Turned c.args.target.now o c.go_on.new.expansions k vs t) c.in-Some.is c.in_ok-answer.ensures.turned) e
 
-pub returns-in-Some-clause-exact : goal.returns-in-Some-clause-exact
-returns-in-Some-clause-exact g c =
-    told_exactly (g.W.Walk.tree c.args.walk.now) c.args.target.now _ (returns-in-Some-clause-arrival g c)
+pub returns-in-Some-clause-found : goal.returns-in-Some-clause-found
+returns-in-Some-clause-found g c =
+    told_found (g.W.Walk.tree c.args.walk.now) c.args.target.now _ (returns-in-Some-clause-arrival g c)
+
+pub returns-in-Some-clause-only : goal.returns-in-Some-clause-only
+returns-in-Some-clause-only g c =
+    told_only (g.W.Walk.tree c.args.walk.now) c.args.target.now _ (returns-in-Some-clause-arrival g c)

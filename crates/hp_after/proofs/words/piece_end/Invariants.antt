@@ -1,9 +1,0 @@
-use Rattle.std.proofs.Common.{◌≡◌, drop}
-use Rattle.hp_after.specs.PathWords.{piece_end}
-use Rattle.hp_after.proofs.words.piece_end.Given as goal
-
-abbrev pub invariant-loop-byte : goal.invariant-loop-byte
-invariant-loop-byte l = record {
-  at : l.end ≡ l.byte-index;
-  left : piece_end l.end (drop l.byte-index l.bytes) ≡ piece_end 0 l.bytes;
-}
