@@ -9,7 +9,7 @@ use Rattle.hp_laws.specs.TreeLaws.{IsFaultless, IsPrefix}
 use Rattle.hp_passes.specs.Passes.{pass, is_out, with_made}
 use Rattle.hp_syntax.specs.Terms.{Term}
 use Rattle.hp_syntax.specs.Walk.{Sight, Visit, Did, Plan, CutHere, FaultHere, begins, is_fault_here}
-use Rattle.hp_verify.specs.Kept.{HasPlan, IsDerived, Seen, StepsGrow, Told, kept_turn, nothing, nothing_seen, steps_are, steps_begin, told_kept, told_of, with_cut, with_did}
+use Rattle.hp_verify.specs.Kept.{HasPlan, IsDerived, Seen, StepsGrow, Told, answer_of, kept_turn, nothing, nothing_seen, steps_are, steps_begin, told_kept, told_of, with_cut, with_did}
 use Rattle.hp_verify.specs.Verifying.{left}
 use Rattle.hp_verify.proofs.KeptSteps.{did_made, left_cut, left_derived, left_plan}
 use Rattle.hp_verify.proofs.StepLemmas.{are_sound, equal_are, never_quiet, prefix_begins}
@@ -22,7 +22,7 @@ module _ (p : List Term) where
 
   -- what is said derives the plan exactly where the visits hold it
   abbrev IsExact : Told → List Visit → Type 0
-  IsExact t vs = IsDerived t.answer ↔ HasPlan p vs
+  IsExact t vs = IsDerived (answer_of t.said) ↔ HasPlan p vs
 
   -- one more visit, which isn't the plan, changes nothing
   one_more : (t : Told) (v : Visit) (vs : List Visit) → (IsIt v → ⊥) → IsExact t vs → IsExact t (v ∷ vs)
@@ -112,5 +112,5 @@ module _ (p : List Term) where
 
   -- so the whole kept walk does
   pub kept_exact : (vs : List Visit) → StepsGrow vs → All (λ v. IsFaultless v.sight) vs
-      → IsDerived (told_kept p vs).answer ↔ HasPlan p vs
+      → IsDerived (answer_of (told_kept p vs).said) ↔ HasPlan p vs
   kept_exact vs grow f = exact_from vs grow f None nothing_seen (none_out vs)

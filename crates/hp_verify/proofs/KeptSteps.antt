@@ -1,18 +1,20 @@
 -- One visit of a kept walk.
-use Rattle.std.proofs.Common.{◌≡◌, ℕ, ◌+◌, ◌-◌, ◌^◌, ◌≤◌, min, Bool, true, false, cond, List, [], ◌∷◌, length, Option, Some, None, refl, sym, ap, ◌∙◌, subst, arith}
+use Rattle.std.proofs.Common.{◌≡◌, ◌+◌, ◌-◌, ◌^◌, ◌≤◌, min, Bool, true, false, cond, List, [], ◌∷◌, length, Option, Some, None, refl, sym, ap, ◌∙◌, subst, arith}
 use Rattle.std.specs.List.{All}
+use Rattle.std.proofs.lemmas.List.Elements.{All-head}
 use Rattle.hp_net.proofs.Counts.{count_on}
+use Rattle.hp_net.proofs.NextVisits.{IsNext}
 use Rattle.hp_best.proofs.BoundedSteps.{at_left, skip_shorter}
-use Rattle.hp_net.specs.Standings.{Standing, pruned}
+use Rattle.hp_net.specs.Standings.{Tree, Standing, IsAtItsNode, node_reached, pruned}
 use Rattle.hp_passes.proofs.PassLemmas.{skipped}
 use Rattle.hp_passes.specs.Passes.{Turn, On, Past, Last}
 use Rattle.hp_syntax.specs.declared.fault.RunFault.{RunFault}
 use Rattle.hp_syntax.specs.Terms.{Term}
-use Rattle.hp_syntax.specs.Walk.{Visit, Did, Plan, CutHere, FaultHere, skip}
+use Rattle.hp_syntax.specs.Walk.{Sight, Visit, Did, Plan, CutHere, FaultHere, node_at, skip}
 use Rattle.hp_verify.specs.declared.verifying.Answer.{Answer}
 use Rattle.hp_verify.specs.declared.verifying.Answer.TheVariants as answers
 use Rattle.hp_verify.specs.declared.verifying.Counts.{Counts}
-use Rattle.hp_verify.specs.Kept.{Nothing, Seen, kept, kept_turn, nothing, quiet, steps_are, steps_begin, told, told_of, with_cut, with_did}
+use Rattle.hp_verify.specs.Kept.{DerivedAt, Faulty, Nothing, Seen, StandsAt, Underived, answer_of, kept, kept_turn, nothing, steps_are, steps_begin, told, told_of, with_cut, with_did}
 use Rattle.hp_verify.specs.Verifying.{left, Counted, Goes, Closes, Turned}
 use Rattle.hp_verify.proofs.StepLemmas.{found_at}
 use Rattle.hp_verify.proofs.VisitSteps.{behind, made_by, told_cut, told_did, told_fault, told_plan, turn_cut, turn_did, turn_fault, turn_plan}
@@ -46,20 +48,20 @@ module _ (p : List Term) (s : Seen) (v : Visit) (vs : List Visit) where
   left_plan e h =
       ap (told_of p s) (made_by p v vs (On nothing) (turn_plan p v e ∙ ap plan_turn h))
       ∙ (told_plan p s v (kept p vs) e
-      ∙ ap (λ b. cond b (told answers.Derived s.expansions) (told_of p s (kept p vs))) h)
+      ∙ ap (λ b. cond b (told (DerivedAt v) s.expansions) (told_of p s (kept p vs))) h)
 
   -- the plan that is looked for
   pub left_derived : v.sight ≡ Plan → steps_are v.node.steps p ≡ true
-      → left p s (v ∷ vs) ≡ told answers.Derived s.expansions
+      → left p s (v ∷ vs) ≡ told (DerivedAt v) s.expansions
   left_derived e h =
       ap (told_of p s) (made_by p v vs (Last nothing) (turn_plan p v e ∙ ap plan_turn h))
-      ∙ (told_plan p s v [] e ∙ ap (λ b. cond b (told answers.Derived s.expansions) (told_of p s [])) h)
+      ∙ (told_plan p s v [] e ∙ ap (λ b. cond b (told (DerivedAt v) s.expansions) (told_of p s [])) h)
 
   pub left_cut : v.sight ≡ CutHere → left p s (v ∷ vs) ≡ left p (with_cut s) vs
   left_cut e = ap (told_of p s) (made_by p v vs (On nothing) (turn_cut p v e)) ∙ told_cut p s v (kept p vs) e
 
   pub left_fault : (f : RunFault) → v.sight ≡ FaultHere f
-      → left p s (v ∷ vs) ≡ told (answers.Fault f) s.expansions
+      → left p s (v ∷ vs) ≡ told (Faulty f) s.expansions
   left_fault f e = ap (told_of p s) (made_by p v vs (Last nothing) (turn_fault p v f e)) ∙ told_fault p s v [] f e
 
 -- ---- counts
@@ -84,6 +86,16 @@ pub at_kept_left : (P : Visit → Type 0) (t r : Standing) (b : Bool) → r ≡ 
     → All P r.rest
 at_kept_left P t r true k a = at_left P t r false k a
 at_kept_left P t r false k a = at_left P t r true k a
+
+-- a walk stands at the visit that was just made, where all that was left was at its node
+pub stands_there : (t u : Tree) (s r : Standing) (x : Sight) (next : IsNext s r x) → u ≡ t
+    → All (IsAtItsNode t) s.rest → StandsAt u r (DerivedAt next.visit)
+stands_there t u s r x next same a =
+    let at : IsAtItsNode t next.visit =
+    All-head (IsAtItsNode t) next.visit r.rest (subst (All (IsAtItsNode t)) next.rest a) in (
+      next.path,
+      ap (λ w. node_reached w r) same ∙ (ap (λ p. node_at t.rules t.nest t.root p) next.path ∙ at),
+    )
 
 module _ (p : List Term) (c : Counts) (s : Seen) where
   -- a decomposition was visited, and what lies below it is left out where its steps don't begin the plan
@@ -119,32 +131,45 @@ module _ (p : List Term) (c : Counts) (s : Seen) where
     shorter = omega (arith, ap length e);
   }
 
-  module _ (counted : Counted c s) where
-    -- a plan was visited: the one that is looked for, or another
-    pub turned_plan : (end : Option Answer) (v : Visit) (vs ws : List Visit) → vs ≡ v ∷ ws → v.sight ≡ Plan
-        → end ≡ found_at p v.node → Turned p end c s vs ws
-    turned_plan end v vs ws e x h =
-        subst (λ o. Turned p o c s vs ws) (sym h) (by (steps_are v.node.steps p) refl)
+  module _ (counted : Counted c s) (vs : List Visit) (t : Tree) (r : Standing) where
+    -- a plan was visited, and the walk stands at it: the one that is looked for, or another
+    pub turned_plan : (end : Option Answer) (v : Visit) → vs ≡ v ∷ r.rest → v.sight ≡ Plan
+        → end ≡ found_at p v.node → StandsAt t r (DerivedAt v) → Turned p end c s vs t r
+    turned_plan end v e x h there =
+        subst (λ o. Turned p o c s vs t r) (sym h) (by (steps_are v.node.steps p) refl)
       where
-        by : (b : Bool) → steps_are v.node.steps p ≡ b → Turned p (cond b (Some answers.Derived) None) c s vs ws
-        by true k = record { counted = counted; last = ap (left p s) e ∙ left_derived p s v ws x k }
+        by : (b : Bool) → steps_are v.node.steps p ≡ b → Turned p (cond b (Some answers.Derived) None) c s vs t r
+        by true k = record {
+          said = DerivedAt v;
+          answer = refl;
+          counted = counted;
+          last = ap (left p s) e ∙ left_derived p s v r.rest x k;
+          stands = there;
+        }
         by false k = record {
           next = s;
           counted = counted;
-          same = ap (left p s) e ∙ left_plan p s v ws x k;
+          same = ap (left p s) e ∙ left_plan p s v r.rest x k;
           shorter = omega (arith, ap length e);
         }
 
     -- a fault was visited
-    pub closes_fault : (f : RunFault) (v : Visit) (vs ws : List Visit) → vs ≡ v ∷ ws → v.sight ≡ FaultHere f
-        → Closes p (answers.Fault f) c s vs
-    closes_fault f v vs ws e x = record { counted = counted; last = ap (left p s) e ∙ left_fault p s v ws f x }
+    pub closes_fault : (f : RunFault) (v : Visit) (ws : List Visit) → vs ≡ v ∷ ws → v.sight ≡ FaultHere f
+        → Closes p (answers.Fault f) c s vs t r
+    closes_fault f v ws e x = record {
+      said = Faulty f;
+      answer = refl;
+      counted = counted;
+      last = ap (left p s) e ∙ left_fault p s v ws f x;
+      stands = tt;
+    }
 
     -- nothing was left
-    pub closes_end : (a : Answer) (vs : List Visit) → vs ≡ [] → a ≡ quiet c.is_cut → Closes p a c s vs
-    closes_end a vs e h = record {
+    pub closes_end : (a : Answer) → vs ≡ [] → a ≡ answer_of (Underived c.is_cut) → Closes p a c s vs t r
+    closes_end a e h = record {
+      said = Underived s.is_cut;
+      answer = h ∙ ap (λ cut. answer_of (Underived cut)) counted.is_cut;
       counted = counted;
-      last =
-          ap (left p s) e
-          ∙ ap (λ x. told x s.expansions) (sym (h ∙ ap quiet counted.is_cut));
+      last = ap (left p s) e;
+      stands = tt;
     }

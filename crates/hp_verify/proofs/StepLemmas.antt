@@ -7,7 +7,7 @@ use Rattle.hp_syntax.specs.Terms.{Term, same_term}
 use Rattle.hp_syntax.specs.Walk.{Node}
 use Rattle.hp_verify.specs.declared.verifying.Answer.{Answer}
 use Rattle.hp_verify.specs.declared.verifying.Answer.TheVariants as answers
-use Rattle.hp_verify.specs.Kept.{steps_begin, steps_are, quiet}
+use Rattle.hp_verify.specs.Kept.{Underived, answer_of, steps_begin, steps_are}
 
 -- a prefix of a plan begins it
 pub prefix_begins : (ts ps : List Term) → IsPrefix ts ps → steps_begin ts ps ≡ true
@@ -78,11 +78,11 @@ found_there None p end h e = h
 found_there (Some n) p end h e = are_sound n.steps p (found_sound n.steps p end h e)
 
 -- no walk that came to its end derived a plan
-pub never_quiet : (cut : Bool) → quiet cut ≡ answers.Derived → ⊥
+pub never_quiet : (cut : Bool) → answer_of (Underived cut) ≡ answers.Derived → ⊥
 never_quiet true e = let k : answers.NoCut ≡ answers.Derived = e in cc
 never_quiet false e = let k : answers.NoEnd ≡ answers.Derived = e in cc
 
-pub never_at_end : (a : Answer) (cut : Bool) → a ≡ quiet cut → Some a ≡ Some answers.Derived → ⊥
+pub never_at_end : (a : Answer) (cut : Bool) → a ≡ answer_of (Underived cut) → Some a ≡ Some answers.Derived → ⊥
 never_at_end a cut h e = let same : a ≡ answers.Derived = cc in never_quiet cut (sym h ∙ same)
 
 -- ---- the node that is reached

@@ -3,13 +3,14 @@ use Rattle.std.proofs.Common.{◌≡◌, List, Some, None, sym, ap, ◌∙◌, s
 use Rattle.std.specs.List.{All}
 use Rattle.std.specs.Prelude.{◌↔◌}
 use Rattle.hp_laws.specs.TreeLaws.{IsFaultless}
-use Rattle.hp_net.specs.Standings.{Tree, tree_visits}
+use Rattle.hp_net.specs.Standings.{Tree, Standing, tree_visits}
 use Rattle.hp_syntax.specs.Terms.{Term}
 use Rattle.hp_syntax.specs.Walk.{Visit, count_told}
+use Rattle.hp_verify.specs.declared.verifying.Answer.{Answer}
 use Rattle.hp_verify.specs.declared.verifying.Counts.{Counts}
 use Rattle.hp_verify.specs.declared.verifying.Verdict.{Verdict}
-use Rattle.hp_verify.specs.Kept.{HasPlan, IsDerived, IsVerdict, Seen, nothing_seen, told, told_kept}
-use Rattle.hp_verify.specs.Verifying.{left, Counted, Turned}
+use Rattle.hp_verify.specs.Kept.{HasPlan, IsDerived, IsVerdict, Seen, StandsAt, answer_of, nothing_seen, told, told_kept}
+use Rattle.hp_verify.specs.Verifying.{left, Closes, Counted, Turned}
 use Rattle.hp_verify.proofs.Exact.{kept_exact}
 use Rattle.hp_verify.proofs.GrowthLemmas.{steps_grow}
 
@@ -25,24 +26,32 @@ pub walked_from : (p : List Term) (c : Counts) (all vs : List Visit) → vs ≡ 
 walked_from p c all vs e counted =
     record { so_far = nothing_seen; counted = counted; same = ap (left p nothing_seen) e }
 
-module _ (p : List Term) (c d : Counts) (all vs ws : List Visit) (w : Walked p c all vs) where
+module _ (p : List Term) (c d : Counts) (all vs : List Visit) (t : Tree) (r : Standing) (w : Walked p c all vs) where
   -- after one visit more
-  pub walked_on : ((s : Seen) → Counted c s → Turned p None d s vs ws) → Walked p d all ws
+  pub walked_on : ((s : Seen) → Counted c s → Turned p None d s vs t r) → Walked p d all r.rest
   walked_on h =
       let goes = h w.so_far w.counted in
       record { so_far = goes.next; counted = goes.counted; same = sym goes.same ∙ w.same }
 
-  -- at its end the verdict is what the kept walk says
-  pub walk_told : (v : Verdict) → ((s : Seen) → Counted c s → Turned p (Some v.answer) d s vs ws)
-      → v.expansions ≡ d.expansions → IsVerdict v p all
-  walk_told v h expansions =
-      let s = w.so_far in
-      let closes = h s w.counted in
-      let whole : told_kept p all ≡ told v.answer s.expansions = sym w.same ∙ closes.last in
-      record {
-        answer = ap (λ t. t.answer) (sym whole);
-        expansions = expansions ∙ (closes.counted.expansions ∙ ap (λ t. count_told t.expansions) (sym whole));
-      }
+  module _ (a : Answer) (h : (s : Seen) → Counted c s → Turned p (Some a) d s vs t r) where
+    -- at its end the visits that were left say what is answered
+    abbrev closes : Closes p a d w.so_far vs t r
+    closes = h w.so_far w.counted
+
+    -- so all visits say it
+    all_say : told closes.said w.so_far.expansions ≡ told_kept p all
+    all_say = sym closes.last ∙ w.same
+
+    -- the verdict is what the kept walk says
+    pub walk_told : (v : Verdict) → v.answer ≡ a → v.expansions ≡ d.expansions → IsVerdict v p all
+    walk_told v answer expansions = record {
+      answer = answer ∙ (closes.answer ∙ ap (λ x. answer_of x.said) all_say);
+      expansions = expansions ∙ (closes.counted.expansions ∙ ap (λ x. count_told x.expansions) all_say);
+    }
+
+    -- the walk stands where the kept walk derives the plan
+    pub walk_stands : StandsAt t r (told_kept p all).said
+    walk_stands = subst (λ x. StandsAt t r x.said) all_say closes.stands
 
 -- so where there is no fault in a tree, it is exact
 pub verdict_exact : (v : Verdict) (p : List Term) (t : Tree) → IsVerdict v p (tree_visits t)

@@ -1,8 +1,10 @@
 -- A walk of a tree that keeps to a plan: it leaves out every part whose steps don't begin the plan.
-use Rattle.std.specs.Prelude.{◌≡◌, ◌+◌, ℕ, Bool, true, false, ◌&&◌, cond, List, [], ◌∷◌, None, Contains}
+use Rattle.std.specs.Prelude.{◌≡◌, ◌+◌, ℕ, Bool, true, false, ◌&&◌, cond, List, [], ◌∷◌, None, Some, Contains}
 use Rattle.std.specs.List.{AllPairs}
 use Rattle.hp_laws.specs.TreeLaws.{IsPrefix}
+use Rattle.hp_net.specs.Standings.{Tree, Standing, node_reached}
 use Rattle.hp_passes.specs.Passes.{Turn, On, Past, Last, pass}
+use Rattle.hp_syntax.specs.declared.fault.RunFault.{RunFault}
 use Rattle.hp_syntax.specs.Terms.{Term, same_term}
 use Rattle.hp_syntax.specs.Walk.{Visit, Did, Plan, CutHere, FaultHere, begins, count_told}
 use Rattle.hp_verify.specs.declared.verifying.Answer.{Answer}
@@ -68,28 +70,37 @@ with_did s = seen (s.expansions + 1) s.is_cut
 abbrev pub with_cut : Seen → Seen
 with_cut s = seen s.expansions true
 
--- an answer, and how many decompositions were seen by then
+-- what is said of a plan: it is derived, at this visit; or it wasn't, and a limit cut the tree somewhere or not; or a
+-- fault was met
+pub data Said : Type 0 where
+  DerivedAt : (v : Visit) → Said
+  Underived : (is_cut : Bool) → Said
+  Faulty : (f : RunFault) → Said
+
+-- the answer that says so
+abbrev pub answer_of : Said → Answer
+answer_of (DerivedAt v) = answers.Derived
+answer_of (Underived is_cut) = cond is_cut answers.NoCut answers.NoEnd
+answer_of (Faulty f) = answers.Fault f
+
+-- what is said, and how many decompositions were seen by then
 pub record Told : Type 0 where
-  pub answer : Answer
+  pub said : Said
   pub expansions : ℕ
 
-abbrev pub told : Answer → ℕ → Told
-told a n = record { answer = a; expansions = n }
-
--- the answer without the plan and without a fault
-abbrev pub quiet : Bool → Answer
-quiet cut = cond cut answers.NoCut answers.NoEnd
+abbrev pub told : Said → ℕ → Told
+told x n = record { said = x; expansions = n }
 
 -- what visits say of a plan, after what was seen before: it is derived at a plan with its steps; else a fault is told,
 -- and where there is none a cut, if one was seen, or the end
 abbrev pub told_of : List Term → Seen → List Visit → Told
-told_of p s [] = told (quiet s.is_cut) s.expansions
+told_of p s [] = told (Underived s.is_cut) s.expansions
 told_of p s (v ∷ vs) =
     elim v.sight [
       | Did ↦ told_of p (with_did s) vs
-      | Plan ↦ cond (steps_are v.node.steps p) (told answers.Derived s.expansions) (told_of p s vs)
+      | Plan ↦ cond (steps_are v.node.steps p) (told (DerivedAt v) s.expansions) (told_of p s vs)
       | CutHere ↦ told_of p (with_cut s) vs
-      | FaultHere f ↦ told (answers.Fault f) s.expansions
+      | FaultHere f ↦ told (Faulty f) s.expansions
     ]
 
 -- what the kept walk for a plan says, over all visits of a tree
@@ -101,8 +112,14 @@ IsDerived a = a ≡ answers.Derived
 
 -- the verdict is what the kept walk says
 pub record IsVerdict (v : Verdict) (p : List Term) (vs : List Visit) : Type 0 where
-  pub answer : v.answer ≡ (told_kept p vs).answer
+  pub answer : v.answer ≡ answer_of (told_kept p vs).said
   pub expansions : v.expansions ≡ count_told (told_kept p vs).expansions
+
+-- where a plan is derived, a walk stands at the visit that derives it
+abbrev pub StandsAt : Tree → Standing → Said → Type 0
+StandsAt t s (DerivedAt v) = (s.path ≡ v.path) × (node_reached t s ≡ Some v.node)
+StandsAt t s (Underived is_cut) = Unit {0}
+StandsAt t s (Faulty f) = Unit {0}
 
 -- ---- plans
 

@@ -1,8 +1,9 @@
 -- A kept walk midway: what was seen, and what the visits that are left say.
 use Rattle.std.specs.Prelude.{◌≡◌, ◌<◌, List, length, Option, Some, None}
+use Rattle.hp_net.specs.Standings.{Tree, Standing}
 use Rattle.hp_syntax.specs.Terms.{Term}
 use Rattle.hp_syntax.specs.Walk.{Visit, count_told}
-use Rattle.hp_verify.specs.Kept.{Seen, Told, kept, told, told_of}
+use Rattle.hp_verify.specs.Kept.{Said, Seen, StandsAt, Told, answer_of, kept, told, told_of}
 use Rattle.hp_verify.specs.declared.verifying.Answer.{Answer}
 use Rattle.hp_verify.specs.declared.verifying.Counts.{Counts}
 
@@ -22,12 +23,16 @@ pub record Goes (p : List Term) (c : Counts) (s : Seen) (vs ws : List Visit) : T
   pub same : left p s vs ≡ left p next ws
   pub shorter : length ws < length vs
 
--- the visits that were left say this
-pub record Closes (p : List Term) (a : Answer) (c : Counts) (s : Seen) (vs : List Visit) : Type 0 where
+-- the visits that were left say what this answer tells
+pub record Closes (p : List Term) (a : Answer) (c : Counts) (s : Seen) (vs : List Visit) (t : Tree) (there : Standing)
+    : Type 0 where
+  pub said : Said
+  pub answer : a ≡ answer_of said
   pub counted : Counted c s
-  pub last : left p s vs ≡ told a s.expansions
+  pub last : left p s vs ≡ told said s.expansions
+  pub stands : StandsAt t there said
 
 -- after one visit the walk goes on, or it ends with an answer
-abbrev pub Turned : List Term → Option Answer → Counts → Seen → List Visit → List Visit → Type 0
-Turned p None c s vs ws = Goes p c s vs ws
-Turned p (Some a) c s vs ws = Closes p a c s vs
+abbrev pub Turned : List Term → Option Answer → Counts → Seen → List Visit → Tree → Standing → Type 0
+Turned p None c s vs t there = Goes p c s vs there.rest
+Turned p (Some a) c s vs t there = Closes p a c s vs t there

@@ -7,7 +7,7 @@ ghost use Rattle.hp_laws.specs.TreeLaws.{IsFaultless, IsPrefix};
 ghost use Rattle.hp_syntax.specs.Syntax.{Rule};
 ghost use Rattle.hp_syntax.specs.Terms.{Term};
 ghost use Rattle.hp_syntax.specs.Walk.{Node, Visit, DidChild, children, visits};
-ghost use Rattle.hp_verify.specs.Kept.{HasPlan, IsDerived, StepsGrow, told_kept};
+ghost use Rattle.hp_verify.specs.Kept.{HasPlan, IsDerived, StepsGrow, answer_of, told_kept};
 
 /// The steps of a node begin those of each child. So they begin those of every visit at or below its path.
 pub fn steps_only_grow()
@@ -20,5 +20,5 @@ pub fn steps_only_grow()
 /// its steps: nothing that is left out does.
 pub fn kept_walks_are_exact()
     ensures { (steps : List Term) (vs : List Visit) → StepsGrow vs → All (λ v. IsFaultless v.sight) vs
-        → IsDerived (told_kept steps vs).answer ↔ HasPlan steps vs }
+        → IsDerived (answer_of (told_kept steps vs).said) ↔ HasPlan steps vs }
 {}

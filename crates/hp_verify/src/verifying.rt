@@ -4,7 +4,7 @@ ghost use Rattle.std.specs.List.{All};
 ghost use Rattle.hp_laws.specs.TreeLaws.{IsFaultless};
 ghost use Rattle.hp_net.specs.Standings.{node_reached, pruned, IsAtItsNode, tree_visits};
 ghost use Rattle.hp_syntax.specs.GroundViews.{ground_of};
-ghost use Rattle.hp_verify.specs.Kept.{HasPlan, IsDerived, IsVerdict, Seen, quiet, steps_are, steps_begin};
+ghost use Rattle.hp_verify.specs.Kept.{HasPlan, IsDerived, IsVerdict, Seen, StandsAt, Underived, answer_of, steps_are, steps_begin, told_kept};
 ghost use Rattle.hp_verify.specs.Verifying.{Counted, Turned};
 
 use crate::comparing::{are_those, begin};
@@ -38,7 +38,7 @@ struct Counts {
 
 /// The answer of a walk that came to its end.
 fn quiet(is_cut: bool) -> Answer
-    ensures { result ≡ quiet is_cut }
+    ensures { result ≡ answer_of (Underived is_cut) }
 {
     if is_cut { Answer::NoCut } else { Answer::NoEnd }
 }
@@ -89,7 +89,8 @@ fn go_on<W: Walk>(
     requires live { W.is_live walk.old ≡ true }
     requires at { All (IsAtItsNode (W.tree walk.old)) (W.stands walk.old).rest }
     ensures turned { IfOk result (λ end. (seen : Seen) → Counted counts.old seen
-        → Turned (map ground_of steps.now) end counts.new seen (W.stands walk.old).rest (W.stands walk.new).rest) }
+        → Turned (map ground_of steps.now) end counts.new seen (W.stands walk.old).rest (W.tree walk.new)
+        (W.stands walk.new)) }
     ensures derived { IfOk result (λ end. end ≡ Some Answer.Derived
         → MatchOption (node_reached (W.tree walk.new) (W.stands walk.new)) ⊥
         (λ n. n.steps ≡ map ground_of steps.now)) }
@@ -120,6 +121,8 @@ pub fn verify<W: Walk>(walk: &mut W, steps: &[Ground]) -> Result<Verdict, AllocE
     requires live { W.is_live walk.old ≡ true }
     requires new { (W.stands walk.old).rest ≡ tree_visits (W.tree walk.old) }
     ensures verdict { IfOk result (λ v. IsVerdict v (map ground_of steps.now) (tree_visits (W.tree walk.old))) }
+    ensures at { OnOk result (StandsAt (W.tree walk.new) (W.stands walk.new)
+        (told_kept (map ground_of steps.now) (tree_visits (W.tree walk.old))).said) }
     ensures derived { IfOk result (λ v. IsDerived v.answer
         → MatchOption (node_reached (W.tree walk.new) (W.stands walk.new)) ⊥
         (λ n. n.steps ≡ map ground_of steps.now)) }

@@ -3,7 +3,7 @@ use Rattle.hp_net.proofs.NextVisits.{IsNext, at_kept, at_visit, cut_next, did_ne
 use Rattle.hp_net.specs.Standings.{next_of, node_reached, pruned, step_or_end, IsAtItsNode}
 use Rattle.hp_syntax.specs.GroundViews.{ground_of}
 use Rattle.hp_syntax.specs.Walk.{CutHere, Did, Plan}
-use Rattle.hp_verify.proofs.KeptSteps.{at_kept_left, closes_end, closes_fault, counted_cut, counted_did, goes_cut, goes_did, turned_plan}
+use Rattle.hp_verify.proofs.KeptSteps.{at_kept_left, closes_end, closes_fault, counted_cut, counted_did, goes_cut, goes_did, stands_there, turned_plan}
 use Rattle.hp_verify.proofs.StepLemmas.{found_at, found_there, never_at_end}
 use Rattle.hp_verify.specs.Kept.{steps_begin}
 use Rattle.hp_verify.proofs.verifying.go_on.Goals as goal
@@ -47,9 +47,12 @@ returns-in-Plan-clause-turned g c = λ k counted.
     let next : IsNext s t Plan =
     plan_next _ _ c.in_ok-next.ensures.stands
     (subst (λ x. x ≡ step_or_end (next_of s.rest)) c.in-Plan.is c.in_ok-next.ensures.answer) in
-    turned_plan p c.args.counts.now k counted c.found.result next.visit s.rest t.rest next.rest next.sight
-    (at_visit (g.W.Walk.tree c.args.walk.now) (g.W.Walk.tree c.next.new.self) s t Plan next
-    (λ v. c.found.result ≡ found_at p v.node) c.next.ensures.tree c.requires.at c.found.ensures)
+    let before = g.W.Walk.tree c.args.walk.now in
+    let now = g.W.Walk.tree c.next.new.self in
+    turned_plan p c.args.counts.now k counted s.rest now t c.found.result next.visit next.rest next.sight
+    (at_visit before now s t Plan next (λ v. c.found.result ≡ found_at p v.node) c.next.ensures.tree c.requires.at
+    c.found.ensures)
+    (stands_there before now s t Plan next c.next.ensures.tree c.requires.at)
 
 pub returns-in-Plan-clause-derived : goal.returns-in-Plan-clause-derived
 returns-in-Plan-clause-derived g c = λ e.
@@ -81,8 +84,8 @@ returns-in-Fault-clause-turned g c = λ k counted.
     let s = g.W.Walk.stands c.args.walk.now in
     let next = fault_next c.in-Fault.fault s.rest
     (subst (λ x. x ≡ step_or_end (next_of s.rest)) c.in-Fault.is c.in_ok-next.ensures.answer) in
-    closes_fault (map ground_of c.args.steps.now) c.args.counts.now k counted c.in-Fault.fault next.0 s.rest next.1
-    next.2 next.3
+    closes_fault (map ground_of c.args.steps.now) c.args.counts.now k counted s.rest
+    (g.W.Walk.tree c.next.new.self) (g.W.Walk.stands c.next.new.self) c.in-Fault.fault next.0 next.1 next.2 next.3
 
 pub returns-in-Fault-clause-at : goal.returns-in-Fault-clause-at
 returns-in-Fault-clause-at g c =
@@ -92,7 +95,8 @@ returns-in-Fault-clause-at g c =
 pub returns-in-End-clause-turned : goal.returns-in-End-clause-turned
 returns-in-End-clause-turned g c = λ k counted.
     let s = g.W.Walk.stands c.args.walk.now in
-    closes_end (map ground_of c.args.steps.now) c.args.counts.now k counted c.quiet.result s.rest
+    closes_end (map ground_of c.args.steps.now) c.args.counts.now k counted s.rest (g.W.Walk.tree c.next.new.self)
+    (g.W.Walk.stands c.next.new.self) c.quiet.result
     (end_next s.rest (subst (λ x. x ≡ step_or_end (next_of s.rest)) c.in-End.is c.in_ok-next.ensures.answer))
     c.quiet.ensures
 
