@@ -1,0 +1,6 @@
+pub mod Deepened
+pub mod DepthLemmas
+pub mod EndLemmas
+pub mod LeastLemmas
+pub mod WalkSteps
+pub mod WholeWalks

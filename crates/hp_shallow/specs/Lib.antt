@@ -1,0 +1,3 @@
+pub mod Deepening
+pub mod LeastDepth
+pub mod Walking
