@@ -1,0 +1,11 @@
+pub mod WrittenSteps
+pub mod ReadSteps
+pub mod SpelledSyntax
+pub mod SpelledTerms
+pub mod SpelledGoals
+pub mod SpelledEvents
+pub mod SpelledTrees
+pub mod ReadWords
+pub mod SpelledForms
+pub mod SpelledWalks
+pub mod ReadBackLemmas
