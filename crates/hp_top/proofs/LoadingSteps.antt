@@ -13,12 +13,13 @@ use Rattle.hp_syntax.specs.declared.limits.TheConstants.{LARGEST_TEXT, LONGEST_T
 use Rattle.hp_syntax.specs.Forest.{Forest, IsForest, nesting, longest_token}
 use Rattle.hp_syntax.specs.Refusal.{Refusal, IsRefused}
 use Rattle.hp_syntax.specs.Steps as steps
+use Rattle.hp_syntax.specs.Syntax.{Domain, Problem}
 use Rattle.hp_syntax.specs.TextForms.{Form, IsRead}
 use Rattle.hp_top.specs.declared.loading.LoadError.{LoadError}
 use Rattle.hp_top.specs.Outcome as outcome
 use Rattle.hp_top.specs.Outcome.{Why, InText, InForm, IsUnreadable}
 use Rattle.hp_top.specs.Loading as loading
-use Rattle.hp_top.specs.Loading.{ToldFile, ReadsFile, Holds, Reads, IsUnread, IsRefusedFor, StopsAt, of_text, of_form}
+use Rattle.hp_top.specs.Loading.{ToldFile, ReadsFile, Holds, Reads, IsUnread, IsRefusedFor, StopsAt, LoadsBoth, folder_run, of_text, of_form}
 
 module _ {A : Type 0} (which : Input) (form : Form A) where
   -- bytes whose text is refused are read as nothing for that reason
@@ -111,3 +112,12 @@ stops_since which form cause told file before mid now h q (loading.StopsAt.Unrea
     loading.StopsAt.Unread e (unread_since which told file before mid now (h which) q u)
 stops_since which form cause told file before mid now h q (loading.StopsAt.Unreadable why e u) =
     loading.StopsAt.Unreadable why e (subst (Holds (λ text. IsUnreadable form text why)) q u)
+
+-- what is loaded of two files doesn't depend on what their inputs met
+pub both_later : (file : List ℕ → ToldFile) (before mid now : Input → ℕ) (domain problem : List ℕ)
+    (x : Domain × Problem) → LoadsBoth (folder_run file before mid) domain problem (Ok x)
+    → LoadsBoth (folder_run file before now) domain problem (Ok x)
+both_later file before mid now domain problem x (outcome.Then.Stopped e h i) = cc
+both_later file before mid now domain problem x (outcome.Then.Went d h (outcome.Then.Stopped e k j)) = cc
+both_later file before mid now domain problem x (outcome.Then.Went d h (outcome.Then.Went p k j)) =
+    outcome.Then.Went d h (outcome.Then.Went p k j)

@@ -11,8 +11,9 @@ use Rattle.hp_syntax.specs.Refusal.{IsRefused}
 use Rattle.hp_syntax.specs.Report.{Answer}
 use Rattle.hp_syntax.specs.Steps.{Misform}
 use Rattle.hp_syntax.specs.Syntax.{Domain, Problem}
+use Rattle.hp_syntax.specs.Terms.{Term}
 use Rattle.hp_syntax.specs.TextForms.{Form, IsRead}
-use Rattle.hp_words.specs.Command.{Command, Request, OnFiles, Listing, Making, accepts}
+use Rattle.hp_words.specs.Command.{Command, Verification, Request, OnFiles, Verifying, Listing, Making, accepts}
 use Rattle.hp_top.specs.Making.{made_files, made_command}
 use Rattle.hp_top.specs.Outcome as outcome
 
@@ -112,17 +113,24 @@ module _ (one : (t : List ℕ) (f g : Forest) → IsForest t f → IsForest t g 
       let same : x.loaded ≡ y.loaded = one_loaded x.loaded y.loaded x.loads y.loads in
       x.comes ∙ (ap (outcome.answer_to outcome.refusal_answer answer) same ∙ sym y.comes)
 
-  -- of the files of a command one thing is loaded
-  command_one : (files : outcome.Files) (c : Command) (x y : Result (Domain × Problem) Refusal)
-      → outcome.LoadsFiles files c x
-      → outcome.LoadsFiles files c y → x ≡ y
-  command_one files c =
-      then_one _ _ (load_one inputs.Domain domain_form (files c.domain))
-      (λ d. then_one _ _ (load_one inputs.Problem problem_form (files c.problem)) (λ p u v h k. h ∙ sym k))
+  -- of a domain and a problem one thing is loaded
+  named_one : (files : outcome.Files) (domain problem : List ℕ) (x y : Result (Domain × Problem) Refusal)
+      → outcome.LoadsNamed files domain problem x → outcome.LoadsNamed files domain problem y → x ≡ y
+  named_one files domain problem =
+      then_one _ _ (load_one inputs.Domain domain_form (files domain))
+      (λ d. then_one _ _ (load_one inputs.Problem problem_form (files problem)) (λ p u v h k. h ∙ sym k))
+
+  -- and of the files of a verification
+  plan_one : (files : outcome.Files) (v : Verification) (x y : Result ((Domain × Problem) × List Term) Refusal)
+      → outcome.LoadsPlan files v x → outcome.LoadsPlan files v y → x ≡ y
+  plan_one files v =
+      then_one _ _ (named_one files v.domain v.problem)
+      (λ z. then_one _ _ (load_one inputs.Plan outcome.steps_form (files v.plan)) (λ p u w h k. h ∙ sym k))
 
   -- what comes of a request with these files
   abbrev RequestComes : outcome.Files → Request → Answer → Type 0
   RequestComes files (OnFiles c) a = outcome.CommandComes files c a
+  RequestComes files (Verifying v) a = outcome.Comes (outcome.LoadsPlan files v) (outcome.answer_of_plan v) a
   RequestComes files (Listing d) a = outcome.Comes (outcome.LoadsDomain files d) outcome.listing_answer a
   RequestComes files (Making s n) a = outcome.CommandComes (made_files s n) (made_command s n) a
 
@@ -130,13 +138,15 @@ module _ (one : (t : List ℕ) (f g : Forest) → IsForest t f → IsForest t g 
   request_one : (files : outcome.Files) (q : Request) (a b : Answer) → RequestComes files q a → RequestComes files q b
       → a ≡ b
   request_one files (OnFiles c) a b x y =
-      comes_one (outcome.LoadsFiles files c) (outcome.answer_of_pair c) (command_one files c) a b x y
+      comes_one (outcome.LoadsFiles files c) (outcome.answer_of_pair c) (named_one files c.domain c.problem) a b x y
+  request_one files (Verifying v) a b x y =
+      comes_one (outcome.LoadsPlan files v) (outcome.answer_of_plan v) (plan_one files v) a b x y
   request_one files (Listing d) a b x y =
       comes_one (outcome.LoadsDomain files d) outcome.listing_answer
       (load_one inputs.Domain domain_form (files d)) a b x y
   request_one files (Making s n) a b x y =
       comes_one (outcome.LoadsFiles (made_files s n) (made_command s n)) (outcome.answer_of_pair (made_command s n))
-      (command_one (made_files s n) (made_command s n)) a b x y
+      (named_one (made_files s n) (made_command s n).domain (made_command s n).problem) a b x y
 
   -- an outcome by what the words ask for
   data ByRequest (words : List (List ℕ)) (files : outcome.Files) (a : Answer) : Type 0 where
@@ -147,6 +157,7 @@ module _ (one : (t : List ℕ) (f g : Forest) → IsForest t f → IsForest t g 
       → ByRequest words files a
   by_request words files a (outcome.NoCommand e x) = NoneAsked e x
   by_request words files a (outcome.ByCommand c e x) = Asked (OnFiles c) e x
+  by_request words files a (outcome.ByVerifying v e x) = Asked (Verifying v) e x
   by_request words files a (outcome.ByListing d e x) = Asked (Listing d) e x
   by_request words files a (outcome.ByMaking s n e x) = Asked (Making s n) e x
 
@@ -193,10 +204,16 @@ module _ (all : (t : List ℕ) → ((f : Forest) × IsForest t f) ⊎ ((r : text
   both_some first second (Ok a, h) (Err e, k) = (Err e, outcome.Went a h (outcome.Stopped e k refl))
   both_some first second (Ok a, h) (Ok b, k) = (Ok (a, b), outcome.Went a h (outcome.Went b k refl))
 
+  -- something is loaded of a domain and a problem
+  named_some : (files : outcome.Files) (domain problem : List ℕ)
+      → (x : Result (Domain × Problem) Refusal) × outcome.LoadsNamed files domain problem x
+  named_some files domain problem =
+      both_some _ _ (load_by inputs.Domain domain_form (files domain) (files domain) refl)
+      (load_by inputs.Problem problem_form (files problem) (files problem) refl)
+
   some_answer : (files : outcome.Files) (c : Command) → (a : Answer) × outcome.CommandComes files c a
   some_answer files c =
-      let x = both_some _ _ (load_by inputs.Domain domain_form (files c.domain) (files c.domain) refl)
-      (load_by inputs.Problem problem_form (files c.problem) (files c.problem) refl) in (
+      let x = named_some files c.domain c.problem in (
         outcome.answer_to outcome.refusal_answer (outcome.answer_of_pair c) x.0,
         record { loaded = x.0; loads = x.1; comes = refl },
       )
@@ -206,6 +223,12 @@ module _ (all : (t : List ℕ) → ((f : Forest) × IsForest t f) ⊎ ((r : text
   by_words words files None e = (outcome.refusal_answer refusals.Usage, outcome.NoCommand e refl)
   by_words words files (Some (OnFiles c)) e =
       let x = some_answer files c in (x.0, outcome.ByCommand c e x.1)
+  by_words words files (Some (Verifying v)) e =
+      let x = both_some _ _ (named_some files v.domain v.problem)
+      (load_by inputs.Plan outcome.steps_form (files v.plan) (files v.plan) refl) in (
+        outcome.answer_to outcome.refusal_answer (outcome.answer_of_plan v) x.0,
+        outcome.ByVerifying v e (record { loaded = x.0; loads = x.1; comes = refl }),
+      )
   by_words words files (Some (Listing d)) e =
       let x = load_by inputs.Domain domain_form (files d) (files d) refl in (
         outcome.answer_to outcome.refusal_answer outcome.listing_answer x.0,

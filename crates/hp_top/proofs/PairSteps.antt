@@ -1,5 +1,5 @@
 -- Pairs that are told one behind the other.
-use Rattle.std.proofs.Common.{◌≡◌, ◌∙◌, ap, ap₂, sym, refl, subst, arith, ⊎_elim, ℕ, ◌+◌, ◌<◌, ◌≤◌, cond, List, [], ◌++◌, append_assoc, append-nil, Option, Result, Ok, Err, OnOk, IfOk, IfErr, map, get_or, drop, length}
+use Rattle.std.proofs.Common.{◌≡◌, ◌∙◌, ap, ap₂, sym, refl, subst, arith, ⊎_elim, ℕ, ◌+◌, ◌<◌, ◌≤◌, cond, zero, suc, List, [], ◌∷◌, ◌++◌, append_assoc, append-nil, Option, Some, Result, Ok, Err, OnOk, IfOk, IfErr, map, get_or, slice_get, take, drop, length}
 use Rattle.std.specs.List.{All}
 use Rattle.std.proofs.lemmas.Bool.{cases_lt, lt-ltb, le-ltb}
 use Rattle.std.proofs.lemmas.List.{drop_more, drop_all, length-map}
@@ -73,7 +73,7 @@ joined_assoc a b c = ap₂ (λ t s. (t, s)) (append_assoc a.0 b.0 c.0) (worse_as
 joined_first : (a : Answer) → joined ([], status.Done) a ≡ a
 joined_first a = ap (λ s. (a.0, s)) (done_first a.1)
 
-joined_last : (a : Answer) → joined a ([], status.Done) ≡ a
+pub joined_last : (a : Answer) → joined a ([], status.Done) ≡ a
 joined_last a = ap₂ (λ t s. (t, s)) (append-nil a.0) (done_last a.1)
 
 -- ---- telling
@@ -169,3 +169,10 @@ module _ (answer : plain.Pair → Answer) (ps : List Pair) where
 pub held_at : (P : plain.Pair → Type 0) (ps : List Pair) (i : ℕ) (p : Pair) → i < length ps → p ≡ get_or ps i p
     → All P (map pair_of ps) → P (pair_of p)
 held_at P ps i p l e h = subst (λ q. P (pair_of q)) (sym e) (all_unmapped P pair_of ps h i p l)
+
+-- the pair at a place, alone
+pub pair_alone : (ps : List Pair) (i : ℕ) → i < length ps
+    → (p : plain.Pair) × (slice_get (map pair_of ps) i ≡ Some p) × (map pair_of (take 1 (drop i ps)) ≡ p ∷ [])
+pair_alone [] i l = absurd (omega (arith, l))
+pair_alone (p ∷ ps) zero l = (pair_of p, refl, refl)
+pair_alone (p ∷ ps) (suc i) l = pair_alone ps i (omega (arith, l))

@@ -1,5 +1,5 @@
 -- From how a run ends to what the top call promises.
-use Rattle.std.proofs.Common.{◌≡◌, ◌≢◌, ◌⊎◌, inl, inr, ℕ, List, [], ◌∷◌, Bool, true, false, cond, nat_lt, Option, Some, None, Result, Ok, Err, codes, arith, refl, ap, sym, ◌∙◌, subst, map, length, ◌+◌}
+use Rattle.std.proofs.Common.{◌≡◌, ◌≢◌, ◌⊎◌, inl, inr, ℕ, List, [], ◌∷◌, Bool, true, false, cond, nat_lt, Option, Some, None, Result, Ok, Err, codes, arith, refl, ap, sym, ◌∙◌, subst, map, length, slice_get, ◌+◌, ◌-◌}
 use Rattle.hp_code.specs.CodeViews.{compiled}
 use Rattle.hp_code.specs.Listing.{listing_text}
 use Rattle.hp_io.specs.declared.folder.Input.{Input}
@@ -18,31 +18,40 @@ use Rattle.hp_syntax.specs.declared.status.Status.{Status}
 use Rattle.hp_syntax.specs.declared.status.Status.TheVariants as status
 use Rattle.hp_syntax.specs.Grammar.{domain_form, problem_form}
 use Rattle.hp_syntax.specs.Checks.{first_of, domain_faults}
-use Rattle.hp_syntax.specs.Report.{Answer, Ending, Stopped, AtFault, AtCut, AtEnd, badness, end_of, line_of, line_report, nothing_seen, plan_of, plan_report, report, shown, status_of, told_from, worse}
+use Rattle.hp_syntax.specs.Report.{Answer, Ending, Stopped, AtFault, AtCut, AtEnd, badness, end_of, line_of, line_report, nothing_seen, plan_of, plan_report, report, shown, status_of, told_from, told_pairs, worse}
 use Rattle.hp_syntax.specs.Steps.{Expected}
-use Rattle.hp_syntax.specs.Syntax.{Domain, Pair, Problem, Rule}
+use Rattle.hp_syntax.specs.Syntax.{Domain, Pair, Problem}
+use Rattle.hp_syntax.specs.Terms.{Term}
 use Rattle.hp_syntax.specs.TextForms.{Form, IsRead}
 use Rattle.hp_syntax.specs.Walk.{Visit, count_told, heard_visits}
 use Rattle.hp_best.specs.Bounded.{bounded, is_priced, last_of}
+use Rattle.hp_after.specs.Reach.{Coming, reaching}
+use Rattle.hp_after.specs.declared.reaching.Reached.{Reached}
+use Rattle.hp_after.specs.declared.reaching.Reached.TheVariants as reached
+use Rattle.hp_shallow.specs.LeastDepth.{first_end, least_depth}
+use Rattle.hp_verify.specs.Kept.{DerivedAt, Faulty, Said, Underived, told_kept}
+use Rattle.hp_top.specs.AfterReports.{after_report, told_arrival}
 use Rattle.hp_top.specs.BestReports.{best_report}
+use Rattle.hp_top.specs.ShallowReports.{shallow_report}
+use Rattle.hp_top.specs.VerifyReports.{told_said, verify_report}
 use Rattle.hp_top.specs.declared.loading.LoadError.{LoadError}
 use Rattle.hp_top.specs.declared.loading.LoadError.TheVariants as causes
-use Rattle.hp_words.specs.Command.{Command, Job, Options, Planning, Choosing, Checking, Showing, Summing, Request, OnFiles, Listing, accepts, named, file_named, on_files}
+use Rattle.hp_words.specs.Command.{Command, Verification, Job, Options, Planning, Continuing, Choosing, Deepening, Checking, Showing, Summing, Request, OnFiles, Verifying, Listing, accepts, named, file_named, on_files}
 use Rattle.hp_top.specs.Making.{made_files, made_command}
 use Rattle.hp_top.specs.Outcome as outcome
 use Rattle.hp_top.specs.Outcome.{pair_visits}
 use Rattle.hp_top.specs.Loading as loading
-use Rattle.hp_top.specs.Loading.{ToldFile, FolderRun, Holds, Reads, IsUnread, StopsAt, LoadsBoth, LoadsAlone}
+use Rattle.hp_top.specs.Loading.{ToldFile, FolderRun, Holds, Reads, IsUnread, StopsAt, LoadsBoth, LoadsThree, LoadsAlone}
 use Rattle.hp_top.specs.Run.{TellsFiles, IsOutcome, RefusesWords, IsStopped, IsReadLine, ReadFails, CouldWrite, OfOutcome, OfReading, WritesPrefix, WritesProperPrefix}
 use Rattle.hp_top.specs.Serving as serving
 use Rattle.hp_top.specs.Serving.{Serves, Ends, load_answer, no_faults, made_run}
 use Rattle.hp_top.specs.Telling as telling
 use Rattle.hp_top.specs.Telling.{Tells}
-use Rattle.hp_top.specs.Touching.{InputRun, IsUntouched, Touches, TouchesNamed}
+use Rattle.hp_top.specs.Touching.{InputRun, IsUntouched, Touches, TouchesBy, TouchesNamed}
 
 -- ---- statuses
 
--- a text that is refused, or a domain and a problem that are read, have one of six statuses
+-- a text that is refused, or files that are read, have one of eight statuses
 abbrev IsAnswer : Status → Type 0
 IsAnswer status.Done = Unit {0}
 IsAnswer status.RunFault = Unit {0}
@@ -50,8 +59,8 @@ IsAnswer status.NoPlan = Unit {0}
 IsAnswer status.CutShort = Unit {0}
 IsAnswer status.DomainRefused = Unit {0}
 IsAnswer status.ProblemRefused = Unit {0}
-IsAnswer status.PlanRefused = ⊥
-IsAnswer status.NoSuchPath = ⊥
+IsAnswer status.PlanRefused = Unit {0}
+IsAnswer status.NoSuchPath = Unit {0}
 IsAnswer status.NoMemory = ⊥
 IsAnswer status.Usage = ⊥
 IsAnswer status.ReadFault = ⊥
@@ -79,6 +88,30 @@ best_answers : (priced : Bool) (vs : List Visit) → IsAnswer (best_report price
 best_answers priced vs =
     let e = last_of nothing_seen (bounded priced vs) in ending_answers e.ending (count_told e.tally.plans)
 
+arrival_answers : (tell : List Visit → Answer) (s : Coming) (left : List Visit) → IsAnswer (tell left).1
+    → IsAnswer (told_arrival tell s left).1
+arrival_answers tell s left h = at s.answer refl
+  where
+    at : (a : Reached) → s.answer ≡ a → IsAnswer (told_arrival tell s left).1
+    at reached.At e = rw e h
+    at reached.Absent e = rw e tt
+    at (reached.Fault f) e = rw e tt
+
+after_answers : (k : ℕ) (o : Options) (path : List ℕ) (vs : List Visit)
+    → IsAnswer (after_report (outcome.plans_heard k o) path vs).1
+after_answers k o path vs =
+    let q = reaching path vs in
+    arrival_answers (outcome.plans_heard k o) q.knows q.left (plan_answers k o q.left)
+
+shallow_answers : (states : Bool) (limit : ℕ) (at : ℕ → List Visit) → IsAnswer (shallow_report states limit at).1
+shallow_answers states limit at =
+    let e = first_end (at (least_depth at limit)) in ending_answers e.ending e.tally.plans
+
+said_answers : (x : Said) (n : ℕ) → IsAnswer (told_said x n).1
+said_answers (DerivedAt v) n = tt
+said_answers (Underived is_cut) n = chosen is_cut status.CutShort status.NoPlan tt tt
+said_answers (Faulty f) n = tt
+
 line_answers : (vs : List Visit) → IsAnswer (outcome.line_heard vs).1
 unfolding line_report
 line_answers vs = report_answers line_of 1 (heard_visits vs)
@@ -86,23 +119,29 @@ line_answers vs = report_answers line_of 1 (heard_visits vs)
 worse_answers : (s t : Status) → IsAnswer s → IsAnswer t → IsAnswer (worse s t)
 worse_answers s t h k = chosen (nat_lt (badness s) (badness t)) t s k h
 
-module _ (tell : List Visit → Answer) (each : (vs : List Visit) → IsAnswer (tell vs).1) (rules : List Rule)
-    (nest depth : ℕ) where
+module _ (tell : Pair → Answer) (each : (p : Pair) → IsAnswer (tell p).1) where
   -- pairs have the status of an answer where each has
-  pairs_answers_from : (count n : ℕ) (ps : List Pair)
-      → IsAnswer (told_from count n (map (λ p. tell (pair_visits rules nest depth p)) ps)).1
+  pairs_answers_from : (count n : ℕ) (ps : List Pair) → IsAnswer (told_from count n (map tell ps)).1
   pairs_answers_from count n [] = tt
   pairs_answers_from count n (p ∷ ps) =
-      worse_answers (tell (pair_visits rules nest depth p)).1
-      (told_from count (n + 1) (map (λ p. tell (pair_visits rules nest depth p)) ps)).1
-      (each (pair_visits rules nest depth p)) (pairs_answers_from count (n + 1) ps)
+      worse_answers (tell p).1 (told_from count (n + 1) (map tell ps)).1 (each p) (pairs_answers_from count (n + 1) ps)
 
-  pairs_answers : (ps : List Pair) → IsAnswer (outcome.pairs_answer tell rules nest depth ps).1
-  pairs_answers ps = pairs_answers_from (length (map (λ p. tell (pair_visits rules nest depth p)) ps)) 1 ps
+  pairs_answers : (ps : List Pair) → IsAnswer (told_pairs (map tell ps)).1
+  pairs_answers ps = pairs_answers_from (length (map tell ps)) 1 ps
+
+  -- and so has one of them by its number, or none
+  pair_answers_at : (number count : ℕ) (o : Option Pair)
+      → IsAnswer (outcome.told_or (outcome.refusal_answer (refusals.NoPair number count)) tell o).1
+  pair_answers_at number count None = tt
+  pair_answers_at number count (Some p) = each p
+
+  one_answers : (number : ℕ) (ps : List Pair) → IsAnswer (outcome.pair_answer tell number ps).1
+  one_answers number ps = pair_answers_at number (length ps) (slice_get ps (number - 1))
 
 refused_answers : (which : Input) → IsAnswer (outcome.refused_status which)
 refused_answers inputs.Domain = tt
 refused_answers inputs.Problem = tt
+refused_answers inputs.Plan = tt
 
 why_answers : (which : Input) (why : outcome.Why) → IsAnswer (outcome.refusal_status (outcome.refusal_of which why))
 why_answers which (outcome.InText r) = refused_answers which
@@ -110,12 +149,22 @@ why_answers which (outcome.InForm (Expected what s)) = refused_answers which
 
 job_answers : (j : Job) (d : Domain) (p : Problem) → IsAnswer (outcome.job_answer j d p).1
 job_answers (Planning k n o) d p =
-    pairs_answers (outcome.plans_heard k o) (plan_answers k o) d.rules o.levels n p.pairs
+    pairs_answers (λ pair. outcome.plans_heard k o (pair_visits d.rules o.levels n pair))
+    (λ pair. plan_answers k o (pair_visits d.rules o.levels n pair)) p.pairs
+job_answers (Continuing k n path o number) d p =
+    one_answers (λ pair. after_report (outcome.plans_heard k o) path (pair_visits d.rules o.levels n pair))
+    (λ pair. after_answers k o path (pair_visits d.rules o.levels n pair)) number p.pairs
+job_answers (Deepening limit levels states) d p =
+    pairs_answers (λ pair. shallow_report states limit (λ n. pair_visits d.rules levels n pair))
+    (λ pair. shallow_answers states limit (λ n. pair_visits d.rules levels n pair)) p.pairs
 job_answers (Choosing n levels) d p =
-    pairs_answers (best_report (is_priced d.rules)) (best_answers (is_priced d.rules)) d.rules levels n p.pairs
+    pairs_answers (λ pair. best_report (is_priced d.rules) (pair_visits d.rules levels n pair))
+    (λ pair. best_answers (is_priced d.rules) (pair_visits d.rules levels n pair)) p.pairs
 job_answers Checking d p = tt
 job_answers Showing d p = tt
-job_answers (Summing seed n) d p = pairs_answers outcome.line_heard line_answers d.rules USUAL_LEVELS MADE_DEPTH p.pairs
+job_answers (Summing seed n) d p =
+    pairs_answers (λ pair. outcome.line_heard (pair_visits d.rules USUAL_LEVELS MADE_DEPTH pair))
+    (λ pair. line_answers (pair_visits d.rules USUAL_LEVELS MADE_DEPTH pair)) p.pairs
 
 checks_answer : (f : Option CheckFault) (a : Answer) → IsAnswer a.1 → IsAnswer (outcome.unless_faulty f a).1
 checks_answer (Some f) a h = refused_answers (text_of f.in_problem)
@@ -126,6 +175,14 @@ read_answers c d p = checks_answer (outcome.first_fault d p) (outcome.job_answer
 
 pair_answers : (c : Command) (x : Domain × Problem) → IsAnswer (outcome.answer_of_pair c x).1
 pair_answers c x = read_answers c x.0 x.1
+
+plan_file_answers : (v : Verification) (x : (Domain × Problem) × List Term)
+    → IsAnswer (outcome.answer_of_plan v x).1
+plan_file_answers v x =
+    let visits_of = pair_visits x.0.0.rules v.levels v.depth in
+    checks_answer (outcome.first_fault x.0.0 x.0.1) (outcome.verify_answer v x.1 x.0.0 x.0.1)
+    (one_answers (λ pair. verify_report x.1 (visits_of pair))
+    (λ pair. let t = told_kept x.1 (visits_of pair) in said_answers t.said t.expansions) v.pair x.0.1.pairs)
 
 listing_answers : (d : Domain) → IsAnswer (outcome.listing_answer d).1
 listing_answers d = checks_answer (first_of (domain_faults d)) (listing_text (compiled d.rules), status.Done) tt
@@ -205,6 +262,15 @@ abbrev as_told : {X : Type 0} → Result X Refusal → Result X LoadError
 as_told (Ok x) = Ok x
 as_told (Err r) = Err (causes.Refused r)
 
+-- a value that is told was loaded
+told_ok : {X : Type 0} (r : Result X Refusal) (x : X) → Ok x ≡ as_told r → Ok x ≡ r
+told_ok (Ok y) x e = let same : x ≡ y = cc in ap Ok same
+told_ok (Err r) x e = cc
+
+-- two causes for which one thing isn't loaded are one
+same_cause : {X : Type 0} (loaded : Result X LoadError) (d e : LoadError) → loaded ≡ Err d → loaded ≡ Err e → d ≡ e
+same_cause loaded d e i k = let same : Err d ≡ Err e = sym i ∙ k in cc
+
 -- a way to load files of a folder: the causes that stop it, and the same of told files
 record Loading {X : Type 0} (folder : FolderRun) (names : Input → Option (List ℕ))
     (loads : Result X LoadError → Type 0) (from : outcome.Files → Result X Refusal → Type 0) (answer : X → Answer)
@@ -215,40 +281,104 @@ record Loading {X : Type 0} (folder : FolderRun) (names : Input → Option (List
       → (x : Result X Refusal) × from files x × (loaded ≡ as_told x)
   answers : (x : X) → IsAnswer (answer x).1
 
+-- the files of a domain and a problem
+module _ (folder : FolderRun) (domain problem : List ℕ) (names : Input → Option (List ℕ))
+    (first : names inputs.Domain ≡ Some domain) (second : names inputs.Problem ≡ Some problem) where
+  both_known : (loaded : Result (Domain × Problem) LoadError) → LoadsBoth folder domain problem loaded
+      → Known folder names loaded
+  both_known loaded (outcome.Then.Stopped e h i) =
+      stop_known folder names inputs.Domain domain_form domain e loaded first h i
+  both_known loaded (outcome.Then.Went d h (outcome.Then.Stopped e k j)) =
+      stop_known folder names inputs.Problem problem_form problem e loaded second k j
+  both_known loaded (outcome.Then.Went d h (outcome.Then.Went p k j)) = ForAnswer (d, p) j
+
+both_exact : (folder : FolderRun) (domain problem : List ℕ) (files : outcome.Files) → TellsFiles folder.file files
+    → (loaded : Result (Domain × Problem) LoadError)
+    → ((cause : LoadError) → loaded ≡ Err cause → IsExact folder files cause) → LoadsBoth folder domain problem loaded
+    → (x : Result (Domain × Problem) Refusal) × outcome.LoadsNamed files domain problem x × (loaded ≡ as_told x)
+both_exact folder domain problem files told loaded p (outcome.Then.Stopped e h i) =
+    let b = bad_exact folder files told inputs.Domain domain_form domain e (p e i) h in
+    (Err b.0, outcome.Then.Stopped b.0 b.1 refl, i ∙ ap Err b.2)
+both_exact folder domain problem files told loaded p (outcome.Then.Went d h (outcome.Then.Stopped e k j)) =
+    let b = bad_exact folder files told inputs.Problem problem_form problem e (p e j) k in (
+      Err b.0,
+      outcome.Then.Went d (good_exact folder files told inputs.Domain domain_form domain d h)
+          (outcome.Then.Stopped b.0 b.1 refl),
+      j ∙ ap Err b.2,
+    )
+both_exact folder domain problem files told loaded p (outcome.Then.Went d h (outcome.Then.Went q k j)) = (
+  Ok (d, q),
+  outcome.Then.Went d (good_exact folder files told inputs.Domain domain_form domain d h)
+      (outcome.Then.Went q (good_exact folder files told inputs.Problem problem_form problem q k) refl),
+  j,
+)
+
 -- the files of a command
 command_loading : (folder : FolderRun) (c : Command)
     → Loading folder (named c) (LoadsBoth folder c.domain c.problem) (λ files. outcome.LoadsFiles files c)
     (outcome.answer_of_pair c)
-command_loading folder c = record { known = known; exact = exact; answers = pair_answers c }
-  where
-    known : (loaded : Result (Domain × Problem) LoadError) → LoadsBoth folder c.domain c.problem loaded
-        → Known folder (named c) loaded
-    known loaded (outcome.Then.Stopped e h i) =
-        stop_known folder (named c) inputs.Domain domain_form c.domain e loaded refl h i
-    known loaded (outcome.Then.Went d h (outcome.Then.Stopped e k j)) =
-        stop_known folder (named c) inputs.Problem problem_form c.problem e loaded refl k j
-    known loaded (outcome.Then.Went d h (outcome.Then.Went p k j)) = ForAnswer (d, p) j
+command_loading folder c = record {
+  known = both_known folder c.domain c.problem (named c) refl refl;
+  exact = both_exact folder c.domain c.problem;
+  answers = pair_answers c;
+}
 
-    exact : (files : outcome.Files) → TellsFiles folder.file files → (loaded : Result (Domain × Problem) LoadError)
-        → ((cause : LoadError) → loaded ≡ Err cause → IsExact folder files cause)
-        → LoadsBoth folder c.domain c.problem loaded
-        → (x : Result (Domain × Problem) Refusal) × outcome.LoadsFiles files c x × (loaded ≡ as_told x)
+-- a cause for which nothing is loaded, as one for which something else isn't
+stopped_known : {X Y : Type 0} (folder : FolderRun) (names : Input → Option (List ℕ)) (first : Result X LoadError)
+    (loaded : Result Y LoadError) (e : LoadError) → first ≡ Err e → loaded ≡ Err e → Known folder names first
+    → Known folder names loaded
+stopped_known folder names first loaded e i j (ForMemory k) =
+    ForMemory (j ∙ ap Err (same_cause first e causes.NoMemory i k))
+stopped_known folder names first loaded e i j (ForReading which name k n u) =
+    ForReading which name (j ∙ ap Err (same_cause first e (causes.Refused (refusals.Read which)) i k)) n u
+stopped_known folder names first loaded e i j (ForText which why k) =
+    ForText which why (j ∙ ap Err (same_cause first e (causes.Refused (outcome.refusal_of which why)) i k))
+stopped_known folder names first loaded e i j (ForAnswer x k) = let no : Err e ≡ Ok x = sym i ∙ k in cc
+
+-- the files of a verification
+plan_loading : (folder : FolderRun) (v : Verification)
+    → Loading folder (file_named (Verifying v)) (LoadsThree folder v) (λ files. outcome.LoadsPlan files v)
+    (outcome.answer_of_plan v)
+plan_loading folder v = record { known = known; exact = exact; answers = plan_file_answers v }
+  where
+    known : (loaded : Result ((Domain × Problem) × List Term) LoadError) → LoadsThree folder v loaded
+        → Known folder (file_named (Verifying v)) loaded
+    known loaded (outcome.Then.Stopped e h i) =
+        stopped_known folder (file_named (Verifying v)) (Err e) loaded e refl i
+        (both_known folder v.domain v.problem (file_named (Verifying v)) refl refl (Err e) h)
+    known loaded (outcome.Then.Went x h (outcome.Then.Stopped e k j)) =
+        stop_known folder (file_named (Verifying v)) inputs.Plan outcome.steps_form v.plan e loaded refl k j
+    known loaded (outcome.Then.Went x h (outcome.Then.Went steps k j)) = ForAnswer (x, steps) j
+
+    exact : (files : outcome.Files) → TellsFiles folder.file files
+        → (loaded : Result ((Domain × Problem) × List Term) LoadError)
+        → ((cause : LoadError) → loaded ≡ Err cause → IsExact folder files cause) → LoadsThree folder v loaded
+        → (x : Result ((Domain × Problem) × List Term) Refusal) × outcome.LoadsPlan files v x × (loaded ≡ as_told x)
     exact files told loaded p (outcome.Then.Stopped e h i) =
-        let b = bad_exact folder files told inputs.Domain domain_form c.domain e (p e i) h in
-        (Err b.0, outcome.Then.Stopped b.0 b.1 refl, i ∙ ap Err b.2)
-    exact files told loaded p (outcome.Then.Went d h (outcome.Then.Stopped e k j)) =
-        let b = bad_exact folder files told inputs.Problem problem_form c.problem e (p e j) k in (
+        let b = both_exact folder v.domain v.problem files told (Err e)
+        (λ cause k. p cause (i ∙ ap Err (same_cause (Err e) e cause refl k))) h in
+        stopped b.0 b.1 b.2
+      where
+        stopped : (r : Result (Domain × Problem) Refusal) → outcome.LoadsNamed files v.domain v.problem r
+            → Err e ≡ as_told r
+            → (x : Result ((Domain × Problem) × List Term) Refusal) × outcome.LoadsPlan files v x × (loaded ≡ as_told x)
+        stopped (Ok x) l k = cc
+        stopped (Err r) l k = (Err r, outcome.Then.Stopped r l refl, i ∙ ap Err (same_cause (Err e) e (causes.Refused r) refl k))
+    exact files told loaded p (outcome.Then.Went x h (outcome.Then.Stopped e k j)) =
+        let b = bad_exact folder files told inputs.Plan outcome.steps_form v.plan e (p e j) k in
+        let d = both_exact folder v.domain v.problem files told (Ok x) (λ cause i. cc) h in (
           Err b.0,
-          outcome.Then.Went d (good_exact folder files told inputs.Domain domain_form c.domain d h)
+          outcome.Then.Went x (subst (outcome.LoadsNamed files v.domain v.problem) (sym (told_ok d.0 x d.2)) d.1)
               (outcome.Then.Stopped b.0 b.1 refl),
           j ∙ ap Err b.2,
         )
-    exact files told loaded p (outcome.Then.Went d h (outcome.Then.Went q k j)) = (
-      Ok (d, q),
-      outcome.Then.Went d (good_exact folder files told inputs.Domain domain_form c.domain d h)
-          (outcome.Then.Went q (good_exact folder files told inputs.Problem problem_form c.problem q k) refl),
-      j,
-    )
+    exact files told loaded p (outcome.Then.Went x h (outcome.Then.Went steps k j)) =
+        let d = both_exact folder v.domain v.problem files told (Ok x) (λ cause i. cc) h in (
+          Ok (x, steps),
+          outcome.Then.Went x (subst (outcome.LoadsNamed files v.domain v.problem) (sym (told_ok d.0 x d.2)) d.1)
+              (outcome.Then.Went steps (good_exact folder files told inputs.Plan outcome.steps_form v.plan steps k) refl),
+          j,
+        )
 
 -- the file of a domain alone
 listing_loading : (folder : FolderRun) (name : List ℕ)
@@ -340,6 +470,7 @@ made_there seed n inputs.Domain name i m =
     let e : codes "domain" ≡ name = cc in
     let f : Some (Some domain_text) ≡ Some None = subst (λ x. (made_run seed n).file x ≡ Some None) (sym e) m in
     cc
+made_there seed n inputs.Plan name i m = cc
 made_there seed n inputs.Problem name i m =
     let e : codes "problem" ≡ name = cc in
     let f : Some (Some (problem_text seed n)) ≡ Some None =
@@ -553,6 +684,8 @@ module _ (words : List (List ℕ)) (s : Status) (r : SinkRun) (files : outcome.F
       (told_whole _ s r t memory write) (outcome.NoCommand e refl)
   ends_well folder (serving.ByCommand c e h) told k =
       serves_well folder _ _ _ _ (command_loading folder c) files told k (λ a x. outcome.ByCommand c e x) h
+  ends_well folder (serving.ByVerifying v e h) told k =
+      serves_well folder _ _ _ _ (plan_loading folder v) files told k (λ a x. outcome.ByVerifying v e x) h
   ends_well folder (serving.ByListing d e h) told k =
       serves_well folder _ _ _ _ (listing_loading folder d) files told k (λ a x. outcome.ByListing d e x) h
   ends_well folder (serving.ByMaking seed n e h) told k =
@@ -564,6 +697,7 @@ module _ (words : List (List ℕ)) (folder : FolderRun) (s : Status) (r : SinkRu
   pub ends_usage : Ends words folder s r → s ≡ status.Usage → accepts words ≡ None
   ends_usage (serving.NoCommand e t) u = e
   ends_usage (serving.ByCommand c e h) u = absurd (serves_usage folder _ _ _ _ (command_loading folder c) s r h u)
+  ends_usage (serving.ByVerifying v e h) u = absurd (serves_usage folder _ _ _ _ (plan_loading folder v) s r h u)
   ends_usage (serving.ByListing d e h) u = absurd (serves_usage folder _ _ _ _ (listing_loading folder d) s r h u)
   ends_usage (serving.ByMaking seed n e h) u =
       absurd (serves_usage (made_run seed n) _ _ _ _ (made_loading seed n) s r h u)
@@ -574,6 +708,7 @@ module _ (words : List (List ℕ)) (folder : FolderRun) (s : Status) (r : SinkRu
       told_status _ s r (Rose r.faults_before r.faults_after) t (λ m f. absurd (other s _ _ (λ x. cc) m u))
       (λ m rose f. rose) (λ m w. absurd (other s _ _ (λ x. cc) m u))
   ends_write (serving.ByCommand c e h) u = serves_write folder _ _ _ _ (command_loading folder c) s r h u
+  ends_write (serving.ByVerifying v e h) u = serves_write folder _ _ _ _ (plan_loading folder v) s r h u
   ends_write (serving.ByListing d e h) u = serves_write folder _ _ _ _ (listing_loading folder d) s r h u
   ends_write (serving.ByMaking seed n e h) u =
       serves_write (made_run seed n) _ _ _ _ (made_loading seed n) s r h u
@@ -603,6 +738,10 @@ module _ (words : List (List ℕ)) (folder : FolderRun) (s : Status) (r : SinkRu
       let x = serves_read folder _ _ _ _ (command_loading folder c) s r (IsReadLine words folder)
       (read_line (OnFiles c) e) h u in
       record { line = x.line; cause = x.may; written = x.written }
+  ends_read (serving.ByVerifying v e h) u =
+      let x = serves_read folder _ _ _ _ (plan_loading folder v) s r (IsReadLine words folder)
+      (read_line (Verifying v) e) h u in
+      record { line = x.line; cause = x.may; written = x.written }
   ends_read (serving.ByListing d e h) u =
       let x = serves_read folder _ _ _ _ (listing_loading folder d) s r (IsReadLine words folder)
       (read_line (Listing d) e) h u in
@@ -631,6 +770,10 @@ module _ (words : List (List ℕ)) (folder : FolderRun) (s : Status) (r : SinkRu
         serves_short folder _ _ _ _ (command_loading folder c) s r MayWrite
         (λ which name n u l. OfReading (read_line (OnFiles c) e which name n u l))
         files told (λ a x. OfOutcome a.1 (outcome.ByCommand c e x)) any_text h
+    ends_short (serving.ByVerifying v e h) =
+        serves_short folder _ _ _ _ (plan_loading folder v) s r MayWrite
+        (λ which name n u l. OfReading (read_line (Verifying v) e which name n u l))
+        files told (λ a x. OfOutcome a.1 (outcome.ByVerifying v e x)) any_text h
     ends_short (serving.ByListing d e h) =
         serves_short folder _ _ _ _ (listing_loading folder d) s r MayWrite
         (λ which name n u l. OfReading (read_line (Listing d) e which name n u l))
@@ -661,21 +804,44 @@ refused_words s r n t =
     told_status (outcome.refusal_answer refusals.Usage) s r (RefusesWords s r) t (λ m f. absurd (has_memory s n m))
     (λ m rose f. inr m) (λ m w. inl (m, w))
 
--- the run of an input under the name that a command has for it is that under the name that the words have
+-- the run of an input under the name that a request has for it is that under the name that the words have
+pub touched_by_request : (words : List (List ℕ)) (file : List ℕ → ToldFile) (q : Request) (w : Input) (r : InputRun)
+    → accepts words ≡ Some q → TouchesBy file (file_named q w) r → TouchesNamed words file w r
+touched_by_request words file q w r e h = by_name (file_named q w) refl h
+  where
+    by_name : (o : Option (List ℕ)) → file_named q w ≡ o → TouchesBy file o r → TouchesNamed words file w r
+    by_name None i kept = inl kept
+    by_name (Some name) i (inl kept) = inl kept
+    by_name (Some name) i (inr read) =
+        inr (record { request = q; accepted = e; name = name; has_name = i; read = read })
+
+-- the inputs of a command over two files, and of a verification, each by its name
 pub touched_by_command : (words : List (List ℕ)) (file : List ℕ → ToldFile) (d p : List ℕ) (j : Job) (w : Input)
-    (r : InputRun) → accepts words ≡ Some (on_files d p j) → Touches (file (by_input w d p)) r
-    → TouchesNamed words file w r
-touched_by_command words file d p j w r e (inl kept) = inl kept
-touched_by_command words file d p j inputs.Domain r e (inr read) =
-    inr (record { request = on_files d p j; accepted = e; name = d; has_name = refl; read = read })
-touched_by_command words file d p j inputs.Problem r e (inr read) =
-    inr (record { request = on_files d p j; accepted = e; name = p; has_name = refl; read = read })
+    (r : InputRun) → accepts words ≡ Some (on_files d p j)
+    → TouchesBy file (by_input w (Some d) (Some p) None) r → TouchesNamed words file w r
+touched_by_command words file d p j inputs.Domain r e h =
+    touched_by_request words file (on_files d p j) inputs.Domain r e h
+touched_by_command words file d p j inputs.Problem r e h =
+    touched_by_request words file (on_files d p j) inputs.Problem r e h
+touched_by_command words file d p j inputs.Plan r e h =
+    touched_by_request words file (on_files d p j) inputs.Plan r e h
+
+pub touched_by_verification : (words : List (List ℕ)) (file : List ℕ → ToldFile) (v : Verification) (w : Input)
+    (r : InputRun) → accepts words ≡ Some (Verifying v)
+    → TouchesBy file (by_input w (Some v.domain) (Some v.problem) (Some v.plan)) r → TouchesNamed words file w r
+touched_by_verification words file v inputs.Domain r e h =
+    touched_by_request words file (Verifying v) inputs.Domain r e h
+touched_by_verification words file v inputs.Problem r e h =
+    touched_by_request words file (Verifying v) inputs.Problem r e h
+touched_by_verification words file v inputs.Plan r e h =
+    touched_by_request words file (Verifying v) inputs.Plan r e h
 
 -- so it is with the one input of a listing
 pub touched_by_listing : (words : List (List ℕ)) (file : List ℕ → ToldFile) (d : List ℕ) (w : Input) (r : InputRun)
     → accepts words ≡ Some (Listing d) → (w ≡ inputs.Domain → Touches (file d) r)
     → (w ≢ inputs.Domain → IsUntouched r) → TouchesNamed words file w r
 touched_by_listing words file d inputs.Problem r e touched others = inl (others (λ x. cc))
+touched_by_listing words file d inputs.Plan r e touched others = inl (others (λ x. cc))
 touched_by_listing words file d inputs.Domain r e touched others = read (touched refl)
   where
     read : Touches (file d) r → TouchesNamed words file inputs.Domain r

@@ -1,3 +1,4 @@
+pub mod AfterReports
 pub mod BestReports
 pub mod CheckTexts
 pub mod Engines
@@ -7,7 +8,9 @@ pub mod Outcome
 pub mod Reading
 pub mod Rereading
 pub mod Run
+pub mod Samples
 pub mod Serving
+pub mod ShallowReports
 pub mod Telling
 pub mod Touching
-pub mod Samples
+pub mod VerifyReports

@@ -1,5 +1,5 @@
--- The load of two files, and the causes for which a run goes no further.
-use Rattle.std.specs.Prelude.{◌≡◌, ◌⊎◌, ℕ, ◌+◌, List, Option, Some, None, Result, Ok, Err, take}
+-- The load of files, and the causes for which a run goes no further.
+use Rattle.std.specs.Prelude.{◌≡◌, ◌⊎◌, ℕ, ◌+◌, List, Option, Some, None, Result, Ok, Err, map, take}
 use Rattle.hp_io.specs.declared.folder.Input.{Input}
 use Rattle.hp_io.specs.declared.folder.Input.TheVariants as inputs
 use Rattle.hp_io.specs.Rules.{Rose}
@@ -14,9 +14,13 @@ use Rattle.hp_out.specs.declared.refusal.Refusal.TheVariants as refusals
 use Rattle.hp_top.specs.declared.loading.LoadError.{LoadError}
 use Rattle.hp_top.specs.declared.loading.LoadError.TheVariants as causes
 use Rattle.hp_top.specs.declared.loading.Loaded.{Loaded}
+use Rattle.hp_top.specs.declared.loading.LoadedPlan.{LoadedPlan}
+use Rattle.hp_syntax.specs.GroundViews.{ground_of}
+use Rattle.hp_syntax.specs.Terms.{Term}
+use Rattle.hp_words.specs.Command.{Verification}
 use Rattle.hp_syntax.specs.Views.{domain_of, problem_of}
 use Rattle.hp_syntax.specs.TextForms.{Form, IsRead}
-use Rattle.hp_top.specs.Outcome.{Why, IsUnreadable, refusal_of, Both}
+use Rattle.hp_top.specs.Outcome.{Why, IsUnreadable, refusal_of, Both, steps_form}
 
 -- a file as a folder tells it: nothing, that there is none, or its bytes
 abbrev pub ToldFile : Type 0
@@ -100,6 +104,12 @@ LoadsBoth folder domain problem loaded =
     Both (LoadsTold inputs.Domain domain_form (folder.file domain) folder.before folder.now)
     (LoadsTold inputs.Problem problem_form (folder.file problem) folder.before folder.now) loaded
 
+-- and then the steps of a plan, of that of a third
+abbrev pub LoadsThree : FolderRun → Verification → Result ((Domain × Problem) × List Term) LoadError → Type 0
+LoadsThree folder v loaded =
+    Both (LoadsBoth folder v.domain v.problem)
+    (LoadsTold inputs.Plan steps_form (folder.file v.plan) folder.before folder.now) loaded
+
 -- a domain is loaded of the file of one name
 abbrev pub LoadsAlone : FolderRun → List ℕ → Result Domain LoadError → Type 0
 LoadsAlone folder name = LoadsTold inputs.Domain domain_form (folder.file name) folder.before folder.now
@@ -108,3 +118,9 @@ LoadsAlone folder name = LoadsTold inputs.Domain domain_form (folder.file name) 
 abbrev pub plain_of : Result Loaded LoadError → Result (Domain × Problem) LoadError
 plain_of (Ok l) = Ok (domain_of l.domain, problem_of l.problem)
 plain_of (Err cause) = Err cause
+
+-- with the steps of a plan
+abbrev pub plain_with_plan : Result LoadedPlan LoadError → Result ((Domain × Problem) × List Term) LoadError
+plain_with_plan (Ok l) =
+    Ok ((domain_of l.files.domain, problem_of l.files.problem), map ground_of l.steps.items)
+plain_with_plan (Err cause) = Err cause

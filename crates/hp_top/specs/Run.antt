@@ -3,9 +3,9 @@ use Rattle.std.specs.Prelude.{◌≡◌, ◌⊎◌, ℕ, List, ◌++◌, Option,
 use Rattle.hp_io.specs.declared.folder.Input.{Input}
 use Rattle.hp_syntax.specs.declared.status.Status.{Status}
 use Rattle.hp_syntax.specs.declared.status.Status.TheVariants as status
-use Rattle.hp_words.specs.Command.{Request, OnFiles, Listing, Making, accepts, file_named}
+use Rattle.hp_words.specs.Command.{Request, OnFiles, Verifying, Listing, Making, accepts, file_named}
 use Rattle.hp_top.specs.Outcome.{Files, Outcome}
-use Rattle.hp_top.specs.Loading.{ToldFile, FolderRun, IsUnread, LoadsAlone, LoadsBoth}
+use Rattle.hp_top.specs.Loading.{ToldFile, FolderRun, IsUnread, LoadsAlone, LoadsBoth, LoadsThree}
 use Rattle.hp_out.specs.declared.refusal.Refusal.TheVariants as refusals
 use Rattle.hp_top.specs.declared.loading.LoadError.{LoadError}
 use Rattle.hp_top.specs.declared.loading.LoadError.TheVariants as causes
@@ -30,6 +30,7 @@ RefusesWords s r = ((s ≡ status.Usage) × Wrote refused_usage r.before r.after
 -- the files that a request names aren't loaded, for this cause
 abbrev pub IsStopped : FolderRun → Request → LoadError → Type 0
 IsStopped folder (OnFiles c) cause = LoadsBoth folder c.domain c.problem (Err cause)
+IsStopped folder (Verifying v) cause = LoadsThree folder v (Err cause)
 IsStopped folder (Listing domain) cause = LoadsAlone folder domain (Err cause)
 IsStopped folder (Making seed packages) cause = ⊥
 

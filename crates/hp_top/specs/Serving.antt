@@ -8,10 +8,10 @@ use Rattle.hp_syntax.specs.declared.status.Status.{Status}
 use Rattle.hp_syntax.specs.declared.status.Status.TheVariants as status
 use Rattle.hp_top.specs.declared.loading.LoadError.{LoadError}
 use Rattle.hp_top.specs.declared.loading.LoadError.TheVariants as causes
-use Rattle.hp_words.specs.Command.{Command, OnFiles, Listing, Making, accepts}
+use Rattle.hp_words.specs.Command.{Command, Verification, OnFiles, Verifying, Listing, Making, accepts}
 use Rattle.hp_top.specs.Making.{made_files, made_command}
-use Rattle.hp_top.specs.Outcome.{refusal_answer, answer_of_pair, answer_to, listing_answer}
-use Rattle.hp_top.specs.Loading.{FolderRun, folder_run, LoadsAlone, LoadsBoth}
+use Rattle.hp_top.specs.Outcome.{refusal_answer, answer_of_pair, answer_of_plan, answer_to, listing_answer}
+use Rattle.hp_top.specs.Loading.{FolderRun, folder_run, LoadsAlone, LoadsBoth, LoadsThree}
 use Rattle.hp_top.specs.Telling.{Tells}
 
 -- the answer where the files aren't read
@@ -30,6 +30,10 @@ pub record Serves {X : Type 0} (Loads : Result X LoadError → Type 0) (answer :
 abbrev pub ServesCommand : Command → FolderRun → Status → SinkRun → Type 0
 ServesCommand c folder = Serves (LoadsBoth folder c.domain c.problem) (answer_of_pair c)
 
+-- how the verification of a plan ends
+abbrev pub ServesVerification : Verification → FolderRun → Status → SinkRun → Type 0
+ServesVerification v folder = Serves (LoadsThree folder v) (answer_of_plan v)
+
 -- how the listing of a domain ends
 abbrev pub ServesListing : List ℕ → FolderRun → Status → SinkRun → Type 0
 ServesListing domain folder = Serves (LoadsAlone folder domain) listing_answer
@@ -46,6 +50,8 @@ made_run seed packages = folder_run (λ name. Some (made_files seed packages nam
 pub data Ends (words : List (List ℕ)) (folder : FolderRun) (s : Status) (r : SinkRun) : Type 0 where
   NoCommand : accepts words ≡ None → Tells (refusal_answer refusals.Usage) s r → Ends words folder s r
   ByCommand : (c : Command) → accepts words ≡ Some (OnFiles c) → ServesCommand c folder s r → Ends words folder s r
+  ByVerifying : (v : Verification) → accepts words ≡ Some (Verifying v) → ServesVerification v folder s r
+      → Ends words folder s r
   ByListing : (domain : List ℕ) → accepts words ≡ Some (Listing domain) → ServesListing domain folder s r
       → Ends words folder s r
   ByMaking : (seed packages : ℕ) → accepts words ≡ Some (Making seed packages)

@@ -35,6 +35,11 @@ pub record WasRead (file : ToldFile) (r : InputRun) : Type 0 where
 abbrev pub Touches : ToldFile → InputRun → Type 0
 Touches file r = IsUntouched r ⊎ WasRead file r
 
+-- an input that has a name is touched by the file of that name, and one that has none isn't
+abbrev pub TouchesBy : (List ℕ → ToldFile) → Option (List ℕ) → InputRun → Type 0
+TouchesBy file None r = IsUntouched r
+TouchesBy file (Some name) r = Touches (file name) r
+
 -- the words are a command that names a file for the input, which was read
 pub record IsNamed (words : List (List ℕ)) (file : List ℕ → ToldFile) (which : Input)
     (r : InputRun) : Type 0 where

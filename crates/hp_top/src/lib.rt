@@ -5,6 +5,8 @@ mod checking;
 mod choosing;
 mod coding;
 mod command;
+mod deepening;
+mod following;
 pub mod laws;
 mod loading;
 mod making;
@@ -19,6 +21,7 @@ mod serving;
 mod showing;
 mod summing;
 mod telling;
+mod verifying;
 
 pub use command::run;
 pub use hp_syntax::Status;

@@ -1,29 +1,36 @@
-//! From two files to a domain and a problem.
+//! From files to a domain, a problem and a plan.
 
-ghost use Rattle.std.specs.Prelude.{◌≡◌, ◌≢◌, ◌≤◌, ℕ, List, length, Ok, Err, IfOk, IfErr, IsErrOf};
+ghost use Rattle.std.specs.Prelude.{◌≡◌, ◌≢◌, ◌≤◌, ℕ, List, None, Some, length, map, Ok, Err, IfOk, IfErr, IsErrOf};
 ghost use Rattle.hp_io.specs.Inputs.{by_input};
 ghost use Rattle.hp_io.specs.declared.folder.Input.{Input};
 ghost use Rattle.hp_io.specs.declared.folder.Input.TheVariants as inputs;
+ghost use Rattle.hp_forms.specs.PlanForms.{plan_form};
 ghost use Rattle.hp_syntax.specs.Forest.{IsForest};
+ghost use Rattle.hp_syntax.specs.GroundViews.{ground_of};
 ghost use Rattle.hp_syntax.specs.Grammar.{domain_form, problem_form};
 ghost use Rattle.hp_syntax.specs.Numbered.{IsNumberedDomain};
 ghost use Rattle.hp_syntax.specs.Views.{domain_of, problem_of};
 ghost use Rattle.hp_syntax.specs.TextForms.{IsRead};
+ghost use Rattle.hp_terms.specs.FormReads.{Refuses};
+ghost use Rattle.hp_terms.specs.declared.refusal.FormRefusal.{FormRefusal};
 ghost use Rattle.hp_text.specs.Nodes.{forest_of};
 ghost use Rattle.hp_text.specs.Refusals.{RefusesText};
-ghost use Rattle.hp_top.specs.Loading.{ReadsFile, Reads, HasText, IsUnread, IsRefusedFor, StopsAt, LoadsBoth, folder_run, plain_of, of_text, of_form};
-ghost use Rattle.hp_top.specs.Touching.{Touches, IsUntouched, input_run};
+ghost use Rattle.hp_top.specs.Loading.{ReadsFile, Reads, HasText, IsUnread, IsRefusedFor, StopsAt, LoadsBoth, LoadsThree, folder_run, plain_of, plain_with_plan, of_text, of_form};
+ghost use Rattle.hp_top.specs.Outcome.{steps_form};
+ghost use Rattle.hp_top.specs.Touching.{Touches, TouchesBy, IsUntouched, input_run};
+ghost use Rattle.hp_words.specs.Words.{verification_of};
 
 use crate::reading::{ReadError, read_rest};
 use hp_forms::FormRefusal;
 use hp_io::{BeginError, Folder, Input};
 use hp_out::Refusal;
 use hp_syntax::laws::{limits_are_kept, refusals_are_decided_by_the_prefix};
-use hp_syntax::{Domain, Problem};
+use hp_syntax::{Domain, Ground, Problem};
 use hp_text::{Forest, TextRefusal, read};
+use hp_words::Verification;
 use std::alloc::Global;
 
-/// Why two files aren't read as a domain and a problem.
+/// Why files aren't read as a domain, a problem and a plan.
 #[derive(Clone, Copy)]
 pub enum LoadError {
     NoMemory,
@@ -42,6 +49,20 @@ impl Drop for Loaded {
         let Loaded { domain, problem } = self;
         drop(domain);
         drop(problem);
+    }
+}
+
+/// A domain and a problem that are read, and the steps of a plan.
+pub struct LoadedPlan {
+    pub files: Loaded,
+    pub steps: Vec<Ground>,
+}
+
+impl Drop for LoadedPlan {
+    fn drop(self) {
+        let LoadedPlan { files, steps } = self;
+        drop(files);
+        drop(steps);
     }
 }
 
@@ -102,6 +123,29 @@ pub fn problem_in(alloc: Global, bytes: Vec<u8>) -> Result<Problem, LoadError>
             Err(refusal) => Err(of_form(Input::Problem, refusal)),
         },
         Err(refusal) => Err(of_text(Input::Problem, refusal)),
+    }
+}
+
+/// The steps of the plan that a forest is.
+fn steps_of(alloc: Global, forest: &Forest) -> Result<Vec<Ground>, LoadError>
+    ensures form { IfOk result (λ v. plan_form (forest_of forest.now) ≡ Ok (map ground_of v.items)) }
+    ensures refused { IfErr result (λ e. (refusal : FormRefusal) × (e ≡ of_form inputs.Plan refusal)
+        × Refuses refusal (plan_form (forest_of forest.now))) }
+{
+    match hp_forms::plan_steps(alloc, forest) {
+        Ok(steps) => Ok(steps),
+        Err(refusal) => Err(of_form(Input::Plan, refusal)),
+    }
+}
+
+/// The steps of the plan that a text is.
+fn steps_in(alloc: Global, bytes: Vec<u8>) -> Result<Vec<Ground>, LoadError>
+    ensures steps { IfOk result (λ v. IsRead steps_form bytes.items (map ground_of v.items)) }
+    ensures refused { IfErr result (IsRefusedFor inputs.Plan steps_form bytes.items) }
+{
+    match forest_in(alloc, bytes) {
+        Ok(forest) => steps_of(alloc, &forest),
+        Err(refusal) => Err(of_text(Input::Plan, refusal)),
     }
 }
 
@@ -186,6 +230,35 @@ fn load_problem<F: Folder>(alloc: Global, folder: &mut F, name: &str) -> Result<
     }
 }
 
+/// The steps of the plan in a file.
+fn load_steps<F: Folder>(
+    alloc: Global,
+    folder: &mut F,
+    name: &str,
+) -> Result<Vec<Ground>, LoadError>
+    ensures steps { IfOk result (λ v. Reads steps_form (F.file folder.old name.now) (map ground_of v.items)) }
+    ensures stops { IfErr result (λ e. StopsAt inputs.Plan steps_form e (F.file folder.old name.now)
+        (F.faults folder.old) (F.faults folder.new)) }
+    ensures touched { Touches (F.file folder.old name.now) (input_run
+        (F.begun folder.old inputs.Plan) (F.begun folder.new inputs.Plan)
+        (F.rest folder.old inputs.Plan) (F.rest folder.new inputs.Plan)) }
+    ensures others { (w : Input) → w ≢ inputs.Plan → IsUntouched
+        (input_run (F.begun folder.old w) (F.begun folder.new w) (F.rest folder.old w) (F.rest folder.new w)) }
+    ensures files { (n : List ℕ) → F.file folder.new n ≡ F.file folder.old n }
+    ensures later { (w : Input) → F.faults folder.old w ≤ F.faults folder.new w }
+{
+    match file_prefix(alloc, folder, Input::Plan, name) {
+        Ok(bytes) => {
+            // Nothing runs here: the laws make known that the prefix is read as the whole text is.
+            refusals_are_decided_by_the_prefix();
+            limits_are_kept();
+            steps_in(alloc, bytes)
+        }
+        Err(ReadError::Failed) => Err(LoadError::Refused(Refusal::Read(Input::Plan))),
+        Err(ReadError::NoMemory) => Err(LoadError::NoMemory),
+    }
+}
+
 /// The domain and the problem in two files. What else was read is gone when this returns.
 pub fn load<F: Folder>(
     alloc: Global,
@@ -199,7 +272,8 @@ pub fn load<F: Folder>(
     ensures text { IfOk result (λ l. HasText problem_form (problem_of l.problem)) }
     ensures files { (n : List ℕ) → F.file folder.new n ≡ F.file folder.old n }
     ensures later { (w : Input) → F.faults folder.old w ≤ F.faults folder.new w }
-    ensures touched { (w : Input) → Touches (F.file folder.old (by_input w domain.now problem.now))
+    ensures touched { (w : Input) →
+        TouchesBy (F.file folder.old) (by_input w (Some domain.now) (Some problem.now) None)
         (input_run (F.begun folder.old w) (F.begun folder.new w) (F.rest folder.old w) (F.rest folder.new w)) }
 {
     let domain = match load_domain(alloc, folder, domain) {
@@ -208,6 +282,32 @@ pub fn load<F: Folder>(
     };
     match load_problem(alloc, folder, problem) {
         Ok(problem) => Ok(Loaded { domain, problem }),
+        Err(cause) => Err(cause),
+    }
+}
+
+/// The domain, the problem and the plan in three files. What else was read is gone when this returns.
+pub fn load_with_plan<F: Folder>(
+    alloc: Global,
+    folder: &mut F,
+    asked: Verification,
+) -> Result<LoadedPlan, LoadError>
+    ensures loads { LoadsThree (folder_run (F.file folder.old) (F.faults folder.old) (F.faults folder.new))
+        (verification_of asked.entry) (plain_with_plan result) }
+    ensures numbered { IfOk result (λ l. IsNumberedDomain (domain_of l.files.domain)) }
+    ensures text { IfOk result (λ l. HasText problem_form (problem_of l.files.problem)) }
+    ensures files { (n : List ℕ) → F.file folder.new n ≡ F.file folder.old n }
+    ensures later { (w : Input) → F.faults folder.old w ≤ F.faults folder.new w }
+    ensures touched { (w : Input) →
+        TouchesBy (F.file folder.old) (by_input w (Some asked.entry.domain.now) (Some asked.entry.problem.now) (Some asked.entry.plan.now))
+        (input_run (F.begun folder.old w) (F.begun folder.new w) (F.rest folder.old w) (F.rest folder.new w)) }
+{
+    let files = match load(alloc, folder, asked.domain, asked.problem) {
+        Ok(files) => files,
+        Err(cause) => return Err(cause),
+    };
+    match load_steps(alloc, folder, asked.plan) {
+        Ok(steps) => Ok(LoadedPlan { files, steps }),
         Err(cause) => Err(cause),
     }
 }

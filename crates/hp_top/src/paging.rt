@@ -8,8 +8,7 @@ ghost use Rattle.hp_syntax.specs.GroundPatterns.{IsGroundPair};
 ghost use Rattle.hp_syntax.specs.Report.{Answer};
 ghost use Rattle.hp_syntax.specs.Syntax.{Rule};
 ghost use Rattle.hp_syntax.specs.Views.{pair_of};
-ghost use Rattle.hp_top.specs.Engines.{CanPlan, IsWanted, PlansBy, told_visits};
-ghost use Rattle.hp_top.specs.Outcome.{pairs_answer};
+ghost use Rattle.hp_top.specs.Engines.{CanPlan, IsWanted, PlansBy, told_of_pairs};
 ghost use Rattle.hp_top.specs.Telling.{IsTold, Tells};
 
 use crate::pairs::{Engine, Wanted, tell_pairs};
@@ -27,7 +26,7 @@ struct Task<'a> {
     alloc: Global,
     engine: Engine<'a>,
     pairs: &'a [Pair],
-    wanted: Wanted,
+    wanted: Wanted<'a>,
 }
 
 /// Writes what stands on the page, unless writing failed already, and answers the status of the run.
@@ -59,8 +58,7 @@ fn tell_before<O: Origin, K: Sink>(sink: K, task: Task) -> (K, Status)
     requires pairs { All IsGroundPair (map pair_of task.pairs.now) }
     requires wanted { IsWanted task.engine task.wanted }
     ensures tells { (rules : List Rule) → PlansBy rules task.entry.engine
-        → Tells (pairs_answer (told_visits task.entry.wanted.sought) rules task.entry.wanted.levels task.entry.wanted.depth
-        (map pair_of task.entry.pairs.now)) result.1
+        → Tells (told_of_pairs task.entry.wanted rules (map pair_of task.entry.pairs.now)) result.1
         (sink_run (K.faults sink) (K.faults result.0) (K.bytes sink) (K.bytes result.0)) }
     ensures later { K.faults sink ≤ K.faults result.0 }
 {
@@ -76,8 +74,7 @@ fn tell_before_this<K: Sink>(sink: K, task: Task) -> (K, Status)
     requires pairs { All IsGroundPair (map pair_of task.pairs.now) }
     requires wanted { IsWanted task.engine task.wanted }
     ensures tells { (rules : List Rule) → PlansBy rules task.entry.engine
-        → Tells (pairs_answer (told_visits task.entry.wanted.sought) rules task.entry.wanted.levels task.entry.wanted.depth
-        (map pair_of task.entry.pairs.now)) result.1
+        → Tells (told_of_pairs task.entry.wanted rules (map pair_of task.entry.pairs.now)) result.1
         (sink_run (K.faults sink) (K.faults result.0) (K.bytes sink) (K.bytes result.0)) }
     ensures later { K.faults sink ≤ K.faults result.0 }
 {
@@ -95,8 +92,8 @@ pub fn tell_in_pages<K: Sink>(
     requires engine { CanPlan engine }
     requires pairs { All IsGroundPair (map pair_of pairs.now) }
     requires wanted { IsWanted engine wanted }
-    ensures tells { (rules : List Rule) → PlansBy rules engine.entry → Tells (pairs_answer (told_visits wanted.sought) rules
-        wanted.levels wanted.depth (map pair_of pairs.now)) result
+    ensures tells { (rules : List Rule) → PlansBy rules engine.entry
+        → Tells (told_of_pairs wanted.entry rules (map pair_of pairs.now)) result
         (sink_run (K.faults out.old) (K.faults out.new) (K.bytes out.old) (K.bytes out.new)) }
     ensures later { K.faults out.old ≤ K.faults out.new }
 {

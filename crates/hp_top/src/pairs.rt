@@ -13,13 +13,16 @@ ghost use Rattle.hp_syntax.specs.GroundPatterns.{IsGroundPair};
 ghost use Rattle.hp_syntax.specs.Report.{badness, behind, pair_header, worse};
 ghost use Rattle.hp_syntax.specs.Syntax.{Rule};
 ghost use Rattle.hp_syntax.specs.Views.{domain_of, pair_of};
-ghost use Rattle.hp_top.specs.Engines.{CanBeFound, CanPlan, IsWanted, PlansBy, told_visits};
-ghost use Rattle.hp_top.specs.Outcome.{pair_visits, pairs_answer};
+ghost use Rattle.hp_top.specs.Engines.{CanBeFound, CanPlan, IsOfOneTree, IsWanted, PlansBy, told_of_pairs, told_pair, told_visits};
+ghost use Rattle.hp_top.specs.Outcome.{pair_visits};
 ghost use Rattle.hp_top.specs.Telling.{Halts, IsTold};
 
 use crate::choosing::tell_best;
+use crate::deepening::tell_least;
+use crate::following::tell_after;
 use crate::planning::{Detail, tell};
 use crate::telling::Halt;
+use crate::verifying::tell_verdict;
 use hp_best::laws::priced_costs_never_fall;
 use hp_code::Code;
 use hp_code::laws::{compiled_rules_are_a_code, lowered_rules_have_the_tree};
@@ -30,22 +33,42 @@ use hp_out::Pen;
 use hp_plain::PlainWalk;
 use hp_search::Planner;
 use hp_syntax::limits::{GREATEST_DEPTH, GREATEST_PLAIN_DEPTH, MOST_LEVELS};
-use hp_syntax::{Domain, Pair, Status};
+use hp_syntax::{Domain, Ground, Pair, Status};
 use std::alloc::{AllocError, Global};
 
 /// What is looked for in each pair.
 #[derive(Clone, Copy)]
-pub enum Sought {
+pub enum Sought<'a> {
     /// So many plans, each told in this detail.
-    Plans { plans: u64, detail: Detail },
+    Plans {
+        plans: u64,
+        detail: Detail,
+    },
     /// The cheapest plan. Where the domain is priced, what costs too much is left out.
-    Cheapest { priced: bool },
+    Cheapest {
+        priced: bool,
+    },
+    /// So many plans behind the plan at a path.
+    After {
+        plans: u64,
+        detail: Detail,
+        path: &'a [u64],
+    },
+    /// A plan with these steps.
+    Derivation {
+        steps: &'a [Ground],
+    },
+    /// The first plan of the least depth that has one, told with its state where states are told. The depth that is
+    /// wanted is the limit then.
+    Shallowest {
+        states: bool,
+    },
 }
 
 /// What is looked for in each pair, and how far.
 #[derive(Clone, Copy)]
-pub struct Wanted {
-    pub sought: Sought,
+pub struct Wanted<'a> {
+    pub sought: Sought<'a>,
     pub depth: u32,
     /// How deep axioms may call one another.
     pub levels: u32,
@@ -118,13 +141,20 @@ fn tell_walk<W: Walk, K: Sink>(
     requires at { All (IsAtItsNode (W.tree walk.old)) (W.stands walk.old).rest }
     requires new { (W.stands walk.old).rest ≡ tree_visits (W.tree walk.old) }
     requires found { CanBeFound sought (W.stands walk.old).rest }
-    ensures told { IsTold (told_visits sought (W.stands walk.old).rest) result
+    ensures told { IsTold (told_visits sought.entry (W.stands walk.old).rest) result
         (sink_run (K.faults out.old) (K.faults out.new) (K.bytes out.old) (K.bytes out.new)) }
     ensures later { K.faults out.old ≤ K.faults out.new }
 {
     match sought {
         Sought::Plans { plans, detail } => tell(walk, plans, detail, out),
         Sought::Cheapest { priced } => tell_best(alloc, walk, priced, out),
+        Sought::After {
+            plans,
+            detail,
+            path,
+        } => tell_after(walk, path, plans, detail, out),
+        Sought::Derivation { steps } => tell_verdict(walk, steps, out),
+        Sought::Shallowest { .. } => unreachable!(),
     }
 }
 
@@ -139,14 +169,37 @@ fn tell_by_copies<K: Sink>(
     requires checked { first_of (domain_faults (domain_of domain.now)) ≡ None }
     requires pair { IsGroundPair (pair_of pair.now) }
     requires wanted { IsWanted (Engine.Copies domain) wanted }
-    ensures told { IsTold (told_visits wanted.sought
-        (pair_visits (domain_of domain.now).rules wanted.levels wanted.depth (pair_of pair.now))) result
+    ensures told { IsTold (told_pair wanted.entry (domain_of domain.now).rules (pair_of pair.now)) result
         (sink_run (K.faults out.old) (K.faults out.new) (K.bytes out.old) (K.bytes out.new)) }
     ensures later { K.faults out.old ≤ K.faults out.new }
 {
     // Nothing runs here: the law makes known that costs never fall by priced rules.
     priced_costs_never_fall();
     let Ok(mut walk) = walk_of(alloc, domain, pair, wanted.depth, wanted.levels) else {
+        return Err(Halt::NoMemory);
+    };
+    tell_walk(alloc, &mut walk, wanted.sought, out)
+}
+
+/// Tells what is wanted of the tree of a pair, in place.
+fn tell_tree_in_place<K: Sink>(
+    alloc: Global,
+    code: &Code,
+    pair: &Pair,
+    wanted: Wanted,
+    out: &mut K,
+) -> Result<Status, Halt>
+    requires pair { IsGroundPair (pair_of pair.now) }
+    requires wanted { IsWanted (Engine.InPlace code) wanted }
+    requires tree { IsOfOneTree wanted.sought }
+    ensures told { (rules : List Rule) → IsCodeOf rules (code_of code.now)
+        → IsTold (told_pair wanted.entry rules (pair_of pair.now)) result
+        (sink_run (K.faults out.old) (K.faults out.new) (K.bytes out.old) (K.bytes out.new)) }
+    ensures later { K.faults out.old ≤ K.faults out.new }
+{
+    // Nothing runs here: the law makes known that costs never fall by priced rules.
+    priced_costs_never_fall();
+    let Ok(mut walk) = planner_of(alloc, code, pair, wanted.depth, wanted.levels) else {
         return Err(Halt::NoMemory);
     };
     tell_walk(alloc, &mut walk, wanted.sought, out)
@@ -163,16 +216,14 @@ fn tell_in_place<K: Sink>(
     requires pair { IsGroundPair (pair_of pair.now) }
     requires wanted { IsWanted (Engine.InPlace code) wanted }
     ensures told { (rules : List Rule) → IsCodeOf rules (code_of code.now)
-        → IsTold (told_visits wanted.sought (pair_visits rules wanted.levels wanted.depth (pair_of pair.now))) result
+        → IsTold (told_pair wanted.entry rules (pair_of pair.now)) result
         (sink_run (K.faults out.old) (K.faults out.new) (K.bytes out.old) (K.bytes out.new)) }
     ensures later { K.faults out.old ≤ K.faults out.new }
 {
-    // Nothing runs here: the law makes known that costs never fall by priced rules.
-    priced_costs_never_fall();
-    let Ok(mut walk) = planner_of(alloc, code, pair, wanted.depth, wanted.levels) else {
-        return Err(Halt::NoMemory);
-    };
-    tell_walk(alloc, &mut walk, wanted.sought, out)
+    if let Sought::Shallowest { states } = wanted.sought {
+        return tell_least(alloc, code, pair, wanted.depth, wanted.levels, states, out);
+    }
+    tell_tree_in_place(alloc, code, pair, wanted, out)
 }
 
 /// Tells what is wanted of a pair, by an engine.
@@ -187,7 +238,7 @@ fn tell_pair<K: Sink>(
     requires pair { IsGroundPair (pair_of pair.now) }
     requires wanted { IsWanted engine wanted }
     ensures told { (rules : List Rule) → PlansBy rules engine.entry
-        → IsTold (told_visits wanted.sought (pair_visits rules wanted.levels wanted.depth (pair_of pair.now))) result
+        → IsTold (told_pair wanted.entry rules (pair_of pair.now)) result
         (sink_run (K.faults out.old) (K.faults out.new) (K.bytes out.old) (K.bytes out.new)) }
     ensures later { K.faults out.old ≤ K.faults out.new }
 {
@@ -228,7 +279,7 @@ fn tell_numbered<K: Sink>(
     requires pair { IsGroundPair (pair_of pair.now) }
     requires wanted { IsWanted engine wanted }
     ensures told { (rules : List Rule) → PlansBy rules engine.entry → IsTold (behind (pair_header number count)
-        (told_visits wanted.sought (pair_visits rules wanted.levels wanted.depth (pair_of pair.now)))) result
+        (told_pair wanted.entry rules (pair_of pair.now))) result
         (sink_run (K.faults out.old) (K.faults out.new) (K.bytes out.old) (K.bytes out.new)) }
     ensures later { K.faults out.old ≤ K.faults out.new }
 {
@@ -274,8 +325,8 @@ pub fn tell_pairs<K: Sink>(
     requires engine { CanPlan engine }
     requires pairs { All IsGroundPair (map pair_of pairs.now) }
     requires wanted { IsWanted engine wanted }
-    ensures told { (rules : List Rule) → PlansBy rules engine.entry → IsTold (pairs_answer (told_visits wanted.sought) rules
-        wanted.levels wanted.depth (map pair_of pairs.now)) result
+    ensures told { (rules : List Rule) → PlansBy rules engine.entry
+        → IsTold (told_of_pairs wanted.entry rules (map pair_of pairs.now)) result
         (sink_run (K.faults out.old) (K.faults out.new) (K.bytes out.old) (K.bytes out.new)) }
     ensures later { K.faults out.old ≤ K.faults out.new }
 {

@@ -97,7 +97,7 @@ fn write_steps<W: Walk, K: Sink>(
 }
 
 /// Writes what is told of the plan of the node that is reached.
-fn write_plan<W: Walk, K: Sink>(
+pub fn write_plan<W: Walk, K: Sink>(
     number: u64,
     walk: &W,
     detail: Detail,

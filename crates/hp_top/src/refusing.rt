@@ -18,6 +18,7 @@ fn refused_status(which: Input) -> Status
     match which {
         Input::Domain => Status::DomainRefused,
         Input::Problem => Status::ProblemRefused,
+        Input::Plan => Status::PlanRefused,
     }
 }
 
@@ -31,6 +32,7 @@ fn refusal_status(refusal: &Refusal) -> Status
         Refusal::Text(which, _, _) => refused_status(which),
         Refusal::Form(which, _, _) => refused_status(which),
         Refusal::Check(fault) => refused_status(text_of(fault.in_problem)),
+        Refusal::NoPair(_, _) => Status::ProblemRefused,
     }
 }
 
@@ -47,7 +49,7 @@ pub fn refuse<K: Sink>(out: &mut K, refusal: &Refusal) -> Status
     }
 }
 
-/// Writes why two files aren't read.
+/// Writes why files aren't read.
 pub fn refuse_files<K: Sink>(out: &mut K, error: LoadError) -> Status
     ensures tells { Tells (load_answer error) result
         (sink_run (K.faults out.old) (K.faults out.new) (K.bytes out.old) (K.bytes out.new)) }

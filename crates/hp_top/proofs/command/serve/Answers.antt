@@ -1,9 +1,9 @@
 use Rattle.std.proofs.Common.{◌≡◌, Some, refl, subst, sym, map, string_bytes}
 use Rattle.hp_words.specs.Command.{accepts, make_command}
-use Rattle.hp_top.specs.Serving.{ByCommand, ByListing, ByMaking}
+use Rattle.hp_top.specs.Serving.{ByCommand, ByListing, ByMaking, ByVerifying}
 use Rattle.hp_top.specs.Touching.{Touches, input_run}
-use Rattle.hp_words.specs.Words.{job_of, request_of}
-use Rattle.hp_top.proofs.RunSteps.{refused_words, touched_by_command, touched_by_listing}
+use Rattle.hp_words.specs.Words.{job_of, request_of, verification_of}
+use Rattle.hp_top.proofs.RunSteps.{refused_words, touched_by_command, touched_by_listing, touched_by_verification}
 use Rattle.hp_top.proofs.command.serve.Goals as goal
 
 pub returns-in-None-clause-untouched : goal.returns-in-None-clause-untouched
@@ -52,3 +52,19 @@ returns-in-Some-Code-clause-touched g c = λ w.
     (g.F.Folder.rest c.args.folder.now w) (g.F.Folder.rest c.serve_code.new.folder w))) (sym is)
     c.serve_code.ensures.touched)
     (c.serve_code.ensures.others w)
+
+pub returns-in-Some-Verify-clause-ends : goal.returns-in-Some-Verify-clause-ends
+returns-in-Some-Verify-clause-ends g c =
+    ByVerifying (verification_of c.in-Some-Verify.asked)
+    (sym
+    (subst (λ r. Some (request_of r) ≡ accepts (map string_bytes c.args.words.now)) c.in-Some-Verify.field-0-is
+    c.in-Some-Verify.ensures.asks))
+    c.serve_verification.ensures.serves
+
+pub returns-in-Some-Verify-clause-touched : goal.returns-in-Some-Verify-clause-touched
+returns-in-Some-Verify-clause-touched g c = λ w.
+    touched_by_verification _ (g.F.Folder.file c.args.folder.now) (verification_of c.in-Some-Verify.asked) w _
+    (sym
+    (subst (λ r. Some (request_of r) ≡ accepts (map string_bytes c.args.words.now)) c.in-Some-Verify.field-0-is
+    c.in-Some-Verify.ensures.asks))
+    (c.serve_verification.ensures.touched w)

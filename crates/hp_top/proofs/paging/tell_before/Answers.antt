@@ -2,8 +2,7 @@ use Rattle.std.proofs.Common.{◌≤◌, ◌∙◌, ap, drop, map, subst}
 use Rattle.hp_out.specs.Paged.{laid}
 use Rattle.hp_out.proofs.PagedSteps.{laid_nothing}
 use Rattle.hp_syntax.specs.Views.{pair_of}
-use Rattle.hp_top.specs.Engines.{told_visits}
-use Rattle.hp_top.specs.Outcome.{pairs_answer}
+use Rattle.hp_top.specs.Engines.{told_of_pairs}
 use Rattle.hp_top.proofs.PagingSteps.{told_back, told_from}
 use Rattle.hp_top.proofs.paging.tell_before.Goals as goal
 
@@ -13,7 +12,7 @@ returns-clause-tells g c = λ rules by.
     let bytes = g.K.Sink.bytes in
     let taken = g.O.Origin.taken in
     let w = c.args.task.wanted in
-    let a = pairs_answer (told_visits w.sought) rules w.levels w.depth (map pair_of c.args.task.pairs.now) in
+    let a = told_of_pairs w rules (map pair_of c.args.task.pairs.now) in
     let new = c.new-paged.result in
     let told = c.tell_pairs-told.new.out in
     let same = c.new-paged.ensures.same in

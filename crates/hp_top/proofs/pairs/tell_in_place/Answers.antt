@@ -1,10 +1,19 @@
+use Rattle.std.proofs.Common.{subst, sym}
+use Rattle.hp_out.specs.Writing.{sink_run}
+use Rattle.hp_syntax.specs.Report.{Answer}
 use Rattle.hp_syntax.specs.Views.{pair_of}
-use Rattle.hp_top.specs.declared.pairs.Engine.TheVariants.{InPlace}
-use Rattle.hp_top.proofs.PlanEnds.{can_be_found}
+use Rattle.hp_top.specs.Telling.{IsTold}
+use Rattle.hp_top.proofs.PlanEnds.{other_one_tree, shallowest_told}
 use Rattle.hp_top.proofs.pairs.tell_in_place.Goals as goal
 
-pub tell_walk-requires-clause-found : goal.tell_walk-requires-clause-found
-tell_walk-requires-clause-found g c =
-    let w = c.args.wanted in
-    can_be_found (InPlace c.args.code) w.sought w.levels w.depth (pair_of c.args.pair.now) _
-    c.requires.wanted.sought c.in-Ok.ensures.visits c.priced_costs_never_fall.ensures.visits
+pub returns-in-Shallowest-clause-told : goal.returns-in-Shallowest-clause-told
+returns-in-Shallowest-clause-told g c = λ rules by.
+    subst
+    (λ (a : Answer). IsTold a c.tell_least.result
+    (sink_run (g.K.Sink.faults c.args.out.now) (g.K.Sink.faults c.tell_least.new.out) (g.K.Sink.bytes c.args.out.now)
+    (g.K.Sink.bytes c.tell_least.new.out)))
+    (sym (shallowest_told c.args.wanted c.in-Shallowest.states rules (pair_of c.args.pair.now) c.in-Shallowest.is))
+    (c.tell_least.ensures.told rules by)
+
+pub tell_tree_in_place-requires-clause-tree : goal.tell_tree_in_place-requires-clause-tree
+tell_tree_in_place-requires-clause-tree g c = other_one_tree c.args.wanted.sought c.in_default.not-Shallowest

@@ -1,18 +1,11 @@
-use Rattle.std.proofs.Common.{◌≤◌, ◌+◌, List, arith, length, map, subst}
+use Rattle.std.proofs.Common.{◌≤◌, ◌+◌, arith, length, map, subst}
 use Rattle.hp_syntax.specs.declared.status.Status.TheVariants as status
 use Rattle.hp_syntax.specs.GroundPatterns.{IsGroundPair}
-use Rattle.hp_syntax.specs.Report.{Answer, behind, pair_header}
-use Rattle.hp_syntax.specs.Syntax.{Pair, Rule}
+use Rattle.hp_syntax.specs.Report.{behind, pair_header}
 use Rattle.hp_syntax.specs.Views.{pair_of}
-use Rattle.hp_top.specs.Engines.{told_visits}
-use Rattle.hp_top.specs.Outcome.{pair_visits, pairs_answer}
-use Rattle.hp_top.specs.declared.pairs.Wanted.{Wanted}
+use Rattle.hp_top.specs.Engines.{told_of_pairs, told_pair}
 use Rattle.hp_top.proofs.PairSteps.{IsLeft, all_left, from_pair, from_the_first, halts_in_all, held_at, less_left, next_pair, no_pair, none_left}
 use Rattle.hp_top.proofs.pairs.tell_pairs.Goals as goal
-
--- what is told of a pair
-abbrev told : Wanted → List Rule → Pair → Answer
-told wanted rules pair = told_visits wanted.sought (pair_visits rules wanted.levels wanted.depth pair)
 
 pub loop-number-init : goal.loop-number-init
 loop-number-init g c =
@@ -20,10 +13,10 @@ loop-number-init g c =
     record {
       left = λ rules by.
           subst
-          (λ x. IsLeft (pairs_answer (told_visits w.sought) rules w.levels w.depth (map pair_of c.args.pairs.now)) x
+          (λ x. IsLeft (told_of_pairs w rules (map pair_of c.args.pairs.now)) x
           status.Done (g.K.Sink.bytes c.args.out.now) (g.K.Sink.bytes c.args.out.now))
-          (from_the_first (told w rules) c.args.pairs.now)
-          (all_left (pairs_answer (told_visits w.sought) rules w.levels w.depth (map pair_of c.args.pairs.now))
+          (from_the_first (told_pair w rules) c.args.pairs.now)
+          (all_left (told_of_pairs w rules (map pair_of c.args.pairs.now))
           (g.K.Sink.bytes c.args.out.now));
       later = omega arith;
     }
@@ -45,10 +38,10 @@ loop-number-preserved g c =
     c.tell_numbered.ensures.later in
     record {
       left = λ rules by.
-          let all = pairs_answer (told_visits w.sought) rules w.levels w.depth (map pair_of ps) in
-          let one = behind (pair_header (i + 1) (length ps)) (told w rules (pair_of p)) in
-          let others = from_pair (told w rules) ps (i + 1) in
-          let next = next_pair (told w rules) ps i p c.loop-number-test.true c.index-pairs-number.is in
+          let all = told_of_pairs w rules (map pair_of ps) in
+          let one = behind (pair_header (i + 1) (length ps)) (told_pair w rules (pair_of p)) in
+          let others = from_pair (told_pair w rules) ps (i + 1) in
+          let next = next_pair (told_pair w rules) ps i p c.loop-number-test.true c.index-pairs-number.is in
           let it = c.in-Ok.ensures.told rules by in
           less_left all one others c.loop-number.status c.worse-status.result c.in-Ok.other
           (g.K.Sink.bytes c.args.out.now) (g.K.Sink.bytes c.loop-number.out) (g.K.Sink.bytes c.tell_numbered.new.out)
@@ -65,10 +58,10 @@ returns-in-Err-clause-told g c = λ rules by.
     let ps = c.args.pairs.now in
     let i = c.loop-number.number in
     let p = c.index-pairs-number.result in
-    let all = pairs_answer (told_visits w.sought) rules w.levels w.depth (map pair_of ps) in
-    let one = behind (pair_header (i + 1) (length ps)) (told w rules (pair_of p)) in
-    let others = from_pair (told w rules) ps (i + 1) in
-    let next = next_pair (told w rules) ps i p c.loop-number-test.true c.index-pairs-number.is in
+    let all = told_of_pairs w rules (map pair_of ps) in
+    let one = behind (pair_header (i + 1) (length ps)) (told_pair w rules (pair_of p)) in
+    let others = from_pair (told_pair w rules) ps (i + 1) in
+    let next = next_pair (told_pair w rules) ps i p c.loop-number-test.true c.index-pairs-number.is in
     halts_in_all c.in-Err.halt all one others c.loop-number.status (g.K.Sink.faults c.args.out.now)
     (g.K.Sink.faults c.loop-number.out) (g.K.Sink.faults c.tell_numbered.new.out) (g.K.Sink.bytes c.args.out.now)
     (g.K.Sink.bytes c.loop-number.out) (g.K.Sink.bytes c.tell_numbered.new.out) c.loop-number.invariant.later
@@ -87,10 +80,10 @@ returns-in-Err-clause-later g c =
 pub returns-clause-told : goal.returns-clause-told
 returns-clause-told g c = λ rules by.
     let w = c.args.wanted in
-    none_left (pairs_answer (told_visits w.sought) rules w.levels w.depth (map pair_of c.args.pairs.now))
-    (from_pair (told w rules) c.args.pairs.now c.loop-number.number) c.loop-number.status
+    none_left (told_of_pairs w rules (map pair_of c.args.pairs.now))
+    (from_pair (told_pair w rules) c.args.pairs.now c.loop-number.number) c.loop-number.status
     (g.K.Sink.faults c.args.out.now) (g.K.Sink.faults c.loop-number.out) (g.K.Sink.bytes c.args.out.now)
-    (g.K.Sink.bytes c.loop-number.out) (no_pair (told w rules) c.args.pairs.now c.loop-number.number
+    (g.K.Sink.bytes c.loop-number.out) (no_pair (told_pair w rules) c.args.pairs.now c.loop-number.number
     c.loop-number-test.false)
     (c.loop-number.invariant.left rules by)
 

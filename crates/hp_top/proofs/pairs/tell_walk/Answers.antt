@@ -34,3 +34,27 @@ returns-in-Cheapest-clause-told g c =
     (sink_run (g.K.Sink.faults c.args.out.now) (g.K.Sink.faults c.tell_best.new.out) (g.K.Sink.bytes c.args.out.now)
     (g.K.Sink.bytes c.tell_best.new.out)))
     (sym c.in-Cheapest.is) c.tell_best.ensures.told
+
+pub tell_after-requires-clause-plans : goal.tell_after-requires-clause-plans
+tell_after-requires-clause-plans g c =
+    (subst (λ x. CanBeFound x (g.W.Walk.stands c.args.walk.now).rest) c.in-After.is c.requires.found).0
+
+pub tell_after-requires-clause-small : goal.tell_after-requires-clause-small
+tell_after-requires-clause-small g c =
+    (subst (λ x. CanBeFound x (g.W.Walk.stands c.args.walk.now).rest) c.in-After.is c.requires.found).1
+
+pub returns-in-After-clause-told : goal.returns-in-After-clause-told
+returns-in-After-clause-told g c =
+    subst
+    (λ x. IsTold (told_visits x (g.W.Walk.stands c.args.walk.now).rest) c.tell_after.result
+    (sink_run (g.K.Sink.faults c.args.out.now) (g.K.Sink.faults c.tell_after.new.out) (g.K.Sink.bytes c.args.out.now)
+    (g.K.Sink.bytes c.tell_after.new.out)))
+    (sym c.in-After.is) c.tell_after.ensures.told
+
+pub returns-in-Derivation-clause-told : goal.returns-in-Derivation-clause-told
+returns-in-Derivation-clause-told g c =
+    subst
+    (λ x. IsTold (told_visits x (g.W.Walk.stands c.args.walk.now).rest) c.tell_verdict.result
+    (sink_run (g.K.Sink.faults c.args.out.now) (g.K.Sink.faults c.tell_verdict.new.out)
+    (g.K.Sink.bytes c.args.out.now) (g.K.Sink.bytes c.tell_verdict.new.out)))
+    (sym c.in-Derivation.is) c.tell_verdict.ensures.told

@@ -36,6 +36,32 @@ returns-in-Best-clause-tells g c =
     (g.K.Sink.bytes c.serve_best.new.out))
     (sym c.first_fault.ensures ∙ none) (ap job_of c.in-Best.is) c.serve_best.ensures.tells
 
+pub serve_after-requires-clause-checked : goal.serve_after-requires-clause-checked
+serve_after-requires-clause-checked g c =
+    let none : c.first_fault.result ≡ None = assumption in sym c.first_fault.ensures ∙ none
+
+pub serve_shallow-requires-clause-checked : goal.serve_shallow-requires-clause-checked
+serve_shallow-requires-clause-checked g c =
+    let none : c.first_fault.result ≡ None = assumption in sym c.first_fault.ensures ∙ none
+
+pub returns-in-After-clause-tells : goal.returns-in-After-clause-tells
+returns-in-After-clause-tells g c =
+    let none : c.first_fault.result ≡ None = assumption in
+    tells_read (domain_of c.args.loaded.domain) (problem_of c.args.loaded.problem) (job_of c.args.job) _
+    c.serve_after.result
+    (sink_run (g.K.Sink.faults c.args.out.now) (g.K.Sink.faults c.serve_after.new.out) (g.K.Sink.bytes c.args.out.now)
+    (g.K.Sink.bytes c.serve_after.new.out))
+    (sym c.first_fault.ensures ∙ none) (ap job_of c.in-After.is) c.serve_after.ensures.tells
+
+pub returns-in-Shallow-clause-tells : goal.returns-in-Shallow-clause-tells
+returns-in-Shallow-clause-tells g c =
+    let none : c.first_fault.result ≡ None = assumption in
+    tells_read (domain_of c.args.loaded.domain) (problem_of c.args.loaded.problem) (job_of c.args.job) _
+    c.serve_shallow.result
+    (sink_run (g.K.Sink.faults c.args.out.now) (g.K.Sink.faults c.serve_shallow.new.out)
+    (g.K.Sink.bytes c.args.out.now) (g.K.Sink.bytes c.serve_shallow.new.out))
+    (sym c.first_fault.ensures ∙ none) (ap job_of c.in-Shallow.is) c.serve_shallow.ensures.tells
+
 pub returns-in-Check-clause-tells : goal.returns-in-Check-clause-tells
 returns-in-Check-clause-tells g c =
     let none : c.first_fault.result ≡ None = assumption in
