@@ -3,7 +3,6 @@
 
 mod cases;
 mod failing;
-mod generated;
 mod made;
 mod rereads;
 mod statuses;
@@ -20,8 +19,7 @@ fn try_made(alloc: Global, out: &mut Vec<u8>) -> Result<(), AllocError> {
     statuses::try_all(alloc, out)?;
     made::try_all(alloc, out)?;
     rereads::try_all(alloc, out)?;
-    wide::try_all(alloc, out)?;
-    generated::try_all(alloc, out)
+    wide::try_all(alloc, out)
 }
 
 /// Prints what the runs write.

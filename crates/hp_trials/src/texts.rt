@@ -10,9 +10,8 @@ mod lines;
 mod makings;
 mod names;
 mod prints;
-pub mod reading;
 
-use crate::page::Page;
+use hp_fixtures::page::Page;
 use std::alloc::{AllocError, Global};
 
 fn show_read(page: &mut Page, alloc: Global) -> Result<(), AllocError> {
@@ -33,7 +32,7 @@ fn show_written(page: &mut Page, alloc: Global) -> Result<(), AllocError> {
 
 /// What these calls give.
 pub fn show_all(page: &mut Page, alloc: Global) -> Result<(), AllocError> {
-    page.title("\n== texts");
+    page.title("== texts");
     show_read(page, alloc)?;
     show_written(page, alloc)
 }

@@ -4,8 +4,8 @@ ghost use Rattle.std.specs.Prelude.{◌≡◌, false};
 ghost use Rattle.hp_io.specs.declared.folder.Input.{Input};
 ghost use Rattle.hp_io.specs.Files.{is_begun};
 
-use crate::repeats::with_repeats;
 use crate::runs::trial::{ROOM, tell, try_words, words_of};
+use hp_fixtures::repeats::with_repeats;
 use hp_io::MemFolder;
 use std::alloc::{AllocError, Global};
 use std::rt::Files;
@@ -125,8 +125,11 @@ fn put_words(
     if let Some(domain) = words.get(1) {
         put_word(rt, given, folder, domain.as_str())?;
     }
-    match words.get(2) {
-        Some(problem) => put_word(rt, given, folder, problem.as_str()),
+    if let Some(problem) = words.get(2) {
+        put_word(rt, given, folder, problem.as_str())?;
+    }
+    match words.get(3) {
+        Some(plan) => put_word(rt, given, folder, plan.as_str()),
         None => Ok(()),
     }
 }

@@ -1,7 +1,7 @@
 //! Canonical text reads back: what a text is read as, written and read again.
 
-use crate::repeats::with_repeats;
 use crate::runs::trial::tell;
+use hp_fixtures::repeats::with_repeats;
 use hp_print::{domain_text, problem_text};
 use hp_top::rereading::{RereadError, reread_domain, reread_problem};
 use std::alloc::{AllocError, Global};

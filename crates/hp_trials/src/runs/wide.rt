@@ -1,8 +1,8 @@
 //! Plans whose own text is too long to stand in a file: nothing that the program does may need more of the stack, or
 //! far more time, where a text is wide.
 
-use crate::repeats::with_repeats;
 use crate::runs::trial::{folder_of, tell, tell_status, words_of};
+use hp_fixtures::repeats::with_repeats;
 use hp_io::MemSink;
 use hp_top::run;
 use std::alloc::{AllocError, Global};

@@ -1,8 +1,8 @@
 //! Domains and problems that are checked.
 
-use crate::page::Page;
-use crate::texts::reading::{domain_of, problem_of};
 use hp_check::{CheckFault, CheckRefusal, check, check_domain};
+use hp_fixtures::page::Page;
+use hp_fixtures::reading::{domain_of, problem_of};
 use std::alloc::Global;
 
 const PLAIN: &str = "(defdomain basic ((:operator (!go) () () () 1)))";

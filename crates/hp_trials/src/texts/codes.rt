@@ -1,8 +1,8 @@
 //! A domain that is compiled, and what its goals ask for.
 
-use crate::page::Page;
-use crate::texts::reading::code_of;
 use hp_code::asked_parts;
+use hp_fixtures::page::Page;
+use hp_fixtures::reading::code_of;
 use std::alloc::Global;
 
 /// The goal knows its name, its second argument, if the axiom's goal has it, and its third one for certain, so that

@@ -1,7 +1,7 @@
 //! Copies of parts of domains.
 
-use crate::page::Page;
-use crate::texts::reading::domain_of;
+use hp_fixtures::page::Page;
+use hp_fixtures::reading::domain_of;
 use hp_print::{atom_pat_text, pat_text, tasks_text};
 use hp_syntax::{
     AtomPat, Branch, Method, Name, NetPat, Pat, PatKind, Pre, Rule, SortKey, SortOrder,

@@ -1,6 +1,6 @@
 //! Folders and sinks, in memory and on the host.
 
-use crate::page::Page;
+use hp_fixtures::page::Page;
 use hp_io::{Failed, Folder, HostFolder, HostSink, Input, MemFolder, MemSink, Sink};
 use std::alloc::{AllocError, Global};
 use std::rt::Files;

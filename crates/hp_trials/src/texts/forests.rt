@@ -1,7 +1,7 @@
 //! Texts that are read, and texts that are refused.
 
-use crate::page::Page;
-use crate::repeats::with_repeats;
+use hp_fixtures::page::Page;
+use hp_fixtures::repeats::with_repeats;
 use hp_text::{Node, NodeKind, TextRefusal, read};
 use std::alloc::{AllocError, Global};
 

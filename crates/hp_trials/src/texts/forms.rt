@@ -1,8 +1,8 @@
 //! How wide domains and problems may be, and what is left out. What the grammar refuses is shown by whole runs.
 
-use crate::page::Page;
-use crate::repeats::with_repeats;
-use crate::texts::reading::{domain_of, is_domain, is_problem};
+use hp_fixtures::page::Page;
+use hp_fixtures::reading::{domain_of, is_domain, is_problem};
+use hp_fixtures::repeats::with_repeats;
 use hp_syntax::{Domain, PatKind, Rule};
 use std::alloc::{AllocError, Global};
 

@@ -1,7 +1,7 @@
 //! The lines of a run.
 
-use crate::page::Page;
 use hp_check::Note;
+use hp_fixtures::page::Page;
 use hp_io::{Input, MemSink};
 use hp_out::{Ending, Pen, Refusal};
 use hp_syntax::{CheckFault, CheckKind, FaultKind, Name, RunFault, Span, TextKind, What};

@@ -1,6 +1,6 @@
 //! Texts that are made.
 
-use crate::page::Page;
+use hp_fixtures::page::Page;
 use hp_make::{Made, make};
 use std::alloc::{AllocError, Global};
 

@@ -1,6 +1,6 @@
 //! Names.
 
-use crate::page::Page;
+use hp_fixtures::page::Page;
 use hp_syntax::Name;
 use std::alloc::{AllocError, Global};
 use std::collections::HashSet;

@@ -1,7 +1,7 @@
 //! Each call once, on small values. What stands in no text that is read is built by hand.
 
-use crate::page::Page;
-use crate::texts::reading::{domain_of, problem_of};
+use hp_fixtures::page::Page;
+use hp_fixtures::reading::{domain_of, problem_of};
 use hp_print::{atom_pat_text, domain_text, ground_text, pat_text, problem_text, tasks_text};
 use hp_syntax::{Axiom, Ground, Name, NetPat, Pair, Problem, Rule};
 use std::alloc::{AllocError, Global};

@@ -1,0 +1,12 @@
+use Rattle.std.proofs.Common.{◌≡◌, ◌≤◌, true, length}
+use Rattle.hp_part_trials.proofs.parts.picks.first_five.Given as goal
+
+abbrev pub invariant-loop-place : goal.invariant-loop-place
+invariant-loop-place g l = record {
+  size : length l.told ≡ 5;
+  live : g.S.Sats.is_live l.sats ≡ true;
+  still_open : g.S.Sats.is_open l.sats ≡ true;
+  base : g.S.Sats.suits l.sats l.base l.cells;
+  slots : g.S.Sats.fits l.sats l.slots;
+  cells : g.S.Sats.kept l.sats ≤ length l.cells;
+}

@@ -1,5 +1,0 @@
-use Rattle.std.proofs.Common.{◌≡◌, true}
-use Rattle.hp_trials.proofs.both.calls.show_way_back.Given as goal
-
-abbrev pub invariant-loop-visit : goal.invariant-loop-visit
-invariant-loop-visit g l = g.W.Walk.is_live l.walk ≡ true
