@@ -27,8 +27,8 @@ pub fn steps_can_be_written()
 {}
 
 /// So the step lines of each visit of a walk, and of each plan, are read as its steps, as long as they keep the limit
-/// of a text and no list in the steps begins with `call`. None does where in the texts of the domain and the problem
-/// that word stands only at the heads of lists.
+/// of a text, where no list in the steps begins with `call`, and where in the texts of the domain and the problem that
+/// word stands only at the heads of lists.
 pub fn walked_plans_read_back()
     ensures free_steps { (domain problem : List ℕ) (d : Domain) (p : Problem) (nest depth : ℕ)
         → IsRead domain_form domain d → IsRead problem_form problem p
