@@ -25,6 +25,8 @@ pub mod FilterLemmas
 pub mod SimpleFillings
 pub mod SimpleCells
 pub mod BehindPlaces
+pub mod HeldLemmas
+pub mod HeldCells
 pub mod PassingTurns
 pub mod ScanSteps
 pub mod PlaceTurns

@@ -364,7 +364,7 @@ module _ (w : Setting) (n i : ℕ) (code : IsCode w.code) (is : IsExpressionAt w
   test_met p h e = leaf_met (Test p) h tt (syntax.Test l.span p) refl e
 
   -- an atom meets what its goal meets
-  holds_filled : (a : syntax.Atom) → l.op ≡ Holds a → (e : Bindings) → node_events w n i e
+  pub holds_filled : (a : syntax.Atom) → l.op ≡ Holds a → (e : Bindings) → node_events w n i e
       ≡ filled_events (axioms_in w) (below_at (axioms_in w) n (state_in w)) (state_in w) (fill_goal a e) e
   unfolding expression_read events
   holds_filled a h e = leaf_met (Holds a) h tt (syntax.Holds l.span a) refl e

@@ -1,12 +1,12 @@
 -- Nodes of expressions that give one event at most: what they meet is what the call meets that decides them.
 use Rattle.std.proofs.Common.{◌≡◌, ℕ, ◌+◌, List, [], slice_get, Some, sym, ◌∙◌, subst}
-use Rattle.hp_syntax.specs.Syntax.{Pattern}
+use Rattle.hp_syntax.specs.Syntax.{Atom, Pattern}
 use Rattle.hp_syntax.specs.Terms.{Term}
 use Rattle.hp_syntax.specs.Values.{Bindings, value}
 use Rattle.hp_syntax.specs.Events as plain
 use Rattle.hp_syntax.specs.Events.{finding, negated}
 use Rattle.hp_code.specs.CodeViews.{IsCode}
-use Rattle.hp_nodes.specs.Trees.{Laid, Not, Forall, Assign, Test}
+use Rattle.hp_nodes.specs.Trees.{Holds, Laid, Not, Forall, Assign, Test}
 use Rattle.hp_eval.specs.declared.event.Event as public_event
 use Rattle.hp_eval.specs.declared.event.Event.TheVariants as events
 use Rattle.hp_eval.specs.Events.{PlainEvent}
@@ -18,8 +18,8 @@ use Rattle.hp_suspended.specs.Branching.{counters}
 use Rattle.hp_suspended.specs.Fitting.{IsExpressionAt}
 use Rattle.hp_suspended.specs.Left.{one_event}
 use Rattle.hp_suspended.specs.SceneViews.{setting_of, code_in}
-use Rattle.hp_suspended.specs.Settings.{Setting, node_events}
-use Rattle.hp_suspended.proofs.NodeReadings.{not_met, forall_met, assign_met, test_met}
+use Rattle.hp_suspended.specs.Settings.{Setting, atoms_at, axioms_in, node_events, state_in}
+use Rattle.hp_suspended.proofs.NodeReadings.{not_met, forall_met, assign_met, test_met, holds_filled}
 
 -- an event that is all of a list is the first of it, with none behind
 one_gives : (x : public_event.Event) (b : Bindings) (xs : List PlainEvent) → xs ≡ one_event x b → Gives x b xs []
@@ -85,3 +85,13 @@ module _ (s : Scene) (cells : List Term) (n i : ℕ) (e f : Slotted) (x : public
     test_gives p h gives =
         by_terms (λ terms. plain.tested (value p (bindings_of terms e)) (bindings_of terms e))
         (λ terms. test_met (setting_of s terms) n i code is l there p h (bindings_of terms e)) gives
+
+    -- an atom gives all that it meets
+    pub holds_gives : (a : Atom) → l.op ≡ Holds a
+        → GivesTerms cells f x
+        (λ terms. atoms_at (axioms_in (setting_of s terms)) n (state_in (setting_of s terms)) a (bindings_of terms e))
+        → GivesNode
+    holds_gives a h gives =
+        by_terms
+        (λ terms. atoms_at (axioms_in (setting_of s terms)) n (state_in (setting_of s terms)) a (bindings_of terms e))
+        (λ terms. holds_filled (setting_of s terms) n i code is l there a h (bindings_of terms e)) gives

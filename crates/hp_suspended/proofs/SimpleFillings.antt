@@ -49,7 +49,7 @@ fill_one (Listing s ps tail) e h = absurd (false≢true h)
 fill_one (Call s name args) e h = absurd (false≢true h)
 
 -- so are several
-fill_all : (ps : Patterns) (e : Bindings) → are_simple ps ≡ true
+pub fill_all : (ps : Patterns) (e : Bindings) → are_simple ps ≡ true
     → fill_parts ps None e ≡ Ok (parts_filled ps e, None)
 unfolding fill_parts
 fill_all NoPattern e h = refl

@@ -11,3 +11,4 @@ pub mod Branching
 pub mod Beginning
 pub mod PlaceSteps
 pub mod SimpleAtoms
+pub mod HeldAtoms

@@ -2,6 +2,7 @@
 #![tactic(auto)]
 
 mod begins;
+mod held;
 mod known;
 pub mod laws;
 mod places;

@@ -23,6 +23,7 @@ ghost use Rattle.hp_world.specs.Recorded.{Knows};
 ghost use Rattle.hp_world.specs.Stages.{AllBelow, live_atoms};
 
 use crate::begins::{assigned, begun, conclusion, rule_turn, tested};
+use crate::held::held_event;
 use crate::places::turn_at_places;
 use crate::scene::{Scene, node_at};
 use crate::suspended::{Part, Running, Suspended};
@@ -767,6 +768,7 @@ fn once(
             let event = tested(call, alloc, cells, slots)?;
             Ok(Some(event))
         }
+        Op::Atom(atom) => Ok(held_event(atom, scene, cells, slots)),
         _ => Ok(None),
     }
 }

@@ -68,8 +68,8 @@ fn is_free(part: &Pat, slots: &Slots) -> bool
     }
 }
 
-// Whether one of some patterns is a variable that stands for nothing.
-fn has_free(parts: &[Pat], slots: &Slots) -> bool
+/// Whether one of some patterns is a variable that stands for nothing.
+pub(crate) fn has_free(parts: &[Pat], slots: &Slots) -> bool
     ensures { IsTrue result → (terms : List Term)
         → some_free (patterns_of parts.now) (bindings_of terms slots.now) ≡ true }
 {
@@ -81,8 +81,8 @@ fn has_free(parts: &[Pat], slots: &Slots) -> bool
     false
 }
 
-// The cell of what a pattern stands for: of a bound variable's term, of a symbol or of a number, if it has one.
-fn cell_of(part: &Pat, cells: &Cells, slots: &Slots) -> Option<Cell>
+/// The cell of what a pattern stands for: of a bound variable's term, of a symbol or of a number, if it has one.
+pub(crate) fn cell_of(part: &Pat, cells: &Cells, slots: &Slots) -> Option<Cell>
     requires slots { AreBelow (length cells.now) slots.now }
     ensures { IfSome result (IsCellOf cells.now (bindings_of cells.now slots.now) (pattern_of part.now)) }
 {

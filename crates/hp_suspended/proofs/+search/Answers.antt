@@ -1,4 +1,5 @@
 use Rattle.std.proofs.Common.{ap, sym, ◌∙◌, arith, length, ◌+◌, ◌<◌, ℕ, ◌-◌, refl, subst}
+use Rattle.std.proofs.lemmas.Option.{IfSome_then}
 use Rattle.hp_eval.specs.declared.event.Event.TheVariants.{End}
 use Rattle.hp_suspended.specs.SceneViews.{code_in, setting_of}
 use Rattle.hp_suspended.specs.Views.{view, Disj, views, Level, RunningView, Search, level_at, level_of, running_view}
@@ -27,11 +28,11 @@ use Rattle.hp_suspended.proofs.BranchTurns.{branch_follows, branch_gives, branch
 use Rattle.hp_suspended.proofs.CountLemmas.{goal_below_more}
 use Rattle.hp_suspended.proofs.SearchTurns.{axiom_ended, axiom_gives, axiom_keeps, axiom_more, axiom_moves, below_undoing, kept_on, place_gives, place_keeps, place_more, place_moves, rule_gives, rule_keeps, rule_more, running_some, undo_moves}
 use Rattle.hp_nodes.specs.NodeViews.{laid_of, operation_of}
-use Rattle.hp_syntax.specs.Views.{pattern_of}
+use Rattle.hp_syntax.specs.Views.{atom_of, pattern_of}
 use Rattle.hp_syntax.specs.Events.{finding}
 use Rattle.hp_suspended.proofs.Negations.{denied_fault, found_cut, found_same, further_weighs_less, keeps_more, moves_above, moves_back, moves_further, moves_nothing, opens, shorter, shorter_cut}
 use Rattle.hp_suspended.proofs.NodeReadings.{expression_within, forall_met, forall_part, not_part}
-use Rattle.hp_suspended.proofs.OnceSteps.{assign_gives, forall_gives, not_gives, test_gives}
+use Rattle.hp_suspended.proofs.OnceSteps.{assign_gives, forall_gives, holds_gives, not_gives, test_gives}
 use Rattle.hp_suspended.proofs.+search.Goals as goal
 
 -- ---- conjunctions and disjunctions
@@ -876,6 +877,14 @@ search::once-returns-in_ok-event-in-Call-clause-gives t c =
     test_gives a.scene.now c.tested.new.cells a.nest a.node a.slots.now c.tested.new.slots c.in_ok-event-in-Call.event
     a.scene.now.code.now.kept c.requires.node (laid_of c.node_at.result.now) c.node_at.ensures.is
     (pattern_of c.in-Call.call) (ap operation_of c.in-Call.is) c.in_ok-event-in-Call.ensures.gives
+
+pub search::once-returns-in-Atom-clause-gives : goal.search::once-returns-in-Atom-clause-gives
+search::once-returns-in-Atom-clause-gives t c =
+    let a = c.args in
+    IfSome_then c.held_event.result c.held_event.ensures
+    (λ x h. holds_gives a.scene.now a.cells.now a.nest a.node a.slots.now a.slots.now x a.scene.now.code.now.kept
+    c.requires.node (laid_of c.node_at.result.now) c.node_at.ensures.is (atom_of c.in-Atom.atom)
+    (ap operation_of c.in-Atom.is) (h a.nest))
 
 -- ---- all variants
 
