@@ -1,5 +1,6 @@
 -- One turn of a conjunction.
-use Rattle.std.proofs.Common.{◌≡◌, ℕ, ◌+◌, ◌<◌, ◌≤◌, List, ◌++◌, length, slice_get, Some, arith, refl, ap, ap₂, sym, ◌∙◌, subst, append_assoc}
+use Rattle.std.proofs.Common.{◌≡◌, ℕ, ◌+◌, ◌<◌, ◌≤◌, Bool, true, false, cond, List, ◌++◌, length, slice_get, Some, arith, refl, ap, ap₂, sym, ◌∙◌, subst, append_assoc}
+use Rattle.std.proofs.lemmas.Bool.Decides.{nat_tests}
 use Rattle.hp_syntax.specs.declared.fault.RunFault.{RunFault}
 use Rattle.hp_syntax.specs.Events.{through}
 use Rattle.hp_syntax.specs.Terms.{Term}
@@ -12,13 +13,13 @@ use Rattle.hp_eval.specs.Slotted.{Slotted, bindings_of}
 use Rattle.hp_eval.proofs.GrowthLemmas.{grows_length, grows_on}
 use Rattle.hp_eval.proofs.SlotLemmas.{undone_none}
 use Rattle.hp_suspended.specs.declared.scene.Scene.{Scene}
-use Rattle.hp_suspended.specs.Answering.{GivesOver, GoesOnOver, Keeps, KeepsPair, Moves, PairFits, SameOver, pair_left}
+use Rattle.hp_suspended.specs.Answering.{GivesOver, GoesOnOver, Keeps, KeepsPair, Moves, PairFits, SameOver, is_over, pair_left, put_upon}
 use Rattle.hp_suspended.specs.Fitting.{Fits, TowerFits, base_of}
 use Rattle.hp_suspended.specs.Left.{left, tower, tower_left}
 use Rattle.hp_suspended.specs.SceneViews.{code_in, setting_of}
 use Rattle.hp_suspended.specs.Settings.{Setting, all_between, node_events}
 use Rattle.hp_suspended.specs.Turning.{pair_turns, tower_turns, turns_between, turns_over}
-use Rattle.hp_suspended.specs.Views.{View, Fresh, Views, Above}
+use Rattle.hp_suspended.specs.Views.{View, One, Fresh, Simple, Search, Conj, Disj, Views, Above}
 use Rattle.hp_suspended.proofs.CallLemmas.{moved_above, moved_same, moves_lower}
 use Rattle.hp_suspended.proofs.Fitted.{rises, tower_fits_more, tower_rises}
 use Rattle.hp_suspended.proofs.NodeRanges.{node_in}
@@ -59,6 +60,22 @@ keeps_pair_on c d cells n m end e f k k' l outer outer' lower here here' top bef
       fits = after.fits;
       lighter = let x = before.lighter in let y = after.lighter in omega arith;
     }
+
+-- what is over has nothing left, and its start is where the bindings stand
+over_is : (m : ℕ) (v : View) → is_over m v ≡ true → v ≡ One m events.End
+over_is m (One n events.End) h = let same : n ≡ m = grind (arith, nat_tests) in ap (λ x. One x events.End) same
+over_is m (One n events.Sat) h = absurd cc
+over_is m (One n events.Cut) h = absurd cc
+over_is m (One n (events.Fault x)) h = absurd cc
+over_is m (Fresh n i j) h = absurd cc
+over_is m (Simple a) h = absurd cc
+over_is m (Search n i q at' j running) h = absurd cc
+over_is m (Conj n i j end outer here) h = absurd cc
+over_is m (Disj n i j end here) h = absurd cc
+
+-- without a part that has no turns there are fewer
+fewer : (own below all : ℕ) → own + (1 + 0 + below) < all → own + below < all
+fewer own below all h = omega (arith, h)
 
 module _ (s : Scene) (m k end : ℕ) (outer : Views) (here : View) (old new : List Term) (e f : Slotted)
     (fits : PairFits (code_in s) (length old) m end k (length e.trail) outer here)
@@ -181,16 +198,51 @@ module _ (s : Scene) (m k end : ℕ) (outer : Views) (here : View) (old new : Li
             (λ j. 1 + turns_over (node_events w n k b) (turns_between w n l.to end) + rest < j)
             (sym before) (omega arith))
 
-      -- a turn that puts a part upon the others leaves the same list, and fewer turns
-      pub pushed_same : k < end → (k' : ℕ) (vs : Views) (v : View)
-          → ((l : Laid) → slice_get (code_in s).nodes k ≡ Some l → k' ≡ l.to) → vs ≡ Above outer k here'
-          → v ≡ Fresh (length f.trail) n k
-          → GoesOnOver s new (λ w. pair_left w n k end e outer here) (λ w. pair_left w n k' end f vs v)
+        module _ (over : here' ≡ One (length f.trail) events.End) where
+          -- a part that is over has nothing left, and so the same is left without it
+          dropped_left : (terms : List Term) → Grows new terms
+              → pair_left (setting_of s terms) n l.to end f outer (Fresh (length f.trail) n k)
+              ≡ pair_left (setting_of s terms) n k end e outer here
+          dropped_left terms g =
+              subst
+              (λ v. pair_left (setting_of s terms) n l.to end f (Above outer k v) (Fresh (length f.trail) n k)
+              ≡ pair_left (setting_of s terms) n k end e outer here) over (pushed_left terms g)
+
+          -- and fewer turns
+          dropped_turns : (terms : List Term) → Grows new terms
+              → pair_turns (setting_of s terms) n l.to end f outer (Fresh (length f.trail) n k)
+              < pair_turns (setting_of s terms) n k end e outer here
+          dropped_turns terms g =
+              let w = setting_of s terms in
+              let top = Fresh (length f.trail) n k in
+              fewer (1 + turns_over (left w f top) (turns_between w n l.to end)) (tower_turns w n end (tower w f outer))
+              (pair_turns w n k end e outer here)
+              (subst (λ v. pair_turns w n l.to end f (Above outer k v) top < pair_turns w n k end e outer here) over
+              (pushed_turns terms g))
+
+      -- what a turn to the next part goes on with leaves the same list, and fewer turns
+      abbrev GoesOnTo : ℕ → Views → View → Type 0
+      GoesOnTo k' vs v =
+          GoesOnOver s new (λ w. pair_left w n k end e outer here) (λ w. pair_left w n k' end f vs v)
           (λ w. pair_turns w n k end e outer here) (λ w. pair_turns w n k' end f vs v)
-      pushed_same less k' vs v next is is_here terms g =
-          let at' = node_in (code_in s).nodes k end fits.0.within less in
-          rw (next at'.0 at'.1, is, is_here)
-          (pushed_left at'.0 at'.1 less terms g, pushed_turns at'.0 at'.1 less terms g)
+
+      -- a turn that puts a part upon the others, unless it is over, does
+      pub pushed_same : k < end → (k' : ℕ) (vs : Views) (v : View)
+          → ((l : Laid) → slice_get (code_in s).nodes k ≡ Some l → k' ≡ l.to)
+          → vs ≡ put_upon (length f.trail) outer k here' → v ≡ Fresh (length f.trail) n k → GoesOnTo k' vs v
+      pushed_same less k' vs v next is is_here = by (is_over (length f.trail) here') refl is
+        where
+          by : (over : Bool) → is_over (length f.trail) here' ≡ over → vs ≡ cond over outer (Above outer k here')
+              → GoesOnTo k' vs v
+          by false tells is terms g =
+              let at' = node_in (code_in s).nodes k end fits.0.within less in
+              rw (next at'.0 at'.1, is, is_here)
+              (pushed_left at'.0 at'.1 less terms g, pushed_turns at'.0 at'.1 less terms g)
+          by true tells is terms g =
+              let at' = node_in (code_in s).nodes k end fits.0.within less in
+              let over = over_is (length f.trail) here' tells in
+              rw (next at'.0 at'.1, is, is_here)
+              (dropped_left at'.0 at'.1 less over terms g, dropped_turns at'.0 at'.1 less over terms g)
 
     -- a part that is put upon the others fits there, and weighs no more
     pushed_keeps_at : IsCode (code_in s) → Keeps (code_in s) (length new) f here here' → k < end → (l : Laid)
@@ -207,14 +259,39 @@ module _ (s : Scene) (m k end : ℕ) (outer : Views) (here : View) (old new : Li
           lighter = let x = kept_here.lighter in omega arith;
         }
 
-    -- so it does at the values that the code holds
+    -- where it is over the others fit below the next one, since it has bound nothing
+    dropped_keeps_at : IsCode (code_in s) → Keeps (code_in s) (length new) f here here' → k < end → (l : Laid)
+        → slice_get (code_in s).nodes k ≡ Some l → here' ≡ One (length f.trail) events.End
+        → KeepsPair (code_in s) (length new) n m end f k l.to outer outer here (Fresh (length f.trail) n k)
+    dropped_keeps_at code kept less l there over =
+        let first = first_expression (setting_of s new) n k end code fits.0 less l there in
+        let kept_here = here_keeps kept in
+        let more = first.more in
+        record {
+          fits = (
+            first.others,
+            subst (λ v. TowerFits (code_in s) (length new) end m (base_of v) outer) over kept_here.fits.1,
+            (refl, first.first),
+          );
+          lighter = let x = kept_here.lighter in omega arith;
+        }
+
+    -- so they do at the values that the code holds
     pub pushed_keeps : IsCode (code_in s) → Keeps (code_in s) (length new) f here here' → k < end
         → (k' : ℕ) (vs : Views) (v : View) → ((l : Laid) → slice_get (code_in s).nodes k ≡ Some l → k' ≡ l.to)
-        → vs ≡ Above outer k here' → v ≡ Fresh (length f.trail) n k
+        → vs ≡ put_upon (length f.trail) outer k here' → v ≡ Fresh (length f.trail) n k
         → KeepsPair (code_in s) (length new) n m end f k k' outer vs here v
-    pushed_keeps code kept less k' vs v next is is_here =
-        let at' = node_in (code_in s).nodes k end fits.0.within less in
-        rw (next at'.0 at'.1, is, is_here) (pushed_keeps_at code kept less at'.0 at'.1)
+    pushed_keeps code kept less k' vs v next is is_here = by (is_over (length f.trail) here') refl is
+      where
+        by : (over : Bool) → is_over (length f.trail) here' ≡ over → vs ≡ cond over outer (Above outer k here')
+            → KeepsPair (code_in s) (length new) n m end f k k' outer vs here v
+        by false tells is =
+            let at' = node_in (code_in s).nodes k end fits.0.within less in
+            rw (next at'.0 at'.1, is, is_here) (pushed_keeps_at code kept less at'.0 at'.1)
+        by true tells is =
+            let at' = node_in (code_in s).nodes k end fits.0.within less in
+            rw (next at'.0 at'.1, is, is_here)
+            (dropped_keeps_at code kept less at'.0 at'.1 (over_is (length f.trail) here' tells))
 
     -- at the end of the running part what is left is that of those below
     ended_left : GivesOver s new f events.End (λ w. left w e here) (λ w. left w f here') → (terms : List Term)

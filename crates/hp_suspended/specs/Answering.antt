@@ -1,5 +1,5 @@
 -- What calls of suspended generators answer, and what they keep.
-use Rattle.std.specs.Prelude.{◌≡◌, ℕ, ◌<◌, ◌≤◌, max, List, [], ◌∷◌, Option, Some, None, length}
+use Rattle.std.specs.Prelude.{◌≡◌, ℕ, ◌<◌, ◌≤◌, ◌==◌, Bool, false, cond, max, List, [], ◌∷◌, Option, Some, None, length}
 use Rattle.hp_syntax.specs.Values.{Bindings}
 use Rattle.hp_syntax.specs.Events as plain
 use Rattle.hp_code.specs.CodeViews.{CodeView}
@@ -105,6 +105,16 @@ pub record KeepsPair (c : CodeView) (cells n m end : ℕ) (new : Slotted) (k k' 
 abbrev pub IsLookedAt : View → Type 0
 IsLookedAt (views.Fresh m n i) = ⊥
 IsLookedAt _ = Unit {0}
+
+-- it is over: nothing is left of it, and so many bindings stood at its start
+abbrev pub is_over : ℕ → View → Bool
+is_over m (views.One n events.End) = n == m
+is_over m _ = false
+
+-- a part of a conjunction that has given a Sat, under which so many bindings stand, is put upon the others, unless it
+-- is over
+abbrev pub put_upon : ℕ → Views → ℕ → View → Views
+put_upon m lower k v = cond (is_over m v) lower (views.Above lower k v)
 
 -- it was begun: no places are left that are gone along without a goal
 abbrev pub IsBegun : View → Type 0

@@ -93,8 +93,9 @@ fn has_axioms(name: &Name, scene: &Scene<'_>) -> bool
     !scene.code.axiom_rules(name).is_empty()
 }
 
-/// The event of an atom whose parts all stand for terms and whose name no axiom concludes, or its end: the world holds it
-/// or doesn't. There is none for another atom. Neither cells are made nor memory is taken.
+/// The event of an atom whose parts all stand for terms and whose name no axiom concludes, or its end: the world holds
+/// it or doesn't. There is none for another atom, and for one of a part that has no cell or that nests too deep. No cell
+/// is made, and no memory is taken.
 pub(crate) fn held_event(
     atom: &AtomPat,
     scene: &Scene<'_>,

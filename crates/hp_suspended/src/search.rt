@@ -8,7 +8,7 @@ ghost use Rattle.hp_eval.specs.declared.event.Event.TheVariants as events;
 ghost use Rattle.hp_eval.specs.Growth.{Grows};
 ghost use Rattle.hp_eval.specs.GoalViews.{goal_of, GoalBelow};
 ghost use Rattle.hp_eval.specs.Slotted.{bindings_of};
-ghost use Rattle.hp_suspended.specs.Answering.{EndsAt, EndsAtEnd, GivesOver, GoesOn, GoesOnOver, IsBegun, Keeps, KeepsPair, LeavesOver, MayGoOn, Moves, PairFits, ShorterOver, pair_left};
+ghost use Rattle.hp_suspended.specs.Answering.{EndsAt, EndsAtEnd, GivesOver, GoesOn, GoesOnOver, IsBegun, Keeps, KeepsPair, LeavesOver, MayGoOn, Moves, PairFits, ShorterOver, pair_left, put_upon};
 ghost use Rattle.hp_suspended.specs.Beginning.{IsBegunAs};
 ghost use Rattle.hp_suspended.specs.Branching.{IsLastingAt, IsNextBranch, IsNoEnd, KeepsAxiom, axiom_left, branch_left, counters, search_turns, under};
 ghost use Rattle.hp_suspended.specs.Fitting.{Fits, IsExpressionAt, RunningFits, base_of};
@@ -33,7 +33,8 @@ use hp_eval::{Event, Goal, Slots};
 use std::alloc::{AllocError, Global};
 use std::mem;
 
-// Puts the part that has given a Sat upon the others, and looks at the next one.
+// Looks at the next part, and puts the one that has given a Sat upon the others, unless it is over: then the others
+// alone can give more.
 fn push_part(
     nest: u32,
     next: &mut usize,
@@ -44,12 +45,16 @@ fn push_part(
 ) -> Result<(), AllocError>
     requires node { next.old < length (code_in scene.now).nodes }
     ensures outer { OnOk result (views outer.new.items
-        ≡ names.Above (views outer.old.items) next.old (view here.old)) }
+        ≡ put_upon (length slots.now.trail) (views outer.old.items) next.old (view here.old)) }
     ensures here { OnOk result (view here.new ≡ names.Fresh (length slots.now.trail) nest next.old) }
     ensures next { OnOk result ((l : Laid) → slice_get (code_in scene.now).nodes next.old ≡ Some l → next.new ≡ l.to) }
 {
-    let node = *next;
     let mark = slots.mark();
+    if here.is_over(mark) {
+        next_part(mark, nest, next, here, scene);
+        return Ok(());
+    }
+    let node = *next;
     let part = mem::replace(here, Suspended::Fresh { mark, nest, node });
     outer.push(Part { next: node, part })?;
     *next = node_at(node, scene).to;
@@ -66,7 +71,7 @@ fn pop_part(last: Part, next: &mut usize, here: &mut Suspended)
     *here = part;
 }
 
-// Looks at the next part of a disjunction.
+// Looks at the next part of a conjunction or of a disjunction.
 fn next_part(mark: usize, nest: u32, next: &mut usize, here: &mut Suspended, scene: &Scene<'_>)
     requires node { next.old < length (code_in scene.now).nodes }
     ensures here { view here.new ≡ names.Fresh mark nest next.old }

@@ -1,7 +1,7 @@
 //! Satisfiers that are suspended.
 ghost use Rattle.std.specs.Prelude.{◌≡◌, ◌≤◌, IfSome, IfNone, length};
 ghost use Rattle.hp_eval.specs.declared.event.Event.TheVariants as events;
-ghost use Rattle.hp_suspended.specs.Answering.{IsBegun, IsLookedAt};
+ghost use Rattle.hp_suspended.specs.Answering.{IsBegun, IsLookedAt, is_over};
 ghost use Rattle.hp_suspended.specs.Branching.{Settles};
 ghost use Rattle.hp_suspended.specs.Fitting.{base_of};
 ghost use Rattle.hp_suspended.specs.Views as names;
@@ -224,6 +224,47 @@ impl Suspended {
                 end: _,
                 here: _,
             } => None,
+        }
+    }
+
+    /// Whether nothing is left, and the bindings stand at this mark as they stood at the start.
+    pub(crate) fn is_over(&self, mark: usize) -> bool
+        ensures { result ≡ is_over mark (view self.now) }
+    {
+        match self {
+            Suspended::One { mark: start, event } => match event {
+                Event::End => *start == mark,
+                _ => false,
+            },
+            Suspended::Fresh {
+                mark: _,
+                nest: _,
+                node: _,
+            } => false,
+            Suspended::Simple(_) => false,
+            Suspended::Search {
+                mark: _,
+                nest: _,
+                goal: _,
+                at: _,
+                rule: _,
+                running: _,
+            } => false,
+            Suspended::Conj {
+                mark: _,
+                nest: _,
+                next: _,
+                end: _,
+                outer: _,
+                here: _,
+            } => false,
+            Suspended::Disj {
+                mark: _,
+                nest: _,
+                next: _,
+                end: _,
+                here: _,
+            } => false,
         }
     }
 
