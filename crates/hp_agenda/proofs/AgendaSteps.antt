@@ -2,7 +2,6 @@
 use Rattle.std.proofs.Common.{◌≡◌, ℕ, ◌<◌, ◌≤◌, true, false, List, [], ◌++◌, length, Option, Some, None, inl, inr, refl, sym, ◌∙◌, ap, ap₂, subst, append_assoc, arith}
 use Rattle.std.specs.Prelude.{is_some}
 use Rattle.std.proofs.lemmas.Bool.{cases_lt}
-use Rattle.std.proofs.lemmas.List.{drop_all}
 use Rattle.std.proofs.lemmas.List.Elements.{All-weaker}
 use Rattle.hp_syntax.specs.Terms.{Term}
 use Rattle.hp_eval.specs.Growth.{Grows}
@@ -19,16 +18,16 @@ use Rattle.hp_tree.specs.SearchNodes.{HeldNode, IsHeldNode, node_of}
 use Rattle.hp_tree.proofs.SearchNodeLemmas.{node_grows, node_stays}
 use Rattle.hp_site.specs.declared.site.Site.{Site}
 use Rattle.hp_site.specs.Sites.{IsSite, Keeps, held_now, mark_now}
-use Rattle.hp_site.proofs.SiteLemmas.{atoms_kept, keeps_after, keeps_all, keeps_now, pasts_within}
+use Rattle.hp_site.proofs.SiteLemmas.{atoms_kept, keeps_after, keeps_now, pasts_within}
 use Rattle.hp_choice.specs.declared.choice.Choice.{Choice}
 use Rattle.hp_choice.specs.declared.choice.Given.{Given}
-use Rattle.hp_choice.specs.declared.choice.Given.TheVariants.{Did, Cut, Fault}
-use Rattle.hp_choice.specs.Choices.{StaysUnless, given_children}
+use Rattle.hp_choice.specs.Choices.{given_children}
 use Rattle.hp_agenda.specs.declared.agenda.Agenda.{Agenda}
 use Rattle.hp_agenda.specs.declared.queue.Queue.{Queue}
 use Rattle.hp_agenda.specs.Agendas.{IsAgenda, TakesChild, TakesOpen, agenda_children}
-use Rattle.hp_agenda.specs.Queues.{IsQueue, MaybeOpen, by_queue, if_open, queue_children}
+use Rattle.hp_agenda.specs.Queues.{IsQueue, MaybeOpen, by_queue, if_open, queue_children, work_left}
 use Rattle.hp_agenda.proofs.AgreeSteps.{agenda_in_scene, agenda_scene, code_same, open_in_scene, open_scene}
+use Rattle.hp_agenda.proofs.QueueLemmas.{queue_ends}
 
 -- ---- sites at the same moment
 
@@ -112,6 +111,9 @@ module _ (s t : Scene) (code : s.code ≡ t.code) (h g : HeldNode) (node : h ≡
   queue_children_at nest terms q =
       ap₂ (λ c k. queue_children c nest (node_of terms k) k.network q) (code_same s t code) node
 
+  pub work_at : (q : Queue) → work_left (code_in s) h.network q ≡ work_left (code_in t) g.network q
+  work_at q = ap₂ (λ c k. work_left c k.network q) (code_same s t code) node
+
   pub agenda_children_at : (nest : ℕ) (terms : List Term) (a : Agenda)
       → agenda_children s nest terms h a ≡ agenda_children t nest terms g a
   agenda_children_at nest terms a =
@@ -160,12 +162,12 @@ module _ (s : Scene) (nest : ℕ) (first old new : List Term) (g : Grows old new
       (ap (given_children new child) none) (takes.all none)
 
   -- where no candidate is left either, nothing is
-  pub agenda_ends : given ≡ None → length after.queue.candidates.items ≤ after.queue.at
-      → TakesChild s nest first new h start None child after
-  agenda_ends none l =
+  pub agenda_ends : given ≡ None → IsQueue (code_in s) h after.queue
+      → length after.queue.candidates.items ≤ after.queue.at → TakesChild s nest first new h start None child after
+  agenda_ends none is l =
       let empty : queue_children (code_in s) nest (node_of new h) h.network after.queue ≡ [] =
       ap (by_queue (code_in s) nest (node_of new h) h.network after.queue.rules.now)
-      (drop_all after.queue.at after.queue.candidates.items l) in
+      (queue_ends (code_in s) h after.queue is l) in
       record {
         next = agenda_next ∙ ap (λ o. given_children new child o ++ agenda_children s nest new h after) none;
         all = λ e. ap₂ ◌++◌ (takes.all none) empty;

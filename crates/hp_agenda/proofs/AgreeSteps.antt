@@ -1,13 +1,11 @@
 -- Children of agendas over terms that agree below a count, and by scenes of the same code.
-use Rattle.std.proofs.Common.{◌≡◌, ℕ, ◌<◌, ◌≤◌, List, [], ◌++◌, take, Option, Some, None, refl, sym, ◌∙◌, ap, ap₂, subst, arith}
-use Rattle.std.specs.Prelude.{flat_map, slice_get}
-use Rattle.std.proofs.Math.Seq.{take-take}
+use Rattle.std.proofs.Common.{◌≡◌, ℕ, ◌≤◌, List, [], ◌++◌, take, Option, Some, None, refl, ap, ap₂, subst, arith}
+use Rattle.std.specs.Prelude.{flat_map}
 use Rattle.hp_syntax.specs.Terms.{Term}
 use Rattle.hp_syntax.specs.Walk.{child_of}
-use Rattle.hp_cells.proofs.PlaceLemmas.{stays}
 use Rattle.hp_code.specs.CodeViews.{CodeView}
 use Rattle.hp_code.specs.Codes.{code_of}
-use Rattle.hp_eval.specs.GoalViews.{term_at, term_or_nil}
+use Rattle.hp_eval.specs.GoalViews.{term_at}
 use Rattle.hp_eval.specs.SlotLaws.{bindings_agree}
 use Rattle.hp_eval.specs.Slotted.{bindings_of}
 use Rattle.hp_precondition.specs.PickedLaws.{picked_hold, picked_same_base, picked_same_cells}

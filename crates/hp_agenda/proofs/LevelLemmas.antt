@@ -1,7 +1,6 @@
 -- Frames are the same levels where the site and the cells behind them change.
-use Rattle.std.proofs.Common.{◌≡◌, ℕ, ◌-◌, ◌^◌, ◌<◌, ◌≤◌, min, List, [], ◌∷◌, ◌++◌, length, map, take, None, inl, inr, refl, sym, ◌∙◌, ap, ap₂, subst, arith}
+use Rattle.std.proofs.Common.{◌≡◌, ℕ, ◌-◌, ◌^◌, ◌<◌, ◌≤◌, min, List, [], ◌∷◌, ◌++◌, length, map, take, true, false, None, inl, inr, refl, sym, ◌∙◌, ap, ap₂, subst, arith}
 use Rattle.std.proofs.lemmas.Bool.{cases_lt}
-use Rattle.std.proofs.lemmas.List.{drop_all}
 use Rattle.std.proofs.lemmas.List.Elements.{All-same}
 use Rattle.hp_syntax.specs.Syntax.{Rule}
 use Rattle.hp_syntax.specs.Terms.{Term}
@@ -31,6 +30,7 @@ use Rattle.hp_agenda.specs.Agendas.{IsAgenda, agenda_children}
 use Rattle.hp_agenda.specs.Frames.{IsFrame, LeadTo, Opens, end_successors, left_of, level_of, rules_at}
 use Rattle.hp_agenda.specs.Queues.{IsRuleIn, MaybeOpen, by_queue, if_open}
 use Rattle.hp_agenda.proofs.AgreeSteps.{agenda_agrees, agenda_below, agenda_in_scene, agenda_scene, agenda_within}
+use Rattle.hp_agenda.proofs.QueueLemmas.{nothing_left}
 
 -- a level by its parts
 abbrev level_by : Node → List Successor → Level
@@ -280,22 +280,24 @@ module _ (nest : ℕ) (old new : Site) (terms : List Term) (g : Frame) (here : g
 
 -- ---- a frame that was cleared
 
--- a frame behind whose candidates the next one would be, without an end and without a choice, has nothing left
+-- a frame behind whose candidates the next one would be, and that has no others, without an end and without a choice,
+-- has nothing left
 pub cleared_left : (s : Scene) (nest : ℕ) (terms : List Term) (h : HeldNode) (f : Frame) → f.end ≡ None
-    → f.agenda.open ≡ None → length f.agenda.queue.candidates.items ≤ f.agenda.queue.at
+    → f.agenda.open ≡ None → length f.agenda.queue.candidates.items ≤ f.agenda.queue.at → f.agenda.queue.more ≡ false
     → left_of s nest terms h f ≡ []
-cleared_left s nest terms h f ended closed l =
+cleared_left s nest terms h f ended closed l none =
     let q = f.agenda.queue in
     let n = node_of terms h in
     ap₂ (λ e cs. end_successors e ++ map TheChild cs) ended
     (ap₂ (λ o ks. if_open s nest terms h o ++ by_queue (code_in s) nest n h.network q.rules.now ks) closed
-    (drop_all q.at q.candidates.items l))
+    (nothing_left h.network q l none))
 
 -- an agenda without a choice, behind the candidates of one, is one
 pub cleared_agenda : (s : Scene) (terms : List Term) (base n : ℕ) (h : HeldNode) (a b : Agenda)
     → IsAgenda s terms base n h a → b.open ≡ None → b.queue.candidates ≡ a.queue.candidates
-    → b.queue.rules ≡ a.queue.rules → length b.queue.candidates.items ≤ b.queue.at → IsAgenda s terms base n h b
-cleared_agenda s terms base n h a b is closed candidates rules l =
+    → b.queue.rules ≡ a.queue.rules → length b.queue.candidates.items ≤ b.queue.at → b.queue.more ≡ false
+    → IsAgenda s terms base n h b
+cleared_agenda s terms base n h a b is closed candidates rules l none =
     let few = is.queue.few in
     let same = ap (λ r. length r.now) rules in
     record {
@@ -310,16 +312,18 @@ cleared_agenda s terms base n h a b is closed candidates rules l =
                 is.queue.rules;
             few = omega (arith, few, same);
             deep = λ k. absurd (omega (arith, k, l));
+            more = λ e. absurd (let both : true ≡ false = sym e ∙ none in cc);
           };
     }
 
 -- a frame like another, without an end and with an agenda like that, is a frame with nothing left
 module _ (site : Site) (nest : ℕ) (terms : List Term) (f g : Frame) (mark : g.mark ≡ f.mark) (ended : g.end ≡ None)
-    (closed : g.agenda.open ≡ None) (l : length g.agenda.queue.candidates.items ≤ g.agenda.queue.at) where
+    (closed : g.agenda.open ≡ None) (l : length g.agenda.queue.candidates.items ≤ g.agenda.queue.at)
+    (none : g.agenda.queue.more ≡ false) where
   pub cleared_level : level_of site nest terms g ≡ with_left (level_of site nest terms f) []
   cleared_level =
       ap₂ level_by (ap (λ m. node_of terms (held_at site m)) mark)
-      (cleared_left site.scene nest terms (held_at site g.mark) g ended closed l)
+      (cleared_left site.scene nest terms (held_at site g.mark) g ended closed l none)
 
   pub cleared_frame : (n : ℕ) → IsFrame site nest terms n f → g.base ≡ f.base
       → g.agenda.queue.candidates ≡ f.agenda.queue.candidates → g.agenda.queue.rules ≡ f.agenda.queue.rules
@@ -327,5 +331,5 @@ module _ (site : Site) (nest : ℕ) (terms : List Term) (f g : Frame) (mark : g.
   cleared_frame n is base candidates rules =
       frame_like site nest terms terms n n f g is mark base is.base
       (cleared_agenda site.scene terms f.base n (held_at site f.mark) f.agenda g.agenda is.agenda closed candidates
-      rules l)
-      (λ k. absurd (let none = ap (λ v. dids_in v.left) cleared_level in omega (arith, none, k)))
+      rules l none)
+      (λ k. absurd (let over = ap (λ v. dids_in v.left) cleared_level in omega (arith, over, k)))

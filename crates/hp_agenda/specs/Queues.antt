@@ -1,5 +1,5 @@
--- Candidates, the rules that are left for the first of them, and the children by these.
-use Rattle.std.specs.Prelude.{◌≡◌, ℕ, ◌+◌, ◌-◌, ◌*◌, ◌<◌, ◌≤◌, true, List, [], ◌∷◌, ◌++◌, length, drop, Option, Some, None, is_some, flat_map}
+-- The candidates that are left, the rules that are left for the first of them, and the children by these.
+use Rattle.std.specs.Prelude.{◌≡◌, ℕ, ◌+◌, ◌*◌, ◌<◌, ◌≤◌, Bool, true, cond, List, [], ◌∷◌, ◌++◌, length, drop, Option, Some, None, is_some, flat_map}
 use Rattle.std.specs.List.{All}
 use Rattle.hp_syntax.specs.Networks.{Network, Empty, Task, Ordered, Unordered, Place, part_at}
 use Rattle.hp_syntax.specs.Syntax.{Rule}
@@ -7,6 +7,7 @@ use Rattle.hp_syntax.specs.Terms.{Term}
 use Rattle.hp_syntax.specs.Walk.{Child, Node}
 use Rattle.hp_code.specs.CodeViews.{CodeView, beside, rule_nodes, rules_in}
 use Rattle.hp_links.specs.Linked.{Linked}
+use Rattle.hp_links.specs.Placed.{candidates_in}
 use Rattle.hp_precondition.specs.Picks.{picked_kept}
 use Rattle.hp_suspended.specs.declared.scene.Scene.{Scene}
 use Rattle.hp_tree.specs.Children.{IsCandidate, by_candidates, children_by, place_in}
@@ -14,6 +15,17 @@ use Rattle.hp_tree.specs.SearchNodes.{HeldNode}
 use Rattle.hp_choice.specs.declared.choice.Choice.{Choice}
 use Rattle.hp_choice.specs.Choices.{IsChoice, held_children}
 use Rattle.hp_agenda.specs.declared.queue.Queue.{Queue}
+
+-- ---- candidates
+
+-- the candidates of a network that aren't listed: where there may be some, those behind as many as are listed
+abbrev pub unlisted : Bool → ℕ → Linked → List ℕ
+unlisted more listed net = cond more (drop listed (candidates_in net)) []
+
+-- the candidates that are left of a queue: those listed from its place on, and those that aren't listed
+abbrev pub candidates_left : Linked → Queue → List ℕ
+candidates_left net q =
+    drop q.at q.candidates.items ++ unlisted q.more (length q.candidates.items) net
 
 -- ---- children
 
@@ -38,7 +50,7 @@ by_queue c nest n net rules (k ∷ ks) =
 
 -- the children that are left of a queue
 abbrev pub queue_children : CodeView → ℕ → Node → Linked → Queue → List Child
-queue_children c nest n net q = by_queue c nest n net q.rules.now (drop q.at q.candidates.items)
+queue_children c nest n net q = by_queue c nest n net q.rules.now (candidates_left net q)
 
 -- those of a choice, if one is open
 abbrev pub if_open : Scene → ℕ → List Term → HeldNode → Option Choice → List Child
@@ -51,17 +63,18 @@ if_open s nest terms h (Some c) = held_children s nest terms h c
 abbrev pub IsRuleIn : CodeView → ℕ → Type 0
 IsRuleIn c i = is_some (rule_of c i) ≡ true
 
--- a queue is of candidates and of rules, of which there are no more than the code has, and where a candidate is left a
--- decomposition may follow
+-- a queue is of candidates and of rules, of which there are no more than the code has; where a candidate is left a
+-- decomposition may follow; and where there may be others one of those that are listed is left
 pub record IsQueue (c : CodeView) (h : HeldNode) (q : Queue) : Type 0 where
   pub candidates : All (IsCandidate h.network) q.candidates.items
   pub rules : All (IsRuleIn c) q.rules.now
   pub few : length q.rules.now ≤ length (rules_in c)
   pub deep : q.at < length q.candidates.items → 0 < h.depth
+  pub more : q.more ≡ true → q.at < length q.candidates.items
 
 -- the largest number of rules that are left to be tried, with one more for each candidate
-abbrev pub work_left : CodeView → Queue → ℕ
-work_left c q = (length q.candidates.items - q.at) * (length (rules_in c) + 1) + length q.rules.now
+abbrev pub work_left : CodeView → Linked → Queue → ℕ
+work_left c net q = length (candidates_left net q) * (length (rules_in c) + 1) + length q.rules.now
 
 -- a choice is of a candidate, its cells are below a count and its satisfiers keep at least so many, and a decomposition
 -- may follow

@@ -1,5 +1,5 @@
 //! The children of a node that are left.
-ghost use Rattle.std.specs.Prelude.{◌≡◌, ◌<◌, ◌≤◌, IfOk, OnOk, length};
+ghost use Rattle.std.specs.Prelude.{◌≡◌, ◌<◌, ◌≤◌, false, IfOk, OnOk, length};
 ghost use Rattle.hp_eval.specs.Growth.{Grows};
 ghost use Rattle.hp_world.specs.Pasts.{PastsBelow};
 ghost use Rattle.hp_world.specs.Recorded.{history_in};
@@ -79,8 +79,8 @@ impl<'a> Agenda<'a> {
             ≡ agenda_children site.now.scene nest cells.new (held_now site.now) self.new) }
         ensures agenda { OnOk result (IsAgenda site.now.scene cells.new (length cells.old) (length cells.new)
             (held_now site.now) self.new) }
-        ensures less { OnOk result (work_left (code_in site.now.scene) self.new.queue
-            < work_left (code_in site.now.scene) self.old.queue) }
+        ensures less { OnOk result (work_left (code_in site.now.scene) site.now.net.now self.new.queue
+            < work_left (code_in site.now.scene) site.now.net.now self.old.queue) }
         ensures cells { Grows cells.old cells.new }
     {
         self.open = self.queue.advance(alloc, nest, site, cells)?;
@@ -129,9 +129,11 @@ impl<'a> Agenda<'a> {
         ensures open { self.new.open ≡ None }
         ensures candidates { self.new.queue.candidates ≡ self.old.queue.candidates }
         ensures at_end { length self.new.queue.candidates.items ≤ self.new.queue.at }
+        ensures no_more { self.new.queue.more ≡ false }
         ensures rules { self.new.queue.rules ≡ self.old.queue.rules }
     {
         self.open = None;
         self.queue.at = self.queue.candidates.len();
+        self.queue.more = false;
     }
 }

@@ -1,5 +1,5 @@
 //! The nodes on the way to the one that is reached.
-ghost use Rattle.std.specs.Prelude.{◌≡◌, ◌≤◌, ℕ, IfOk, OnOk, None, Some, length};
+ghost use Rattle.std.specs.Prelude.{◌≡◌, ◌≤◌, ℕ, false, IfOk, OnOk, None, Some, length};
 ghost use Rattle.hp_eval.specs.Growth.{Grows};
 ghost use Rattle.hp_world.specs.Pasts.{PastsBelow};
 ghost use Rattle.hp_world.specs.Recorded.{history_in};
@@ -88,6 +88,7 @@ impl<'a> Frame<'a> {
             rules: &[],
             candidates: Vec::new(alloc),
             at: 0,
+            more: false,
         };
         Frame::at(Some(end), queue, site, cells)
     }
@@ -104,8 +105,7 @@ impl<'a> Frame<'a> {
         if site.depth == 0 {
             return Ok(Frame::ended(alloc, End::Cut, site, cells));
         }
-        let candidates = site.net.candidates(alloc)?;
-        let queue = Queue::new(candidates, site, cells);
+        let queue = Queue::new(alloc, site, cells)?;
         Ok(Frame::at(None, queue, site, cells))
     }
 
@@ -166,6 +166,7 @@ impl<'a> Frame<'a> {
         ensures candidates { self.new.agenda.queue.candidates ≡ self.old.agenda.queue.candidates }
         ensures rules { self.new.agenda.queue.rules ≡ self.old.agenda.queue.rules }
         ensures at_end { length self.new.agenda.queue.candidates.items ≤ self.new.agenda.queue.at }
+        ensures no_more { self.new.agenda.queue.more ≡ false }
     {
         self.end = None;
         self.agenda.clear();

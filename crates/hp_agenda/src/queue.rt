@@ -1,6 +1,7 @@
-//! Candidates, and the rules that are left for the first of them.
-ghost use Rattle.std.specs.Prelude.{◌≡◌, ◌<◌, ◌≤◌, ◌++◌, ℕ, [], Some, IfOk, IfSome, OnOk, drop, length, map, option_copied};
+//! The candidates that are left, listed as far as they are needed, and the rules that are left for the first of them.
+ghost use Rattle.std.specs.Prelude.{◌≡◌, ◌<◌, ◌≤◌, ◌++◌, ℕ, true, List, [], Some, IfOk, OnOk, drop, length, map, option_copied};
 ghost use Rattle.std.specs.List.{All};
+ghost use Rattle.hp_syntax.specs.Walk.{children};
 ghost use Rattle.hp_laws.specs.RulesByName.{relevant, symbol_name, task_name};
 ghost use Rattle.hp_code.specs.Codes.{code_of};
 ghost use Rattle.hp_code.specs.CodeViews.{beside, rule_nodes, rules_in};
@@ -10,7 +11,7 @@ ghost use Rattle.hp_suspended.specs.SceneViews.{code_in};
 ghost use Rattle.hp_tree.specs.Children.{IsCandidate, by_candidates};
 ghost use Rattle.hp_tree.specs.SearchNodes.{node_of};
 ghost use Rattle.hp_site.specs.Sites.{IsSite, held_now};
-ghost use Rattle.hp_agenda.specs.Queues.{IsQueue, IsRuleIn, MaybeOpen, by_queue, if_open, queue_children, work_left};
+ghost use Rattle.hp_agenda.specs.Queues.{IsQueue, IsRuleIn, MaybeOpen, by_queue, candidates_left, if_open, queue_children, work_left};
 
 use hp_cells::{Cell, Cells, View};
 use hp_choice::{Choice, open};
@@ -20,12 +21,16 @@ use hp_site::Site;
 use hp_syntax::Name;
 use std::alloc::{AllocError, Global};
 
-/// Candidates, of which those from a place on are left, and the nodes of the rules that are left for the first of
-/// these.
+// As many candidates of a node are listed at first. Of most nodes on a long way none but the first is looked at.
+const FEW: usize = 4;
+
+/// The first candidates of a node, of which those from a place on are left, and the nodes of the rules that are left
+/// for the first of these. There may be more behind those that are listed.
 pub struct Queue<'a> {
     pub rules: &'a [usize],
     pub candidates: Vec<TaskId>,
     pub at: usize,
+    pub more: bool,
 }
 
 impl Drop for Queue<'_> {
@@ -34,6 +39,7 @@ impl Drop for Queue<'_> {
             rules: _,
             candidates,
             at: _,
+            more: _,
         } = self;
         drop(candidates);
     }
@@ -77,9 +83,10 @@ fn relevant_rules<'a>(code: &'a Code, task: Cell, cells: &Cells) -> &'a [usize]
 fn rules_at<'a>(candidates: &[TaskId], at: usize, site: &Site<'a>, cells: &Cells) -> &'a [usize]
     requires site { IsSite cells.now site.now }
     requires candidates { All (IsCandidate site.now.net.now) candidates.now }
-    ensures left { (nest : ℕ) → by_queue (code_in site.now.scene) nest (node_of cells.now (held_now site.now))
-        site.now.net.now result.now (drop at candidates.now) ≡ by_candidates (rules_in (code_in site.now.scene)) nest
-        (node_of cells.now (held_now site.now)) site.now.net.now (drop at candidates.now) 0 }
+    ensures left { (nest : ℕ) (others : List ℕ) → (length candidates.now ≤ at → others ≡ [])
+        → by_queue (code_in site.now.scene) nest (node_of cells.now (held_now site.now)) site.now.net.now result.now
+        (drop at candidates.now ++ others) ≡ by_candidates (rules_in (code_in site.now.scene)) nest
+        (node_of cells.now (held_now site.now)) site.now.net.now (drop at candidates.now ++ others) 0 }
     ensures rules { All (IsRuleIn (code_in site.now.scene)) result.now }
     ensures few { length result.now ≤ length (rules_in (code_in site.now.scene)) }
 {
@@ -93,22 +100,24 @@ fn rules_at<'a>(candidates: &[TaskId], at: usize, site: &Site<'a>, cells: &Cells
 }
 
 impl<'a> Queue<'a> {
-    /// All of some candidates.
-    pub fn new(candidates: Vec<TaskId>, site: &Site<'a>, cells: &Cells) -> Queue<'a>
+    /// All candidates of the node that is reached.
+    pub fn new(alloc: Global, site: &Site<'a>, cells: &Cells) -> Result<Queue<'a>, AllocError>
         requires site { IsSite cells.now site.now }
-        requires candidates { All (IsCandidate site.now.net.now) candidates.items }
         requires deep { 0 < site.now.depth }
-        ensures left { (nest : _) → queue_children (code_in site.now.scene) nest (node_of cells.now (held_now site.now))
-            site.now.net.now result ≡ by_candidates (rules_in (code_in site.now.scene)) nest
-            (node_of cells.now (held_now site.now)) site.now.net.now candidates.items 0 }
-        ensures queue { IsQueue (code_in site.now.scene) (held_now site.now) result }
+        ensures left { IfOk result (λ q. (nest : ℕ) → queue_children (code_in site.now.scene) nest
+            (node_of cells.now (held_now site.now)) site.now.net.now q
+            ≡ children (rules_in (code_in site.now.scene)) nest (node_of cells.now (held_now site.now))) }
+        ensures queue { IfOk result (λ q. IsQueue (code_in site.now.scene) (held_now site.now) q) }
     {
+        let candidates = site.net.first_candidates(alloc, FEW)?;
+        let more = candidates.len() == FEW;
         let rules = rules_at(&candidates, 0, site, cells);
-        Queue {
+        Ok(Queue {
             rules,
             candidates,
             at: 0,
-        }
+            more,
+        })
     }
 
     /// The choice of the next rule for the first candidate, if one is left; else the candidate is left.
@@ -131,8 +140,8 @@ impl<'a> Queue<'a> {
         ensures choice { IfOk result (λ o. MaybeOpen site.now.scene cells.new (length cells.old) (length cells.new)
             (held_now site.now) o) }
         ensures queue { OnOk result (IsQueue (code_in site.now.scene) (held_now site.now) self.new) }
-        ensures less { OnOk result (work_left (code_in site.now.scene) self.new
-            < work_left (code_in site.now.scene) self.old) }
+        ensures less { OnOk result (work_left (code_in site.now.scene) site.now.net.now self.new
+            < work_left (code_in site.now.scene) site.now.net.now self.old) }
         ensures cells { Grows cells.old cells.new }
     {
         match self.rules.split_first() {
@@ -144,10 +153,53 @@ impl<'a> Queue<'a> {
                 Ok(choice)
             }
             None => {
-                self.at += 1;
-                self.rules = rules_at(&self.candidates, self.at, site, cells);
+                self.leave_candidate(alloc, site, cells)?;
                 Ok(None)
             }
         }
+    }
+
+    // The first candidate is left.
+    fn leave_candidate(
+        &mut self,
+        alloc: Global,
+        site: &Site<'a>,
+        cells: &Cells,
+    ) -> Result<(), AllocError>
+        requires site { IsSite cells.now site.now }
+        requires queue { IsQueue (code_in site.now.scene) (held_now site.now) self.old }
+        requires some { self.old.at < length self.old.candidates.items }
+        ensures left { OnOk result ((nest : ℕ) → queue_children (code_in site.now.scene) nest
+            (node_of cells.now (held_now site.now)) site.now.net.now self.new
+            ≡ by_candidates (rules_in (code_in site.now.scene)) nest (node_of cells.now (held_now site.now))
+            site.now.net.now (drop 1 (candidates_left site.now.net.now self.old)) 0) }
+        ensures queue { OnOk result (IsQueue (code_in site.now.scene) (held_now site.now) self.new) }
+        ensures less { OnOk result (length (candidates_left site.now.net.now self.new)
+            < length (candidates_left site.now.net.now self.old)) }
+    {
+        self.at += 1;
+        self.list_more(alloc, site)?;
+        self.rules = rules_at(&self.candidates, self.at, site, cells);
+        Ok(())
+    }
+
+    // Where all that are listed are done and there may be more, twice as many are listed.
+    fn list_more(&mut self, alloc: Global, site: &Site<'a>) -> Result<(), AllocError>
+        requires candidates { All (IsCandidate site.now.net.now) self.old.candidates.items }
+        requires at { self.old.at ≤ length self.old.candidates.items }
+        requires some { 0 < length self.old.candidates.items }
+        ensures left { OnOk result (candidates_left site.now.net.now self.new
+            ≡ candidates_left site.now.net.now self.old) }
+        ensures more { OnOk result (self.new.more ≡ true → self.new.at < length self.new.candidates.items) }
+        ensures candidates { OnOk result (All (IsCandidate site.now.net.now) self.new.candidates.items) }
+        ensures at { self.new.at ≡ self.old.at }
+    {
+        if !self.more || self.at < self.candidates.len() {
+            return Ok(());
+        }
+        let limit = self.candidates.len() * 2;
+        self.candidates = site.net.first_candidates(alloc, limit)?;
+        self.more = self.candidates.len() == limit;
+        Ok(())
     }
 }

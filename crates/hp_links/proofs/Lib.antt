@@ -1,4 +1,5 @@
 pub mod BelowLemmas
+pub mod CandidateLemmas
 pub mod ChangeLemmas
 pub mod EntryLemmas
 pub mod FinishLemmas

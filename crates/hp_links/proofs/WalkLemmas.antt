@@ -10,32 +10,11 @@ use Rattle.hp_links.specs.declared.links.Part.TheVariants.{Task, Row}
 use Rattle.hp_links.specs.declared.entry.Order.{Order}
 use Rattle.hp_links.specs.declared.entry.Order.TheVariants.{Ordered, Unordered}
 use Rattle.hp_links.specs.Frames.{Frame, top, tops, AllStand, tree_at, IsHeld}
-use Rattle.hp_links.specs.Labelled.{Tree, Trees, Gone, Leaf, Branch, NoTree, With, count, AreFull, leads, leads_of_all}
-use Rattle.hp_links.specs.Walked.{to_walk, IsWithinRows}
+use Rattle.hp_links.specs.Labelled.{Tree, Trees, Leaf, Branch, NoTree, With, count, AreFull, leads, leads_of_all}
+use Rattle.hp_links.specs.Walked.{to_walk, pending, size, sizes, weight, IsWithinRows}
 use Rattle.hp_links.proofs.HeldLemmas.{held_list, held, tree_at-top}
 use Rattle.hp_links.proofs.ShortenLemmas.{is_leaf}
 use Rattle.hp_links.proofs.TreeLemmas.{row_read, length-tops}
-
--- the first tasks of the trees of numbers
-abbrev pub pending : Frame → List ℕ → List ℕ
-pending f [] = []
-pending f (k ∷ ks) = leads (tree_at f k) ++ pending f ks
-
--- how many parts a tree has
-abbrev mutual
-  pub size : Tree → ℕ
-  size Gone = 1
-  size (Leaf k cell immediate) = 1
-  size (Branch k order ts) = 1 + sizes ts
-
-  pub sizes : Trees → ℕ
-  sizes NoTree = 0
-  sizes (With t ts) = size t + sizes ts
-
--- how many parts the trees of numbers have
-abbrev pub weight : Frame → List ℕ → ℕ
-weight f [] = 0
-weight f (k ∷ ks) = size (tree_at f k) + weight f ks
 
 -- the weight of numbers behind others is added
 pub weight-append : (f : Frame) (is js : List ℕ) → weight f (is ++ js) ≡ weight f is + weight f js

@@ -1,6 +1,7 @@
 //! A task network in place: its parts have numbers, never move, and are changed and undone by a stored trail.
 #![tactic(auto)]
 
+mod candidates;
 mod entry;
 mod front;
 mod id;

@@ -1,5 +1,5 @@
 //! A network in place, and the trail of its changes.
-ghost use Rattle.std.specs.Prelude.{◌≡◌, ◌≢◌, ◌<◌, ◌≤◌, ℕ, Bool, List, Option, [], None, Some, IfOk, OnOk, OnErr, ◌∷◌, ◌++◌, length, slice_get, vec_capacity, vec_len};
+ghost use Rattle.std.specs.Prelude.{◌≡◌, ◌≢◌, ◌<◌, ◌≤◌, ℕ, Bool, List, Option, [], None, Some, IfOk, OnOk, OnErr, ◌∷◌, ◌++◌, length, take, slice_get, vec_capacity, vec_len};
 ghost use Rattle.std.specs.List.{All};
 ghost use Rattle.hp_syntax.specs.Terms.{Term};
 ghost use Rattle.hp_syntax.specs.Networks as plain;
@@ -134,6 +134,18 @@ impl Store {
         let mut found = self.first_ones(alloc)?;
         keep_immediate(&self.links.parts, &mut found);
         Ok(found)
+    }
+
+    /// The first ones of the candidates, so many at most. It takes memory for no more than these, and for one stretch
+    /// of numbers for each list without order around the task that is looked at.
+    pub fn first_candidates(&self, alloc: Global, limit: usize) -> Result<Vec<TaskId>, AllocError>
+        requires { IsSound self.now }
+        ensures { IfOk result (λ v. v.items ≡ take limit (candidates_in (stage_of self.now))) }
+    {
+        match self.scope() {
+            None => Ok(Vec::new(alloc)),
+            Some(start) => self.links.first_candidates(alloc, start, limit),
+        }
     }
 
     // Where the walk to the first tasks begins: at the focus, or else at the front.

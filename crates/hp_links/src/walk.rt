@@ -61,8 +61,8 @@ pub(crate) fn push_reversed(stack: &mut Vec<usize>, numbers: &[usize]) -> Result
     Ok(())
 }
 
-// Whether this is an immediate task.
-fn is_immediate(parts: &[Part], id: TaskId) -> bool
+/// Whether this is an immediate task.
+pub(crate) fn is_immediate(parts: &[Part], id: TaskId) -> bool
     ensures { result ≡ is_immediate (slice_get parts.now id) }
 {
     match parts.get(id.number()) {

@@ -1,5 +1,5 @@
 //! A task network with its focus, and its past.
-ghost use Rattle.std.specs.Prelude.{◌≡◌, ◌<◌, ◌≤◌, ℕ, Bool, List, [], map, None, Some, IfOk, OnOk, OnErr};
+ghost use Rattle.std.specs.Prelude.{◌≡◌, ◌<◌, ◌≤◌, ℕ, Bool, List, [], map, take, None, Some, IfOk, OnOk, OnErr};
 ghost use Rattle.std.specs.List.{All};
 ghost use Rattle.hp_syntax.specs.Terms.{Term};
 ghost use Rattle.hp_syntax.specs.Networks as plain;
@@ -7,6 +7,7 @@ ghost use Rattle.hp_syntax.specs.Networks.{Place};
 ghost use Rattle.hp_eval.specs.GoalViews.{term_at, network_of, TreeBelow};
 ghost use Rattle.hp_world.specs.Histories.{KeepsPasts, mark_of, undone_to};
 ghost use Rattle.hp_links.specs.Linked.{focused, place_of, NamesTask, PartBelow};
+ghost use Rattle.hp_links.specs.Placed.{candidates_in};
 
 use hp_cells::Cell;
 use hp_eval::TaskTree;
@@ -69,6 +70,17 @@ impl Net {
     {
         let found = self.store.candidates(alloc)?;
         Ok(found)
+    }
+
+    /// The first ones of the candidates, so many at most. It takes memory for no more than these, and for one stretch
+    /// of numbers for each list without order around the task that is looked at.
+    pub fn first_candidates(&self, alloc: Global, limit: usize) -> Result<Vec<TaskId>, AllocError>
+        ensures first { IfOk result (λ v. v.items ≡ take limit (candidates_in self.now.now)) }
+        ensures tasks { All (NamesTask self.now.now) (candidates_in self.now.now) }
+        ensures places { (terms : List Term) → map (place_of self.now.now) (candidates_in self.now.now)
+            ≡ map Some (plain.candidates (focused terms self.now.now).0 (focused terms self.now.now).1) }
+    {
+        self.store.first_candidates(alloc, limit)
     }
 
     /// The task that an id names.

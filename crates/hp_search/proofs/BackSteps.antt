@@ -72,7 +72,7 @@ site_cut n site terms l node pasts knows stood =
 module _ (s : Search) (h : IsSearch s) (t : Frame) (cleared : IsCleared s.top t) where
   -- a frame that has let all go has nothing left
   none_left : (n : HeldNode) (terms : List Term) → left_of s.site.scene s.nest terms n t ≡ []
-  none_left n terms = cleared_left s.site.scene s.nest terms n t cleared.end cleared.none cleared.at_end
+  none_left n terms = cleared_left s.site.scene s.nest terms n t cleared.end cleared.none cleared.at_end cleared.no_more
 
   -- it is a frame of the same moment, that needs no cell above its base
   cleared_frame : IsFrame s.site s.nest s.cells s.top.base t
@@ -92,7 +92,8 @@ module _ (s : Search) (h : IsSearch s) (t : Frame) (cleared : IsCleared s.top t)
           queue =
               subst (λ m. IsQueue (code_in s.site.scene) (held_at s.site m) t.agenda.queue) (sym cleared.mark)
               (cleared_agenda s.site.scene s.cells s.top.base (length s.cells) (held_at s.site s.top.mark) s.top.agenda
-              t.agenda h.top.agenda cleared.none cleared.candidates cleared.rules cleared.at_end).queue;
+              t.agenda h.top.agenda cleared.none cleared.candidates cleared.rules cleared.at_end
+              cleared.no_more).queue;
         };
     dids =
         λ l. absurd (let none = ap dids_in (none_left (held_at s.site t.mark) s.cells) in omega (arith, none, l));

@@ -99,6 +99,7 @@ pub record IsCleared (old new : Frame) : Type 0 where
   pub candidates : new.agenda.queue.candidates ≡ old.agenda.queue.candidates
   pub rules : new.agenda.queue.rules ≡ old.agenda.queue.rules
   pub at_end : length new.agenda.queue.candidates.items ≤ new.agenda.queue.at
+  pub no_more : new.agenda.queue.more ≡ false
 
 -- nothing more comes at the node reached, and the cells are those at which it was reached
 pub record IsRested (old new : Search) : Type 0 where

@@ -1,8 +1,11 @@
-use Rattle.std.proofs.Common.{length, sym, subst}
+use Rattle.std.proofs.Common.{◌≡◌, ◌≤◌, ◌+◌, ◌++◌, ℕ, List, [], length, drop, ap, ap₂, sym, subst, ◌∙◌, rules}
+use Rattle.std.proofs.lemmas.List.{drop_all}
 use Rattle.std.proofs.lemmas.List.Elements.{All-get_or}
 use Rattle.hp_eval.specs.GoalViews.{term_at}
 use Rattle.hp_suspended.specs.SceneViews.{code_in}
-use Rattle.hp_tree.specs.Children.{IsCandidate, place_in}
+use Rattle.hp_eval.proofs.Loops.{left_more}
+use Rattle.hp_tree.specs.Children.{IsCandidate, by_candidates, place_in}
+use Rattle.hp_agenda.specs.Queues.{by_queue}
 use Rattle.hp_tree.specs.SearchNodes.{node_of}
 use Rattle.hp_site.specs.Sites.{held_now}
 use Rattle.hp_laws.specs.RulesByName.{relevant, task_name}
@@ -15,7 +18,7 @@ relevant_rules-requires c = c.task-task.ensures.below (length c.args.cells.now) 
 
 pub returns-in-Some-clause-left : goal.returns-in-Some-clause-left
 returns-in-Some-clause-left c =
-    λ nest.
+    λ nest others premise.
     let site = c.args.site.now in
     let code = code_in site.scene in
     let terms = c.args.cells.now in
@@ -27,8 +30,25 @@ returns-in-Some-clause-left c =
     let own : IsCandidate net id =
     subst (IsCandidate net) (sym at.1) (All-get_or (IsCandidate net) ids c.args.at id at.3.0 c.requires.candidates) in
     let part = c.task-task.ensures.task terms (place_in net id) own.stands in
-    all_rules code nest n net ids c.args.at id at.3.0 at.1 (term_at terms c.task-task.result) part.0 part.1
-    c.relevant_rules.result.now c.relevant_rules.ensures
+    let rules = c.relevant_rules.result.now in
+    let is = ap (λ ks. ks ++ others) (left_more ids c.args.at id at.3.0 at.1) in
+    ap (by_queue code nest n net rules) is
+    ∙ (all_rules code nest n net id (drop (c.args.at + 1) ids ++ others) (term_at terms c.task-task.result) part.0
+    part.1 rules c.relevant_rules.ensures
+    ∙ ap (λ ks. by_candidates (rules_in code) nest n net ks 0) (sym is))
+
+pub returns-in-None-clause-left : goal.returns-in-None-clause-left
+returns-in-None-clause-left c =
+    λ nest others premise.
+    let site = c.args.site.now in
+    let code = code_in site.scene in
+    let n = node_of c.args.cells.now (held_now site) in
+    let net = site.net.now in
+    let over : length c.args.candidates.now ≤ c.args.at = search rules in
+    let nothing : drop c.args.at c.args.candidates.now ++ others ≡ [] =
+    ap₂ (λ ks (js : List ℕ). ks ++ js) (drop_all c.args.at c.args.candidates.now over) (premise over) in
+    ap (by_queue code nest n net []) nothing
+    ∙ ap (λ ks. by_candidates (rules_in code) nest n net ks 0) (sym nothing)
 
 pub returns-in-Some-clause-rules : goal.returns-in-Some-clause-rules
 returns-in-Some-clause-rules c =

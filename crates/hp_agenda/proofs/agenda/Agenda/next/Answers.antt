@@ -1,13 +1,13 @@
-use Rattle.std.proofs.Common.{◌≡◌, ◌≤◌, true, false, length, sym, ◌∙◌, subst, rules, arith, None}
+use Rattle.std.proofs.Common.{◌≡◌, ◌≤◌, true, false, length, sym, ap, ◌∙◌, subst, rules, arith, None}
 use Rattle.std.specs.Prelude.{is_some}
 use Rattle.hp_eval.proofs.GrowthLemmas.{grows_length, grows_on}
 use Rattle.hp_suspended.specs.SceneViews.{code_in}
 use Rattle.hp_tree.specs.SearchNodes.{IsHeldNode}
 use Rattle.hp_site.specs.Sites.{held_now}
 use Rattle.hp_choice.specs.Choices.{StaysUnless, floor_of}
-use Rattle.hp_agenda.specs.Queues.{IsQueue, MaybeOpen}
+use Rattle.hp_agenda.specs.Queues.{IsQueue, MaybeOpen, work_left}
 use Rattle.hp_agenda.proofs.AgreeSteps.{agenda_within}
-use Rattle.hp_agenda.proofs.AgendaSteps.{Resumes, agenda_at, agenda_children_at, agenda_ends, agenda_passes, agenda_takes, given_none, open_at, queue_at, queue_children_at, resumed_node, resumed_pasts, resumes_behind, site_grows, takes_at}
+use Rattle.hp_agenda.proofs.AgendaSteps.{Resumes, agenda_at, agenda_children_at, agenda_ends, agenda_passes, agenda_takes, given_none, open_at, queue_at, queue_children_at, work_at, resumed_node, resumed_pasts, resumes_behind, site_grows, takes_at}
 use Rattle.hp_agenda.proofs.agenda.Agenda.next.Goals as goal
 
 pub next_of_open-requires-clause-open : goal.next_of_open-requires-clause-open
@@ -83,7 +83,7 @@ returns-then-self-len-clause-takes c =
     given child before.left
     (takes_at site.scene fn.scene code (held_now site) (held_now fn) same c.args.nest old new self.open given child
     after.open told.takes)
-    told.queue none done
+    told.queue none (subst (IsQueue (code_in fn.scene) (held_now fn)) (sym told.queue) before.agenda.queue) done
 
 pub returns-then-self-len-clause-agenda : goal.returns-then-self-len-clause-agenda
 returns-then-self-len-clause-agenda c =
@@ -168,3 +168,21 @@ loop-given-preserved c =
           ∙ agenda_children_at now.scene fn.scene resumes.keeps.code (held_now now) (held_now fn) again c.args.nest new
           c.advance.new.self));
     }
+
+pub loop-given-smaller : goal.loop-given-smaller
+loop-given-smaller c =
+    let fn = c.args.site.now in
+    let site = c.loop-given.site in
+    let now = c.next_of_open.new.site in
+    let before = c.loop-given.invariant in
+    let told = c.in_ok-given.ensures in
+    let given = c.in_ok-given.given in
+    let test : is_some given ≡ false = search rules in
+    let stays = subst (λ o. StaysUnless o site now) (given_none given test) told.stays in
+    let resumes : Resumes fn now =
+    resumes_behind fn site now before.resumes (record { keeps = told.keeps; mark = stays }) in
+    let again = resumed_node fn now resumes in
+    let same = work_at now.scene fn.scene resumes.keeps.code (held_now now) (held_now fn) again in
+    let less = c.in_ok-advance.ensures.less in
+    let start = ap (work_left (code_in fn.scene) fn.net.now) told.queue in
+    omega (arith, less, same c.advance.new.self.queue, same c.next_of_open.new.self.queue, start)

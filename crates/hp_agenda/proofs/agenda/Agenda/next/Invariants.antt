@@ -18,4 +18,4 @@ invariant-loop-given l = record {
 }
 
 abbrev pub decreases-loop-given : goal.decreases-loop-given
-decreases-loop-given l = work_left (code_in l.fn.site.scene) l.self.queue
+decreases-loop-given l = work_left (code_in l.fn.site.scene) l.fn.site.net.now l.self.queue

@@ -1,16 +1,15 @@
-use Rattle.std.proofs.Common.{◌≡◌, ◌+◌, ◌∷◌, ◌++◌, length, drop, ap, sym, ◌∙◌, subst, arith}
+use Rattle.std.proofs.Common.{◌+◌, ◌∷◌, ◌++◌, length, drop, ap, ap₂, sym, ◌∙◌, subst, arith}
 use Rattle.std.specs.List.{All}
 use Rattle.std.proofs.lemmas.List.Elements.{All-get_or, All-head, All-tail}
 use Rattle.std.proofs.lemmas.List.{nil_from_length}
-use Rattle.hp_code.specs.CodeViews.{rules_in}
 use Rattle.hp_eval.specs.GoalViews.{term_at}
 use Rattle.hp_suspended.specs.SceneViews.{code_in}
-use Rattle.hp_tree.specs.Children.{IsCandidate, by_candidates, place_in}
+use Rattle.hp_tree.specs.Children.{IsCandidate, place_in}
 use Rattle.hp_tree.specs.SearchNodes.{node_of}
 use Rattle.hp_tree.proofs.SearchNodeLemmas.{node_stays}
 use Rattle.hp_site.specs.Sites.{held_now}
-use Rattle.hp_agenda.specs.Queues.{IsRuleIn, by_queue, if_open}
-use Rattle.hp_agenda.proofs.QueueLemmas.{candidate_left, opened_children, rule_found, rule_next}
+use Rattle.hp_agenda.specs.Queues.{IsRuleIn, by_queue, candidates_left, if_open, unlisted}
+use Rattle.hp_agenda.proofs.QueueLemmas.{first_left, opened_children, rule_found, rule_next, rules_done}
 use Rattle.hp_agenda.proofs.queue.Queue.advance.Goals as goal
 
 pub open-requires-clause-task : goal.open-requires-clause-task
@@ -29,6 +28,8 @@ returns-in_ok-choice-in-Some-clause-left c =
     let q = c.args.self.now in
     let ids = q.candidates.items in
     let id = c.index-id.result.now in
+    let js = drop (q.at + 1) ids ++ unlisted q.more (length ids) net in
+    let is = first_left net q id c.requires.some c.index-id.ensures in
     let rule = c.in-Some.rule.now in
     let others = c.in-Some.others.now in
     let split = c.in-Some.ensures.cases.0 in
@@ -45,10 +46,10 @@ returns-in_ok-choice-in-Some-clause-left c =
     let gives =
     opened_children site.scene nest new h id c.task-task.result n c.in_ok-choice-in-Some.choice stays told.names
     ∙ told.children found.0 n p found.1 (λ i. n.state) in
-    ap (λ is. by_queue code nest n net is (drop q.at ids)) split
-    ∙ (rule_next code nest n net ids q.at id c.requires.some c.index-id.ensures (term_at old c.task-task.result) part.0
-    part.1 rule others found.0 first found.1 gives
-    ∙ ap (λ m. first ++ by_queue code nest m net others (drop q.at ids)) (sym stays))
+    ap₂ (λ rs ks. by_queue code nest n net rs ks) split is
+    ∙ (rule_next code nest n net id js (term_at old c.task-task.result) part.0 part.1 rule others found.0 first found.1
+    gives
+    ∙ ap₂ (λ m ks. first ++ by_queue code nest m net others ks) (sym stays) (sym is))
 
 pub returns-in_ok-choice-in-Some-clause-queue : goal.returns-in_ok-choice-in-Some-clause-queue
 returns-in_ok-choice-in-Some-clause-queue c =
@@ -62,19 +63,16 @@ returns-in_ok-choice-in-Some-clause-queue c =
       rules = All-tail (IsRuleIn code) rule others all;
       few = omega (arith, c.in-Some.ensures.cases.1, c.requires.queue.few);
       deep = c.requires.queue.deep;
+      more = c.requires.queue.more;
     }
 
-pub returns-in-None-clause-left : goal.returns-in-None-clause-left
-returns-in-None-clause-left c =
+pub returns-in_ok-leave_candidate-in-None-clause-left : goal.returns-in_ok-leave_candidate-in-None-clause-left
+returns-in_ok-leave_candidate-in-None-clause-left c =
     let site = c.args.site.now in
     let code = code_in site.scene in
     let nest = c.args.nest in
     let n = node_of c.args.cells.now (held_now site) in
     let net = site.net.now in
     let q = c.args.self.now in
-    let ids = q.candidates.items in
-    let left = by_candidates (rules_in code) nest n net in
-    ap (λ is. by_queue code nest n net is (drop q.at ids)) (nil_from_length q.rules.now c.in-None.ensures.cases)
-    ∙ (candidate_left code nest n net ids q.at c.requires.some
-    ∙ sym (subst (λ js. by_queue code nest n net c.rules_at-self.result.now (drop (q.at + 1) js)
-    ≡ left (drop (q.at + 1) js) 0) c.deref.ensures.value (c.rules_at-self.ensures.left nest)))
+    ap (λ rs. by_queue code nest n net rs (candidates_left net q)) (nil_from_length q.rules.now c.in-None.ensures.cases)
+    ∙ (rules_done code nest n net q c.requires.some ∙ sym (c.in_ok-leave_candidate-in-None.ensures.left nest))

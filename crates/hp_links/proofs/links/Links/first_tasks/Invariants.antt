@@ -3,7 +3,7 @@ use Rattle.std.specs.Prelude.{reverse}
 use Rattle.std.specs.List.{All}
 use Rattle.hp_links.specs.Frames.{IsHeld, frame_in, tree_at}
 use Rattle.hp_links.specs.Labelled.{leads}
-use Rattle.hp_links.proofs.WalkLemmas.{pending, weight}
+use Rattle.hp_links.specs.Walked.{pending, weight}
 use Rattle.hp_links.proofs.links.Links.first_tasks.Given as goal
 
 abbrev pub invariant-loop-number : goal.invariant-loop-number

@@ -15,4 +15,5 @@ returns c =
       candidates = told.candidates;
       rules = told.rules;
       at_end = told.at_end;
+      no_more = told.no_more;
     })
