@@ -15,7 +15,7 @@ use std::marker::Model;
 /// Contracts see what stands on the page.
 #[derive(Drop)]
 pub struct Page {
-    bytes: ArrayVec<u8, 4096>,
+    bytes: ArrayVec<u8, 512>,
 }
 
 impl Model for Page {

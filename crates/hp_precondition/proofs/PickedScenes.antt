@@ -1,9 +1,11 @@
 -- The satisfiers that a precondition takes, over scenes of one code with the same atoms; and behind a fault.
-use Rattle.std.proofs.Common.{◌≡◌, ℕ, Bool, true, false, cond, List, [], ◌∷◌, ◌++◌, map, Option, Some, None, refl, sym, ◌∙◌, ap, subst}
+use Rattle.std.proofs.Common.{◌≡◌, ℕ, Bool, true, false, cond, List, [], ◌∷◌, ◌++◌, map, Option, Some, None, refl, sym,
+    ◌∙◌, ap, subst}
 use Rattle.hp_syntax.specs.Terms.{Term}
 use Rattle.hp_syntax.specs.Events.{Event, Sat, Cut, Fault, is_fault, is_sat}
 use Rattle.hp_syntax.specs.Lists.{up_to}
-use Rattle.hp_syntax.specs.Preconditions.{heard, keyed, up_to_sat, Keyed, Keys, NoKey, sorted, sorted_events, sorts_before, precondition_events}
+use Rattle.hp_syntax.specs.Preconditions.{heard, keyed, up_to_sat, Keyed, Keys, NoKey, sorted, sorted_events,
+    sorts_before, precondition_events}
 use Rattle.hp_syntax.specs.Syntax as syntax
 use Rattle.hp_syntax.specs.Values.{Bindings}
 use Rattle.hp_syntax.specs.Events.{State}
@@ -44,11 +46,11 @@ gen_alike g b d c e same = ap (λ w. heard (left w e (view g.suspended))) same
 -- what is left is the same
 pub rest_alike : (s : Picked) (b d : Scene) (c : List Term) (e : Slotted) → setting_of b c ≡ setting_of d c
     → picked_rest s b c e ≡ picked_rest s d c e
-rest_alike (picks.All g) b d c e same = gen_alike g b d c e same
+rest_alike (picks.All g) b d c e same = gen_alike g.value b d c e same
 rest_alike (picks.First f) b d c e same =
-    ap (λ xs. cond f.ended [] (up_to_sat xs)) (gen_alike f.inner b d c e same)
+    ap (λ xs. cond f.value.ended [] (up_to_sat xs)) (gen_alike f.value.inner b d c e same)
 rest_alike (picks.Sorted x) b d c e same =
-    ap (λ xs. rest_in_order (key_of x.key) xs c x.heard) (gen_alike x.inner b d c e same)
+    ap (λ xs. rest_in_order (key_of x.value.key) xs c x.value.heard) (gen_alike x.value.inner b d c e same)
 
 gen_suits : (g : Gen) (b d : Scene) (c : List Term) → IsSceneAlike g.kept c b d → Suits g b c → Suits g d c
 gen_suits g b d c alike u = record {
@@ -67,9 +69,9 @@ either_alike g (Some x) b d c alike u = u
 -- a scene that suits has others like it suit
 pub suits_alike : (s : Picked) (b d : Scene) (c : List Term) → IsSceneAlike (picked_kept s) c b d
     → PickedSuits s b c → PickedSuits s d c
-suits_alike (picks.All g) b d c alike u = gen_suits g b d c alike u
-suits_alike (picks.First f) b d c alike u = gen_suits f.inner b d c alike u
-suits_alike (picks.Sorted x) b d c alike u = either_alike x.inner x.heard b d c alike u
+suits_alike (picks.All g) b d c alike u = gen_suits g.value b d c alike u
+suits_alike (picks.First f) b d c alike u = gen_suits f.value.inner b d c alike u
+suits_alike (picks.Sorted x) b d c alike u = either_alike x.value.inner x.value.heard b d c alike u
 
 -- ---- behind a fault
 
@@ -113,6 +115,6 @@ heard_first false xs = first_twice xs
 -- no event is left behind a fault
 pub rest_heard : (s : Picked) (b : Scene) (c : List Term) (e : Slotted)
     → heard (picked_rest s b c e) ≡ picked_rest s b c e
-rest_heard (picks.All g) b c e = twice (left (setting_of b c) e (view g.suspended))
-rest_heard (picks.First f) b c e = heard_first f.ended (left (setting_of b c) e (view f.inner.suspended))
-rest_heard (picks.Sorted x) b c e = heard_in_order (key_of x.key) (rest_of x.inner b c e) c x.heard
+rest_heard (picks.All g) b c e = twice (left (setting_of b c) e (view g.value.suspended))
+rest_heard (picks.First f) b c e = heard_first f.value.ended (left (setting_of b c) e (view f.value.inner.suspended))
+rest_heard (picks.Sorted x) b c e = heard_in_order (key_of x.value.key) (rest_of x.value.inner b c e) c x.value.heard

@@ -13,42 +13,43 @@ use Rattle.hp_suspended.specs.declared.scene.Scene.{Scene}
 
 -- the events that are left
 abbrev pub picked_rest : Picked → Scene → List Term → Slotted → List Event
-picked_rest (picks.All g) s terms e = rest_of g s terms e
-picked_rest (picks.First f) s terms e = cond f.ended [] (up_to_sat (rest_of f.inner s terms e))
-picked_rest (picks.Sorted x) s terms e = rest_in_order (key_of x.key) (rest_of x.inner s terms e) terms x.heard
+picked_rest (picks.All g) s terms e = rest_of g.value s terms e
+picked_rest (picks.First f) s terms e = cond f.value.ended [] (up_to_sat (rest_of f.value.inner s terms e))
+picked_rest (picks.Sorted x) s terms e =
+    rest_in_order (key_of x.value.key) (rest_of x.value.inner s terms e) terms x.value.heard
 
 -- the scene is one that they go on with
 abbrev pub PickedSuits : Picked → Scene → List Term → Type 0
-PickedSuits (picks.All g) s terms = Suits g s terms
-PickedSuits (picks.First f) s terms = Suits f.inner s terms
-PickedSuits (picks.Sorted x) s terms = SuitsEither (Suits x.inner s terms) x.heard
+PickedSuits (picks.All g) s terms = Suits g.value s terms
+PickedSuits (picks.First f) s terms = Suits f.value.inner s terms
+PickedSuits (picks.Sorted x) s terms = SuitsEither (Suits x.value.inner s terms) x.value.heard
 
 -- the slots are as the last call left them
 abbrev pub PickedFits : Picked → Slotted → Type 0
-PickedFits (picks.All g) e = FitsSlots g e
-PickedFits (picks.First f) e = FitsSlots f.inner e
-PickedFits (picks.Sorted x) e = FitsEither (FitsSlots x.inner e) x.inner.mark x.mark x.heard e
+PickedFits (picks.All g) e = FitsSlots g.value e
+PickedFits (picks.First f) e = FitsSlots f.value.inner e
+PickedFits (picks.Sorted x) e = FitsEither (FitsSlots x.value.inner e) x.value.inner.mark x.value.mark x.value.heard e
 
 -- the number of bindings that stood at the start
 abbrev pub picked_start : Picked → ℕ
-picked_start (picks.All g) = g.mark
-picked_start (picks.First f) = f.inner.mark
-picked_start (picks.Sorted x) = x.mark
+picked_start (picks.All g) = g.value.mark
+picked_start (picks.First f) = f.value.inner.mark
+picked_start (picks.Sorted x) = x.value.mark
 
 -- the number of cells that the events speak of
 abbrev pub picked_kept : Picked → ℕ
-picked_kept (picks.All g) = g.kept
-picked_kept (picks.First f) = f.inner.kept
-picked_kept (picks.Sorted x) = kept_of x.inner.kept x.heard
+picked_kept (picks.All g) = g.value.kept
+picked_kept (picks.First f) = f.value.inner.kept
+picked_kept (picks.Sorted x) = kept_of x.value.inner.kept x.value.heard
 
 -- no call has failed
 abbrev pub picked_live : Picked → Bool
-picked_live (picks.All g) = g.is_live
-picked_live (picks.First f) = f.inner.is_live
-picked_live (picks.Sorted x) = live_of x.inner.is_live x.heard
+picked_live (picks.All g) = g.value.is_live
+picked_live (picks.First f) = f.value.inner.is_live
+picked_live (picks.Sorted x) = live_of x.value.inner.is_live x.value.heard
 
 -- they aren't closed
 abbrev pub picked_open : Picked → Bool
-picked_open (picks.All g) = g.is_open
-picked_open (picks.First f) = f.inner.is_open
-picked_open (picks.Sorted x) = open_of x.inner.is_open x.heard
+picked_open (picks.All g) = g.value.is_open
+picked_open (picks.First f) = f.value.inner.is_open
+picked_open (picks.Sorted x) = open_of x.value.inner.is_open x.value.heard

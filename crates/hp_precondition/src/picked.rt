@@ -11,11 +11,12 @@ use hp_gen::{Gen, Scene};
 use hp_pick::{First, Sorted};
 use std::alloc::AllocError;
 
-/// All satisfiers of an expression, the first alone, or all in the order of a variable.
+/// All satisfiers of an expression, the first alone, or all in the order of a variable. They stay where they are while
+/// what holds them is moved.
 pub enum Picked {
-    All(Gen),
-    First(First<Gen>),
-    Sorted(Sorted<Gen>),
+    All(Box<Gen>),
+    First(Box<First<Gen>>),
+    Sorted(Box<Sorted<Gen>>),
 }
 
 impl Drop for Picked {

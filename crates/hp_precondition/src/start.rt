@@ -56,16 +56,20 @@ pub fn satisfiers<'a>(
     match op {
         Op::Plain => {
             let inner = Gen::start(alloc, scene, cells, below, nest, slots)?;
+            let inner = Box::new(alloc, inner)?;
             Ok(Picked::All(inner))
         }
         Op::First => {
             let inner = Gen::start(alloc, scene, cells, below, nest, slots)?;
-            Ok(Picked::First(First::new::<Scene<'a>>(inner)))
+            let first = Box::new(alloc, First::new::<Scene<'a>>(inner))?;
+            Ok(Picked::First(first))
         }
         Op::Sort(key) => {
             let key = key.copy(alloc)?;
             let inner = Gen::start(alloc, scene, cells, below, nest, slots)?;
-            Ok(Picked::Sorted(Sorted::new::<Scene<'a>>(alloc, inner, key, slots)))
+            let sorted = Sorted::new::<Scene<'a>>(alloc, inner, key, slots);
+            let sorted = Box::new(alloc, sorted)?;
+            Ok(Picked::Sorted(sorted))
         }
         _ => unreachable!(),
     }
