@@ -1,11 +1,9 @@
 -- The satisfiers that a precondition takes, over scenes of one code with the same atoms; and behind a fault.
-use Rattle.std.proofs.Common.{◌≡◌, ℕ, Bool, true, false, cond, List, [], ◌∷◌, ◌++◌, map, Option, Some, None, refl, sym,
-    ◌∙◌, ap, subst}
+use Rattle.std.proofs.Common.{◌≡◌, ℕ, Bool, true, false, cond, List, [], ◌∷◌, ◌++◌, map, Option, Some, None, refl, sym, ◌∙◌, ap, subst}
 use Rattle.hp_syntax.specs.Terms.{Term}
 use Rattle.hp_syntax.specs.Events.{Event, Sat, Cut, Fault, is_fault, is_sat}
 use Rattle.hp_syntax.specs.Lists.{up_to}
-use Rattle.hp_syntax.specs.Preconditions.{heard, keyed, up_to_sat, Keyed, Keys, NoKey, sorted, sorted_events,
-    sorts_before, precondition_events}
+use Rattle.hp_syntax.specs.Preconditions.{heard, keyed, up_to_sat, Keyed, Keys, NoKey, sorted, sorted_events, sorts_before, precondition_events}
 use Rattle.hp_syntax.specs.Syntax as syntax
 use Rattle.hp_syntax.specs.Values.{Bindings}
 use Rattle.hp_syntax.specs.Events.{State}
