@@ -23,8 +23,8 @@ use Rattle.hp_agenda.specs.Queues.{rule_of}
 
 -- ---- candidates
 
--- numbers are those of the first candidates of a network; where there are any, all of them stand at the places of those of
--- its nodes
+-- numbers are those of the first candidates of a network; where there are any, all candidates stand at the places of
+-- those of its nodes
 pub record AreFirst (net : Linked) (ids : List ℕ) : Type 0 where
   pub listed : ids ≡ take (length ids) (candidates_in net)
   pub places : 0 < length ids → (terms : List Term) → map (place_of net) (candidates_in net)

@@ -155,12 +155,14 @@ impl Opening<'_, '_> {
             cells,
         )?;
         match chosen {
-            Some(Chosen {
-                number,
-                tasks,
-                sats,
-                first,
-            }) => Ok(Some(Choice {
+            Some(
+                Chosen {
+                    number,
+                    tasks,
+                    sats,
+                    first,
+                },
+            ) => Ok(Some(Choice {
                 id: self.id,
                 task: self.task,
                 rule,

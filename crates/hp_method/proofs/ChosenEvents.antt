@@ -146,7 +146,9 @@ module _ (c : CodeView) (at' to nest : ℕ) (st : State) (e : Bindings) (bs : Li
     (left : BranchesPassed c at' to nest st e bs number) (s : StandsBranch c at' to) where
   -- the branch of the node stands behind those before it
   passed_first : bs ≡ left.passed ++ s.branch ∷ s.others
-  passed_first = left.whole ∙ ap (λ xs. left.passed ++ xs) (same_Some left.rest (s.branch ∷ s.others) (sym left.is ∙ s.is))
+  passed_first =
+      left.whole
+      ∙ ap (λ xs. left.passed ++ xs) (same_Some left.rest (s.branch ∷ s.others) (sym left.is ∙ s.is))
 
   -- where it is chosen, it is so at its number
   pub passed_chosen : (xs : List PlainEvent) → chosen_branch (rules_in c) nest st bs e ≡ Some (s.branch, xs)

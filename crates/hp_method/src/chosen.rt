@@ -19,8 +19,8 @@ use hp_precondition::{Picked, satisfiers};
 use std::alloc::{AllocError, Global};
 
 /// The branch that is chosen: its number among the method's branches, the node of its tasks, the satisfiers of its
-/// precondition, and the first event of these, which was heard and isn't the end. Where it is a Sat, its bindings stand in
-/// the slots.
+/// precondition, and the first event of these, which was heard and isn't the end. Where it is a Sat, its bindings stand
+/// in the slots.
 #[derive(Drop)]
 pub struct Chosen {
     pub number: usize,

@@ -124,7 +124,8 @@ loop-at-preserved c =
           (sym stay ∙ h.0));
       passed = λ bs is.
           subst
-          (λ (l : Laid). BranchesPassed k l.to c.args.end nest (state_in (setting_of s old)) e bs (c.loop-at.number + 1))
+          (λ (l : Laid). BranchesPassed k l.to c.args.end nest (state_in (setting_of s old)) e bs
+          (c.loop-at.number + 1))
           same
           (passed_next k c.loop-at.at c.args.end nest (state_in (setting_of s old)) e bs c.loop-at.number
           (held.passed bs is) b (sym stay ∙ h.0) (c.loop-at.number + 1) refl);

@@ -60,8 +60,8 @@ returns-in-Some-clause-choice c =
     let fits = subst (λ o. IfSome o (ChosenFits s new slots)) c.in-Some.is c.in_ok-chosen.ensures.fits in
     let more = grows_length c.args.cells.now new c.in_ok-chosen.ensures.cells in
     let below = c.requires.task in
-    method_choice s me.nest new me.id me.task c.args.rule x.number slots x.sats x.tasks x.first (omega (arith, below, more))
-    (ap is_some h.tasks) fits
+    method_choice s me.nest new me.id me.task c.args.rule x.number slots x.sats x.tasks x.first
+    (omega (arith, below, more)) (ap is_some h.tasks) fits
 
 pub returns-in-Some-clause-branch : goal.returns-in-Some-clause-branch
 returns-in-Some-clause-branch c = λ m n found state.

@@ -63,5 +63,5 @@ returns-clause-choice c =
     let same = same_Some nodes.node (laid_of c.node_at-2.result.now) (sym nodes.there ∙ c.node_at-2.ensures.is) in
     let body = subst (λ (l : Laid). IsBodyIn (code_in s) l.to end) same nodes.nodes in
     let sats = c.in_ok-sats.ensures in
-    operator_choice s me.nest c.args.cells.now me.id me.task c.args.rule 0 c.args.slots c.in_ok-sats.sats start end c.requires.task
-    body sats.suits sats.fits sats.kept sats.live sats.open
+    operator_choice s me.nest c.args.cells.now me.id me.task c.args.rule 0 c.args.slots c.in_ok-sats.sats start end
+    c.requires.task body sats.suits sats.fits sats.kept sats.live sats.open
