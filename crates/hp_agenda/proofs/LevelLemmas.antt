@@ -4,7 +4,7 @@ use Rattle.std.proofs.lemmas.Bool.{cases_lt}
 use Rattle.std.proofs.lemmas.List.Elements.{All-same}
 use Rattle.hp_syntax.specs.Syntax.{Rule}
 use Rattle.hp_syntax.specs.Terms.{Term}
-use Rattle.hp_syntax.specs.Walk.{Node}
+use Rattle.hp_syntax.specs.Walk.{DidChild, Node}
 use Rattle.hp_code.specs.CodeViews.{rules_in}
 use Rattle.hp_code.specs.Codes.{code_of}
 use Rattle.hp_world.specs.Histories.{History, mark_of}
@@ -27,9 +27,11 @@ use Rattle.hp_site.proofs.SiteLemmas.{begin_alike, atoms_kept, held_is_now, keep
 use Rattle.hp_agenda.specs.declared.agenda.Agenda.{Agenda}
 use Rattle.hp_agenda.specs.declared.frame.Frame.{Frame}
 use Rattle.hp_agenda.specs.Agendas.{IsAgenda, agenda_children}
-use Rattle.hp_agenda.specs.Frames.{IsFrame, LeadTo, Opens, end_successors, left_of, level_of, rules_at}
+use Rattle.hp_agenda.specs.Begun.{HasLast}
+use Rattle.hp_agenda.specs.Frames.{CameTo, IsFrame, LeadTo, Opens, end_successors, left_of, level_of, rules_at}
 use Rattle.hp_agenda.specs.Queues.{IsRuleIn, MaybeOpen, by_queue, if_open}
 use Rattle.hp_agenda.proofs.AgreeSteps.{agenda_agrees, agenda_below, agenda_in_scene, agenda_scene, agenda_within}
+use Rattle.hp_agenda.proofs.BegunLemmas.{has_last_agrees, has_last_at}
 use Rattle.hp_agenda.proofs.QueueLemmas.{nothing_left}
 
 -- a level by its parts
@@ -133,6 +135,28 @@ lead_kept nest m b old new c d (f ∷ fs) lead keeps same =
     let base : f.base ≤ b = omega (arith, is.base, low) in
     let rest = lead_kept nest f.mark f.base old new c d fs above here (begin_alike f.base b c d base same) in
     record { levels = ap₂ ◌∷◌ first.level rest.levels; lead = (first.frame, within, low, rest.lead) }
+
+-- frames that came to a moment that is kept, and whose cells are, came to it still
+pub came_kept : (nest : ℕ) (m : Mark) (b : ℕ) (old new : Site) (c d : List Term) (fs : List Frame)
+    → LeadTo old nest c m b fs → IsHeldNode b (held_at old m) → Keeps m old new → take b c ≡ take b d
+    → CameTo old nest c m fs → CameTo new nest d m fs
+came_kept nest m b old new c d [] lead node keeps same came = tt
+came_kept nest m b old new c d (f ∷ fs) lead node keeps same came =
+    let (is, within, low, above) = lead in
+    let (last, others) = came in
+    let here = keeps_within m f.mark old new keeps within in
+    let base : f.base ≤ b = omega (arith, is.base, low) in
+    let below = held_below f.base f.floor (held_at old f.mark) is.base is.node in
+    let child : node_of c (held_at old m) ≡ node_of d (held_at new m) =
+    held_agrees b c d (held_at old m) node same
+    ∙ ap (node_of d) (sym (keeps_held m m old new keeps (within_itself m))) in (
+      has_last_at old.scene new.scene (sym keeps.code) nest d (held_at old f.mark) (held_at new f.mark) f.agenda _
+          (sym (keeps_held f.mark f.mark old new here (within_itself f.mark)))
+          (has_last_agrees f.floor c d old.scene nest f.base (held_at old f.mark) below
+          (begin_alike f.floor b c d low same) f.agenda _ is.agenda
+          (subst (λ n. HasLast old.scene nest c (held_at old f.mark) f.agenda (DidChild n ∷ [])) child last)),
+      came_kept nest f.mark f.base old new c d fs above is.node here (begin_alike f.base b c d base same) others,
+    )
 
 -- ---- other bounds
 

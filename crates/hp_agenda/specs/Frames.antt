@@ -2,7 +2,7 @@
 use Rattle.std.specs.Prelude.{◌≡◌, ℕ, ◌-◌, ◌^◌, ◌<◌, ◌≤◌, min, List, [], ◌∷◌, ◌++◌, map, length, Option, Some, None}
 use Rattle.hp_syntax.specs.Syntax.{Rule}
 use Rattle.hp_syntax.specs.Terms.{Term}
-use Rattle.hp_syntax.specs.Walk.{CutChild}
+use Rattle.hp_syntax.specs.Walk.{CutChild, DidChild}
 use Rattle.hp_code.specs.CodeViews.{rules_in}
 use Rattle.hp_world.specs.Recorded.{history_in}
 use Rattle.hp_suspended.specs.declared.scene.Scene.{Scene}
@@ -21,6 +21,7 @@ use Rattle.hp_agenda.specs.declared.frame.Frame.{Frame}
 use Rattle.hp_agenda.specs.declared.frame.Successor as made
 use Rattle.hp_agenda.specs.declared.frame.Successor.TheVariants.{Plan, Child}
 use Rattle.hp_agenda.specs.Agendas.{IsAgenda, agenda_children}
+use Rattle.hp_agenda.specs.Begun.{HasLast}
 
 -- ---- levels
 
@@ -63,6 +64,13 @@ LeadTo site nest terms m base [] = Unit {0}
 LeadTo site nest terms m base (f ∷ fs) =
     IsFrame site nest terms f.floor f × IsWithin f.mark m × (f.floor ≤ base) × LeadTo site nest terms f.mark f.base fs
 
+-- frames, the nearest first, came to a moment: at each the last child that was given is the node of the moment below it
+abbrev pub CameTo : Site → ℕ → List Term → Mark → List Frame → Type 0
+CameTo site nest terms m [] = Unit {0}
+CameTo site nest terms m (f ∷ fs) =
+    HasLast site.scene nest terms (held_at site f.mark) f.agenda (DidChild (node_of terms (held_at site m)) ∷ [])
+    × CameTo site nest terms f.mark fs
+
 -- a frame is of the node that is reached, and all its successors are left
 pub record Opens (site : Site) (nest : ℕ) (terms : List Term) (f : Frame) : Type 0 where
   pub mark : f.mark ≡ mark_now site
@@ -71,6 +79,7 @@ pub record Opens (site : Site) (nest : ℕ) (terms : List Term) (f : Frame) : Ty
   pub agenda : IsAgenda site.scene terms f.base (length terms) (held_now site) f.agenda
   pub left : left_of site.scene nest terms (held_now site) f
       ≡ successors (rules_at site) nest (node_of terms (held_now site))
+  pub last : HasLast site.scene nest terms (held_now site) f.agenda []
 
 -- ---- the next successor
 

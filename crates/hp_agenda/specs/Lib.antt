@@ -1,3 +1,4 @@
 pub mod Queues
 pub mod Agendas
+pub mod Begun
 pub mod Frames

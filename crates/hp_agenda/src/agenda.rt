@@ -1,5 +1,5 @@
 //! The children of a node that are left.
-ghost use Rattle.std.specs.Prelude.{◌≡◌, ◌<◌, ◌≤◌, false, IfOk, OnOk, length};
+ghost use Rattle.std.specs.Prelude.{◌≡◌, ◌<◌, ◌≤◌, [], false, IfOk, OnOk, length};
 ghost use Rattle.hp_eval.specs.Growth.{Grows};
 ghost use Rattle.hp_world.specs.Pasts.{PastsBelow};
 ghost use Rattle.hp_world.specs.Recorded.{history_in};
@@ -8,6 +8,7 @@ ghost use Rattle.hp_tree.specs.SearchNodes.{node_of};
 ghost use Rattle.hp_choice.specs.Choices.{IsFloor, StaysUnless, floor_of};
 ghost use Rattle.hp_site.specs.Sites.{IsSite, Keeps, held_now, mark_now};
 ghost use Rattle.hp_agenda.specs.Agendas.{IsAgenda, TakesChild, TakesOpen, agenda_children};
+ghost use Rattle.hp_agenda.specs.Begun.{AreFirst, HasLast, did_given};
 ghost use Rattle.hp_agenda.specs.Queues.{IsQueue, MaybeOpen, queue_children, work_left};
 
 use crate::queue::Queue;
@@ -52,6 +53,9 @@ impl<'a> Agenda<'a> {
         ensures floor { IfOk result (λ given. IsFloor given (length cells.old) (length cells.new)) }
         ensures stays { IfOk result (λ given. StaysUnless given site.old site.new) }
         ensures queue { self.new.queue ≡ self.old.queue }
+        ensures last { HasLast site.old.scene nest cells.old (held_now site.old) self.old []
+            → IfOk result (λ given. HasLast site.old.scene nest cells.new (held_now site.old) self.new
+            (did_given cells.new (held_now site.new) given)) }
         ensures site { OnOk result (IsSite cells.new site.new) }
         ensures keeps { Keeps (mark_now site.old) site.old site.new }
         ensures cells { Grows cells.old cells.new }
@@ -79,6 +83,8 @@ impl<'a> Agenda<'a> {
             ≡ agenda_children site.now.scene nest cells.new (held_now site.now) self.new) }
         ensures agenda { OnOk result (IsAgenda site.now.scene cells.new (length cells.old) (length cells.new)
             (held_now site.now) self.new) }
+        ensures last { AreFirst site.now.net.now self.old.queue.candidates.items
+            → OnOk result (HasLast site.now.scene nest cells.new (held_now site.now) self.new []) }
         ensures less { OnOk result (work_left (code_in site.now.scene) site.now.net.now self.new.queue
             < work_left (code_in site.now.scene) site.now.net.now self.old.queue) }
         ensures cells { Grows cells.old cells.new }
@@ -106,6 +112,9 @@ impl<'a> Agenda<'a> {
             self.old given (held_now site.new) self.new) }
         ensures agenda { IfOk result (λ given. IsAgenda site.old.scene cells.new base
             (floor_of given (length cells.new)) (held_now site.old) self.new) }
+        ensures last { HasLast site.old.scene nest cells.old (held_now site.old) self.old []
+            → IfOk result (λ given. HasLast site.old.scene nest cells.new (held_now site.old) self.new
+            (did_given cells.new (held_now site.new) given)) }
         ensures floor { IfOk result (λ given. IsFloor given (length cells.old) (length cells.new)) }
         ensures stays { IfOk result (λ given. StaysUnless given site.old site.new) }
         ensures site { OnOk result (IsSite cells.new site.new) }

@@ -1,5 +1,5 @@
 //! The nodes on the way to the one that is reached.
-ghost use Rattle.std.specs.Prelude.{◌≡◌, ◌≤◌, ℕ, false, IfOk, OnOk, None, Some, length};
+ghost use Rattle.std.specs.Prelude.{◌≡◌, ◌≤◌, ℕ, [], false, IfOk, OnOk, None, Some, length};
 ghost use Rattle.hp_eval.specs.Growth.{Grows};
 ghost use Rattle.hp_world.specs.Pasts.{PastsBelow};
 ghost use Rattle.hp_world.specs.Recorded.{history_in};
@@ -7,7 +7,8 @@ ghost use Rattle.hp_tree.specs.SearchNodes.{node_of};
 ghost use Rattle.hp_tree.specs.Successors.{successors};
 ghost use Rattle.hp_site.specs.Sites.{IsSite, Keeps, held_now, mark_now};
 ghost use Rattle.hp_agenda.specs.Agendas.{IsAgenda};
-ghost use Rattle.hp_agenda.specs.Frames.{FloorStands, Opens, StaysAt, TakesSuccessor, bound_of, end_successors, left_of, rules_at};
+ghost use Rattle.hp_agenda.specs.Begun.{HasLast, did_given};
+ghost use Rattle.hp_agenda.specs.Frames.{FloorStands, Opens, StaysAt, TakesSuccessor, bound_of, end_successors, given_in, left_of, rules_at};
 
 use crate::agenda::Agenda;
 use crate::queue::Queue;
@@ -129,6 +130,9 @@ impl<'a> Frame<'a> {
             (left_of site.old.scene nest cells.new (held_now site.old) self.new)) }
         ensures agenda { IfOk result (λ next. IsAgenda site.old.scene cells.new self.old.base
             (bound_of next (length cells.new)) (held_now site.old) self.new.agenda) }
+        ensures last { HasLast site.old.scene nest cells.old (held_now site.old) self.old.agenda []
+            → IfOk result (λ next. HasLast site.old.scene nest cells.new (held_now site.old) self.new.agenda
+            (did_given cells.new (held_now site.new) (given_in next))) }
         ensures floor { IfOk result (λ next. FloorStands next (length cells.old) (length cells.new)) }
         ensures stays { IfOk result (λ next. StaysAt next site.old site.new) }
         ensures mark { self.new.mark ≡ self.old.mark }

@@ -11,6 +11,7 @@ ghost use Rattle.hp_suspended.specs.SceneViews.{code_in};
 ghost use Rattle.hp_tree.specs.Children.{IsCandidate, by_candidates};
 ghost use Rattle.hp_tree.specs.SearchNodes.{node_of};
 ghost use Rattle.hp_site.specs.Sites.{IsSite, held_now};
+ghost use Rattle.hp_agenda.specs.Begun.{AreFirst, LastGiven};
 ghost use Rattle.hp_agenda.specs.Queues.{IsQueue, IsRuleIn, MaybeOpen, by_queue, candidates_left, if_open, queue_children, work_left};
 
 use hp_cells::{Cell, Cells, View};
@@ -108,6 +109,7 @@ impl<'a> Queue<'a> {
             (node_of cells.now (held_now site.now)) site.now.net.now q
             ≡ children (rules_in (code_in site.now.scene)) nest (node_of cells.now (held_now site.now))) }
         ensures queue { IfOk result (λ q. IsQueue (code_in site.now.scene) (held_now site.now) q) }
+        ensures first { IfOk result (λ q. AreFirst site.now.net.now q.candidates.items) }
     {
         let candidates = site.net.first_candidates(alloc, FEW)?;
         let more = candidates.len() == FEW;
@@ -140,6 +142,10 @@ impl<'a> Queue<'a> {
         ensures choice { IfOk result (λ o. MaybeOpen site.now.scene cells.new (length cells.old) (length cells.new)
             (held_now site.now) o) }
         ensures queue { OnOk result (IsQueue (code_in site.now.scene) (held_now site.now) self.new) }
+        ensures first { AreFirst site.now.net.now self.old.candidates.items
+            → OnOk result (AreFirst site.now.net.now self.new.candidates.items) }
+        ensures last { AreFirst site.now.net.now self.old.candidates.items → IfOk result (λ o.
+            LastGiven site.now.scene nest cells.new (held_now site.now) self.new.at o []) }
         ensures less { OnOk result (work_left (code_in site.now.scene) site.now.net.now self.new
             < work_left (code_in site.now.scene) site.now.net.now self.old) }
         ensures cells { Grows cells.old cells.new }
@@ -174,6 +180,8 @@ impl<'a> Queue<'a> {
             ≡ by_candidates (rules_in (code_in site.now.scene)) nest (node_of cells.now (held_now site.now))
             site.now.net.now (drop 1 (candidates_left site.now.net.now self.old)) 0) }
         ensures queue { OnOk result (IsQueue (code_in site.now.scene) (held_now site.now) self.new) }
+        ensures first { AreFirst site.now.net.now self.old.candidates.items
+            → OnOk result (AreFirst site.now.net.now self.new.candidates.items) }
         ensures less { OnOk result (length (candidates_left site.now.net.now self.new)
             < length (candidates_left site.now.net.now self.old)) }
     {
@@ -193,6 +201,8 @@ impl<'a> Queue<'a> {
         ensures more { OnOk result (self.new.more ≡ true → self.new.at < length self.new.candidates.items) }
         ensures candidates { OnOk result (All (IsCandidate site.now.net.now) self.new.candidates.items) }
         ensures at { self.new.at ≡ self.old.at }
+        ensures first { AreFirst site.now.net.now self.old.candidates.items
+            → OnOk result (AreFirst site.now.net.now self.new.candidates.items) }
     {
         if !self.more || self.at < self.candidates.len() {
             return Ok(());

@@ -21,6 +21,7 @@ use Rattle.hp_choice.specs.declared.choice.Choice.{Choice}
 use Rattle.hp_choice.specs.declared.choice.Given.{Given}
 use Rattle.hp_choice.specs.Choices.{GivesEvent, IsChoice, StaysUnless, Takes, event_children, events_left, floor_of, given_children, held_children}
 use Rattle.hp_choice.specs.Deeds.{deed_done}
+use Rattle.hp_choice.specs.Served.{ServesStill}
 use Rattle.hp_choice.proofs.ChoiceLemmas.{children_in, children_stay, choice_grows, choice_in, event_next, events_stay, fewer_left, none_left}
 
 -- ---- children that may be there
@@ -34,6 +35,12 @@ some_given (Some x) e h = absurd cc
 pub none_given : (given : Option Given) → is_some given ≡ false → given ≡ None
 none_given None e = refl
 none_given (Some x) e = absurd cc
+
+-- a choice that serves still by the next event does so after it
+pub served_on : (first old mid new : Choice) → ServesStill first old → ServesStill old mid → new ≡ mid
+    → ServesStill first new
+served_on first old mid new h k same = subst (ServesStill first) (sym same)
+    (record { task = k.task ∙ h.task; rule = k.rule ∙ h.rule; branch = k.branch ∙ h.branch })
 
 -- ---- sites alike
 

@@ -56,7 +56,7 @@ module _ (s : Scene) (terms : List Term) (sats : Picked) where
       })
       u
 
-module _ (s : Scene) (nest : ℕ) (terms : List Term) (id task : ℕ) (slots : Slotted) (sats : Picked) where
+module _ (s : Scene) (nest : ℕ) (terms : List Term) (id task rule branch : ℕ) (slots : Slotted) (sats : Picked) where
   -- ---- operators
 
   module _ (start end : ℕ) where
@@ -65,6 +65,8 @@ module _ (s : Scene) (nest : ℕ) (terms : List Term) (id task : ℕ) (slots : S
     operate = record {
       id = id;
       task = task;
+      rule = rule;
+      branch = branch;
       deed = Operate start end;
       slots = slots;
       sats = sats;
@@ -114,6 +116,8 @@ module _ (s : Scene) (nest : ℕ) (terms : List Term) (id task : ℕ) (slots : S
     decompose = record {
       id = id;
       task = task;
+      rule = rule;
+      branch = branch;
       deed = Decompose tasks;
       slots = slots;
       sats = sats;
@@ -121,7 +125,7 @@ module _ (s : Scene) (nest : ℕ) (terms : List Term) (id task : ℕ) (slots : S
     }
 
     abbrev pub chosen : Chosen
-    chosen = record { tasks = tasks; sats = sats; first = first }
+    chosen = record { number = branch; tasks = tasks; sats = sats; first = first }
 
     -- the children that it has left are those that the satisfiers of the chosen branch's precondition give
     pub method_left : (n : Node) (p : Place) (whole : Option (Branch × List PlainEvent))

@@ -15,6 +15,7 @@ ghost use Rattle.hp_tree.specs.Children.{IsCandidate};
 ghost use Rattle.hp_site.specs.Sites.{IsSite, Keeps, held_now, mark_now};
 ghost use Rattle.hp_choice.specs.declared.choice.Deed.TheVariants as deeds;
 ghost use Rattle.hp_choice.specs.Choices.{Gives, GivesEvent, IsChoice, IsFloor, StaysUnless, Takes, events_left, floor_of};
+ghost use Rattle.hp_choice.specs.Served.{ServesStill};
 
 use hp_cells::{Cell, Cells};
 use hp_code::{CodeNode, Op};
@@ -37,11 +38,14 @@ pub enum Deed {
     Decompose { tasks: usize },
 }
 
-/// The choice of a rule at a task: what its satisfiers lead to, their bindings, the satisfiers that are left, and the
-/// event that was heard before it was asked for, if there is one.
+/// The choice of a rule at a task: the rule by its node and the number of its branch, 0 for an operator; what its
+/// satisfiers lead to, their bindings, the satisfiers that are left, and the event that was heard before it was asked
+/// for, if there is one.
 pub struct Choice {
     pub id: TaskId,
     pub task: Cell,
+    pub rule: usize,
+    pub branch: usize,
     pub deed: Deed,
     pub slots: Slots,
     pub sats: Picked,
@@ -53,6 +57,8 @@ impl Drop for Choice {
         let Choice {
             id: _,
             task: _,
+            rule: _,
+            branch: _,
             deed: _,
             slots,
             sats,
@@ -110,6 +116,7 @@ impl Choice {
         ensures id { self.new.id ≡ self.old.id }
         ensures task { self.new.task ≡ self.old.task }
         ensures deed { self.new.deed ≡ self.old.deed }
+        ensures served { ServesStill self.old self.new }
         ensures cells { Grows cells.old cells.new }
     {
         match self.first {
@@ -267,6 +274,7 @@ impl Choice {
         ensures stays { IfOk result (λ given. StaysUnless given site.old site.new) }
         ensures kept { OnOk result (picked_kept self.old.sats ≤ picked_kept self.new.sats) }
         ensures id { self.new.id ≡ self.old.id }
+        ensures served { OnOk result (ServesStill self.old self.new) }
         ensures site { OnOk result (IsSite cells.new site.new) }
         ensures keeps { Keeps (mark_now site.old) site.old site.new }
         ensures cells { Grows cells.old cells.new }

@@ -18,7 +18,9 @@ ghost use Rattle.hp_world.specs.Stages.{AllBelow, live_atoms};
 ghost use Rattle.hp_suspended.specs.SceneViews.{IsReady, code_in, setting_of};
 ghost use Rattle.hp_suspended.specs.Settings.{state_in};
 ghost use Rattle.hp_precondition.specs.Picks.{picked_kept};
+ghost use Rattle.hp_method.specs.Branches.{IsChosenAt};
 ghost use Rattle.hp_choice.specs.Choices.{IsChoice, choice_children, children_if};
+ghost use Rattle.hp_choice.specs.Served.{ServesBy};
 
 use crate::choice::{Choice, Deed};
 use hp_cells::{Cell, Cells};
@@ -91,6 +93,7 @@ impl Opening<'_, '_> {
         ensures choice { let s = self.now.scene.now in
             IfOk result (IsChoice s cells.now (length cells.now) s.world.now) }
         ensures names { IfOk result (λ x. (x.id ≡ self.now.id) × (x.task ≡ self.now.task)) }
+        ensures served { IfOk result (λ x. (x.rule ≡ rule) × (x.branch ≡ 0)) }
         ensures kept { IfOk result (λ x. length cells.now ≤ picked_kept x.sats) }
     {
         // Nothing runs here: the law makes known that an operator comes to what its nodes do.
@@ -102,6 +105,8 @@ impl Opening<'_, '_> {
         Ok(Choice {
             id: self.id,
             task: self.task,
+            rule,
+            branch: 0,
             deed: Deed::Operate { start, end },
             slots,
             sats,
@@ -130,6 +135,11 @@ impl Opening<'_, '_> {
         ensures choice { let s = self.now.scene.now in
             IfOk result (λ x. IfSome x (IsChoice s cells.new (length cells.new) s.world.now)) }
         ensures names { IfOk result (λ x. IfSome x (λ c. (c.id ≡ self.now.id) × (c.task ≡ self.now.task))) }
+        ensures rule { IfOk result (λ x. IfSome x (λ c. c.rule ≡ rule)) }
+        ensures branch { let s = self.now.scene.now in let c = code_in s in
+            IfOk result (λ x. IfSome x (λ d. (m : Method) (n : Node)
+            → beside rule (rule_nodes c) (rules_in c) ≡ Some (Refines m) → n.state ≡ state_in (setting_of s cells.old)
+            → IsChosenAt (rules_in c) self.now.nest n.state (bindings_of cells.old slots) m.branches d.branch)) }
         ensures kept { IfOk result (λ x. IfSome x (λ c. length cells.old ≤ picked_kept c.sats)) }
         ensures cells { Grows cells.old cells.new }
     {
@@ -145,9 +155,18 @@ impl Opening<'_, '_> {
             cells,
         )?;
         match chosen {
-            Some(Chosen { tasks, sats, first }) => Ok(Some(Choice {
+            Some(
+                Chosen {
+                    number,
+                    tasks,
+                    sats,
+                    first,
+                },
+            ) => Ok(Some(Choice {
                 id: self.id,
                 task: self.task,
+                rule,
+                branch: number,
                 deed: Deed::Decompose { tasks },
                 slots,
                 sats,
@@ -182,6 +201,11 @@ pub fn open<'a>(
     ensures choice { IfOk result (λ o. IfSome o (IsChoice scene.now cells.new (length cells.new)
         scene.now.world.now)) }
     ensures names { IfOk result (λ o. IfSome o (λ c. (c.id ≡ id) × (c.task ≡ task))) }
+    ensures rule { IfOk result (λ o. IfSome o (λ c. c.rule ≡ rule)) }
+    ensures branch { IfOk result (λ o. IfSome o (λ c. (r : Rule) (n : Node)
+        → beside rule (rule_nodes (code_in scene.now)) (rules_in (code_in scene.now)) ≡ Some r
+        → n.state ≡ state_in (setting_of scene.now cells.old)
+        → ServesBy (rules_in (code_in scene.now)) nest n.state (term_at cells.old task) r c.branch)) }
     ensures kept { IfOk result (λ o. IfSome o (λ c. length cells.old ≤ picked_kept c.sats)) }
     ensures cells { Grows cells.old cells.new }
 {

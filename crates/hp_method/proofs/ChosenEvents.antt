@@ -1,8 +1,10 @@
 -- The events of a branch that is heard, and the branch that is chosen.
-use Rattle.std.proofs.Common.{◌≡◌, ℕ, List, [], ◌∷◌, Option, Some, None, refl, sym, ◌∙◌, ap, ap₂, subst}
+use Rattle.std.proofs.Common.{◌≡◌, ℕ, List, [], ◌∷◌, ◌++◌, length, take, slice_get, Option, Some, None, refl, sym, ◌∙◌, ap, ap₂, subst, append_assoc, arith, ◌+◌}
+use Rattle.std.proofs.lemmas.List.{length-append}
 use Rattle.std.proofs.lemmas.Option.{same_Some}
+use Rattle.std.proofs.Math.Seq.{take-append_seam}
 use Rattle.hp_syntax.specs.Events as plain
-use Rattle.hp_syntax.specs.Events.{State, axioms_of, chosen_or}
+use Rattle.hp_syntax.specs.Events.{State, axioms_of, chosen, chosen_or}
 use Rattle.hp_syntax.specs.Preconditions.{heard, precondition_events}
 use Rattle.hp_syntax.specs.Syntax.{Branch}
 use Rattle.hp_syntax.specs.Terms.{Term}
@@ -20,7 +22,7 @@ use Rattle.hp_suspended.specs.declared.scene.Scene.{Scene}
 use Rattle.hp_suspended.specs.SceneViews.{IsReady, setting_of}
 use Rattle.hp_suspended.specs.Settings.{axioms_in, state_in}
 use Rattle.hp_method.specs.declared.chosen.Chosen.{Chosen}
-use Rattle.hp_method.specs.Branches.{HearsEvents, branches_at, heard_before}
+use Rattle.hp_method.specs.Branches.{HearsEvents, IsChosenAt, branches_at, heard_before}
 use Rattle.hp_method.proofs.BranchNodes.{StandsBranch}
 
 -- ---- what was heard
@@ -110,4 +112,69 @@ module _ (c : CodeView) (at' to nest : ℕ) (st : State) (e : Bindings) (bs : Li
     rest = s.others;
     is = s.rest;
     same = left_first s ∙ ap (λ ys. chosen_or s.branch ys (chosen_branch (rules_in c) nest st s.others e)) h;
+  }
+
+-- ---- the number of the branch that is chosen
+
+-- behind things of which none is chosen, one without events isn't either
+none_more : {A : Type 0} (f : A → List PlainEvent) (xs : List A) (y : A) → chosen f xs ≡ None → f y ≡ []
+    → chosen f (xs ++ y ∷ []) ≡ None
+none_more f [] y none e = ap (λ ys. chosen_or y ys None) e
+none_more f (x ∷ xs) y none e = by (λ h. none_more f xs y h e) (f x) none
+  where
+    by : (chosen f xs ≡ None → chosen f (xs ++ y ∷ []) ≡ None) → (ys : List PlainEvent)
+        → chosen_or x ys (chosen f xs) ≡ None → chosen_or x ys (chosen f (xs ++ y ∷ [])) ≡ None
+    by later [] h = later h
+    by later (z ∷ zs) h = absurd cc
+
+-- behind the first ones of a list stands the next
+next_there : {A : Type 0} (xs ys : List A) (y : A) → slice_get (xs ++ y ∷ ys) (length xs) ≡ Some y
+next_there [] ys y = refl
+next_there (x ∷ xs) ys y = next_there xs ys y
+
+-- so many branches stand before a node; of these none is chosen, and those from it on are left
+pub record BranchesPassed (c : CodeView) (at' to nest : ℕ) (st : State) (e : Bindings) (bs : List Branch) (number : ℕ)
+    : Type 0 where
+  pub passed : List Branch
+  pub rest : List Branch
+  pub is : branches_at c at' to ≡ Some rest
+  pub whole : bs ≡ passed ++ rest
+  pub many : length passed ≡ number
+  pub none : chosen_branch (rules_in c) nest st passed e ≡ None
+
+module _ (c : CodeView) (at' to nest : ℕ) (st : State) (e : Bindings) (bs : List Branch) (number : ℕ)
+    (left : BranchesPassed c at' to nest st e bs number) (s : StandsBranch c at' to) where
+  -- the branch of the node stands behind those before it
+  passed_first : bs ≡ left.passed ++ s.branch ∷ s.others
+  passed_first =
+      left.whole
+      ∙ ap (λ xs. left.passed ++ xs) (same_Some left.rest (s.branch ∷ s.others) (sym left.is ∙ s.is))
+
+  -- where it is chosen, it is so at its number
+  pub passed_chosen : (xs : List PlainEvent) → chosen_branch (rules_in c) nest st bs e ≡ Some (s.branch, xs)
+      → IsChosenAt (rules_in c) nest st e bs number
+  passed_chosen xs is = record {
+    branch = s.branch;
+    events = xs;
+    is = is;
+    there =
+        ap₂ slice_get passed_first (sym left.many) ∙ next_there left.passed s.others s.branch;
+    before =
+        ap₂ (λ k ys. chosen_branch (rules_in c) nest st (take k ys) e) (sym left.many) passed_first
+        ∙ (ap (λ ys. chosen_branch (rules_in c) nest st ys e) (take-append_seam left.passed (s.branch ∷ s.others))
+        ∙ left.none);
+  }
+
+  -- where it has no events, it is passed too
+  pub passed_next : precondition_events (axioms_of (rules_in c)) nest st s.branch.pre e ≡ []
+      → (next : ℕ) → next ≡ number + 1 → BranchesPassed c s.node.to to nest st e bs next
+  passed_next h next more = record {
+    passed = left.passed ++ s.branch ∷ [];
+    rest = s.others;
+    is = s.rest;
+    whole = passed_first ∙ sym (append_assoc left.passed (s.branch ∷ []) s.others);
+    many = (let m = length-append left.passed (s.branch ∷ []) in omega (arith, m, left.many, more));
+    none =
+        none_more (λ (b : Branch). precondition_events (axioms_of (rules_in c)) nest st b.pre e) left.passed s.branch
+        left.none h;
   }

@@ -1,11 +1,12 @@
 -- What the nodes of a code read back as: the branches of a method and the tasks of each; and the branch that is chosen.
-use Rattle.std.specs.Prelude.{◌≡◌, ℕ, ◌≤◌, true, List, [], ◌∷◌, length, Option, Some, None, is_some}
+use Rattle.std.specs.Prelude.{◌≡◌, ℕ, ◌≤◌, true, List, [], ◌∷◌, length, take, slice_get, Option, Some, None, is_some}
 use Rattle.std.specs.Option.{option_and_then}
 use Rattle.hp_syntax.specs.Events as plain
 use Rattle.hp_syntax.specs.Preconditions.{precondition_events}
-use Rattle.hp_syntax.specs.Syntax.{Branch, Tasks}
+use Rattle.hp_syntax.specs.Syntax.{Branch, Rule, Tasks}
 use Rattle.hp_syntax.specs.Terms.{Term}
 use Rattle.hp_syntax.specs.Values.{Bindings}
+use Rattle.hp_syntax.specs.Walk.{chosen_branch}
 use Rattle.hp_nodes.specs.Trees.{Node, NoTree, TasksOf, Tree, tree_at, trees_between}
 use Rattle.hp_code.specs.CodeViews.{CodeView}
 use Rattle.hp_code.specs.Sources.{branch_read, branches_read}
@@ -95,6 +96,15 @@ pub record IsChosen (s : Scene) (terms : List Term) (e : Slotted) (x : Chosen)
 abbrev pub Chooses : Scene → List Term → Slotted → Option Chosen → Option (Branch × List PlainEvent) → Type 0
 Chooses s terms e None whole = whole ≡ None
 Chooses s terms e (Some x) whole = IsChosen s terms e x whole
+
+-- of branches the one of this number is chosen, and none of those before it would be
+pub record IsChosenAt (rules : List Rule) (nest : ℕ) (st : plain.State) (e : Bindings) (bs : List Branch) (number : ℕ)
+    : Type 0 where
+  pub branch : Branch
+  pub events : List PlainEvent
+  pub is : chosen_branch rules nest st bs e ≡ Some (branch, events)
+  pub there : slice_get bs number ≡ Some branch
+  pub before : chosen_branch rules nest st (take number bs) e ≡ None
 
 -- the precondition of a branch has no events, and the slots are as before; or these
 abbrev pub HearsEvents : Scene → List Term → Slotted → Slotted → Branch → Option Chosen → List PlainEvent → Type 0

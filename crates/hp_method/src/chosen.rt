@@ -9,7 +9,7 @@ ghost use Rattle.hp_eval.specs.Slotted.{AreBelow, Binds, bindings_of};
 ghost use Rattle.hp_suspended.specs.SceneViews.{IsReady, code_in, setting_of};
 ghost use Rattle.hp_suspended.specs.Settings.{state_in};
 ghost use Rattle.hp_precondition.specs.Picks.{picked_kept, picked_start};
-ghost use Rattle.hp_method.specs.Branches.{AreBranchesIn, ArePartsOf, Chooses, ChosenFits, Hears, IsBranchAt, branch_at, branches_at};
+ghost use Rattle.hp_method.specs.Branches.{AreBranchesIn, ArePartsOf, Chooses, ChosenFits, Hears, IsBranchAt, IsChosenAt, branch_at, branches_at};
 
 use hp_cells::Cells;
 use hp_code::CodeNode;
@@ -18,10 +18,12 @@ use hp_gen::Scene;
 use hp_precondition::{Picked, satisfiers};
 use std::alloc::{AllocError, Global};
 
-/// The branch that is chosen: the node of its tasks, the satisfiers of its precondition, and the first event of these,
-/// which was heard and isn't the end. Where it is a Sat, its bindings stand in the slots.
+/// The branch that is chosen: its number among the method's branches, the node of its tasks, the satisfiers of its
+/// precondition, and the first event of these, which was heard and isn't the end. Where it is a Sat, its bindings stand
+/// in the slots.
 #[derive(Drop)]
 pub struct Chosen {
+    pub number: usize,
     pub tasks: usize,
     pub sats: Picked,
     pub first: Event,
@@ -49,12 +51,13 @@ fn parts(node: usize, scene: &Scene<'_>) -> (usize, usize)
     (pre, node_at(pre, scene).to)
 }
 
-// The branch of a node, where its precondition has any events.
+// The branch of a node and of this number, where its precondition has any events.
 fn heard<'a>(
     alloc: Global,
     scene: &Scene<'a>,
     nest: u32,
     node: usize,
+    number: usize,
     slots: &mut Slots,
     cells: &mut Cells,
 ) -> Result<Option<Chosen>, AllocError>
@@ -63,6 +66,7 @@ fn heard<'a>(
     requires levels { nest ≤ 128 }
     ensures hears { IfOk result (λ o. (b : Branch)
         → Hears scene.now cells.old cells.new slots.old slots.new nest node b o) }
+    ensures number { IfOk result (λ o. IfSome o (λ x. x.number ≡ number)) }
     ensures fits { IfOk result (λ o. IfSome o (ChosenFits scene.now cells.new slots.new)) }
     ensures start { IfOk result (λ o. IfSome o (λ x. picked_start x.sats ≡ length slots.old.trail)) }
     ensures kept { IfOk result (λ o. IfSome o (λ x. length cells.old ≤ picked_kept x.sats)) }
@@ -77,7 +81,12 @@ fn heard<'a>(
         sats.close(slots);
         return Ok(None);
     }
-    Ok(Some(Chosen { tasks, sats, first }))
+    Ok(Some(Chosen {
+        number,
+        tasks,
+        sats,
+        first,
+    }))
 }
 
 /// The first of a method's branches whose precondition has any events under the bindings of the slots, with so many
@@ -99,6 +108,9 @@ pub fn chosen_branch<'a>(
     ensures chooses { IfOk result (λ o. (bs : List Branch) → branches_at (code_in scene.now) start end ≡ Some bs
         → Chooses scene.now cells.new slots.new o (chosen_branch (rules_in (code_in scene.now)) nest
         (state_in (setting_of scene.now cells.old)) bs (bindings_of cells.old slots.old))) }
+    ensures number { IfOk result (λ o. IfSome o (λ x. (bs : List Branch)
+        → branches_at (code_in scene.now) start end ≡ Some bs → IsChosenAt (rules_in (code_in scene.now)) nest
+        (state_in (setting_of scene.now cells.old)) (bindings_of cells.old slots.old) bs x.number)) }
     ensures fits { IfOk result (λ o. IfSome o (ChosenFits scene.now cells.new slots.new)) }
     ensures before { IfOk result (λ o. IfNone o (slots.new ≡ slots.old)) }
     ensures start { IfOk result (λ o. IfSome o (λ x. picked_start x.sats ≡ length slots.old.trail)) }
@@ -108,11 +120,13 @@ pub fn chosen_branch<'a>(
     ensures cells { Grows cells.old cells.new }
 {
     let mut at = start;
+    let mut number = 0;
     while at < end {
-        if let Some(chosen) = heard(alloc, scene, nest, at, slots, cells)? {
+        if let Some(chosen) = heard(alloc, scene, nest, at, number, slots, cells)? {
             return Ok(Some(chosen));
         }
         at = node_at(at, scene).to;
+        number += 1;
     }
     Ok(None)
 }

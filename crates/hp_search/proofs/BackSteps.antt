@@ -11,7 +11,7 @@ use Rattle.std.proofs.lemmas.List.Elements.{All-head, All-same, All-weaker}
 use Rattle.hp_laws.proofs.JoinLemmas.{all_left, all_right}
 use Rattle.hp_syntax.specs.Terms.{Term}
 use Rattle.hp_net.specs.Standings.{gone_back, next_below, pruned}
-use Rattle.hp_syntax.specs.Walk.{told}
+use Rattle.hp_syntax.specs.Walk.{DidChild, told}
 use Rattle.hp_tree.specs.Successors.{dids_in}
 use Rattle.hp_tree.specs.Stacks.{Stack, given_at, path_to, root_of, standing_of, with_left, IsStack}
 use Rattle.hp_tree.specs.SearchNodes.{HeldNode, IsHeldNode, node_of}
@@ -19,7 +19,7 @@ use Rattle.hp_tree.proofs.StackLemmas.{back_to, pruned_to}
 use Rattle.hp_site.specs.declared.mark.Mark.{Mark}
 use Rattle.hp_site.specs.declared.site.Site.{Site}
 use Rattle.hp_site.specs.Sites.{AtomsWithin, IsMark, IsSite, Keeps, held_at, held_now}
-use Rattle.hp_site.proofs.SiteLemmas.{atoms_undone, begin_alike, held_is_now, keeps_all}
+use Rattle.hp_site.proofs.SiteLemmas.{atoms_undone, begin_alike, held_is_now, keeps_all, keeps_held, within_itself}
 use Rattle.hp_site.proofs.AgreeLemmas.{held_below}
 use Rattle.hp_world.specs.Histories.{History, mark_of, past_at}
 use Rattle.hp_world.specs.Pasts.{PastsBelow}
@@ -30,12 +30,14 @@ use Rattle.hp_world.proofs.PastLemmas.{all_stood_below, past_end}
 use Rattle.hp_suspended.specs.SceneViews.{code_in}
 use Rattle.hp_agenda.specs.Queues.{IsQueue, MaybeOpen}
 use Rattle.hp_agenda.specs.declared.frame.Frame.{Frame}
-use Rattle.hp_agenda.specs.Frames.{IsFrame, LeadTo, left_of, level_of, rules_at}
+use Rattle.hp_agenda.specs.Begun.{AreFirst, HasLast}
+use Rattle.hp_agenda.specs.Frames.{CameTo, IsFrame, LeadTo, left_of, level_of, rules_at}
 use Rattle.hp_search.specs.declared.search.Search.{Search}
 use Rattle.hp_search.specs.Searches.{Goes, HasCell, IsCleared, IsSearch, IsRisen, levels_of, root_base, rules_in_search}
 use Rattle.hp_search.specs.Searches.{stack_of, stands_in, tree_in}
 use Rattle.hp_agenda.proofs.AgreeSteps.{agenda_within}
-use Rattle.hp_agenda.proofs.LevelLemmas.{cleared_agenda, cleared_left, frame_kept, lead_kept}
+use Rattle.hp_agenda.proofs.BegunLemmas.{has_last_agrees, has_last_at, has_settled, none_open}
+use Rattle.hp_agenda.proofs.LevelLemmas.{came_kept, cleared_agenda, cleared_left, frame_kept, lead_kept}
 use Rattle.hp_search.proofs.FrameLevels.{level_by, stack_by, levels_push, root_node, base_alike, base_pushed}
 
 -- ---- where nothing more comes
@@ -105,6 +107,18 @@ module _ (s : Search) (h : IsSearch s) (t : Frame) (cleared : IsCleared s.top t)
       ap₂ level_by (ap (λ m. node_of s.cells (held_at s.site m)) cleared.mark)
       (none_left (held_at s.site t.mark) s.cells)
 
+  -- it has the same candidates
+  cleared_last : (terms : List Term) → HasLast s.site.scene s.nest terms (held_at s.site t.mark) t.agenda []
+  cleared_last terms =
+      none_open s.site.scene s.nest terms (held_at s.site t.mark) t.agenda
+      (subst (λ m. AreFirst (held_at s.site m).network t.agenda.queue.candidates.items) (sym cleared.mark)
+      (subst (λ v. AreFirst (held_at s.site s.top.mark).network v.items) (sym cleared.candidates) h.last.first))
+      cleared.none
+
+  came_cleared : CameTo s.site s.nest s.cells t.mark (reverse s.above.items)
+  came_cleared =
+      subst (λ m. CameTo s.site s.nest s.cells m (reverse s.above.items)) (sym cleared.mark) h.came
+
   lead_cleared : LeadTo s.site s.nest s.cells t.mark t.base (reverse s.above.items)
   lead_cleared =
       subst (λ m. LeadTo s.site s.nest s.cells m t.base (reverse s.above.items)) (sym cleared.mark)
@@ -159,6 +173,13 @@ module _ (s : Search) (h : IsSearch s) (t : Frame) (cleared : IsCleared s.top t)
     mark = cleared.mark ∙ h.mark;
     top = subst (λ n. IsFrame s.site s.nest (take s.top.base s.cells) n t) (sym many_cut) cut_frame.1;
     above = cut_lead.1;
+    last = cleared_last (take s.top.base s.cells);
+    came =
+        came_kept s.nest t.mark t.base s.site s.site s.cells (take s.top.base s.cells) (reverse s.above.items)
+        lead_cleared cleared_frame.node keeps_top
+        (subst (λ b. take b s.cells ≡ take b (take s.top.base s.cells)) (sym cleared.base)
+        (cut_agrees s.top.base s.cells))
+        came_cleared;
     some = subst (λ b. 0 < b) (sym cleared.base) h.some;
     each = h.each;
     stack = subst (IsStack (rules_in_search s) s.nest) (sym (cut_stack false)) stack;
@@ -197,6 +218,8 @@ module _ (s : Search) (h : IsSearch s) (t : Frame) (cleared : IsCleared s.top t)
       dids = cleared_frame.dids;
     };
     above = lead_cleared;
+    last = cleared_last s.cells;
+    came = came_cleared;
     some = subst (λ b. 0 < b) (sym cleared.base) h.some;
     each = h.each;
     stack = subst (IsStack (rules_in_search s) s.nest) (sym bare_stack) stack;
@@ -219,6 +242,12 @@ pub lead_first : (s : Search) → IsSearch s → (f : Frame) (fs : List Frame) �
 lead_first s h f fs pushed =
     subst (LeadTo s.site s.nest s.cells s.top.mark s.top.base) (ap reverse pushed ∙ reverse-append fs (f ∷ [])) h.above
 
+-- it came to it
+pub came_first : (s : Search) → IsSearch s → (f : Frame) (fs : List Frame) → s.above.items ≡ fs ++ f ∷ []
+    → CameTo s.site s.nest s.cells s.top.mark (f ∷ reverse fs)
+came_first s h f fs pushed =
+    subst (CameTo s.site s.nest s.cells s.top.mark) (ap reverse pushed ∙ reverse-append fs (f ∷ [])) h.came
+
 -- going back leads to the frame above
 module _ (s : Search) (h : IsSearch s) (f : Frame) (fs : List Frame) (above : Vec Frame Global)
     (pushed : s.above.items ≡ fs ++ f ∷ []) (is : above.items ≡ fs) (new : Search)
@@ -232,6 +261,21 @@ module _ (s : Search) (h : IsSearch s) (f : Frame) (fs : List Frame) (above : Ve
       let kept = frame_kept s.nest f.floor s.site new.site s.cells (take f.floor s.cells) f own_lead.0 risen.keeps
       (cut_agrees f.floor s.cells) in
       (kept.level, kept.frame)
+
+  own_came : CameTo s.site s.nest s.cells s.top.mark (f ∷ reverse fs)
+  own_came = came_first s h f fs pushed
+
+  back_last : HasLast new.site.scene s.nest (take f.floor s.cells) (held_at new.site f.mark) f.agenda []
+  back_last =
+      let held = held_at s.site f.mark in
+      has_last_at s.site.scene new.site.scene (sym risen.keeps.code) s.nest (take f.floor s.cells) held
+      (held_at new.site f.mark) f.agenda []
+      (sym (keeps_held f.mark f.mark s.site new.site risen.keeps (within_itself f.mark)))
+      (has_last_agrees f.floor s.cells (take f.floor s.cells) s.site.scene s.nest f.base held
+      (held_below f.base f.floor held own_lead.0.base own_lead.0.node) (cut_agrees f.floor s.cells) f.agenda []
+      own_lead.0.agenda
+      (has_settled s.site.scene s.nest s.cells held f.agenda
+      (DidChild (node_of s.cells (held_at s.site s.top.mark)) ∷ []) own_came.0))
 
   back_lead : (map (level_of new.site s.nest (take f.floor s.cells)) (reverse fs)
       ≡ map (level_of s.site s.nest s.cells) (reverse fs))
@@ -297,6 +341,13 @@ module _ (s : Search) (h : IsSearch s) (f : Frame) (fs : List Frame) (above : Ve
           above =
               subst (λ xs. LeadTo new.site s.nest (take f.floor s.cells) f.mark f.base (reverse xs)) (sym is)
               back_lead.1;
+          last = back_last;
+          came =
+              subst (λ xs. CameTo new.site s.nest (take f.floor s.cells) f.mark (reverse xs)) (sym is)
+              (came_kept s.nest f.mark f.base s.site new.site s.cells (take f.floor s.cells) (reverse fs) own_lead.3
+              own_lead.0.node risen.keeps
+              (begin_alike f.base f.floor s.cells (take f.floor s.cells) own_lead.0.base (cut_agrees f.floor s.cells))
+              own_came.1);
           some = All-head HasCell f [] (all_right HasCell fs (f ∷ []) (All-same HasCell (fs ++ f ∷ []) s.above.items
               (sym pushed) h.each));
           each =

@@ -3,3 +3,6 @@ pub mod CellSteps
 pub mod FrameLevels
 pub mod MarkSteps
 pub mod SearchSteps
+mod RulePlaces
+mod LedSteps
+mod LedLemmas

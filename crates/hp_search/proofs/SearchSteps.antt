@@ -8,7 +8,7 @@ use Rattle.std.proofs.Common.{length-take-le}
 use Rattle.std.proofs.lemmas.List.Elements.{All-nil, All-cons, All-append, All-same}
 use Rattle.hp_syntax.specs.Syntax.{Rule}
 use Rattle.hp_syntax.specs.Terms.{Term}
-use Rattle.hp_syntax.specs.Walk.{Node, DidChild, CutChild, FaultChild, visits, node_at, told}
+use Rattle.hp_syntax.specs.Walk.{Child, Node, DidChild, CutChild, FaultChild, visits, node_at, told}
 use Rattle.hp_eval.specs.Growth.{Grows}
 use Rattle.hp_eval.proofs.GrowthLemmas.{grows_length, kept_agree}
 use Rattle.hp_net.specs.declared.walk.Step.{Step}
@@ -29,16 +29,18 @@ use Rattle.hp_site.specs.Sites.{AtomsWithin, IsMark, IsSite, IsWithin, Keeps, he
 use Rattle.hp_site.proofs.SiteLemmas.{atoms_kept, held_is_now, keeps_held, within_itself}
 use Rattle.hp_world.specs.Recorded.{history_in}
 use Rattle.hp_agenda.specs.Agendas.{IsAgenda}
+use Rattle.hp_agenda.specs.Begun.{HasLast, did_given}
 use Rattle.hp_agenda.specs.declared.frame.Frame.{Frame}
 use Rattle.hp_agenda.specs.declared.frame.Successor as made
 use Rattle.hp_agenda.specs.declared.frame.Successor.TheVariants as nexts
-use Rattle.hp_agenda.specs.Frames.{FloorStands, IsFrame, LeadTo, Opens, StaysAt, TakesSuccessor, bound_of}
+use Rattle.hp_agenda.specs.Frames.{CameTo, given_in, FloorStands, IsFrame, LeadTo, Opens, StaysAt, TakesSuccessor, bound_of}
 use Rattle.hp_agenda.specs.Frames.{end_successors, left_of, level_of, rules_at}
 use Rattle.hp_search.specs.declared.search.Search.{Search}
 use Rattle.hp_search.specs.Searches.{BeginsAt, GivesBack, HasCell, IsCleared, IsRested, IsSearch, IsTaken, Moves}
 use Rattle.hp_search.specs.Searches.{base_in, levels_of, root_base, rules_in_search, stack_of, stands_in, tree_in}
 use Rattle.hp_agenda.proofs.AgreeSteps.{agenda_in_scene, agenda_scene}
-use Rattle.hp_agenda.proofs.LevelLemmas.{lead_kept, opened_frame, opened_level}
+use Rattle.hp_agenda.proofs.BegunLemmas.{has_last_at, has_settled}
+use Rattle.hp_agenda.proofs.LevelLemmas.{came_kept, lead_kept, opened_frame, opened_level}
 use Rattle.hp_search.proofs.BackSteps.{cut_stack, cut_is, cut_tree}
 use Rattle.hp_search.proofs.FrameLevels.{level_by, stack_by, levels_push, root_node, base_alike, base_pushed, path_none}
 
@@ -66,6 +68,7 @@ pub record IsAsked (s : Search) (site : Site) (new : List Term) (next : Option m
   pub agenda : IsAgenda s.site.scene new s.top.base (bound_of next (length new)) (held_now s.site) t.agenda
   pub floor : FloorStands next (length s.cells) (length new)
   pub stays : StaysAt next s.site site
+  pub last : HasLast s.site.scene s.nest new (held_now s.site) t.agenda (did_given new (held_now site) (given_in next))
 
 module _ (s : Search) (h : IsSearch s) (site : Site) (new : List Term) (t : Frame) (leaves : Leaves s site new t) where
   abbrev own_rules : List Rule
@@ -115,6 +118,20 @@ module _ (s : Search) (h : IsSearch s) (site : Site) (new : List Term) (t : Fram
   pub tree_is : (did over : Bool)
       → tree_in (record s { site = site; cells = new; top = t; at_did = did; over = over }) ≡ tree_in s
   tree_is did over = ap₂ (λ rs r. record { rules = rs; nest = s.nest; root = r }) rules_are root_is
+
+  came_is : CameTo site s.nest new t.mark (reverse s.above.items)
+  came_is =
+      subst (λ m. CameTo site s.nest new m (reverse s.above.items)) (sym leaves.mark)
+      (came_kept s.nest s.top.mark s.top.base s.site site s.cells new (reverse s.above.items) h.above h.top.node
+      (subst (λ m. Keeps m s.site site) (sym h.mark) leaves.keeps)
+      (kept_agree s.cells new leaves.grows s.top.base h.top.base) h.came)
+
+  -- what the frame has given was given there
+  last_is : (last : List Child) → HasLast s.site.scene s.nest new (held_now s.site) t.agenda last
+      → HasLast site.scene s.nest new (held_at site t.mark) t.agenda last
+  last_is last =
+      has_last_at s.site.scene site.scene (sym code_is) s.nest new (held_now s.site) (held_at site t.mark) t.agenda last
+      (sym held_is)
 
   path_is : s.path.items
       ≡ told (path_to (rules_at site) s.nest (levels_of site s.nest new s.above.items))
@@ -183,6 +200,11 @@ module _ (s : Search) (h : IsSearch s) (site : Site) (new : List Term) (t : Fram
             (let a = h.top.base in let b = grows_length s.cells new leaves.grows in omega arith) agenda t.dids t.floor
             numbered;
         above = lead_on;
+        last =
+            last_is []
+            (has_settled s.site.scene s.nest new (held_now s.site) t.agenda
+            (did_given new (held_now site) (given_in next)) asked.last);
+        came = came_is;
         some = subst (λ b. 0 < b) (sym asked.base) h.some;
         each = h.each;
         stack =
@@ -248,6 +270,8 @@ module _ (s : Search) (h : IsSearch s) (site : Site) (new : List Term) (t : Fram
         (first : (stack_of s).top.left ≡ TheChild (DidChild (node_of new (held_now site)))
         ∷ left_of s.site.scene s.nest new (held_now s.site) t)
         (agenda : IsAgenda s.site.scene new s.top.base floor (held_now s.site) t.agenda)
+        (last : HasLast s.site.scene s.nest new (held_now s.site) t.agenda
+        (did_given new (held_now site) (Some (given.Did floor))))
         (low : length s.cells ≤ floor) (high : floor ≤ length new)
         (f : Frame) (opens : Opens site s.nest new f) (above : Vec Frame Global)
         (pushed : above.items ≡ s.above.items ++ record t { dids = min (t.dids + 1) (2 ^ 64 - 1); floor = floor } ∷ [])
@@ -303,6 +327,18 @@ module _ (s : Search) (h : IsSearch s) (site : Site) (new : List Term) (t : Fram
             lead_on,
           ))
 
+      here : held_at site f.mark ≡ held_now site
+      here = ap (held_at site) opens.mark ∙ held_is_now site
+
+      came_down : CameTo site s.nest new f.mark (reverse above.items)
+      came_down =
+          subst (λ fs. CameTo site s.nest new f.mark (reverse fs)) (sym pushed)
+          (subst (CameTo site s.nest new f.mark) (sym (reverse-append s.above.items (parent_frame ∷ []))) (
+            subst (λ k. HasLast site.scene s.nest new (held_at site t.mark) t.agenda (DidChild (node_of new k) ∷ []))
+                (sym here) (last_is (DidChild (node_of new (held_now site)) ∷ []) last),
+            came_is,
+          ))
+
       -- and answers so
       moves_did : s.over ≡ false
           → Moves s (Some steps.Did)
@@ -328,6 +364,9 @@ module _ (s : Search) (h : IsSearch s) (site : Site) (new : List Term) (t : Fram
               mark = opens.mark;
               top = opened_frame site s.nest new f asked.good opens;
               above = lead_down;
+              last =
+                  subst (λ k. HasLast site.scene s.nest new k f.agenda []) (sym here) opens.last;
+              came = came_down;
               some =
                   subst (λ b. 0 < b) (sym opens.base)
                   (let a = h.some in let b = h.top.base in
@@ -413,6 +452,12 @@ moves_over s h over new rested =
       search = cut_is s h t rested.top (cleared_stack rules s.nest (stack_of s) h.stack);
     })
 
+-- the frame that is reached has given what it has at the search node now
+pub last_now : (s : Search) → IsSearch s → HasLast s.site.scene s.nest s.cells (held_now s.site) s.top.agenda []
+last_now s h =
+    subst (λ k. HasLast s.site.scene s.nest s.cells k s.top.agenda [])
+    (ap (held_at s.site) h.mark ∙ held_is_now s.site) h.last
+
 -- the search before a successor is taken, over the site and the terms that the call for it left
 abbrev pub asked_search : Search → Site → List Term → Frame → Search
 asked_search s site new t = record s { site = site; cells = new; top = t }
@@ -459,7 +504,7 @@ moves_on s h on site new t leaves (Some (nexts.Child (given.Did floor))) asked o
     (sym e)
     (moves_did s h site new t leaves (Some (nexts.Child (given.Did floor))) asked floor
     (left_was s h site new t leaves (Some (nexts.Child (given.Did floor))) asked ∙ asked.takes.first) asked.agenda
-    asked.floor.0 asked.floor.1 last.top (l.top s.nest) last.above l.above last.path l.path on))
+    asked.last asked.floor.0 asked.floor.1 last.top (l.top s.nest) last.above l.above last.path l.path on))
 
 -- ---- the beginning of a search
 
@@ -501,6 +546,10 @@ search_begins s good opens some levels above path did on =
         mark = opens.mark;
         top = opened_frame s.site s.nest s.cells s.top good opens;
         above = subst (λ fs. LeadTo s.site s.nest s.cells s.top.mark s.top.base (reverse fs)) (sym above) tt;
+        last =
+            subst (λ k. HasLast s.site.scene s.nest s.cells k s.top.agenda [])
+            (sym (ap (held_at s.site) opens.mark ∙ held_is_now s.site)) opens.last;
+        came = subst (λ fs. CameTo s.site s.nest s.cells s.top.mark (reverse fs)) (sym above) tt;
         some = subst (λ b. 0 < b) (sym opens.base) some;
         each = All-same HasCell s.above.items [] above (All-nil HasCell);
         stack = subst (IsStack rules s.nest) (sym stack) (begin_stack rules s.nest n);

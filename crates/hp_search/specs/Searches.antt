@@ -17,7 +17,8 @@ use Rattle.hp_site.specs.Sites.{IsSite, Keeps, held_at, held_now, mark_now}
 use Rattle.hp_agenda.specs.declared.frame.Frame.{Frame}
 use Rattle.hp_agenda.specs.declared.frame.Successor as made
 use Rattle.hp_agenda.specs.declared.frame.Successor.TheVariants as nexts
-use Rattle.hp_agenda.specs.Frames.{IsFrame, LeadTo, Opens, level_of, rules_at}
+use Rattle.hp_agenda.specs.Begun.{HasLast}
+use Rattle.hp_agenda.specs.Frames.{CameTo, IsFrame, LeadTo, Opens, level_of, rules_at}
 use Rattle.hp_search.specs.declared.search.Search.{Search}
 
 abbrev pub rules_in_search : Search → List Rule
@@ -54,13 +55,15 @@ base_in s = root_base s.top s.above.items
 abbrev pub HasCell : Frame → Type 0
 HasCell f = 0 < f.base
 
--- the frames are the way to where the search stands: each is a moment of the site, the one reached is this one, and the
--- path is told
+-- the frames are the way to where the search stands: each is a moment of the site, the one reached is this one, each
+-- below another is of the last child that was given there, and the path is told
 pub record IsSearch (s : Search) : Type 0 where
   pub site : IsSite s.cells s.site
   pub mark : s.top.mark ≡ mark_now s.site
   pub top : IsFrame s.site s.nest s.cells (length s.cells) s.top
   pub above : LeadTo s.site s.nest s.cells s.top.mark s.top.base (reverse s.above.items)
+  pub last : HasLast s.site.scene s.nest s.cells (held_at s.site s.top.mark) s.top.agenda []
+  pub came : CameTo s.site s.nest s.cells s.top.mark (reverse s.above.items)
   pub some : HasCell s.top
   pub each : All HasCell s.above.items
   pub stack : IsStack (rules_in_search s) s.nest (stack_of s)

@@ -1,4 +1,5 @@
 //! The planner.
+use crate::decomposition::Decomposition;
 use crate::search::Search;
 use hp_cells::{Cell, Cells};
 use hp_code::{Code, asked_parts};
@@ -50,6 +51,7 @@ impl<'a> Planner<'a> {
     ghost use Rattle.hp_code.specs.CodeViews.{rules_in};
     ghost use Rattle.hp_links.specs.Linked.{focused};
     ghost use Rattle.hp_net.specs.Standings.{node_reached, standing};
+    ghost use Rattle.hp_search.specs.Led.{TellsDecomposition};
     ghost use Rattle.hp_search.specs.Planned.{HasMarks, tree_planned, stands_planned};
 
     /// A walk of the tree of a pair at a depth, by the rules of a code, where axioms may call one another so deep. It
@@ -97,6 +99,14 @@ impl<'a> Planner<'a> {
         ensures marks { HasMarks self.now }
     {
         &self.search.site.net
+    }
+
+    /// The decomposition that led to the node reached. It takes no memory.
+    pub fn decomposition(&self) -> Option<Decomposition>
+        requires live { self.now.live ≡ true }
+        ensures { TellsDecomposition self.now result }
+    {
+        self.search.decomposition()
     }
 }
 

@@ -1,4 +1,4 @@
-use Rattle.std.proofs.Common.{length, refl, ap, sym, subst, ◌∙◌, is_some, arith}
+use Rattle.std.proofs.Common.{◌≡◌, ◌+◌, [], IfSome, Some, length, refl, ap, sym, subst, ◌∙◌, is_some, arith}
 use Rattle.std.proofs.lemmas.Option.{same_Some}
 use Rattle.hp_eval.specs.Slotted.{AreBelow, bindings_of}
 use Rattle.hp_eval.proofs.GrowthLemmas.{below_grows, grows_on, grows_self}
@@ -8,9 +8,11 @@ use Rattle.hp_precondition.specs.Picks.{picked_rest}
 use Rattle.hp_suspended.specs.SceneViews.{code_in, setting_of}
 use Rattle.hp_suspended.specs.Settings.{state_in}
 use Rattle.hp_suspended.proofs.CallLemmas.{ready_grows}
-use Rattle.hp_method.specs.Branches.{AreBranchesIn}
+use Rattle.hp_code.specs.CodeViews.{rules_in}
+use Rattle.hp_method.specs.declared.chosen.Chosen.{Chosen}
+use Rattle.hp_method.specs.Branches.{AreBranchesIn, IsChosenAt}
 use Rattle.hp_method.proofs.BranchNodes.{branches_end, stands_branch}
-use Rattle.hp_method.proofs.ChosenEvents.{BranchesLeft, events_stay, heard_nothing, heard_some, left_chosen, left_none, left_passes}
+use Rattle.hp_method.proofs.ChosenEvents.{BranchesLeft, BranchesPassed, events_stay, heard_nothing, heard_some, left_chosen, left_none, left_passes, passed_chosen, passed_next}
 use Rattle.hp_method.proofs.chosen.chosen_branch.Goals as goal
 
 pub loop-at-init : goal.loop-at-init
@@ -19,6 +21,8 @@ loop-at-init c = record {
   slots = refl;
   branches = c.requires.branches;
   left = λ bs is. record { rest = bs; is = is; same = refl };
+  passed = λ bs is. record { passed = []; rest = bs; is = is; whole = refl; many = refl; none = refl };
+  few = omega arith;
 }
 
 pub heard-requires-clause-ready : goal.heard-requires-clause-ready
@@ -62,6 +66,30 @@ returns-in-Some-clause-chooses c = λ bs is.
       tasks = h.1.1;
     }
 
+pub returns-in-Some-clause-number : goal.returns-in-Some-clause-number
+returns-in-Some-clause-number c = λ bs is.
+    let s = c.args.scene.now in
+    let k = code_in s in
+    let nest = c.args.nest in
+    let old = c.args.cells.now in
+    let now = c.loop-at.cells in
+    let st = state_in (setting_of s old) in
+    let e = bindings_of old c.args.slots.now in
+    let held = c.loop-at.invariant in
+    let x = c.in-Some.chosen in
+    let b = stands_branch k s.code.now.kept c.loop-at.at c.args.end held.branches c.loop-at-test.true in
+    let stay = events_stay s old now c.args.slots.now c.loop-at.slots c.requires.ready held.grows held.slots nest
+    b.branch in
+    let h = heard_some s c.heard.new.cells c.loop-at.slots c.heard.new.slots b.branch c.in_ok-chosen.field-0 _ x
+    c.in-Some.is (c.in_ok-chosen.ensures.hears b.branch b.reads) in
+    let number : x.number ≡ c.loop-at.number =
+    subst (λ o. IfSome o (λ (y : Chosen). y.number ≡ c.loop-at.number)) c.in-Some.is c.in_ok-chosen.ensures.number in
+    subst (IsChosenAt (rules_in k) nest st e bs) (sym number)
+    (passed_chosen k c.loop-at.at c.args.end nest st e bs c.loop-at.number (held.passed bs is) b _
+    (left_chosen k c.loop-at.at c.args.end nest st e bs (held.left bs is) b x.first
+    (bindings_of c.heard.new.cells c.heard.new.slots) (picked_rest x.sats s c.heard.new.cells c.heard.new.slots)
+    (sym stay ∙ h.0) h.1.0))
+
 pub loop-at-smaller : goal.loop-at-smaller
 loop-at-smaller c =
     let s = c.args.scene.now in
@@ -94,6 +122,14 @@ loop-at-preserved c =
           subst (λ (l : Laid). BranchesLeft k l.to c.args.end nest (state_in (setting_of s old)) e bs) same
           (left_passes k c.loop-at.at c.args.end nest (state_in (setting_of s old)) e bs (held.left bs is) b
           (sym stay ∙ h.0));
+      passed = λ bs is.
+          subst
+          (λ (l : Laid). BranchesPassed k l.to c.args.end nest (state_in (setting_of s old)) e bs
+          (c.loop-at.number + 1))
+          same
+          (passed_next k c.loop-at.at c.args.end nest (state_in (setting_of s old)) e bs c.loop-at.number
+          (held.passed bs is) b (sym stay ∙ h.0) (c.loop-at.number + 1) refl);
+      few = (let to = ap (λ (l : Laid). l.to) same in omega (arith, to, b.more, held.few));
     }
 
 pub returns-clause-chooses : goal.returns-clause-chooses

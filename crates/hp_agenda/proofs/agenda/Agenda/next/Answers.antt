@@ -1,12 +1,15 @@
-use Rattle.std.proofs.Common.{◌≡◌, ◌≤◌, true, false, length, sym, ap, ◌∙◌, subst, rules, arith, None}
+use Rattle.std.proofs.Common.{◌≡◌, ◌≤◌, [], true, false, length, sym, ap, ◌∙◌, subst, rules, arith, None}
 use Rattle.std.specs.Prelude.{is_some}
 use Rattle.hp_eval.proofs.GrowthLemmas.{grows_length, grows_on}
 use Rattle.hp_suspended.specs.SceneViews.{code_in}
-use Rattle.hp_tree.specs.SearchNodes.{IsHeldNode}
+use Rattle.hp_tree.specs.SearchNodes.{HeldNode, IsHeldNode}
 use Rattle.hp_site.specs.Sites.{held_now}
 use Rattle.hp_choice.specs.Choices.{StaysUnless, floor_of}
 use Rattle.hp_agenda.specs.Queues.{IsQueue, MaybeOpen, work_left}
+use Rattle.hp_agenda.specs.declared.queue.Queue.{Queue}
+use Rattle.hp_agenda.specs.Begun.{AreFirst}
 use Rattle.hp_agenda.proofs.AgreeSteps.{agenda_within}
+use Rattle.hp_agenda.proofs.BegunLemmas.{has_last_at, has_settled}
 use Rattle.hp_agenda.proofs.AgendaSteps.{Resumes, agenda_at, agenda_children_at, agenda_ends, agenda_passes, agenda_takes, given_none, open_at, queue_at, queue_children_at, work_at, resumed_node, resumed_pasts, resumes_behind, site_grows, takes_at}
 use Rattle.hp_agenda.proofs.agenda.Agenda.next.Goals as goal
 
@@ -60,6 +63,33 @@ returns-then-is_some-clause-agenda c =
           (floor_of c.in_ok-given.given (length new)) c.next_of_open.new.self.open told.open;
       queue = subst (IsQueue (code_in fn.scene) (held_now fn)) (sym told.queue) before.agenda.queue;
     }
+
+pub returns-then-is_some-clause-last : goal.returns-then-is_some-clause-last
+returns-then-is_some-clause-last c = λ h.
+    let fn = c.args.site.now in
+    let site = c.loop-given.site in
+    let before = c.loop-given.invariant in
+    let same = resumed_node fn site before.resumes in
+    let code = before.resumes.keeps.code in
+    has_last_at site.scene fn.scene code c.args.nest c.next_of_open.new.cells (held_now site) (held_now fn)
+    c.next_of_open.new.self _ same
+    (c.in_ok-given.ensures.last
+    (has_last_at fn.scene site.scene (sym code) c.args.nest c.loop-given.cells (held_now fn) (held_now site)
+    c.loop-given.self [] (sym same) (before.last h)))
+
+pub returns-then-self-len-clause-last : goal.returns-then-self-len-clause-last
+returns-then-self-len-clause-last c = λ h.
+    let fn = c.args.site.now in
+    let site = c.loop-given.site in
+    let before = c.loop-given.invariant in
+    let same = resumed_node fn site before.resumes in
+    let code = before.resumes.keeps.code in
+    let cells = c.next_of_open.new.cells in
+    has_settled fn.scene c.args.nest cells (held_now fn) c.next_of_open.new.self _
+    (has_last_at site.scene fn.scene code c.args.nest cells (held_now site) (held_now fn) c.next_of_open.new.self _ same
+    (c.in_ok-given.ensures.last
+    (has_last_at fn.scene site.scene (sym code) c.args.nest c.loop-given.cells (held_now fn) (held_now site)
+    c.loop-given.self [] (sym same) (before.last h))))
 
 pub returns-then-self-len-clause-takes : goal.returns-then-self-len-clause-takes
 returns-then-self-len-clause-takes c =
@@ -167,6 +197,14 @@ loop-given-preserved c =
           ∙ (opened.left
           ∙ agenda_children_at now.scene fn.scene resumes.keeps.code (held_now now) (held_now fn) again c.args.nest new
           c.advance.new.self));
+      last =
+          λ h.
+          let first : AreFirst fn.net.now self.queue.candidates.items = (before.last h).first in
+          has_last_at now.scene fn.scene resumes.keeps.code c.args.nest new (held_now now) (held_now fn)
+          c.advance.new.self [] again
+          (opened.last
+          (subst (λ (k : HeldNode). AreFirst k.network after.queue.candidates.items) (sym again)
+          (subst (λ (q : Queue). AreFirst fn.net.now q.candidates.items) (sym told.queue) first)));
     }
 
 pub loop-given-smaller : goal.loop-given-smaller

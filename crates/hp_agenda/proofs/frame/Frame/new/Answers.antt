@@ -29,4 +29,4 @@ returns c = λ nest.
     let some = sym (c.is_empty.ensures terms) ∙ c.if-is_empty.false in
     subst (Opens site nest terms) (sym c.at.ensures)
     (opens_children site nest terms c.in_ok-queue.queue some (omega arith) (c.in_ok-queue.ensures.left nest)
-    c.in_ok-queue.ensures.queue)
+    c.in_ok-queue.ensures.queue c.in_ok-queue.ensures.first)

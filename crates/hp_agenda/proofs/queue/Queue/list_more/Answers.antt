@@ -4,6 +4,7 @@ use Rattle.hp_syntax.specs.Networks.{candidates}
 use Rattle.hp_syntax.specs.Terms.{Term}
 use Rattle.hp_links.specs.Linked.{focused}
 use Rattle.hp_tree.specs.Children.{IsCandidate}
+use Rattle.hp_agenda.proofs.BegunLemmas.{listed_first}
 use Rattle.hp_agenda.proofs.QueueLemmas.{listed_are, listed_more}
 use Rattle.hp_agenda.proofs.queue.Queue.list_more.Goals as goal
 
@@ -25,3 +26,8 @@ returns-clause-candidates c =
     All-same (IsCandidate net) _ _ c.in_ok-self.ensures.first
     (listed_are net (c.len-limit.result * 2) (candidates (focused terms net).0 (focused terms net).1) told.tasks
     (told.places terms))
+
+pub returns-clause-first : goal.returns-clause-first
+returns-clause-first c = λ h.
+    listed_first c.args.site.now.net.now (c.len-limit.result * 2) _ c.in_ok-self.ensures.first
+    c.first_candidates.ensures.places

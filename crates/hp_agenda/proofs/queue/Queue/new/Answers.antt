@@ -10,6 +10,7 @@ use Rattle.hp_tree.specs.Children.{IsCandidate, by_candidates}
 use Rattle.hp_tree.specs.SearchNodes.{node_of}
 use Rattle.hp_site.specs.Sites.{held_now}
 use Rattle.hp_agenda.specs.Queues.{by_queue, unlisted}
+use Rattle.hp_agenda.proofs.BegunLemmas.{listed_first}
 use Rattle.hp_agenda.proofs.QueueLemmas.{few_unlisted, listed_are, listed_children, some_listed}
 use Rattle.hp_agenda.proofs.queue.Queue.new.Goals as goal
 
@@ -59,3 +60,8 @@ returns-clause-queue c =
           let some = some_listed c.len-more.result e in
           omega (arith, many, some);
     }
+
+pub returns-clause-first : goal.returns-clause-first
+returns-clause-first c =
+    listed_first c.args.site.now.net.now 4 c.in_ok-candidates.candidates.items c.in_ok-candidates.ensures.first
+    c.first_candidates.ensures.places

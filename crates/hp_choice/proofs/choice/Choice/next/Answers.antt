@@ -14,7 +14,7 @@ use Rattle.hp_site.specs.Sites.{Keeps, held_now, mark_now}
 use Rattle.hp_site.proofs.SiteLemmas.{keeps_after, keeps_now}
 use Rattle.hp_choice.proofs.SiteSteps.{pasts_below, pasts_stay, site_grows}
 use Rattle.hp_choice.proofs.ChoiceLemmas.{choice_grows}
-use Rattle.hp_choice.proofs.NextSteps.{child_first, choice_at, choice_left, end_before, end_left, fewer_then, none_given, passed_then, stays_none, takes_none, takes_some}
+use Rattle.hp_choice.proofs.NextSteps.{child_first, choice_at, choice_left, end_before, end_left, fewer_then, none_given, passed_then, served_on, stays_none, takes_none, takes_some}
 use Rattle.hp_choice.proofs.choice.Choice.next.Goals as goal
 
 pub next_event-requires-clause-indexes : goal.next_event-requires-clause-indexes
@@ -165,4 +165,5 @@ loop-event-preserved c =
           subst (λ (x : Choice). picked_kept c.args.self.now.sats ≤ picked_kept x.sats) (sym same)
           (omega (arith, before.kept, told.kept));
       id = ap (λ (x : Choice). x.id) same ∙ (told.id ∙ before.id);
+      served = served_on c.args.self.now c.loop-event.self after c.given.new.self before.served told.served same;
     }

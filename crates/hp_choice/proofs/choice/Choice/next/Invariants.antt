@@ -6,6 +6,7 @@ use Rattle.hp_precondition.specs.Picks.{picked_kept}
 use Rattle.hp_tree.specs.Children.{IsCandidate}
 use Rattle.hp_site.specs.Sites.{IsSite, Keeps, held_now, mark_now}
 use Rattle.hp_choice.specs.Choices.{IsChoice, events_left, held_children}
+use Rattle.hp_choice.specs.Served.{ServesStill}
 use Rattle.hp_choice.proofs.choice.Choice.next.Given as goal
 
 abbrev pub invariant-loop-event : goal.invariant-loop-event
@@ -22,6 +23,7 @@ invariant-loop-event l = record {
       ≡ held_children l.site.scene l.fn.nest l.cells (held_now l.site) l.self;
   kept : picked_kept l.fn.self.sats ≤ picked_kept l.self.sats;
   id : l.self.id ≡ l.fn.self.id;
+  served : ServesStill l.fn.self l.self;
 }
 
 abbrev pub decreases-loop-event : goal.decreases-loop-event

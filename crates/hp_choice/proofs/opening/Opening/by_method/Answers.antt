@@ -1,6 +1,6 @@
-use Rattle.std.proofs.Common.{IfSome, is_some, ap, sym, subst, ◌∙◌, arith}
+use Rattle.std.proofs.Common.{◌≡◌, ◌+◌, List, Some, IfSome, is_some, ap, sym, subst, ◌∙◌, arith}
 use Rattle.hp_syntax.specs.Events.{State}
-use Rattle.hp_syntax.specs.Syntax.{Refines}
+use Rattle.hp_syntax.specs.Syntax.{Branch, Refines}
 use Rattle.hp_syntax.specs.Walk.{branch_children, chosen_branch}
 use Rattle.hp_nodes.specs.NodeViews.{laid_of}
 use Rattle.hp_code.specs.CodeViews.{rules_in}
@@ -8,7 +8,8 @@ use Rattle.hp_eval.specs.Slotted.{bindings_of}
 use Rattle.hp_eval.proofs.GrowthLemmas.{grows_length}
 use Rattle.hp_suspended.specs.SceneViews.{code_in, setting_of}
 use Rattle.hp_suspended.specs.Settings.{state_in}
-use Rattle.hp_method.specs.Branches.{Chooses, ChosenFits}
+use Rattle.hp_method.specs.declared.chosen.Chosen.{Chosen}
+use Rattle.hp_method.specs.Branches.{Chooses, ChosenFits, IsChosenAt, branches_at}
 use Rattle.hp_choice.proofs.OpeningLemmas.{method_choice, method_left}
 use Rattle.hp_choice.proofs.RuleReadings.{rule_node, rule_within}
 use Rattle.hp_choice.proofs.opening.Opening.by_method.Goals as goal
@@ -38,7 +39,7 @@ returns-in-Some-clause-children c = λ m n p found state.
     let here = state_in (setting_of s c.args.cells.now) in
     let h = subst (λ o. Chooses s new slots o (whole here)) c.in-Some.is
     (c.in_ok-chosen.ensures.chooses m.branches nodes.branches) in
-    method_left s me.nest new me.id me.task slots x.sats x.tasks x.first n p (whole here) h
+    method_left s me.nest new me.id me.task c.args.rule x.number slots x.sats x.tasks x.first n p (whole here) h
     ∙ ap (λ w. branch_children n p (whole w)) (sym state)
 
 pub returns-in-Some-clause-choice : goal.returns-in-Some-clause-choice
@@ -59,8 +60,23 @@ returns-in-Some-clause-choice c =
     let fits = subst (λ o. IfSome o (ChosenFits s new slots)) c.in-Some.is c.in_ok-chosen.ensures.fits in
     let more = grows_length c.args.cells.now new c.in_ok-chosen.ensures.cells in
     let below = c.requires.task in
-    method_choice s me.nest new me.id me.task slots x.sats x.tasks x.first (omega (arith, below, more))
-    (ap is_some h.tasks) fits
+    method_choice s me.nest new me.id me.task c.args.rule x.number slots x.sats x.tasks x.first
+    (omega (arith, below, more)) (ap is_some h.tasks) fits
+
+pub returns-in-Some-clause-branch : goal.returns-in-Some-clause-branch
+returns-in-Some-clause-branch c = λ m n found state.
+    let me = c.args.self.now in
+    let s = me.scene.now in
+    let code = code_in s in
+    let e = bindings_of c.args.cells.now c.args.slots in
+    let nodes = rule_node code s.code.now.kept c.args.rule (laid_of c.node_at.result.now) c.node_at.ensures.is
+    (Refines m) found in
+    let told = subst (λ o. IfSome o (λ (x : Chosen). (bs : List Branch)
+    → branches_at code (c.args.rule + 1) c.node_at.result.now.to ≡ Some bs
+    → IsChosenAt (rules_in code) me.nest (state_in (setting_of s c.args.cells.now)) e bs x.number)) c.in-Some.is
+    c.in_ok-chosen.ensures.number in
+    subst (λ w. IsChosenAt (rules_in code) me.nest w e m.branches c.in-Some.field-0.number) (sym state)
+    (told m.branches nodes.branches)
 
 pub returns-in-None-clause-children : goal.returns-in-None-clause-children
 returns-in-None-clause-children c = λ m n p found state.

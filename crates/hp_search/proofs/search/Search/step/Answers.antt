@@ -2,7 +2,7 @@ use Rattle.std.proofs.Common.{◌∙◌}
 use Rattle.std.proofs.lemmas.Result.{IfOk-weaker}
 use Rattle.hp_search.proofs.CellSteps.{over_cells, taken_cells}
 use Rattle.hp_search.proofs.FrameLevels.{base_alike}
-use Rattle.hp_search.proofs.SearchSteps.{Leaves, gives_back, gives_back_over, moves_on, moves_over, of_each, on_err}
+use Rattle.hp_search.proofs.SearchSteps.{Leaves, gives_back, gives_back_over, last_now, moves_on, moves_over, of_each, on_err}
 use Rattle.hp_search.proofs.SearchSteps.{tree_is}
 use Rattle.hp_search.proofs.search.Search.step.Goals as goal
 
@@ -54,6 +54,7 @@ returns-clause-base c =
       agenda = told.agenda;
       floor = told.floor;
       stays = told.stays;
+      last = told.last (last_now s c.requires.search);
     })
     o c.take.new.self h).base)
     c.take.ensures.taken)
@@ -83,6 +84,7 @@ returns-clause-moves c =
       agenda = told.agenda;
       floor = told.floor;
       stays = told.stays;
+      last = told.last (last_now s c.requires.search);
     })
     o c.take.new.self h)
     c.take.ensures.taken
@@ -105,6 +107,7 @@ returns-clause-tree c =
       agenda = told.agenda;
       floor = told.floor;
       stays = told.stays;
+      last = told.last (last_now s c.requires.search);
     })
     o c.take.new.self h).tree)
     c.take.ensures.taken)

@@ -1,0 +1,43 @@
+use Rattle.std.proofs.Common.{◌≡◌, ◌-◌, length, Some, None, sym, ◌∙◌, ap}
+use Rattle.std.specs.Prelude.{option_copied, slice_get}
+use Rattle.hp_search.proofs.LedLemmas.{gave_rule, is_led, last_none, last_split, none_led, open_there}
+use Rattle.hp_search.proofs.search.Search.decomposition.Goals as goal
+
+pub place_of_rule-requires : goal.place_of_rule-requires
+place_of_rule-requires c =
+    let s = c.args.self.now in
+    let f = c.in-Some.parent.now in
+    let there : slice_get s.above.items (length s.above.items - 1) ≡ Some f =
+    ap (λ xs. slice_get xs (length xs - 1)) (sym c.as_slice.ensures.value)
+    ∙ (sym c.last.ensures.value ∙ ap option_copied c.in-Some.is) in
+    let split = last_split s.above.items f there in
+    gave_rule s c.requires f split.0 split.1 c.in-Some-open.choice c.in-Some-open.is
+
+pub returns-in-Some-open : goal.returns-in-Some-open
+returns-in-Some-open c = λ live.
+    let s = c.args.self.now in
+    let f = c.in-Some.parent.now in
+    let there : slice_get s.above.items (length s.above.items - 1) ≡ Some f =
+    ap (λ xs. slice_get xs (length xs - 1)) (sym c.as_slice.ensures.value)
+    ∙ (sym c.last.ensures.value ∙ ap option_copied c.in-Some.is) in
+    let split = last_split s.above.items f there in
+    is_led s c.requires f split.0 split.1 c.in-Some-open.choice c.in-Some-open.is live c.place_of_rule.result
+    c.place_of_rule.ensures
+
+pub returns-in-None-open : goal.returns-in-None-open
+returns-in-None-open c = λ live.
+    let s = c.args.self.now in
+    let f = c.in-Some.parent.now in
+    let there : slice_get s.above.items (length s.above.items - 1) ≡ Some f =
+    ap (λ xs. slice_get xs (length xs - 1)) (sym c.as_slice.ensures.value)
+    ∙ (sym c.last.ensures.value ∙ ap option_copied c.in-Some.is) in
+    let split = last_split s.above.items f there in
+    absurd (open_there s c.requires f split.0 split.1 c.in-None-open.is)
+
+pub returns-in-None : goal.returns-in-None
+returns-in-None c = λ live.
+    let s = c.args.self.now in
+    let none : slice_get s.above.items (length s.above.items - 1) ≡ None =
+    ap (λ xs. slice_get xs (length xs - 1)) (sym c.as_slice.ensures.value)
+    ∙ (sym c.last.ensures.value ∙ ap option_copied c.in-None.is) in
+    none_led s live (last_none s.above.items none)
