@@ -1,0 +1,2 @@
+pub mod HaltLemmas
+pub mod ToldLemmas

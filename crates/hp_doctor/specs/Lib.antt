@@ -1,0 +1,6 @@
+pub mod Explained
+pub mod Findings
+pub mod Sentences
+pub mod Telling
+pub mod Texts
+pub mod Words
