@@ -1,2 +1,3 @@
 pub mod HaltLemmas
+pub mod LoadingSteps
 pub mod ToldLemmas

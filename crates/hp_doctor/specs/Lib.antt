@@ -1,5 +1,6 @@
 pub mod Explained
 pub mod Findings
+pub mod Loading
 pub mod Sentences
 pub mod Telling
 pub mod Texts

@@ -3,6 +3,7 @@
 
 mod explaining;
 mod finding;
+mod loading;
 mod notes;
 mod pieces;
 mod reading;
@@ -13,6 +14,7 @@ mod words;
 
 pub use explaining::explain;
 pub use finding::{Aim, Finding};
+pub use loading::{Names, NoMemory};
 pub use pieces::Pieces;
 pub use reading::finding_of;
 pub use texts::{Text, Texts};
