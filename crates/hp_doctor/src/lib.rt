@@ -15,6 +15,6 @@ mod words;
 pub use explaining::explain;
 pub use finding::{Aim, Finding};
 pub use loading::{Names, NoMemory};
-pub use pieces::Pieces;
+pub use pieces::{HostPieces, MemPieces, Pieces};
 pub use reading::finding_of;
 pub use texts::{Text, Texts};
