@@ -1,15 +1,21 @@
 -- What is written of the lines of a text: each one as it is, and behind a finding what it means and where it is.
-use Rattle.std.specs.Prelude.{ℕ, ◌==◌, cond, List, [], ◌∷◌, ◌++◌, Option, Some, None, option_and_then, codes}
+use Rattle.std.specs.Prelude.{ℕ, ◌==◌, cond, List, [], ◌∷◌, ◌++◌, Option, Some, None, option_and_then, codes, decimal, ◌+◌, Bool, true, false}
 use Rattle.hp_io.specs.declared.folder.Input.TheVariants as inputs
 use Rattle.hp_out.specs.declared.refusal.Refusal.{Refusal}
 use Rattle.hp_out.specs.declared.refusal.Refusal.TheVariants as refusals
 use Rattle.hp_out.specs.Lines.{text_of}
+use Rattle.hp_places.specs.Places.{line_of}
 use Rattle.hp_places.specs.Shown.{shown}
+use Rattle.hp_syntax.specs.declared.text.TextKind.{TextKind}
+use Rattle.hp_syntax.specs.declared.text.TextKind.TheVariants as kinds
 use Rattle.hp_syntax.specs.declared.pattern.Span.{Span}
 use Rattle.hp_doctor.specs.declared.finding.Aim.{Aim}
 use Rattle.hp_doctor.specs.declared.finding.Finding.{Finding}
 use Rattle.hp_doctor.specs.declared.finding.Finding.TheVariants.{Refused, Unserved, Met}
+use Rattle.hp_doctor.specs.declared.nesting.Nested.{Nested}
+use Rattle.hp_doctor.specs.declared.hints.TheConstants as says
 use Rattle.hp_doctor.specs.Findings.{finding_of}
+use Rattle.hp_doctor.specs.Nesting.{nested_rule}
 use Rattle.hp_doctor.specs.Sentences.{sentence}
 use Rattle.hp_doctor.specs.Texts.{File, Texts, chosen}
 
@@ -50,11 +56,56 @@ told_in (Some f) span says = located f.name f.text span says
 abbrev pub finding_text : Texts → Finding → List ℕ
 finding_text t f = told_in (option_and_then (chosen t) (aim_of f).which) (aim_of f).span (sentence f)
 
+-- ---- hints
+
+-- what is said of a rule that begins inside another one
+abbrev pub nested_sentence : ℕ → List ℕ
+nested_sentence line = says.NESTED.now ++ decimal line ++ says.MISSING.now
+
+abbrev pub nested_text : List ℕ → List ℕ → Option Nested → List ℕ
+nested_text name text None = []
+nested_text name text (Some n) =
+    shown name text (record { from = n.inner; to = n.inner + 1 }) (nested_sentence (line_of text n.outer))
+
+-- the first rule inside another one, where the text is there
+abbrev pub nested_by_name : List ℕ → Option (List ℕ) → List ℕ
+nested_by_name name None = []
+nested_by_name name (Some text) = nested_text name text (nested_rule text)
+
+abbrev pub nested_in : Option File → List ℕ
+nested_in None = []
+nested_in (Some f) = nested_by_name f.name f.text
+
+-- brackets that are open at the end, or one that closes nothing
+abbrev pub are_unpaired : TextKind → Bool
+are_unpaired kinds.Unclosed = true
+are_unpaired kinds.ExtraClose = true
+are_unpaired kinds.BadByte = false
+are_unpaired kinds.BadNumber = false
+are_unpaired kinds.NumberRange = false
+are_unpaired kinds.TokenLong = false
+are_unpaired kinds.TooNested = false
+are_unpaired kinds.TooLarge = false
+
+-- where a bracket may be missing, of a text whose brackets aren't in pairs
+abbrev pub refusal_hint : Texts → Refusal → List ℕ
+refusal_hint t (refusals.Text which kind offset) = cond (are_unpaired kind) (nested_in (chosen t which)) []
+refusal_hint t refusals.Usage = []
+refusal_hint t (refusals.Read which) = []
+refusal_hint t (refusals.Form which what span) = []
+refusal_hint t (refusals.Check fault) = []
+refusal_hint t (refusals.NoPair number count) = []
+
+abbrev pub hint : Texts → Finding → List ℕ
+hint t (Refused r) = refusal_hint t r
+hint t (Unserved in_problem span) = []
+hint t (Met f) = []
+
 -- ---- lines
 
 abbrev pub explanation_by : Texts → Option Finding → List ℕ
 explanation_by t None = []
-explanation_by t (Some f) = finding_text t f
+explanation_by t (Some f) = finding_text t f ++ hint t f
 
 -- a line, and what follows it
 abbrev pub explained_line : Texts → List ℕ → List ℕ

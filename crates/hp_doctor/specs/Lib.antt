@@ -1,6 +1,7 @@
 pub mod Explained
 pub mod Findings
 pub mod Loading
+pub mod Nesting
 pub mod Sentences
 pub mod Telling
 pub mod Texts

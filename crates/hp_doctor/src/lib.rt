@@ -3,7 +3,9 @@
 
 mod explaining;
 mod finding;
+mod hints;
 mod loading;
+mod nesting;
 mod notes;
 mod pieces;
 mod reading;

@@ -5,6 +5,7 @@ ghost use Rattle.hp_doctor.specs.Explained.{explained_line, explanation_by, find
 ghost use Rattle.hp_doctor.specs.Texts.{file_of, texts_of};
 
 use crate::finding::Finding;
+use crate::hints::push_hint;
 use crate::reading::finding_of;
 use crate::sentences::sentence;
 use crate::texts::{Text, Texts};
@@ -20,7 +21,10 @@ pub fn push_explanation(line: &mut Vec<u8>, files: &Texts) -> Result<(), AllocEr
     line.push(b'\n')?;
     match found {
         None => Ok(()),
-        Some(finding) => push_finding(line, files, finding),
+        Some(finding) => {
+            push_finding(line, files, finding)?;
+            push_hint(line, files, finding)
+        }
     }
 }
 
