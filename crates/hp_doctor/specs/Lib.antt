@@ -1,5 +1,6 @@
 pub mod Explained
 pub mod Findings
+pub mod Laws
 pub mod Loading
 pub mod Nesting
 pub mod Sentences

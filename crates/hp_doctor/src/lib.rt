@@ -4,6 +4,7 @@
 mod explaining;
 mod finding;
 mod hints;
+pub mod laws;
 mod loading;
 mod nesting;
 mod notes;
