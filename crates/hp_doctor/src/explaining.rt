@@ -1,11 +1,11 @@
 //! Going through what the planner wrote.
 
-ghost use Rattle.std.specs.Prelude.{◌≡◌, ◌≢◌, ◌≤◌, [], ◌⊎◌, IfOk, IfErr};
-ghost use Rattle.hp_doctor.specs.Telling.{HaltsIn, IsEnded, IsEndless, IsThrough, WroteOfAll, WroteOfBeginning};
+ghost use Rattle.std.specs.Prelude.{◌≡◌, ◌≢◌, ◌≤◌, [], ◌⊎◌, IfOk, IfErr, OnOk};
+ghost use Rattle.hp_doctor.specs.Telling.{Halts, HaltsIn, IsEnded, IsEndless, IsThrough, WroteOfAll, WroteOfBeginning};
 ghost use Rattle.hp_doctor.specs.Texts.{texts_of};
 ghost use Rattle.hp_doctor.specs.declared.telling.Halt.TheVariants as halts;
 ghost use Rattle.hp_io.specs.Rules.{Rose};
-ghost use Rattle.hp_out.specs.Writing.{sink_run};
+ghost use Rattle.hp_out.specs.Writing.{Wrote, sink_run};
 
 use crate::pieces::Pieces;
 use crate::telling::{Halt, tell_piece, write};
@@ -86,11 +86,21 @@ pub fn explain<I: Pieces, K: Sink>(
     let mut line = Vec::new(alloc);
     match tell_lines(files, &mut line, input, out) {
         Err(halt) => stopped(halt),
-        Ok(end) => match write(out, line.as_slice()) {
+        Ok(end) => match tell_rest(&mut line, out) {
             Err(halt) => stopped(halt),
             Ok(()) => ended(end),
         },
     }
+}
+
+/// Passes on what stands behind the last line feed, as it is.
+fn tell_rest<K: Sink>(line: &mut Vec<u8>, out: &mut K) -> Result<(), Halt>
+    ensures ok { OnOk result (Wrote line.old.items (K.bytes out.old) (K.bytes out.new)) }
+    ensures err { IfErr result (λ h. Halts h line.old.items
+        (sink_run (K.faults out.old) (K.faults out.new) (K.bytes out.old) (K.bytes out.new))) }
+    ensures later { K.faults out.old ≤ K.faults out.new }
+{
+    write(out, line.as_slice())
 }
 
 fn stopped(halt: Halt) -> Status
