@@ -20,7 +20,8 @@ use Rattle.hp_doctor.proofs.ToldLemmas.{told-append, left-append, told_more, lef
 pub halts_within : (h : Halt) (x y z text : List ℕ) (f g k : ℕ) (a b c : Option (List ℕ)) → f ≤ g → Wrote x a b
     → Halts h y (sink_run g k b c) → text ≡ (x ++ y) ++ z → Halts h text (sink_run f k a c)
 halts_within NoMemory x y z text f g k a b c e w h same =
-    subst (λ t. Halts NoMemory t (sink_run f k a c)) (sym same) (prefix_longer (x ++ y) z a c (prefix_after x y a b c w h))
+    subst (λ t. Halts NoMemory t (sink_run f k a c)) (sym same)
+    (prefix_longer (x ++ y) z a c (prefix_after x y a b c w h))
 halts_within Failed x y z text f g k a b c e w h same =
     let rose : Rose g k = h.0 in
     subst (λ t. Halts Failed t (sink_run f k a c)) (sym same)
@@ -91,7 +92,8 @@ begins_with_piece t seen piece rest =
     let line = left [] seen in
     explained-append t seen (piece ++ rest)
     ∙ ap (λ r. told t [] seen ++ (r ++ left line (piece ++ rest))) (told-append t line piece rest)
-    ∙ ap (λ r. told t [] seen ++ ((told t line piece ++ told t (left line piece) rest) ++ r)) (left-append line piece rest)
+    ∙ ap (λ r. told t [] seen ++ ((told t line piece ++ told t (left line piece) rest) ++ r))
+    (left-append line piece rest)
     ∙ simp append_assoc
 
 -- what follows a line at its end or its next byte
@@ -140,7 +142,8 @@ module _ (t : Texts) (n : ℕ) (line : List ℕ) (f g k : ℕ) (old mid : Option
   halts_through h m room buffer new i taken e s =
       piece_stops old (came_more i.seen buffer m room old mid new i.came taken)
     where
-      piece_stops : (all : Option (List ℕ)) → Came (i.seen ++ take m buffer) all new → HaltsIn h t all (sink_run f k a c)
+      piece_stops : (all : Option (List ℕ)) → Came (i.seen ++ take m buffer) all new
+          → HaltsIn h t all (sink_run f k a c)
       piece_stops None came = stops h (told t line (take m buffer)) f g k a b c e s
       piece_stops (Some all) came =
           halts_within h (told t [] i.seen) (told t line (take m buffer)) _ (explained t all) f g k a b c e i.wrote s

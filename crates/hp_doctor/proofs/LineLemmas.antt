@@ -116,7 +116,8 @@ pair_numbers : (number count : ℕ) → number < 2 ^ 64 → count < 2 ^ 64
     → PairBy (decimal number) (codes "of " ++ decimal count) ≡ Some (Refused (refusals.NoPair number count))
 pair_numbers number count h k = rw (count_read number h, count_read count k) refl
 
-pair_in : (words : List ℕ) → finding_of (codes "refused problem NoPair " ++ words) ≡ PairBy (first_word words) (other_words words)
+pair_in : (words : List ℕ)
+    → finding_of (codes "refused problem NoPair " ++ words) ≡ PairBy (first_word words) (other_words words)
 pair_in words = refl
 
 pair_read : (number count : ℕ) (line : List ℕ) → number < 2 ^ 64 → count < 2 ^ 64
@@ -127,7 +128,8 @@ pair_read number count line h k e =
     let free = decimal_free 32 number (omega arith) h in
     let text : codes "refused problem NoPair " ++ decimal number ++ codes " of " ++ decimal count
     ≡ codes "refused problem NoPair " ++ words = simp append_assoc in
-    ap finding_of (ended line (codes "refused problem NoPair " ++ decimal number ++ codes " of " ++ decimal count) e ∙ text)
+    ap finding_of
+    (ended line (codes "refused problem NoPair " ++ decimal number ++ codes " of " ++ decimal count) e ∙ text)
     ∙ pair_in words
     ∙ ap (λ f. PairBy f (other_words words)) (before_mark 32 (decimal number) (codes "of " ++ decimal count) free)
     ∙ ap (PairBy (decimal number)) (behind_mark 32 (decimal number) (codes "of " ++ decimal count) free)

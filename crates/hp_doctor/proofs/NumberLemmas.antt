@@ -35,7 +35,8 @@ value_from n [] = n
 value_from n (b ∷ bs) = value_from (n * 10 + (b - 48)) bs
 
 digits_are_numerals : IsNumeralModel AreDigits (value_from 0)
-digits_are_numerals = numerals_by_fold AreDigits tells_digits value_from (record { empty = λ n. refl; more = λ n c cs r. refl })
+digits_are_numerals =
+    numerals_by_fold AreDigits tells_digits value_from (record { empty = λ n. refl; more = λ n c cs r. refl })
 
 value_grows : (n : ℕ) (ds : List ℕ) → n ≤ value_from n ds
 value_grows n [] = omega arith
@@ -51,7 +52,8 @@ digits_read most n (b ∷ bs) h l =
     let p = and_parts (is_digit b) (list_all is_digit bs) h in
     let next = n * 10 + (b - 48) in
     let small : next ≤ most = omega (arith, l, value_grows next bs) in
-    let test : (is_digit b && nat_le next most) ≡ true = and_from (is_digit b) (nat_le next most) p.0 (le-leb next most small) in
+    let test : (is_digit b && nat_le next most) ≡ true =
+    and_from (is_digit b) (nat_le next most) p.0 (le-leb next most small) in
     ap (λ t. cond t (number_from most next bs) None) test ∙ digits_read most next bs p.1 l
 
 number_of_some : (most : ℕ) (ds : List ℕ) → 0 < length ds → number_of most ds ≡ number_from most 0 ds
@@ -111,10 +113,12 @@ decimal_free mark n l h = digits_free mark l (decimal n) (digits_decimal digits_
 pub span_read : (s : Span) → IsInFile s → span_of (span_text s) ≡ Some s
 span_read s h =
     let f : s.from < 2 ^ 64 = omega (arith, h.from) in
-    let shape : span_text s ≡ decimal s.from ++ 45 ∷ decimal s.to = append_assoc (decimal s.from) (codes "-") (decimal s.to) in
+    let shape : span_text s ≡ decimal s.from ++ 45 ∷ decimal s.to =
+    append_assoc (decimal s.from) (codes "-") (decimal s.to) in
     let free = decimal_free 45 s.from (omega arith) f in
     let from : offset_of (before 45 (span_text s)) ≡ Some s.from =
-    ap offset_of (ap (before 45) shape ∙ before_mark 45 (decimal s.from) (decimal s.to) free) ∙ offset_read s.from h.from in
+    ap offset_of (ap (before 45) shape ∙ before_mark 45 (decimal s.from) (decimal s.to) free)
+    ∙ offset_read s.from h.from in
     let to : offset_of (behind 45 (span_text s)) ≡ Some s.to =
     ap offset_of (ap (behind 45) shape ∙ behind_mark 45 (decimal s.from) (decimal s.to) free) ∙ offset_read s.to h.to in
     rw (from, to) refl

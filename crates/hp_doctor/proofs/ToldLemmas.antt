@@ -5,7 +5,8 @@ use Rattle.hp_doctor.specs.Explained.{left, next_line, told, told_at}
 use Rattle.hp_doctor.specs.Texts.{Texts}
 
 -- the lines of two texts are those of the first, and then those of the second behind what the first left
-pub told-append : (t : Texts) (line xs ys : List ℕ) → told t line (xs ++ ys) ≡ told t line xs ++ told t (left line xs) ys
+pub told-append : (t : Texts) (line xs ys : List ℕ)
+    → told t line (xs ++ ys) ≡ told t line xs ++ told t (left line xs) ys
 told-append t line [] ys = refl
 told-append t line (b ∷ bs) ys =
     ap (λ r. told_at t line b ++ r) (told-append t (next_line line b) bs ys)
@@ -33,7 +34,8 @@ left_more line xs i b h e =
 -- the lines of a text begin with those up to a byte, and what is told at that byte
 pub told_split : (t : Texts) (line xs : List ℕ) (i : ℕ) (b : ℕ) → i < length xs → b ≡ get_or xs i 0
     → told t line xs
-    ≡ (told t line (take i xs) ++ told_at t (left line (take i xs)) b) ++ told t (left line (take (i + 1) xs)) (drop (i + 1) xs)
+    ≡ (told t line (take i xs) ++ told_at t (left line (take i xs)) b)
+    ++ told t (left line (take (i + 1) xs)) (drop (i + 1) xs)
 told_split t line xs i b h e =
     ap (told t line) (sym (take-append-drop (i + 1) xs)) ∙ told-append t line (take (i + 1) xs) (drop (i + 1) xs)
     ∙ ap (λ r. r ++ told t (left line (take (i + 1) xs)) (drop (i + 1) xs)) (told_more t line xs i b h e)

@@ -51,7 +51,8 @@ count_of word = number_of 18446744073709551615 word
 -- a span: `FROM-TO`
 abbrev pub span_of : List ℕ → Option Span
 span_of word =
-    option_and_then (λ from. option_and_then (λ to. Some (record { from = from; to = to })) (offset_of (behind 45 word)))
+    option_and_then
+    (λ from. option_and_then (λ to. Some (record { from = from; to = to })) (offset_of (behind 45 word)))
     (offset_of (before 45 word))
 
 -- what follows the word `at`

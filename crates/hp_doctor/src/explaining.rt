@@ -32,8 +32,8 @@ fn tell_lines<I: Pieces, K: Sink>(
     out: &mut K,
 ) -> Result<End, Halt>
     requires { line.old.items ≡ [] }
-    ensures through { IfOk result (λ _. IsThrough (texts_of files.now) 0 line.new.items (I.rest input.old) (I.rest input.new)
-        (sink_run (K.faults out.old) (K.faults out.new) (K.bytes out.old) (K.bytes out.new))) }
+    ensures through { IfOk result (λ _. IsThrough (texts_of files.now) 0 line.new.items
+        (I.rest input.old) (I.rest input.new) (sink_run (K.faults out.old) (K.faults out.new) (K.bytes out.old) (K.bytes out.new))) }
     ensures end { IfOk result (λ e. e ≡ End.AtEnd → IsEnded (I.rest input.new)) }
     ensures cause { IfOk result (λ e. e ≡ End.Unread
         → Rose (I.faults input.old) (I.faults input.new) ⊎ IsEndless (I.rest input.old)) }
@@ -53,8 +53,8 @@ fn tell_lines<I: Pieces, K: Sink>(
     Ok(End::Unread)
 }
 
-/// Passes on what the planner wrote, line by line and byte for byte, and puts behind each line that is a refusal, a note
-/// or a fault what it means and where it is. Lines are passed on as they come, and memory is taken for the longest one.
+/// Passes on what the planner wrote, line by line and byte for byte, and puts behind each line that is a refusal, a
+/// note or a fault what it means and where it is. Lines are passed on as they come, and memory is taken for the longest one.
 /// Bytes behind the last line feed are passed on as they are.
 pub fn explain<I: Pieces, K: Sink>(
     alloc: Global,
@@ -62,8 +62,8 @@ pub fn explain<I: Pieces, K: Sink>(
     input: &mut I,
     out: &mut K,
 ) -> Status
-    // Where input and sink tell their bytes, what is written is what the definition has of the whole input, or, where it
-    // couldn't be read to its end, of a beginning of it.
+    // Where input and sink tell their bytes, what is written is what the definition has of the whole input, or, where
+    // it couldn't be read to its end, of a beginning of it.
     ensures exact { result ≡ Status.Done → WroteOfAll (texts_of files.now) (I.rest input.old)
         (sink_run (K.faults out.old) (K.faults out.new) (K.bytes out.old) (K.bytes out.new)) }
     ensures beginning { result ≡ Status.ReadFault → WroteOfBeginning (texts_of files.now) (I.rest input.old)

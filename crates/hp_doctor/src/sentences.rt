@@ -1,7 +1,8 @@
 //! What each finding means, in one sentence for those who begin.
 
 ghost use Rattle.std.specs.Prelude.{◌≡◌};
-ghost use Rattle.hp_doctor.specs.Sentences.{check_sentence, fault_sentence, kind_sentence, refusal_sentence, sentence, what_sentence};
+ghost use Rattle.hp_doctor.specs.Sentences.{check_sentence, fault_sentence, kind_sentence, refusal_sentence};
+ghost use Rattle.hp_doctor.specs.Sentences.{sentence, what_sentence};
 
 use crate::finding::Finding;
 use hp_out::Refusal;
