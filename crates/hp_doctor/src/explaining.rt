@@ -33,7 +33,8 @@ fn tell_lines<I: Pieces, K: Sink>(
 ) -> Result<End, Halt>
     requires { line.old.items ≡ [] }
     ensures through { IfOk result (λ _. IsThrough (texts_of files.now) 0 line.new.items
-        (I.rest input.old) (I.rest input.new) (sink_run (K.faults out.old) (K.faults out.new) (K.bytes out.old) (K.bytes out.new))) }
+        (I.rest input.old) (I.rest input.new)
+        (sink_run (K.faults out.old) (K.faults out.new) (K.bytes out.old) (K.bytes out.new))) }
     ensures end { IfOk result (λ e. e ≡ End.AtEnd → IsEnded (I.rest input.new)) }
     ensures cause { IfOk result (λ e. e ≡ End.Unread
         → Rose (I.faults input.old) (I.faults input.new) ⊎ IsEndless (I.rest input.old)) }

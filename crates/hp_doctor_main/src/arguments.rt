@@ -31,7 +31,7 @@ fn where_command<'a>(alloc: Global) -> Result<Command<'a>, AllocError> {
     let plan = Arg::new(alloc, "PLAN").help("The file of the plan, where one was verified");
     Command::new(alloc, "where")
         .about(
-            "Passes on what gudsjilp wrote, from standard input, and says where and what each refusal, note and fault is",
+            "Passes on what gudsjilp wrote, from standard input, and explains its refusals, notes and faults",
         )
         .arg(domain)?
         .arg(problem)?

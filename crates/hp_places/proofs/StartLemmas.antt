@@ -73,4 +73,9 @@ place_found text starts offset i e l =
     let line : feeds (take offset text) ≡ i = ap feeds (sym same) ∙ r.0 in
     let column : slice_index (line_starts text) i + behind_feed 0 (take offset text) ≡ m =
     ap (λ t. slice_index (line_starts text) i + behind_feed 0 t) (sym same) ∙ r.1 in
-    record { within = rw e at l.within; line = omega (arith, line); column = omega (arith, column); start = omega (arith, column) }
+    record {
+      within = rw e at l.within;
+      line = omega (arith, line);
+      column = omega (arith, column);
+      start = omega (arith, column);
+    }
