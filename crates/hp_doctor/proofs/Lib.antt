@@ -1,0 +1,5 @@
+pub mod HaltLemmas
+pub mod LineLemmas
+pub mod LoadingSteps
+pub mod NumberLemmas
+pub mod ToldLemmas
