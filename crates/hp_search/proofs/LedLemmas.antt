@@ -127,6 +127,11 @@ none_led s live none = back_at_root s none
 
 -- ---- the last frame
 
+-- with one more before it, a list still is something and its last element
+last_later : {A : Type 0} (y x : A) (xs : List A) → (ys : List A) × (xs ≡ ys ++ x ∷ [])
+    → (ys : List A) × (y ∷ xs ≡ ys ++ x ∷ [])
+last_later y x xs (ys, e) = (y ∷ ys, ap (λ ws. y ∷ ws) e)
+
 -- a list is what stands before its last element, and that
 pub last_split : {A : Type 0} (xs : List A) (x : A) → slice_get xs (length xs - 1) ≡ Some x
     → (ys : List A) × (xs ≡ ys ++ x ∷ [])
@@ -136,8 +141,7 @@ last_split (y ∷ z ∷ zs) x e =
     let n : length (y ∷ z ∷ zs) - 1 ≡ suc (length (z ∷ zs) - 1) = omega arith in
     let same : slice_get (z ∷ zs) (length (z ∷ zs) - 1) ≡ slice_get (y ∷ z ∷ zs) (length (y ∷ z ∷ zs) - 1) =
     ap (slice_get (y ∷ z ∷ zs)) (sym n) in
-    let h = last_split (z ∷ zs) x (same ∙ e) in
-    (y ∷ h.0, ap (λ ws. y ∷ ws) h.1)
+    last_later y x (z ∷ zs) (last_split (z ∷ zs) x (same ∙ e))
 
 -- without a last element it is empty
 pub last_none : {A : Type 0} (xs : List A) → slice_get xs (length xs - 1) ≡ None → xs ≡ []
