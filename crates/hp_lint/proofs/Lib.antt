@@ -1,0 +1,4 @@
+pub mod Steps
+pub mod BranchLemmas
+pub mod TableLemmas
+pub mod CountLemmas
