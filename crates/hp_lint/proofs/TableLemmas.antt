@@ -1,7 +1,7 @@
 -- Tables that are filled atom by atom.
 use Rattle.std.proofs.Common.{◌≡◌, ℕ, ◌+◌, ◌<◌, ◌≤◌, Bool, true, false, ◌&&◌, ◌||◌, List, [], ◌∷◌, ◌++◌, length, get_or, take, map, refl, ap, ap₂, sym, ◌∙◌, bytes_eq, nat_le, arith}
 use Rattle.std.specs.Borrow.{Bor}
-use Rattle.std.specs.List.{list_any}
+use Rattle.std.specs.List.{flat_map, list_any}
 use Rattle.std.proofs.lemmas.List.{take_more, take_all, map-append}
 use Rattle.std.proofs.lemmas.List.Folds.{list_any-append}
 use Rattle.std.proofs.lemmas.Bool.Decides.{nat_tests}
@@ -13,7 +13,7 @@ use Rattle.hp_syntax.specs.Views.{patterns_of}
 use Rattle.hp_lint.specs.declared.table.Width.{Width}
 use Rattle.hp_lint.specs.declared.table.Table.{Table}
 use Rattle.hp_lint.specs.Fitting.{agree, any_width, fits_any, fits_as, width}
-use Rattle.hp_lint.specs.Asking.{has_name}
+use Rattle.hp_lint.specs.Asking.{has_name, on_asked}
 use Rattle.hp_lint.specs.LintViews.{accepts, accepts_atom, accepts_name, lent, lent_atoms, Knows, Learns}
 
 -- as many patterns are counted as there are
@@ -73,3 +73,11 @@ accepts_atom-is atoms table h = λ i a. h a.name (width a) i
 -- and a name where one of them has it
 pub accepts_name-is : (atoms : List Atom) (table : Table) → Knows atoms table → accepts_name table ≡ has_name atoms
 accepts_name-is atoms table h = λ i name. (h name any_width ∙ named name atoms) i
+
+-- what is told of atoms by a table of those that are given
+pub asked_told : (atoms asked : List Atom) (table : Table) (some : List (Bor AtomPat)) → Knows atoms table
+    → lent_atoms some ≡ asked
+    → flat_map (on_asked (accepts_atom table) (accepts_name table)) (lent_atoms some)
+    ≡ flat_map (on_asked (fits_any atoms) (has_name atoms)) asked
+asked_told atoms asked table some h e =
+    λ i. flat_map (on_asked (accepts_atom-is atoms table h i) (accepts_name-is atoms table h i)) (e i)
