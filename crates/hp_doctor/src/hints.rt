@@ -17,6 +17,7 @@ use std::alloc::AllocError;
 
 /// What is said of a rule inside another one, before the line of that one and behind it.
 const NESTED: &[u8] = b"a rule begins here inside the rule of line ";
+
 const MISSING: &[u8] = b", where a bracket may be missing";
 
 /// Puts behind a finding where a bracket may be missing, if the brackets of the text aren't in pairs.

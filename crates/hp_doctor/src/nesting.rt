@@ -55,7 +55,8 @@ pub fn nested_rule(text: &[u8]) -> Option<Nested>
 fn begins_rule(byte: u8, behind: &[u8]) -> bool
     ensures { result ≡ begins_rule byte behind.now }
 {
-    byte == b'(' && (starts(b":operator", behind) || starts(b":method", behind) || starts(b":-", behind))
+    byte == b'('
+        && (starts(b":operator", behind) || starts(b":method", behind) || starts(b":-", behind))
 }
 
 fn starts(word: &[u8], bytes: &[u8]) -> bool
@@ -75,7 +76,10 @@ impl Open {
         }
         match self.rule {
             None => None,
-            Some(rule) => Some(Nested { inner: offset, outer: rule.offset }),
+            Some(rule) => Some(Nested {
+                inner: offset,
+                outer: rule.offset,
+            }),
         }
     }
 
@@ -87,10 +91,16 @@ impl Open {
         ensures depth { result.depth ≤ offset + 1 }
     {
         if self.in_comment {
-            return Open { in_comment: byte != b'\n', ..self };
+            return Open {
+                in_comment: byte != b'\n',
+                ..self
+            };
         }
         match byte {
-            b';' => Open { in_comment: true, ..self },
+            b';' => Open {
+                in_comment: true,
+                ..self
+            },
             b'(' => self.opened(offset, begins),
             b')' => self.closed(),
             _ => self,
@@ -103,7 +113,10 @@ impl Open {
     {
         let rule = match self.rule {
             Some(rule) => Some(rule),
-            None if begins => Some(Begun { offset, depth: self.depth }),
+            None if begins => Some(Begun {
+                offset,
+                depth: self.depth,
+            }),
             None => None,
         };
         Open {

@@ -30,7 +30,9 @@ fn where_command<'a>(alloc: Global) -> Result<Command<'a>, AllocError> {
         .help("The file of the problem");
     let plan = Arg::new(alloc, "PLAN").help("The file of the plan, where one was verified");
     Command::new(alloc, "where")
-        .about("Passes on what gudsjilp wrote, from standard input, and says where and what each refusal, note and fault is")
+        .about(
+            "Passes on what gudsjilp wrote, from standard input, and says where and what each refusal, note and fault is",
+        )
         .arg(domain)?
         .arg(problem)?
         .arg(plan)
@@ -45,13 +47,9 @@ pub fn request<'a>(matches: &ArgMatches<'a>) -> Option<Asked<'a>> {
     let domain = words.get_str("DOMAIN")?;
     let problem = words.get_str("PROBLEM")?;
     let plan = words.get_str("PLAN");
-    Some(
-        Asked::Where(
-            Names {
-                domain,
-                problem,
-                plan,
-            },
-        ),
-    )
+    Some(Asked::Where(Names {
+        domain,
+        problem,
+        plan,
+    }))
 }

@@ -64,7 +64,11 @@ fn main(rt: HostRuntime) -> ExitCode {
         Ok(code) => ExitCode::from(code),
         Err(error) => {
             let printed = error.print(&rt);
-            ExitCode::from(if printed.is_err() { Status::WriteFault.code() } else { code_of(&error) })
+            ExitCode::from(if printed.is_err() {
+                Status::WriteFault.code()
+            } else {
+                code_of(&error)
+            })
         }
     }
 }
