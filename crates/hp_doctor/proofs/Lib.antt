@@ -1,3 +1,5 @@
+pub mod AcceptingLemmas
 pub mod HaltLemmas
 pub mod LoadingSteps
+pub mod RemarkSteps
 pub mod ToldLemmas

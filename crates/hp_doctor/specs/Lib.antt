@@ -1,5 +1,7 @@
+pub mod Accepting
 pub mod Explained
 pub mod Findings
+pub mod Linted
 pub mod Loading
 pub mod Nesting
 pub mod Sentences
