@@ -1,5 +1,5 @@
 -- Why files aren't accepted.
-use Rattle.std.proofs.Common.{◌≡◌, ℕ, List, length, Option, Some, Result, Ok, Err, IfErr, refl}
+use Rattle.std.proofs.Common.{◌≡◌, ℕ, List, length, Some, Result, Ok, Err, IfErr, refl}
 use Rattle.hp_io.specs.declared.folder.Input.{Input}
 use Rattle.hp_io.specs.declared.folder.Input.TheVariants as inputs
 use Rattle.hp_out.specs.declared.refusal.Refusal.TheVariants as refusals

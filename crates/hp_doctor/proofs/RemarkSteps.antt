@@ -8,7 +8,6 @@ use Rattle.hp_out.specs.Writing.{SinkRun, sink_run, Wrote}
 use Rattle.hp_out.proofs.WritingLemmas.{prefix_longer, proper_longer, prefix_after, proper_after}
 use Rattle.hp_out.proofs.WriteSteps.{seam, wrote_both}
 use Rattle.hp_syntax.specs.Report.{Answer}
-use Rattle.hp_syntax.specs.declared.status.Status.{Status}
 use Rattle.hp_doctor.specs.declared.telling.Halt.{Halt}
 use Rattle.hp_doctor.specs.declared.telling.Halt.TheVariants.{NoMemory, Failed}
 use Rattle.hp_doctor.specs.Linted.{Tells, Whole, WithoutMemory, Unwritten, status_told}

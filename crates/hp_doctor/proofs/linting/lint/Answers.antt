@@ -1,5 +1,5 @@
 use Rattle.std.proofs.Common.{refl}
-use Rattle.hp_doctor.specs.Accepting.{refusal_status}
+use Rattle.hp_doctor.specs.Accepting.{AreRefused, refusal_status}
 use Rattle.hp_doctor.specs.Explained.{explained}
 use Rattle.hp_doctor.specs.Linted.{Accepted, Refused, Told, remarks_text}
 use Rattle.hp_doctor.specs.Texts.{texts_of}
@@ -21,5 +21,6 @@ pub returns-in-Err-Refused-clause-lints : goal.returns-in-Err-Refused-clause-lin
 returns-in-Err-Refused-clause-lints g c =
     let t = texts_of c.args.files.now in
     let r = c.in-Err-Refused.refusal in
-    Told (explained t (refusal_text r), refusal_status r) (Refused r (rw c.in-Err-Refused.field-0-is at c.in-Err-Refused.ensures.stops) refl)
+    let stops : AreRefused t r = rw c.in-Err-Refused.field-0-is at c.in-Err-Refused.ensures.stops in
+    Told (explained t (refusal_text r), refusal_status r) (Refused r stops refl)
     c.refuse.ensures.tells
