@@ -1,5 +1,7 @@
+pub mod AcceptingLemmas
 pub mod HaltLemmas
 pub mod LineLemmas
 pub mod LoadingSteps
 pub mod NumberLemmas
+pub mod RemarkSteps
 pub mod ToldLemmas

@@ -1,6 +1,8 @@
+pub mod Accepting
 pub mod Explained
 pub mod Findings
 pub mod Laws
+pub mod Linted
 pub mod Loading
 pub mod Nesting
 pub mod Sentences

@@ -40,7 +40,7 @@ fn push_finding(out: &mut Vec<u8>, files: &Texts, finding: Finding) -> Result<()
 }
 
 /// A sentence in a file, where it is about one.
-fn push_in(
+pub fn push_in(
     out: &mut Vec<u8>,
     file: Option<&Text>,
     span: Option<Span>,

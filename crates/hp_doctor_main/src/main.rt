@@ -6,7 +6,7 @@ mod arguments;
 use crate::arguments::{Asked, command, request};
 use clap::Error;
 use clap::error::ErrorKind;
-use hp_doctor::{HostPieces, Names, Texts, explain};
+use hp_doctor::{HostPieces, Names, Texts, explain, lint};
 use hp_io::{Failed, HostFolder, HostSink};
 use hp_out::Paged;
 use hp_syntax::Status;
@@ -38,11 +38,24 @@ fn explain_input(rt: &HostRuntime, names: Names) -> Status {
     close(status, flushed)
 }
 
+/// Tells what looks wrong in these files.
+fn lint_files(rt: &HostRuntime, names: Names) -> Status {
+    let Ok(texts) = Texts::read(rt.alloc(), &mut HostFolder::new(rt), names) else {
+        return Status::NoMemory;
+    };
+    let mut out = Paged::<Brand, _>::new(HostSink::new(rt));
+    let status = lint(rt.alloc(), &texts, &mut out);
+    let flushed = out.flush();
+    drop(out.into_sink());
+    close(status, flushed)
+}
+
 /// The status of a run that is over, by how the last page was written.
 fn close(status: Status, flushed: Result<(), Failed>) -> Status {
     match (status, flushed) {
-        (Status::Done, Err(_)) => Status::WriteFault,
-        (status, _) => status,
+        (Status::NoMemory, Err(_)) => Status::NoMemory,
+        (_, Err(_)) => Status::WriteFault,
+        (status, Ok(())) => status,
     }
 }
 
@@ -51,6 +64,7 @@ fn run(rt: &HostRuntime, words: &[String]) -> Result<u8, Error> {
     let matches = command(rt.alloc())?.try_get_matches_from(words)?;
     let status = match request(&matches) {
         Some(Asked::Where(names)) => explain_input(rt, names),
+        Some(Asked::Lint(names)) => lint_files(rt, names),
         None => Status::Usage,
     };
     Ok(status.code())

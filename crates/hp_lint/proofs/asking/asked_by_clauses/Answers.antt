@@ -1,0 +1,11 @@
+use Rattle.std.proofs.Common.{map, true, refl}
+use Rattle.std.specs.List.{flat_map}
+use Rattle.hp_syntax.specs.Views.{clause_of}
+use Rattle.hp_syntax.proofs.ListLemmas.{made_on}
+use Rattle.hp_lint.specs.Asking.{asked_by_clause}
+use Rattle.hp_lint.proofs.asking.asked_by_clauses.Goals as goal
+
+pub loop-clause-preserved : goal.loop-clause-preserved
+loop-clause-preserved c =
+    made_on (λ ys. flat_map asked_by_clause (map clause_of ys)) (λ y. asked_by_clause (clause_of y)) c.args.clauses.now c.loop-clause.clause-index c.clause-item.result
+    _ _ _ (λ y ys. refl) c.loop-clause-test.true c.clause-item.is c.loop-clause.invariant c.in_ok-asked.ensures

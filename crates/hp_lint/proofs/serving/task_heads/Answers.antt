@@ -1,0 +1,11 @@
+use Rattle.std.proofs.Common.{map, true, refl}
+use Rattle.std.specs.List.{flat_map}
+use Rattle.hp_syntax.specs.Views.{rule_of}
+use Rattle.hp_syntax.proofs.ListLemmas.{made_on}
+use Rattle.hp_lint.specs.Serving.{task_head}
+use Rattle.hp_lint.proofs.serving.task_heads.Goals as goal
+
+pub loop-rule-preserved : goal.loop-rule-preserved
+loop-rule-preserved c =
+    made_on (λ ys. flat_map task_head (map rule_of ys)) (λ y. task_head (rule_of y)) c.args.rules.now c.loop-rule.rule-index c.rule-item.result
+    _ _ _ (λ y ys. refl) c.loop-rule-test.true c.rule-item.is c.loop-rule.invariant c.in_ok-rule_head.ensures

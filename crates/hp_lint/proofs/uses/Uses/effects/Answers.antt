@@ -1,0 +1,11 @@
+use Rattle.std.proofs.Common.{map, true, refl}
+use Rattle.std.specs.List.{flat_map}
+use Rattle.hp_syntax.specs.Views.{effect_of}
+use Rattle.hp_syntax.proofs.ListLemmas.{made_on}
+use Rattle.hp_lint.specs.Variables.{effect_uses}
+use Rattle.hp_lint.proofs.uses.Uses.effects.Goals as goal
+
+pub loop-effect-preserved : goal.loop-effect-preserved
+loop-effect-preserved c =
+    made_on (λ ys. flat_map effect_uses (map effect_of ys)) (λ y. effect_uses (effect_of y)) c.args.effects.now c.loop-effect.effect-index c.effect-item.result
+    _ _ _ (λ y ys. refl) c.loop-effect-test.true c.effect-item.is c.loop-effect.invariant c.in_ok-effect.ensures
