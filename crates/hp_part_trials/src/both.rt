@@ -2,6 +2,7 @@
 
 mod calls;
 mod cells_given_back;
+mod decompositions;
 mod drawn;
 mod loading;
 mod rounds;
@@ -9,6 +10,7 @@ mod walks_at_once;
 
 use crate::both::calls::{Trial, show_trial};
 use crate::both::cells_given_back::show_given_back;
+use crate::both::decompositions::show_decompositions;
 use crate::both::drawn::show_drawn;
 use hp_fixtures::page::Page;
 use std::alloc::{AllocError, Global};
@@ -65,6 +67,7 @@ pub fn print_all(rt: &(impl Files + Print + AllocGlobal)) -> io::Result<()> {
     show_texts(rt, &mut page)?;
     show_weave(rt, &mut page)?;
     show_given_back(&mut page, rt.alloc())?;
+    show_decompositions(&mut page, rt.alloc())?;
     show_calls(rt, &mut page)?;
     print!(rt; "{}", page.lines()?)
 }
