@@ -1,9 +1,7 @@
 -- How often variables stand in a list.
-use Rattle.std.proofs.Common.{◌≡◌, ℕ, ◌+◌, ◌<◌, ◌≤◌, Bool, true, false, ◌&&◌, ◌||◌, not, cond, nat_eq, nat_le, ◌==◌, List, [], ◌∷◌, ◌++◌, length, get_or, take, inl, inr, subst, refl, ap, ap₂, sym, ◌∙◌, arith}
+use Rattle.std.proofs.Common.{◌≡◌, ℕ, ◌+◌, ◌<◌, Bool, true, false, ◌&&◌, ◌||◌, not, cond, nat_eq, nat_le, ◌==◌, List, [], ◌∷◌, ◌++◌, length, get_or, take, inl, inr, subst, refl, ap, ap₂, sym, ◌∙◌, arith}
 use Rattle.std.specs.List.{list_any, filter, flat_map}
 use Rattle.std.proofs.lemmas.List.{take_more}
-use Rattle.std.proofs.lemmas.List.Elements.{filter-append}
-use Rattle.std.proofs.lemmas.Grind.{common_steps}
 use Rattle.std.proofs.lemmas.Bool.Decides.{eqb_tells, nat_tests}
 use Rattle.std.proofs.lemmas.List.Folds.{list_any-append}
 use Rattle.indexmap.specs.IndexSet.{contains, insert_key}
@@ -55,7 +53,7 @@ present : (ks : List ℕ) (k v : ℕ) → list_any (nat_eq k) ks ≡ true
 present ks k v h =
     elim (eqb_tells v k) [
       | inl t ↦ let there : list_any (nat_eq v) ks ≡ true = subst (λ n. list_any (nat_eq n) ks ≡ true) (sym t.1) h in
-      there ∙ sym (ap (λ b. b || nat_eq v k) there)
+          there ∙ sym (ap (λ b. b || nat_eq v k) there)
       | inr t ↦ or_false (list_any (nat_eq v) ks) ∙ ap (λ b. list_any (nat_eq v) ks || b) (sym t.0)
     ]
 

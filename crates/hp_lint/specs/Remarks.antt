@@ -1,5 +1,5 @@
 -- All remarks on a domain and a problem, in the order of the texts.
-use Rattle.std.specs.Prelude.{ℕ, Bool, true, false, nat_lt, cond, List, [], ◌∷◌, ◌++◌}
+use Rattle.std.specs.Prelude.{Bool, true, false, nat_lt, cond, List, [], ◌∷◌, ◌++◌}
 use Rattle.std.specs.List.{flat_map}
 use Rattle.hp_syntax.specs.Syntax.{Domain, Problem}
 use Rattle.hp_syntax.specs.Notes.{domain_atoms, problem_atoms}

@@ -1,8 +1,8 @@
-use Rattle.std.proofs.Common.{map, true, refl}
+use Rattle.std.proofs.Common.{map, refl}
 use Rattle.std.specs.List.{flat_map}
 use Rattle.hp_syntax.specs.Views.{branch_of}
 use Rattle.hp_syntax.proofs.ListLemmas.{made_on}
-use Rattle.hp_lint.specs.Asking.{asked_before, asked_by_branch}
+use Rattle.hp_lint.specs.Asking.{asked_by_branch}
 use Rattle.hp_lint.proofs.asking.asked_by_branches.Goals as goal
 
 pub loop-branch-preserved : goal.loop-branch-preserved

@@ -1,4 +1,4 @@
-use Rattle.std.proofs.Common.{true, refl}
+use Rattle.std.proofs.Common.{refl}
 use Rattle.std.specs.List.{flat_map}
 use Rattle.hp_syntax.proofs.ListLemmas.{made_on}
 use Rattle.hp_lint.specs.Asking.{on_asked}

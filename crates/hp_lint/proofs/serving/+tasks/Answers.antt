@@ -1,4 +1,4 @@
-use Rattle.std.proofs.Common.{true, refl}
+use Rattle.std.proofs.Common.{refl}
 use Rattle.hp_syntax.specs.Notes.{task_atoms, task_list_atoms}
 use Rattle.hp_syntax.specs.Views.{task_list_of, tasks_of}
 use Rattle.hp_syntax.proofs.ListLemmas.{made_on}

@@ -1,4 +1,4 @@
-use Rattle.std.proofs.Common.{map, true, refl}
+use Rattle.std.proofs.Common.{map, refl}
 use Rattle.std.specs.List.{flat_map}
 use Rattle.hp_syntax.specs.Notes.{rule_atoms}
 use Rattle.hp_syntax.specs.Views.{rule_of}

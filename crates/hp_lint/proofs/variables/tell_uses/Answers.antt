@@ -1,4 +1,4 @@
-use Rattle.std.proofs.Common.{true, refl}
+use Rattle.std.proofs.Common.{refl}
 use Rattle.std.specs.List.{flat_map}
 use Rattle.hp_lint.proofs.Steps.{made_copied}
 use Rattle.hp_lint.specs.Variables.{on_use}

@@ -1,7 +1,7 @@
 use Rattle.std.proofs.Common.{rules, inl, inr}
 use Rattle.hp_syntax.specs.ViewLaws.{expression_of-atom, expression_of-and, expression_of-or, expression_of-not, expression_of-forall, expression_of-assign, expression_of-call}
 use Rattle.hp_lint.proofs.Steps.{put_both, put_one_first}
-use Rattle.std.proofs.Common.{true, refl}
+use Rattle.std.proofs.Common.{refl}
 use Rattle.hp_syntax.specs.Views.{expression_of, expressions_of}
 use Rattle.hp_syntax.proofs.ListLemmas.{made_on}
 use Rattle.hp_lint.specs.Variables.{expression_uses, expressions_uses}

@@ -1,4 +1,4 @@
-use Rattle.std.proofs.Common.{true, refl}
+use Rattle.std.proofs.Common.{refl}
 use Rattle.hp_syntax.specs.Views.{pattern_of, patterns_of}
 use Rattle.hp_syntax.proofs.ListLemmas.{made_on}
 use Rattle.hp_lint.specs.Variables.{pattern_uses, patterns_uses}
