@@ -21,7 +21,8 @@ use Rattle.hp_doctor.specs.Texts.{Texts}
 
 module _ {A : Type 0} (which : Input) (form : Form A) where
   -- a text that is refused stops the reading of its file
-  pub text_stops : (text : List ℕ) (e : TextRefusal) → RefusesText text e → Stops which form (Some text) (of_text which e)
+  pub text_stops : (text : List ℕ) (e : TextRefusal) → RefusesText text e
+      → Stops which form (Some text) (of_text which e)
   text_stops text (reads.Bad kind offset) r = ByText (record { kind = kind; offset = offset }) r refl
   text_stops text reads.NoMemory r = tt
 
@@ -41,5 +42,7 @@ module _ (t : Texts) (d : Domain) (read : Has domain_form t.domain.text d) where
   pub check_stops : {A : Type 0} (p : Problem) (r : Result A Stop) → Has problem_form t.problem.text p
       → IfErr r (λ e. StopsAtCheck e (first_of (faults d p))) → IfErr r (StopBoth t)
   check_stops p (Ok x) q h = tt
-  check_stops p (Err (stops.Refused r)) q h = OfChecks d p h.0 read q h.1 (let same : stops.Refused r ≡ stops.Refused (refusals.Check h.0) = h.2 in cc)
+  check_stops p (Err (stops.Refused r)) q h =
+      OfChecks d p h.0 read q h.1
+      (let same : stops.Refused r ≡ stops.Refused (refusals.Check h.0) = h.2 in cc)
   check_stops p (Err stops.NoMemory) q h = tt

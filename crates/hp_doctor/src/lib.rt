@@ -1,5 +1,5 @@
-//! What the planner's refusals, notes and faults mean, and where they are, for those who write domains and problems, and
-//! what looks wrong in what it accepts.
+//! What the planner's refusals, notes and faults mean, and where they are, for those who write domains and problems,
+//! and what looks wrong in what it accepts.
 #![tactic(auto)]
 
 mod accepting;
