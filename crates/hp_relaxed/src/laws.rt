@@ -1,0 +1,30 @@
+//! Laws of twins.
+//!
+//! Each function does nothing, and its contract is the law.
+
+ghost use Rattle.std.specs.Prelude.{◌≡◌, ℕ, ℤ, pos, ◌*◌, List, [], map};
+ghost use Rattle.hp_syntax.specs.GroundPatterns.{network_said};
+ghost use Rattle.hp_syntax.specs.Networks.{Empty, normal};
+ghost use Rattle.hp_syntax.specs.Syntax.{Rule, Pair};
+ghost use Rattle.hp_syntax.specs.Terms.{Term};
+ghost use Rattle.hp_syntax.specs.Walk.{root, visits};
+ghost use Rattle.hp_laws.specs.Derivations.{Choosing, Situation, Derives, first_situation};
+ghost use Rattle.hp_relaxed.specs.Twins.{AreTwins, for_nothing, free_plans, given_up, plans_among, price, tolls, twin};
+
+/// The plans of a twin that cost nothing are the plans of the domain, in their order, each as often: with the same
+/// steps, states and protections, and for nothing.
+pub fn plans_for_nothing_are_those_of_the_domain()
+    ensures { (toll : List ℕ) (rules more : List Rule) (payer : Rule) (nest : ℕ) (pair : Pair) (depth : ℕ)
+        → AreTwins toll rules more payer → tolls toll (normal (network_said pair.tasks)) ≡ 0
+        → free_plans (visits (twin rules more payer) nest (root pair depth) [])
+        ≡ map for_nothing (plans_among (visits rules nest (root pair depth) [])) }
+{}
+
+/// A plan of a twin costs the price as often as something was given up on its way.
+pub fn plans_cost_what_was_given_up()
+    ensures { (toll : List ℕ) (rules more : List Rule) (payer : Rule) (nest : ℕ) (pair : Pair) (cs : List Choosing)
+        (steps : List Term) (cost : ℤ) (after : Situation)
+        → AreTwins toll rules more payer → tolls toll (normal (network_said pair.tasks)) ≡ 0
+        → Derives (twin rules more payer) nest cs (first_situation pair) steps cost after → after.network ≡ Empty
+        → cost ≡ pos (price * given_up rules more cs) }
+{}
