@@ -4,3 +4,8 @@ pub mod OwedLemmas
 pub mod PaidLemmas
 pub mod FreeChildren
 pub mod FreePlans
+pub mod CostLemmas
+pub mod StayingLemmas
+pub mod GivenLemmas
+pub mod GivingLemmas
+pub mod CheckedLemmas
