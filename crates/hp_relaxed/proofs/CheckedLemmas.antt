@@ -1,9 +1,8 @@
 -- In the twin of a domain without faults the checks find none.
-use Rattle.std.proofs.Common.{◌≡◌, ℕ, ℤ, Bool, true, false, cond, List, [], ◌∷◌, ◌++◌, length, Option, Some, None, refl, sym, ◌∙◌, ap, ap₂, subst}
-use Rattle.std.specs.Prelude.{nat_lt, pos, codes, bytes_eq, flat_map}
+use Rattle.std.proofs.Common.{◌≡◌, ℕ, ℤ, Bool, true, false, cond, List, [], ◌∷◌, ◌++◌, length, Option, Some, None, refl, ap, ap₂}
+use Rattle.std.specs.Prelude.{nat_lt, pos, flat_map}
 use Rattle.hp_syntax.specs.declared.pattern.Span.{Span}
-use Rattle.hp_syntax.specs.declared.check.CheckFault.{CheckFault}
-use Rattle.hp_syntax.specs.Checks.{InHead, InBody, atom_faults, branch_faults, domain_faults, effect_faults, expression_faults, expressions_faults, first_of, level_faults, method_faults, operator_faults, pattern_faults, patterns_faults, precondition_faults, problem_faults, rule_faults, task_list_faults, tasks_faults, vars_faults}
+use Rattle.hp_syntax.specs.Checks.{InHead, InBody, atom_faults, branch_faults, domain_faults, effect_faults, expression_faults, expressions_faults, first_of, operator_faults, pattern_faults, precondition_faults, problem_faults, rule_faults, tasks_faults, vars_faults}
 use Rattle.hp_syntax.specs.Notes.{task_atoms}
 use Rattle.hp_syntax.specs.Syntax as syntax
 use Rattle.hp_syntax.specs.Syntax.{Branch, Domain, Expression, Expressions, Method, NoExpression, Also, Operator, Pattern, Precondition, Problem, Rule, Does, Refines, Concludes, Tasks}
@@ -13,6 +12,7 @@ use Rattle.hp_laws.proofs.FaultLemmas.{both_empty}
 use Rattle.hp_lint.specs.declared.uses.Use.{Use}
 use Rattle.hp_lint.specs.Branches.{expression_span}
 use Rattle.hp_lint.specs.Variables.{atom_uses, atoms_uses}
+use Rattle.hp_relaxed.specs.GivingViews.{times_nothing}
 use Rattle.hp_relaxed.specs.Twins.{free_cost, free_rule, twin}
 use Rattle.hp_relaxed.specs.Giving.{all_giving_up, behind_operator, body_of, branch_given, branch_giving_up, branch_with, giving_up, if_fewer, left_of, left_of_branch, left_of_operator, listed, needed_by, operator_given, operator_with, paid_tasks, parts_of, payer, price_at, relaxed_rules, staying, stays, surely_bound, toll_of, with_body, with_parts}
 
@@ -23,8 +23,7 @@ together xs ys h k = ap₂ (λ x y. x ++ y) h k
 -- ---- costs
 
 times_clean : (s : Span) (p : Pattern) → pattern_faults InBody p ≡ []
-    → pattern_faults InBody (syntax.Call s (codes "*") (syntax.Before p (syntax.Before (syntax.Number s (pos 0)) syntax.NoPattern)))
-    ≡ []
+    → pattern_faults InBody (times_nothing s p) ≡ []
 unfolding pattern_faults
 times_clean s p h = ap (λ xs. xs ++ ([] ++ [])) h
 

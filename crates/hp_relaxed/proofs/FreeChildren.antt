@@ -1,5 +1,5 @@
 -- By the free rules of a twin a node for nothing has the children that it has by the rules of the domain, for nothing.
-use Rattle.std.proofs.Common.{◌≡◌, ℕ, ◌-◌, ℤ, List, [], ◌∷◌, ◌++◌, length, map, Option, Some, None, Result, Ok, Err, refl, sym, ◌∙◌, ap, ap₂, subst}
+use Rattle.std.proofs.Common.{◌≡◌, ℕ, ℤ, List, [], ◌∷◌, ◌++◌, length, map, Option, Some, None, Result, Ok, Err, refl, sym, ◌∙◌, ap, ap₂}
 use Rattle.std.specs.Prelude.{pos, flat_map}
 use Rattle.std.specs.List.{All}
 use Rattle.std.proofs.lemmas.List.{map-append}
@@ -7,11 +7,11 @@ use Rattle.std.proofs.lemmas.List.Elements.{All-head, All-tail}
 use Rattle.hp_syntax.specs.declared.fault.RunFault.{RunFault}
 use Rattle.hp_syntax.specs.Applying.{Now, Guarded}
 use Rattle.hp_syntax.specs.Changes.{Changes, Applied, Going, Went, CutShort, Failed, apply, effects}
-use Rattle.hp_syntax.specs.Events.{Event, Sat, Cut, Fault, State, axioms_of, chosen}
+use Rattle.hp_syntax.specs.Events.{Event, Sat, Cut, Fault, axioms_of, chosen}
 use Rattle.hp_syntax.specs.Matching.{match_atom}
 use Rattle.hp_syntax.specs.Networks.{Network, Place, tasks_value}
 use Rattle.hp_syntax.specs.Preconditions.{precondition_events}
-use Rattle.hp_syntax.specs.Syntax.{Axiom, Operator, Branch, Method, Rule, Does, Refines, Concludes}
+use Rattle.hp_syntax.specs.Syntax.{Operator, Branch, Method, Rule, Does, Refines, Concludes}
 use Rattle.hp_syntax.specs.Terms.{Term}
 use Rattle.hp_syntax.specs.Values.{Bindings, unbound}
 use Rattle.hp_syntax.specs.Walk as walk

@@ -1,16 +1,16 @@
 -- What a free operator does is what the operator does, for nothing.
-use Rattle.std.proofs.Common.{◌≡◌, ℕ, true, false, cond, ℤ, List, Option, Some, None, Result, Ok, Err, refl, sym, ◌∙◌, ap, arith}
-use Rattle.std.specs.Prelude.{pos, negsuc, ◌*ℤ◌, int_div, codes}
+use Rattle.std.proofs.Common.{◌≡◌, ℕ, cond, ℤ, List, Result, Ok, Err, refl, ◌∙◌, ap, arith}
+use Rattle.std.specs.Prelude.{pos, ◌*ℤ◌, int_div, codes}
 use Rattle.std.proofs.lemmas.Int.{ints}
 use Rattle.hp_syntax.specs.declared.pattern.Span.{Span}
 use Rattle.hp_syntax.specs.declared.fault.RunFault.{RunFault}
 use Rattle.hp_syntax.specs.Calls.{call, product, row, fits}
-use Rattle.hp_syntax.specs.Changes.{Changes, Going, Went, CutShort, Failed, Gathered, and_go, go_on, cost_of, cost_value, changes_of, effects, effects_values, pattern_span}
+use Rattle.hp_syntax.specs.Changes.{Changes, Going, Went, CutShort, Failed, Gathered, and_go, go_on, cost_of, cost_value, changes_of, effects, effects_values}
 use Rattle.hp_syntax.specs.Events.{State}
 use Rattle.hp_syntax.specs.Syntax as syntax
 use Rattle.hp_syntax.specs.Syntax.{Axiom, Operator, Pattern}
-use Rattle.hp_syntax.specs.Terms.{Term, Terms, Symbol, Number, Listed, NoTerm, More}
-use Rattle.hp_syntax.specs.Values.{Bindings, on_ok, value, values}
+use Rattle.hp_syntax.specs.Terms.{Term, Symbol, Number, Listed, NoTerm, More}
+use Rattle.hp_syntax.specs.Values.{Bindings, on_ok, value}
 use Rattle.hp_relaxed.specs.Twins.{free_cost}
 
 -- ---- costs

@@ -1,6 +1,6 @@
 -- The plans of a twin that cost nothing are those of the domain.
 use Rattle.std.proofs.Common.{◌≡◌, ℕ, zero, suc, ◌+◌, ◌-◌, ◌*◌, Bool, true, false, cond, ℤ, List, [], ◌∷◌, ◌++◌, length, map, Option, Some, None, refl, sym, ◌∙◌, ap, ap₂, subst, arith}
-use Rattle.std.specs.Prelude.{pos, ◌+ℤ◌, filter, flat_map}
+use Rattle.std.specs.Prelude.{pos, filter, flat_map}
 use Rattle.std.specs.Ordering.{int_eq}
 use Rattle.std.specs.List.{All}
 use Rattle.std.proofs.lemmas.Bool.Decides.{nat_tests}
@@ -13,13 +13,13 @@ use Rattle.hp_syntax.specs.GroundPatterns.{network_said}
 use Rattle.hp_syntax.specs.Matching.{match_atom}
 use Rattle.hp_syntax.specs.Networks as networks
 use Rattle.hp_syntax.specs.Networks.{Network, Place, candidates, is_empty, normal, part_at}
-use Rattle.hp_syntax.specs.Syntax.{Operator, Rule, Does, Refines, Concludes, Pair}
+use Rattle.hp_syntax.specs.Syntax.{Rule, Does, Refines, Concludes, Pair}
 use Rattle.hp_syntax.specs.Terms.{Term}
 use Rattle.hp_syntax.specs.Values.{Bindings, unbound}
 use Rattle.hp_syntax.specs.Walk as walk
 use Rattle.hp_syntax.specs.Walk.{Node, Child, DidChild, CutChild, FaultChild, Visit, Did, Plan, CutHere, FaultHere, is_plan, root, visit, visits, visits_within}
 use Rattle.hp_laws.proofs.JoinLemmas.{all_from, all_join, all_unmapped}
-use Rattle.hp_relaxed.specs.Twins.{AreTwins, Pays, for_nothing, free_plans, free_rule, plans_among, price, tolls, tolls_of_task, twin}
+use Rattle.hp_relaxed.specs.Twins.{AreTwins, Pays, for_nothing, free_plans, free_rule, plans_among, price, tolls, twin}
 use Rattle.hp_relaxed.proofs.FreeChildren.{free_child, rules_free, twin_axioms}
 use Rattle.hp_relaxed.proofs.OwedLemmas.{Adds, ChildOwes, Owes, done_tolls, no_tolls, rule_owes, toll_task}
 use Rattle.hp_relaxed.proofs.PaidLemmas.{all_free_add, all_giving_add, payer_adds}

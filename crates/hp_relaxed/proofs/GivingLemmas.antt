@@ -1,18 +1,18 @@
 -- The rules that give up fit those of the domain, and the toll's name is unused.
-use Rattle.std.proofs.Common.{◌≡◌, ◌≢◌, ℕ, ◌+◌, ◌<◌, max, Bool, true, false, cond, List, [], ◌∷◌, ◌++◌, length, replicate, Option, Some, None, inl, inr, refl, sym, ◌∙◌, ap, ap₂, subst, arith}
-use Rattle.std.specs.Prelude.{nat_lt, bytes_eq, flat_map, Contains}
+use Rattle.std.proofs.Common.{◌≡◌, ◌≢◌, ℕ, ◌+◌, ◌<◌, max, Bool, true, false, cond, List, [], ◌∷◌, ◌++◌, length, replicate, Option, Some, None, refl, ◌∙◌, ap, ap₂, subst, arith}
+use Rattle.std.specs.Prelude.{bytes_eq, flat_map, Contains}
 use Rattle.std.specs.List.{All}
 use Rattle.std.proofs.lemmas.List.{length-replicate, length_push}
 use Rattle.std.proofs.lemmas.List.Elements.{All-nil, All-cons, All-head, All-tail, All-append, All-contains}
 use Rattle.std.proofs.lemmas.Slice.Eq.{bytes_eq-Decides}
-use Rattle.hp_syntax.specs.GroundPatterns.{atom_said, network_said, networks_said}
+use Rattle.hp_syntax.specs.GroundPatterns.{network_said, networks_said}
 use Rattle.hp_syntax.specs.Networks as networks
 use Rattle.hp_syntax.specs.Notes.{task_atoms, task_list_atoms, branch_atoms, rule_atoms, domain_atoms, pair_atoms, problem_atoms}
 use Rattle.hp_syntax.specs.Syntax as syntax
 use Rattle.hp_syntax.specs.Syntax.{Atom, Branch, Domain, Method, Operator, Pair, Precondition, Problem, Rule, Does, Refines, Concludes, Tasks, TaskList, NoTasks, Then}
 use Rattle.hp_syntax.specs.Written.{nowhere}
 use Rattle.hp_lint.specs.Serving.{task_head}
-use Rattle.hp_relaxed.specs.Twins.{AreTwins, GivesUp, HasTolls, IsUnused, Pays, is_toll, tolls, tolls_of_parts, tolls_written, tolls_in_list}
+use Rattle.hp_relaxed.specs.Twins.{AreTwins, GivesUp, HasTolls, IsUnused, tolls, tolls_of_parts, tolls_written, tolls_in_list}
 use Rattle.hp_relaxed.specs.Giving.{all_giving_up, branch_given, branch_giving_up, branch_with, giving_up, left_of_branch, left_of_operator, longest, named_atoms, operator_given, paid_tasks, payer, toll_of}
 use Rattle.hp_relaxed.proofs.GivenLemmas.{longest_append}
 use Rattle.hp_relaxed.proofs.TollLemmas.{normal_tolls, same_name}

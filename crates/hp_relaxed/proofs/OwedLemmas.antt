@@ -1,15 +1,15 @@
 -- What is paid and owed at a node of a twin's tree.
-use Rattle.std.proofs.Common.{◌≡◌, ◌≢◌, ℕ, zero, suc, ◌+◌, ◌-◌, ◌*◌, Bool, true, false, cond, ℤ, List, [], ◌∷◌, ◌++◌, length, Option, Some, None, Result, Ok, Err, refl, sym, ◌∙◌, ap, subst, arith}
-use Rattle.std.specs.Prelude.{pos, ◌+ℤ◌, bytes_eq, Contains, flat_map, slice_get}
+use Rattle.std.proofs.Common.{◌≡◌, ◌≢◌, ℕ, ◌+◌, ◌-◌, ◌*◌, Bool, true, false, cond, ℤ, List, [], ◌∷◌, ◌++◌, length, Option, Some, None, Result, Ok, Err, refl, ◌∙◌, ap, subst, arith}
+use Rattle.std.specs.Prelude.{pos, ◌+ℤ◌, bytes_eq, Contains, flat_map}
 use Rattle.std.specs.List.{All}
 use Rattle.std.proofs.lemmas.Bool.{cond_both}
 use Rattle.std.proofs.lemmas.Int.{ints}
 use Rattle.std.proofs.lemmas.Slice.Eq.{bytes_eq-Decides}
-use Rattle.std.proofs.lemmas.List.Elements.{All-nil, All-cons, All-head, All-tail, All-contains}
+use Rattle.std.proofs.lemmas.List.Elements.{All-nil, All-cons, All-contains}
 use Rattle.hp_syntax.specs.declared.fault.RunFault.{RunFault}
 use Rattle.hp_syntax.specs.Applying.{Now, Guarded}
 use Rattle.hp_syntax.specs.Changes.{Changes, Applied, Going, Went, CutShort, Failed, apply, cost_value, effects}
-use Rattle.hp_syntax.specs.Events.{Event, Sat, Cut, Fault, State, axioms_of, chosen, chosen_or}
+use Rattle.hp_syntax.specs.Events.{Event, Sat, Cut, Fault, axioms_of, chosen, chosen_or}
 use Rattle.hp_syntax.specs.Matching.{match_atom}
 use Rattle.hp_syntax.specs.Networks as networks
 use Rattle.hp_syntax.specs.Networks.{Network, Place, tasks_value, normal, part_at, finish, expand, with_part, is_empty}
@@ -20,8 +20,8 @@ use Rattle.hp_syntax.specs.Values.{Bindings, unbound}
 use Rattle.hp_syntax.specs.Walk as walk
 use Rattle.hp_syntax.specs.Walk.{Node, Child, DidChild, CutChild, FaultChild}
 use Rattle.hp_laws.specs.RulesByName.{is_name, task_name}
-use Rattle.hp_laws.proofs.JoinLemmas.{all_from, all_join, all_join_contains, contains_first, contains_later}
-use Rattle.hp_relaxed.specs.Twins.{HasTolls, is_toll, price, tolls, tolls_of_task}
+use Rattle.hp_laws.proofs.JoinLemmas.{all_from, all_join, contains_first, contains_later}
+use Rattle.hp_relaxed.specs.Twins.{HasTolls, price, tolls, tolls_of_task}
 use Rattle.hp_relaxed.proofs.FreeCosts.{cost_of_effects}
 use Rattle.hp_relaxed.proofs.TollLemmas.{head_name, normal_tolls, same_name, value_tolls, with_tolls}
 

@@ -1,6 +1,6 @@
 -- A twin's rules, what they add, and what its plans cost.
-use Rattle.std.proofs.Common.{◌≡◌, ◌≢◌, ℕ, zero, suc, ◌+◌, ◌*◌, Bool, true, false, cond, ℤ, ◌<◌, ◌≤◌, List, [], ◌∷◌, ◌++◌, length, map, Option, Some, None, refl, sym, ◌∙◌, ap, ap₂, subst, arith, ◌⊎◌, inl, inr, ⊎_elim}
-use Rattle.std.specs.Prelude.{pos, ◌+ℤ◌, ◌&&◌, nat_le, nat_lt, filter, slice_get}
+use Rattle.std.proofs.Common.{◌≡◌, ℕ, zero, suc, ◌+◌, ◌*◌, Bool, true, false, cond, ℤ, ◌<◌, ◌≤◌, List, [], ◌∷◌, ◌++◌, length, map, Some, refl, sym, ◌∙◌, ap, subst, arith, ◌⊎◌, inl, inr, ⊎_elim}
+use Rattle.std.specs.Prelude.{pos, ◌&&◌, nat_le, nat_lt, filter, slice_get}
 use Rattle.std.specs.List.{All}
 use Rattle.std.proofs.lemmas.Bool.Decides.{nat_tests}
 use Rattle.std.proofs.lemmas.Int.{ints}
@@ -12,14 +12,14 @@ use Rattle.hp_syntax.specs.Networks as networks
 use Rattle.hp_syntax.specs.Networks.{Network, Place, normal, finish, expand}
 use Rattle.hp_syntax.specs.Preconditions.{precondition_events}
 use Rattle.hp_syntax.specs.Events.{axioms_of}
-use Rattle.hp_syntax.specs.Syntax.{Operator, Branch, Method, Rule, Does, Refines, Concludes, Pair, Number}
+use Rattle.hp_syntax.specs.Syntax.{Operator, Rule, Does, Refines, Concludes, Pair, Number}
 use Rattle.hp_syntax.specs.Terms.{Term}
-use Rattle.hp_syntax.specs.Values.{Bindings, unbound, value}
+use Rattle.hp_syntax.specs.Values.{unbound, value}
 use Rattle.hp_syntax.specs.Walk.{root}
 use Rattle.hp_laws.specs.Derivations.{Choosing, Situation, Derives, Nothing, ByOperator, ByMethod, Performs, Decomposes, first_situation}
 use Rattle.hp_relaxed.specs.Twins.{AreTwins, GivesUp, HasTolls, IsUnused, Pays, free_cost, free_rule, given_up, is_given_up, price, tolls, twin}
 use Rattle.hp_relaxed.proofs.FreeCosts.{cost_free, for_free, cost_of_effects}
-use Rattle.hp_relaxed.proofs.OwedLemmas.{Adds, Charges, Costs, IsCost, Owes, PaysOff, chosen_of, split_owes, step_owes}
+use Rattle.hp_relaxed.proofs.OwedLemmas.{Adds, Costs, IsCost, Owes, PaysOff, chosen_of, split_owes, step_owes}
 
 -- ---- rules
 

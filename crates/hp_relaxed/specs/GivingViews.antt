@@ -15,7 +15,8 @@ use Rattle.hp_relaxed.specs.Twins.{free_cost}
 
 -- a pattern times nothing
 abbrev pub times_nothing : Span → syntax.Pattern → syntax.Pattern
-times_nothing s p = syntax.Call s (codes "*") (syntax.Before p (syntax.Before (syntax.Number s (pos 0)) syntax.NoPattern))
+times_nothing s p =
+    syntax.Call s (codes "*") (syntax.Before p (syntax.Before (syntax.Number s (pos 0)) syntax.NoPattern))
 
 abbrev pub free_operator : syntax.Operator → syntax.Operator
 free_operator o = record o { cost = free_cost o.cost }
@@ -39,7 +40,8 @@ pub record Keeps (e : syntax.Expression) (old new : Counts) (before after : List
 pub record Passed (needs bound : List Use) (new : Counts) (before after parts : List syntax.Expression) : Type 0 where
   pub known : List Use
   pub counted : Counted known new
-  pub same : (rest : List syntax.Expression) → after ++ staying needs known rest ≡ before ++ staying needs bound (parts ++ rest)
+  pub same : (rest : List syntax.Expression)
+      → after ++ staying needs known rest ≡ before ++ staying needs bound (parts ++ rest)
 
 abbrev pub GoesThrough : Counts → Counts → Counts → List syntax.Expression → List syntax.Expression
     → List syntax.Expression → Type 0

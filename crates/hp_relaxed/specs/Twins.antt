@@ -1,11 +1,10 @@
 -- A twin of a domain, by whose rules preconditions may be given up: what is given up is paid for, all else is free.
-use Rattle.std.specs.Prelude.{◌≡◌, ◌≢◌, ◌+◌, ◌*◌, ℕ, Bool, ◌&&◌, nat_le, nat_lt, cond, ℤ, pos, List, [], ◌∷◌, ◌++◌, length, map, filter, Option, codes}
+use Rattle.std.specs.Prelude.{◌≡◌, ◌≢◌, ◌+◌, ℕ, Bool, ◌&&◌, nat_le, nat_lt, cond, pos, List, [], ◌∷◌, ◌++◌, length, map, filter, Option, codes}
 use Rattle.std.specs.Ordering.{int_eq}
 use Rattle.std.specs.List.{All}
 use Rattle.hp_syntax.specs.declared.pattern.Span.{Span}
-use Rattle.hp_syntax.specs.Changes.{pattern_span}
 use Rattle.hp_syntax.specs.Networks as networks
-use Rattle.hp_syntax.specs.Syntax.{Pattern, Variable, Symbol, Number, Listing, Call, NoPattern, Before, Atom, Precondition, Operator, Branch, Method, Rule, Does, Refines, Concludes, Tasks, Task, Ordered, Unordered, TaskList, NoTasks, Then}
+use Rattle.hp_syntax.specs.Syntax.{Pattern, Variable, Symbol, Number, Listing, Call, NoPattern, Before, Branch, Rule, Does, Refines, Concludes, Tasks, Task, Ordered, Unordered, TaskList, NoTasks, Then}
 use Rattle.hp_syntax.specs.Terms.{Term}
 use Rattle.hp_syntax.specs.Walk.{Node, Visit, is_plan}
 use Rattle.hp_laws.specs.Derivations.{Choosing}

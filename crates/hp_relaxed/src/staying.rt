@@ -137,7 +137,8 @@ pub fn staying<'a>(
     bound: &mut Counts,
     parts: &[&'a Expr],
 ) -> Result<Vec<&'a Expr>, AllocError>
-    ensures { IfOk result (λ kept. Stay needed.now bound.old (lent_expressions parts.now) (lent_expressions kept.items)) }
+    ensures { IfOk result (λ kept. Stay needed.now bound.old (lent_expressions parts.now)
+        (lent_expressions kept.items)) }
 {
     let mut kept = Vec::new(alloc);
     for part in parts {

@@ -1,4 +1,4 @@
-use Rattle.std.proofs.Common.{◌+◌, map, true, refl}
+use Rattle.std.proofs.Common.{◌+◌, map, refl}
 use Rattle.hp_syntax.specs.Views.{rule_of}
 use Rattle.hp_syntax.proofs.ListLemmas.{made_on}
 use Rattle.hp_lint.proofs.BranchLemmas.{made_on_from}

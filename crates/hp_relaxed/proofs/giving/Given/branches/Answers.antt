@@ -1,4 +1,4 @@
-use Rattle.std.proofs.Common.{◌+◌, map, true, refl}
+use Rattle.std.proofs.Common.{◌+◌, map, refl}
 use Rattle.std.specs.List.{flat_map}
 use Rattle.hp_syntax.specs.Views.{atom_of, branch_of, method_of}
 use Rattle.hp_syntax.proofs.ListLemmas.{made_on}
