@@ -20,7 +20,10 @@ mod variables;
 use crate::order::sort;
 use crate::report::Report;
 pub use crate::report::{Concern, Remark};
+pub use crate::serving::{domain_tasks, problem_tasks, task_heads};
 use crate::texts::{tell_domain, tell_problem};
+pub use crate::uses::{Use, Uses};
+pub use crate::variables::{Counts, bound_by_head};
 use hp_syntax::{Domain, Problem};
 use std::alloc::{AllocError, Global};
 

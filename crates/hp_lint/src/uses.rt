@@ -43,7 +43,7 @@ impl Uses {
         }
     }
 
-    fn add(&mut self, span: Span, var: u32) -> Result<(), AllocError>
+    pub fn add(&mut self, span: Span, var: u32) -> Result<(), AllocError>
         ensures { OnOk result (self.new.list.items ≡ self.old.list.items ++ plain.use_at span var ∷ []) }
     {
         self.list.push(Use { span, var })?;
@@ -82,7 +82,7 @@ impl Uses {
     #[cycle(pattern)]
     #[tactic(auto, unfolding(crate::specs::Variables::patterns_uses))]
     #[inline(never)]
-    fn patterns(&mut self, in_calls: bool, pats: &[Pat]) -> Result<(), AllocError>
+    pub fn patterns(&mut self, in_calls: bool, pats: &[Pat]) -> Result<(), AllocError>
         ensures { OnOk result (self.new.list.items
             ≡ self.old.list.items ++ plain.patterns_uses in_calls (patterns_of pats.now)) }
     {
@@ -192,7 +192,7 @@ impl Uses {
         }
     }
 
-    fn effects(&mut self, effects: &[Effect]) -> Result<(), AllocError>
+    pub fn effects(&mut self, effects: &[Effect]) -> Result<(), AllocError>
         ensures { OnOk result (self.new.list.items
             ≡ self.old.list.items ++ flat_map plain.effect_uses (map effect_of effects.now)) }
     {

@@ -14,7 +14,7 @@ use indexmap::IndexSet;
 use std::alloc::{AllocError, Global};
 
 /// The variables that stand at places, and those that stand at more than one.
-struct Counts {
+pub struct Counts {
     seen: IndexSet<u32>,
     again: IndexSet<u32>,
 }
@@ -28,7 +28,7 @@ impl Drop for Counts {
 }
 
 impl Counts {
-    fn of(alloc: Global, uses: &[Use]) -> Result<Counts, AllocError>
+    pub fn of(alloc: Global, uses: &[Use]) -> Result<Counts, AllocError>
         ensures { IfOk result (Counted uses.now) }
     {
         let mut counts = Counts {
@@ -41,7 +41,7 @@ impl Counts {
         Ok(counts)
     }
 
-    fn add(&mut self, found: Use) -> Result<(), AllocError>
+    pub fn add(&mut self, found: Use) -> Result<(), AllocError>
         ensures { OnOk result ((done : List Use) → Counted done self.old → Counted (done ++ found ∷ []) self.new) }
     {
         if !self.seen.insert(found.var)? {
@@ -50,7 +50,7 @@ impl Counts {
         Ok(())
     }
 
-    fn has(&self, var: u32) -> bool
+    pub fn has(&self, var: u32) -> bool
         ensures { result ≡ is_seen self.now var }
     {
         self.seen.contains(&var)
@@ -249,7 +249,7 @@ fn tell_unbound_in_operator(report: &mut Report, operator: &Operator) -> Result<
 }
 
 /// What an atom can bind.
-fn bound_by_head(alloc: Global, head: &AtomPat) -> Result<Counts, AllocError>
+pub fn bound_by_head(alloc: Global, head: &AtomPat) -> Result<Counts, AllocError>
     ensures { IfOk result (Counted (plain.atom_uses false (atom_of head.now))) }
 {
     let mut uses = Uses::new(alloc);

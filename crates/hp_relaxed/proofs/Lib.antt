@@ -1,0 +1,11 @@
+pub mod TollLemmas
+pub mod FreeCosts
+pub mod OwedLemmas
+pub mod PaidLemmas
+pub mod FreeChildren
+pub mod FreePlans
+pub mod CostLemmas
+pub mod StayingLemmas
+pub mod GivenLemmas
+pub mod GivingLemmas
+pub mod CheckedLemmas

@@ -1,0 +1,26 @@
+//! What is made.
+
+use hp_syntax::Domain;
+
+/// Where a rule comes from that gives up a precondition: the place of the rule whose precondition it is, and that of
+/// its branch, which is 0 for an operator.
+#[derive(Clone, Copy, Debug, PartialEq, Eq)]
+pub struct Origin {
+    pub rule: usize,
+    pub branch: usize,
+}
+
+/// A twin of a domain: the domain's rules for nothing, the rules that give up a precondition for a price, and the one
+/// by which methods pay it. `origins` tells of the rules in the middle where they come from.
+pub struct Relaxed {
+    pub domain: Domain,
+    pub origins: Vec<Origin>,
+}
+
+impl Drop for Relaxed {
+    fn drop(self) {
+        let Relaxed { domain, origins } = self;
+        drop(domain);
+        drop(origins);
+    }
+}

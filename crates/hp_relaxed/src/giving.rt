@@ -1,0 +1,301 @@
+//! The rules that give up a precondition.
+ghost use Rattle.std.specs.Prelude.{◌≡◌, ◌++◌, ◌∷◌, [], IfOk, OnOk, List, map, option_map, false};
+ghost use Rattle.std.specs.List.{flat_map};
+ghost use Rattle.hp_syntax.specs.Views.{atom_of, tasks_of, precondition_of, branch_of, operator_of, method_of, rule_of};
+ghost use Rattle.hp_lint.specs.LintViews.{Counted};
+ghost use Rattle.hp_lint.specs.declared.uses.Use.{Use};
+ghost use Rattle.hp_relaxed.specs.Giving as plain;
+ghost use Rattle.hp_relaxed.specs.GivingViews.{lent_expressions, Gives};
+
+use crate::copies::{copy_label, copy_names, copy_operator_with};
+use crate::given::{Origin, Relaxed};
+use crate::staying::{body_of, needed_by, parts_of, staying, with_parts};
+use crate::toll::{price_at, toll_task};
+use hp_lint::{Counts, Uses, bound_by_head};
+use hp_syntax::{Branch, Domain, Expr, Method, Name, NetPat, Operator, Pre, Rule};
+use std::alloc::{AllocError, Global};
+
+/// Rules, and where those come from that give something up.
+pub struct Given {
+    pub rules: Vec<Rule>,
+    pub origins: Vec<Origin>,
+}
+
+impl Drop for Given {
+    fn drop(self) {
+        let Given { rules, origins } = self;
+        drop(rules);
+        drop(origins);
+    }
+}
+
+#[tactic(auto, using(crate::proofs::StayingLemmas::fewer_is, crate::proofs::StayingLemmas::not_fewer))]
+fn if_fewer(
+    alloc: Global,
+    pre: &Pre,
+    parts: &[&Expr],
+    kept: &[&Expr],
+) -> Result<Option<Pre>, AllocError>
+    ensures { IfOk result (λ left. option_map precondition_of left
+        ≡ plain.if_fewer (precondition_of pre.now) (lent_expressions parts.now) (lent_expressions kept.now)) }
+{
+    if kept.len() < parts.len() {
+        let less = with_parts(alloc, pre, kept)?;
+        Ok(Some(less))
+    } else {
+        Ok(None)
+    }
+}
+
+fn left_of_parts(
+    alloc: Global,
+    bound: &mut Counts,
+    behind: &mut Uses,
+    pre: &Pre,
+    parts: &[&Expr],
+) -> Result<Option<Pre>, AllocError>
+    ensures { IfOk result (λ left. (known : List Use) → Counted known bound.old
+        → option_map precondition_of left ≡ plain.if_fewer (precondition_of pre.now) (lent_expressions parts.now)
+        (plain.staying (plain.needed_by behind.old.list.items (lent_expressions parts.now)) known
+        (lent_expressions parts.now))) }
+{
+    let needed = needed_by(alloc, behind, parts)?;
+    let kept = staying(alloc, &needed, bound, parts)?;
+    if_fewer(alloc, pre, parts, kept.as_slice())
+}
+
+fn left_of(
+    alloc: Global,
+    bound: &mut Counts,
+    behind: &mut Uses,
+    pre: &Pre,
+) -> Result<Option<Pre>, AllocError>
+    ensures { IfOk result (λ left. (known : List Use) → Counted known bound.old
+        → option_map precondition_of left ≡ plain.left_of known behind.old.list.items (precondition_of pre.now)) }
+{
+    let parts = parts_of(alloc, body_of(pre))?;
+    left_of_parts(alloc, bound, behind, pre, parts.as_slice())
+}
+
+fn behind_operator(uses: &mut Uses, operator: &Operator) -> Result<(), AllocError>
+    ensures { OnOk result (uses.new.list.items
+        ≡ uses.old.list.items ++ plain.behind_operator (operator_of operator.now)) }
+{
+    uses.effects(operator.dels.as_slice())?;
+    uses.effects(operator.adds.as_slice())?;
+    uses.pattern(true, &operator.cost)
+}
+
+fn left_of_operator(alloc: Global, operator: &Operator) -> Result<Option<Pre>, AllocError>
+    ensures { IfOk result (λ left. option_map precondition_of left
+        ≡ plain.left_of_operator (operator_of operator.now)) }
+{
+    let mut bound = bound_by_head(alloc, &operator.head)?;
+    let mut behind = Uses::new(alloc);
+    behind_operator(&mut behind, operator)?;
+    left_of(alloc, &mut bound, &mut behind, &operator.pre)
+}
+
+fn left_of_branch(
+    alloc: Global,
+    method: &Method,
+    branch: &Branch,
+) -> Result<Option<Pre>, AllocError>
+    ensures { IfOk result (λ left. option_map precondition_of left
+        ≡ plain.left_of_branch (atom_of method.now.head) (branch_of branch.now)) }
+{
+    let mut bound = bound_by_head(alloc, &method.head)?;
+    let mut behind = Uses::new(alloc);
+    behind.tasks(alloc, &branch.tasks)?;
+    left_of(alloc, &mut bound, &mut behind, &branch.pre)
+}
+
+fn paid_tasks(alloc: Global, toll: &Name, tasks: &NetPat) -> Result<NetPat, AllocError>
+    ensures { IfOk result (λ paid. tasks_of paid ≡ plain.paid_tasks toll.now (tasks_of tasks.now)) }
+{
+    let rest = tasks.copy(alloc)?;
+    let pay = toll_task(alloc, toll)?;
+    let parts = vec![in alloc; pay, rest]?;
+    Ok(NetPat::Ordered(parts))
+}
+
+fn paid_branch(alloc: Global, toll: &Name, branch: &Branch, pre: Pre) -> Result<Branch, AllocError>
+    ensures { IfOk result (λ paid. branch_of paid
+        ≡ plain.branch_with toll.now (branch_of branch.now) (precondition_of pre)) }
+{
+    Ok(Branch {
+        name: copy_label(alloc, &branch.name)?,
+        tasks: paid_tasks(alloc, toll, &branch.tasks)?,
+        pre,
+    })
+}
+
+fn method_with(
+    alloc: Global,
+    toll: &Name,
+    method: &Method,
+    branch: &Branch,
+    pre: Pre,
+) -> Result<Method, AllocError>
+    ensures { IfOk result (λ paid. method_of paid
+        ≡ plain.method_with toll.now (method_of method.now) (branch_of branch.now) (precondition_of pre)) }
+{
+    let only = paid_branch(alloc, toll, branch, pre)?;
+    let branches = vec![in alloc; only]?;
+    Ok(Method {
+        span: method.span,
+        vars: copy_names(alloc, method.vars.as_slice())?,
+        head: method.head.copy(alloc)?,
+        branches,
+    })
+}
+
+impl Given {
+    /// A domain of these rules.
+    pub fn named(self, name: Name) -> Relaxed
+        ensures name { result.domain.name ≡ name }
+        ensures rules { result.domain.rules ≡ self.rules }
+        ensures origins { result.origins ≡ self.origins }
+    {
+        let Given { rules, origins } = self;
+        Relaxed {
+            domain: Domain { name, rules },
+            origins,
+        }
+    }
+
+    fn add(&mut self, rule: Rule, origin: Origin) -> Result<(), AllocError>
+        ensures { OnOk result (Gives (rule_of rule ∷ []) (origin ∷ []) self.old self.new) }
+    {
+        self.origins.push(origin)?;
+        self.rules.push(rule)?;
+        Ok(())
+    }
+
+    fn give_operator(
+        &mut self,
+        alloc: Global,
+        operator: &Operator,
+        pre: Pre,
+        origin: Origin,
+    ) -> Result<(), AllocError>
+        ensures { OnOk result (Gives
+            (plain.operator_giving (operator_of operator.now) (precondition_of pre) ∷ [])
+            (origin ∷ []) self.old self.new) }
+    {
+        let cost = price_at(operator.span);
+        let given = copy_operator_with(alloc, operator, pre, cost)?;
+        self.add(Rule::Operator(given), origin)
+    }
+
+    fn operator(
+        &mut self,
+        alloc: Global,
+        operator: &Operator,
+        place: usize,
+    ) -> Result<(), AllocError>
+        ensures { OnOk result (Gives
+            (plain.operator_given (operator_of operator.now) (plain.left_of_operator (operator_of operator.now)))
+            (plain.origin_where (plain.origin_at place 0) (plain.left_of_operator (operator_of operator.now)))
+            self.old self.new) }
+    {
+        let origin = Origin {
+            rule: place,
+            branch: 0,
+        };
+        let left = left_of_operator(alloc, operator)?;
+        match left {
+            Some(pre) => self.give_operator(alloc, operator, pre, origin),
+            None => Ok(()),
+        }
+    }
+
+    fn give_branch(
+        &mut self,
+        alloc: Global,
+        toll: &Name,
+        method: &Method,
+        branch: &Branch,
+        pre: Pre,
+        origin: Origin,
+    ) -> Result<(), AllocError>
+        ensures { OnOk result (Gives
+            (plain.method_giving toll.now (method_of method.now) (branch_of branch.now) (precondition_of pre) ∷ [])
+            (origin ∷ []) self.old self.new) }
+    {
+        let given = method_with(alloc, toll, method, branch, pre)?;
+        self.add(Rule::Method(given), origin)
+    }
+
+    fn branch(
+        &mut self,
+        alloc: Global,
+        toll: &Name,
+        method: &Method,
+        branch: &Branch,
+        origin: Origin,
+    ) -> Result<(), AllocError>
+        ensures { OnOk result (Gives
+            (plain.branch_giving_up toll.now (method_of method.now) (branch_of branch.now))
+            (plain.origin_where origin (plain.left_of_branch (atom_of method.now.head) (branch_of branch.now)))
+            self.old self.new) }
+    {
+        let left = left_of_branch(alloc, method, branch)?;
+        match left {
+            Some(pre) => self.give_branch(alloc, toll, method, branch, pre, origin),
+            None => Ok(()),
+        }
+    }
+
+    fn branches(
+        &mut self,
+        alloc: Global,
+        toll: &Name,
+        method: &Method,
+        branches: &[Branch],
+        rule: usize,
+    ) -> Result<(), AllocError>
+        ensures { OnOk result (Gives
+            (flat_map (plain.branch_giving_up toll.now (method_of method.now)) (map branch_of branches.now))
+            (plain.branch_origins rule (atom_of method.now.head) 0 (map branch_of branches.now)) self.old self.new) }
+    {
+        for (place, branch) in branches.iter().enumerate() {
+            let origin = Origin {
+                rule,
+                branch: place,
+            };
+            self.branch(alloc, toll, method, branch, origin)?;
+        }
+        Ok(())
+    }
+
+    fn rule(
+        &mut self,
+        alloc: Global,
+        toll: &Name,
+        rule: &Rule,
+        place: usize,
+    ) -> Result<(), AllocError>
+        ensures { OnOk result (Gives (plain.giving_up toll.now (rule_of rule.now))
+            (plain.rule_origins place (rule_of rule.now)) self.old self.new) }
+    {
+        match rule {
+            Rule::Operator(operator) => self.operator(alloc, operator, place),
+            Rule::Method(method) => {
+                self.branches(alloc, toll, method, method.branches.as_slice(), place)
+            }
+            Rule::Axiom(_) => Ok(()),
+        }
+    }
+
+    /// Adds the rules that give up a precondition of these, and where they come from.
+    pub fn all(&mut self, alloc: Global, toll: &Name, rules: &[Rule]) -> Result<(), AllocError>
+        ensures { OnOk result (Gives (plain.all_giving_up toll.now (map rule_of rules.now))
+            (plain.origins (map rule_of rules.now)) self.old self.new) }
+    {
+        for (place, rule) in rules.iter().enumerate() {
+            self.rule(alloc, toll, rule, place)?;
+        }
+        Ok(())
+    }
+}
