@@ -55,8 +55,8 @@ fn tell_lines<I: Pieces, K: Sink>(
 }
 
 /// Passes on what the planner wrote, line by line and byte for byte, and puts behind each line that is a refusal, a
-/// note or a fault what it means and where it is. Lines are passed on as they come, and memory is taken for the longest one.
-/// Bytes behind the last line feed are passed on as they are.
+/// note or a fault what it means and where it is. Lines are passed on as they come, and memory is taken for the longest
+/// one. Bytes behind the last line feed are passed on as they are.
 pub fn explain<I: Pieces, K: Sink>(
     alloc: Global,
     files: &Texts,
