@@ -26,9 +26,9 @@ fn list_parts(alloc: Global, cells: &Cells, list: Cell) -> Result<Vec<Ground>, A
     Ok(parts)
 }
 
-/// The term of a cell.
+/// The term of a cell, in memory of its own.
 #[cycle(ground)]
-fn to_ground(alloc: Global, cells: &Cells, cell: Cell) -> Result<Ground, AllocError>
+pub fn to_ground(alloc: Global, cells: &Cells, cell: Cell) -> Result<Ground, AllocError>
     requires { cell < length cells.now }
     ensures { IfOk result (λ g. ground_of g ≡ term_at cells.now cell) }
 {
@@ -46,7 +46,7 @@ fn to_ground(alloc: Global, cells: &Cells, cell: Cell) -> Result<Ground, AllocEr
     }
 }
 
-/// The terms of cells.
+/// The terms of cells, in memory of their own.
 pub fn to_grounds(alloc: Global, cells: &Cells, list: &[Cell]) -> Result<Vec<Ground>, AllocError>
     requires { AllBelow (length cells.now) list.now }
     ensures { IfOk result (λ v. map ground_of v.items ≡ terms_at cells.now list.now) }

@@ -10,4 +10,5 @@ pub mod laws;
 mod pricing;
 
 pub use bounding::{BestEnd, Chosen, Found, best};
+pub use grounds::{to_ground, to_grounds};
 pub use pricing::priced;

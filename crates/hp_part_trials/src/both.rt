@@ -7,11 +7,13 @@ mod drawn;
 mod loading;
 mod rounds;
 mod walks_at_once;
+mod ways;
 
 use crate::both::calls::{Trial, show_trial};
 use crate::both::cells_given_back::show_given_back;
 use crate::both::decompositions::show_decompositions;
 use crate::both::drawn::show_drawn;
+use crate::both::ways::show_ways;
 use hp_fixtures::page::Page;
 use std::alloc::{AllocError, Global};
 use std::rt::Files;
@@ -68,6 +70,7 @@ pub fn print_all(rt: &(impl Files + Print + AllocGlobal)) -> io::Result<()> {
     show_weave(rt, &mut page)?;
     show_given_back(&mut page, rt.alloc())?;
     show_decompositions(&mut page, rt.alloc())?;
+    show_ways(&mut page, rt.alloc())?;
     show_calls(rt, &mut page)?;
     print!(rt; "{}", page.lines()?)
 }

@@ -5,4 +5,5 @@ pub mod MarkSteps
 pub mod SearchSteps
 mod RulePlaces
 mod LedSteps
+mod PathFrames
 mod LedLemmas

@@ -19,21 +19,21 @@ use Rattle.hp_site.proofs.SiteLemmas.{within_after, within_itself}
 use Rattle.hp_agenda.specs.declared.frame.Frame.{Frame}
 use Rattle.hp_agenda.specs.Frames.{LeadTo, level_of}
 use Rattle.hp_search.specs.declared.search.Search.{Search}
-use Rattle.hp_search.specs.Planned.{HasMarks, planned}
+use Rattle.hp_search.specs.Planned.{HasMarks, marks_of, planned}
 use Rattle.hp_search.specs.Searches.{IsSearch, rules_in_search, stack_of, tree_in}
 use Rattle.hp_search.proofs.FrameLevels.{path_length}
 
 -- the moments of frames, the nearest first, in the order of the path
-abbrev moments : List Frame → List Mark
+abbrev pub moments : List Frame → List Mark
 moments gs = map (λ (f : Frame). f.mark) (reverse gs)
 
 -- with one more frame there is its moment behind the others
-moments_next : (g : Frame) (gs : List Frame) → moments (g ∷ gs) ≡ moments gs ++ g.mark ∷ []
+pub moments_next : (g : Frame) (gs : List Frame) → moments (g ∷ gs) ≡ moments gs ++ g.mark ∷ []
 moments_next g gs =
     ap (map (λ (f : Frame). f.mark)) (reverse-append (g ∷ []) gs)
     ∙ map-append (λ (f : Frame). f.mark) (reverse gs) (g ∷ [])
 
-many : (gs : List Frame) → length (moments gs) ≡ length gs
+pub many : (gs : List Frame) → length (moments gs) ≡ length gs
 many gs = length-map (reverse gs) (λ (f : Frame). f.mark) ∙ length-reverse gs
 
 -- a moment of one more frame is one of the others, or its own
@@ -112,14 +112,20 @@ module _ (site : Site) (nest : ℕ) (terms : List Term) where
           ∙ (reached.0.there ∙ ap (λ z. Some (node_of terms (held_at site z))) h.1)
     ]
 
+-- the moments of the path of a search are those of the frames above the node reached, and its own
+pub marks_are : (s : Search) (live : Bool)
+    → marks_of (planned s live) ≡ moments (reverse s.above.items) ++ s.top.mark ∷ []
+marks_are s live =
+    map-append (λ (f : Frame). f.mark) s.above.items (s.top ∷ [])
+    ∙ ap (λ fs. map (λ (f : Frame). f.mark) fs ++ s.top.mark ∷ []) (sym (reverse-reverse s.above.items))
+
 -- the pasts at each moment of the path of a search are those of the node there
 pub has_marks : (s : Search) (live : Bool) → IsSearch s → HasMarks (planned s live)
 has_marks s live h =
     let gs = reverse s.above.items in
     let rules = rules_in_search s in
     let all : map (λ (f : Frame). f.mark) (s.above.items ++ s.top ∷ []) ≡ moments gs ++ s.top.mark ∷ [] =
-    map-append (λ (f : Frame). f.mark) s.above.items (s.top ∷ [])
-    ∙ ap (λ fs. map (λ (f : Frame). f.mark) fs ++ s.top.mark ∷ []) (sym (reverse-reverse s.above.items)) in
+    marks_are s live in
     record {
       nodes =
           λ k m e.

@@ -1,10 +1,10 @@
-//! The decomposition that led to the node reached.
+//! The decompositions that led to the node reached.
 ghost use Rattle.std.specs.Prelude.{◌≡◌, ◌<◌, Bool, Some, is_some, length, slice_get, true};
 ghost use Rattle.hp_nodes.specs.NodeViews.{laid_of};
 ghost use Rattle.hp_code.specs.Codes.{code_of};
 ghost use Rattle.hp_code.specs.CodeViews.{rules_in};
 ghost use Rattle.hp_agenda.specs.Queues.{rule_of};
-ghost use Rattle.hp_search.specs.Led.{TellsDecomposition};
+ghost use Rattle.hp_search.specs.Led.{IsLedAt, TellsDecomposition};
 ghost use Rattle.hp_search.specs.Planned.{planned};
 ghost use Rattle.hp_search.specs.Searches.{IsSearch};
 
@@ -64,6 +64,24 @@ impl Search<'_> {
                 None => None,
             },
             None => None,
+        }
+    }
+
+    /// The decomposition that led to the next node on the path, as the choice that is still open at a node tells it.
+    pub(crate) fn decomposition_at(&self, level: usize) -> Decomposition
+        requires search { IsSearch self.now }
+        requires level { level < length self.now.above.items }
+        ensures { (live : Bool) → IsLedAt (planned self.now live) level result }
+    {
+        let above = self.frame_at(level);
+        match &above.agenda.open {
+            Some(choice) => Decomposition {
+                candidate: above.agenda.queue.at,
+                task: choice.task,
+                rule: place_of_rule(self.site.scene.code, choice.rule),
+                branch: choice.branch,
+            },
+            None => unreachable!(),
         }
     }
 }

@@ -2,6 +2,7 @@
 #![tactic(auto)]
 
 mod decomposition;
+mod moments;
 mod planner;
 mod search;
 

@@ -42,16 +42,17 @@ impl<'a> Model for Planner<'a> {
 }
 
 impl<'a> Planner<'a> {
-    ghost use Rattle.std.specs.Prelude.{◌≡◌, ◌≤◌, [], true, false, IfOk, MatchOption};
+    ghost use Rattle.std.specs.Prelude.{◌≡◌, ◌≤◌, ◌<◌, [], true, false, IfOk, MatchOption, length};
     ghost use Rattle.hp_syntax.specs.declared.limits.TheConstants.{GREATEST_DEPTH, MOST_LEVELS};
     ghost use Rattle.hp_syntax.specs.GroundPatterns.{IsGroundPair};
     ghost use Rattle.hp_syntax.specs.Views.{pair_of};
     ghost use Rattle.hp_syntax.specs.Walk.{root, visits};
     ghost use Rattle.hp_code.specs.Codes.{code_of};
     ghost use Rattle.hp_code.specs.CodeViews.{rules_in};
-    ghost use Rattle.hp_links.specs.Linked.{focused};
+    ghost use Rattle.hp_links.specs.Linked.{PartBelow, focused};
     ghost use Rattle.hp_net.specs.Standings.{node_reached, standing};
-    ghost use Rattle.hp_search.specs.Led.{TellsDecomposition};
+    ghost use Rattle.std.specs.List.{All};
+    ghost use Rattle.hp_search.specs.Led.{IsLedAt, IsStageAt, TellsDecomposition, node_on};
     ghost use Rattle.hp_search.specs.Planned.{HasMarks, tree_planned, stands_planned};
 
     /// A walk of the tree of a pair at a depth, by the rules of a code, where axioms may call one another so deep. It
@@ -96,6 +97,7 @@ impl<'a> Planner<'a> {
         ensures node { MatchOption (node_reached (tree_planned self.now) (stands_planned self.now)) ⊥
             (λ n. focused self.now.terms result.now.now ≡ (n.network, n.focus)) }
         ensures is { result.now ≡ self.now.site.net }
+        ensures below { All (PartBelow (length self.now.terms)) result.now.now.parts }
         ensures marks { HasMarks self.now }
     {
         &self.search.site.net
@@ -107,6 +109,40 @@ impl<'a> Planner<'a> {
         ensures { TellsDecomposition self.now result }
     {
         self.search.decomposition()
+    }
+
+    /// The decomposition that led from the node which so many of the path's first numbers reach to the next one. It
+    /// takes no memory.
+    pub fn decomposition_at(&self, level: usize) -> Decomposition
+        requires live { self.now.live ≡ true }
+        requires level { level < length (stands_planned self.now).path }
+        ensures { IsLedAt self.now level result }
+    {
+        self.search.decomposition_at(level)
+    }
+
+    /// The sum of the costs of the steps of the node which so many of the path's first numbers reach, in thousandths.
+    pub fn cost_at(&self, level: usize) -> i128
+        requires live { self.now.live ≡ true }
+        requires level { level ≤ length (stands_planned self.now).path }
+        ensures { MatchOption (node_on self.now level) ⊥ (λ n. result ≡ n.cost) }
+    {
+        self.search.mark_at(level).cost
+    }
+
+    /// The world of the node which so many of the path's first numbers reach, and the cells. The walk ends with it.
+    pub fn into_world_at(self, level: usize) -> (World, Cells)
+        requires live { self.live ≡ true }
+        requires level { level ≤ length (stands_planned self).path }
+        ensures stage { IsStageAt self.entry level result.0.now }
+        ensures cells { result.1 ≡ self.entry.terms }
+    {
+        let Planner {
+            mut search,
+            live: _,
+        } = self;
+        let world = search.take_world_at(level);
+        (world, search.into_cells())
     }
 }
 

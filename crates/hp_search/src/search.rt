@@ -191,4 +191,26 @@ impl<'a> Search<'a> {
         self.top.clear();
         self.at_did = false;
     }
+
+    /// Lets all go but the cells.
+    pub(crate) fn into_cells(self) -> Cells
+        ensures { result ≡ self.entry.cells }
+    {
+        let Search {
+            alloc: _,
+            nest: _,
+            site,
+            cells,
+            path,
+            above,
+            top,
+            at_did: _,
+            over: _,
+        } = self;
+        drop(site);
+        drop(path);
+        drop(above);
+        drop(top);
+        cells
+    }
 }

@@ -1,6 +1,6 @@
 use Rattle.std.proofs.Common.{◌≡◌, ◌-◌, length, Some, None, sym, ◌∙◌, ap}
 use Rattle.std.specs.Prelude.{option_copied, slice_get}
-use Rattle.hp_search.proofs.LedLemmas.{gave_rule, is_led, last_none, last_split, none_led, open_there}
+use Rattle.hp_search.proofs.LedLemmas.{gave_rule, is_led, last_none, last_split, none_led, open_last, open_there}
 use Rattle.hp_search.proofs.search.Search.decomposition.Goals as goal
 
 pub place_of_rule-requires : goal.place_of_rule-requires
@@ -11,7 +11,7 @@ place_of_rule-requires c =
     ap (λ xs. slice_get xs (length xs - 1)) (sym c.as_slice.ensures.value)
     ∙ (sym c.last.ensures.value ∙ ap option_copied c.in-Some.is) in
     let split = last_split s.above.items f there in
-    gave_rule s c.requires f split.0 split.1 c.in-Some-open.choice c.in-Some-open.is
+    gave_rule s f s.top.mark (open_last s c.requires f split.0 split.1) c.in-Some-open.choice c.in-Some-open.is
 
 pub returns-in-Some-open : goal.returns-in-Some-open
 returns-in-Some-open c = λ live.
@@ -32,7 +32,7 @@ returns-in-None-open c = λ live.
     ap (λ xs. slice_get xs (length xs - 1)) (sym c.as_slice.ensures.value)
     ∙ (sym c.last.ensures.value ∙ ap option_copied c.in-Some.is) in
     let split = last_split s.above.items f there in
-    absurd (open_there s c.requires f split.0 split.1 c.in-None-open.is)
+    absurd (open_there s f s.top.mark (open_last s c.requires f split.0 split.1) c.in-None-open.is)
 
 pub returns-in-None : goal.returns-in-None
 returns-in-None c = λ live.

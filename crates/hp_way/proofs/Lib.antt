@@ -1,0 +1,3 @@
+pub mod ChildPaths
+pub mod StateSteps
+pub mod WaySteps

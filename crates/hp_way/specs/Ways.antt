@@ -1,0 +1,89 @@
+-- The way to a plan: the decompositions that lead to it, one by one, and the states between them.
+use Rattle.std.specs.Prelude.{◌≡◌, ◌≢◌, ◌⊎◌, ◌<◌, ◌≤◌, ℕ, ℤ, List, [], ◌∷◌, ◌++◌, length, map, slice_get, take, Some}
+use Rattle.hp_syntax.specs.GroundViews.{ground_of}
+use Rattle.hp_syntax.specs.Networks.{Place}
+use Rattle.hp_syntax.specs.Syntax.{Rule}
+use Rattle.hp_syntax.specs.Terms.{Term}
+use Rattle.hp_syntax.specs.Walk.{Node, Visit, Plan, node_at, visit, visits}
+use Rattle.hp_laws.specs.Derivations.{IsNext, Leads, situation_at}
+use Rattle.hp_choice.specs.Served.{ServesBy}
+use Rattle.hp_after.specs.declared.reaching.Reached.TheVariants as reached
+use Rattle.hp_after.specs.Reach.{reaching}
+use Rattle.hp_way.specs.declared.ways.Deed as made
+use Rattle.hp_way.specs.declared.ways.Way.{Way}
+use Rattle.hp_way.specs.declared.ways.Way.TheVariants as ways
+
+-- a decomposition on the way: the place of its task among the candidates, the task, the places of the rule and of the
+-- branch, and what the steps down to the node behind it cost
+pub record Deed : Type 0 where
+  pub candidate : ℕ
+  pub task : Term
+  pub rule : ℕ
+  pub branch : ℕ
+  pub cost : ℤ
+
+-- a deed as it is told
+abbrev pub deed_of : made.Deed → Deed
+deed_of d = record {
+  candidate = d.candidate;
+  task = ground_of d.task;
+  rule = d.rule;
+  branch = d.branch;
+  cost = d.cost;
+}
+
+-- a deed leads from a node to its child of a number: by a choice of the candidate, the rule and some event; its task
+-- stands at the candidate, the rule serves it by the branch, and its cost is that of the child
+pub record IsDone (rules : List Rule) (nest : ℕ) (d : Deed) (number : ℕ) (n m : Node) : Type 0 where
+  pub child : node_at rules nest n (number ∷ []) ≡ Some m
+  pub event : ℕ
+  pub leads : Leads rules nest (record { candidate = d.candidate; rule = d.rule; event = event }) n m
+  pub place : Place
+  pub next : IsNext (situation_at n) d.candidate place d.task
+  pub own : Rule
+  pub is : slice_get rules d.rule ≡ Some own
+  pub serves : ServesBy rules nest n.state d.task own d.branch
+  pub cost : d.cost ≡ m.cost
+
+-- deeds lead along a path from a node to another, one for each number
+pub data LeadAlong (rules : List Rule) (nest : ℕ) : List Deed → List ℕ → Node → Node → Type 0 where
+  Here : (n : Node) → LeadAlong rules nest [] [] n n
+  Through : (d : Deed) (ds : List Deed) (i : ℕ) (p : List ℕ) (n m l : Node) → IsDone rules nest d i n m
+      → LeadAlong rules nest ds p m l → LeadAlong rules nest (d ∷ ds) (i ∷ p) n l
+
+-- visits hold the plan of a node at a path
+abbrev pub HoldsPlanOf : Node → List ℕ → List Visit → Type 0
+HoldsPlanOf n p vs = (before : List Visit) × (after : List Visit) × (vs ≡ before ++ visit p n Plan ∷ after)
+
+-- the walk to a path comes to a plan, to which these deeds lead from the root
+pub record LeadToPlan (rules : List Rule) (nest : ℕ) (root : Node) (path : List ℕ) (ds : List Deed) : Type 0 where
+  pub answer : (reaching path (visits rules nest root [])).knows.answer ≡ reached.At
+  pub node : Node
+  pub plan : HoldsPlanOf node path (visits rules nest root [])
+  pub lead : LeadAlong rules nest ds path root node
+
+-- what stands at a path: a plan with the deeds that lead to it, or else what the walk to the path answers
+abbrev pub IsWay : List Rule → ℕ → Node → List ℕ → Way → Type 0
+IsWay rules nest root path (ways.Plan ds) = LeadToPlan rules nest root path (map deed_of ds.items)
+IsWay rules nest root path ways.Absent = (reaching path (visits rules nest root [])).knows.answer ≡ reached.Absent
+IsWay rules nest root path (ways.Fault f) =
+    (reaching path (visits rules nest root [])).knows.answer ≡ reached.Fault f
+
+-- ---- states
+
+-- the walk to a path comes to a plan, and these are the atoms that hold at the node which so many of the first numbers
+-- of the path reach, in the order of its state
+pub record IsStateOnTheWay (rules : List Rule) (nest : ℕ) (root : Node) (path : List ℕ) (count : ℕ)
+    (atoms : List Term) : Type 0 where
+  pub answer : (reaching path (visits rules nest root [])).knows.answer ≡ reached.At
+  pub plan : Node
+  pub holds : HoldsPlanOf plan path (visits rules nest root [])
+  pub within : count ≤ length path
+  pub node : Node
+  pub there : node_at rules nest root (take count path) ≡ Some node
+  pub state : atoms ≡ node.state
+
+-- the walk to a path comes to no plan, or the path has fewer numbers
+abbrev pub HasNoStateOnTheWay : List Rule → ℕ → Node → List ℕ → ℕ → Type 0
+HasNoStateOnTheWay rules nest root path count =
+    ((reaching path (visits rules nest root [])).knows.answer ≢ reached.At) ⊎ (length path < count)
