@@ -1,6 +1,3 @@
-pub mod AfterSteps
-pub mod BestSteps
-pub mod CheapestLemmas
 pub mod CountSteps
 pub mod LoadingSteps
 pub mod NoteSteps
@@ -8,12 +5,8 @@ pub mod Outcomes
 pub mod PagingSteps
 pub mod PairSteps
 pub mod PlanEnds
-pub mod PlanningSteps
 pub mod ReadingSteps
-pub mod ReportLemmas
 pub mod RereadLemmas
 pub mod RunSteps
 pub mod SampleReads
 pub mod ShallowSteps
-pub mod TellingLemmas
-pub mod VerifySteps

@@ -5,9 +5,9 @@ use Rattle.std.specs.List.{flat_map}
 use Rattle.std.specs.Prelude.{zero, suc}
 use Rattle.hp_out.specs.Writing.{Wrote, sink_run}
 use Rattle.hp_out.proofs.WriteSteps.{seam, wrote_both}
-use Rattle.hp_top.specs.declared.telling.Halt.{Halt}
-use Rattle.hp_top.specs.Telling.{Halts}
-use Rattle.hp_top.proofs.TellingLemmas.{halts_longer, halts_after}
+use Rattle.hp_telling.specs.declared.halt.Halt.{Halt}
+use Rattle.hp_telling.specs.Telling.{Halts}
+use Rattle.hp_telling.proofs.TellingLemmas.{halts_longer, halts_after}
 
 -- one element more comes to its text behind those before it
 flat_map-take : {X A : Type 0} (f : X → List A) (xs : List X) (i : ℕ) (d : X) → i < length xs

@@ -7,9 +7,10 @@ use Rattle.hp_out.proofs.PagedSteps.{all_behind, part_behind, prefix_behind, pro
 use Rattle.hp_syntax.specs.Report.{Answer}
 use Rattle.hp_syntax.specs.declared.status.Status.{Status}
 use Rattle.hp_syntax.specs.declared.status.Status.TheVariants as status
-use Rattle.hp_top.specs.declared.telling.Halt.{Halt}
-use Rattle.hp_top.specs.declared.telling.Halt.TheVariants.{NoMemory, Failed}
-use Rattle.hp_top.specs.Telling.{IsTold, Tells, Unwritten, WithoutMemory, Written}
+use Rattle.hp_telling.specs.declared.halt.Halt.{Halt}
+use Rattle.hp_telling.specs.declared.halt.Halt.TheVariants.{NoMemory, Failed}
+use Rattle.hp_telling.specs.Telling.{IsTold}
+use Rattle.hp_top.specs.Telling.{Tells, Unwritten, WithoutMemory, Written}
 
 -- writing to the page failed: a proper prefix of the text was written to the sink
 pub failed_behind : (o : Result Status Halt) (a : Answer) (f g : ℕ) (before after : Option (List ℕ)) (rest : List ℕ)

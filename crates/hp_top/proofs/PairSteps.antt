@@ -1,5 +1,5 @@
 -- Pairs that are told one behind the other.
-use Rattle.std.proofs.Common.{◌≡◌, ◌∙◌, ap, ap₂, sym, refl, subst, arith, ⊎_elim, ℕ, ◌+◌, ◌<◌, ◌≤◌, cond, zero, suc, List, [], ◌∷◌, ◌++◌, append_assoc, append-nil, Option, Some, Result, Ok, Err, OnOk, IfOk, IfErr, map, get_or, slice_get, take, drop, length}
+use Rattle.std.proofs.Common.{◌≡◌, ◌∙◌, ap, ap₂, sym, refl, subst, arith, ⊎_elim, ℕ, ◌+◌, ◌<◌, ◌≤◌, cond, zero, suc, List, [], ◌∷◌, ◌++◌, append_assoc, append-nil, Option, Some, Result, Ok, Err, map, get_or, slice_get, take, drop, length}
 use Rattle.std.specs.List.{All}
 use Rattle.std.proofs.lemmas.Bool.{cases_lt, lt-ltb, le-ltb}
 use Rattle.std.proofs.lemmas.List.{drop_more, drop_all, length-map}
@@ -13,10 +13,11 @@ use Rattle.hp_syntax.specs.declared.status.Status.TheVariants as status
 use Rattle.hp_syntax.specs.Report.{Answer, badness, behind, joined, pair_header, told_from, told_pairs, worse}
 use Rattle.hp_syntax.specs.Syntax as plain
 use Rattle.hp_syntax.specs.Views.{pair_of}
-use Rattle.hp_top.specs.declared.telling.Halt.{Halt}
-use Rattle.hp_top.specs.declared.telling.Halt.TheVariants.{NoMemory, Failed}
-use Rattle.hp_top.specs.Telling.{Halts, IsTold, Tells, WithoutMemory, Unwritten, Written, status_told}
-use Rattle.hp_top.proofs.TellingLemmas.{halts_after, halts_longer}
+use Rattle.hp_telling.specs.declared.halt.Halt.{Halt}
+use Rattle.hp_telling.specs.declared.halt.Halt.TheVariants.{NoMemory, Failed}
+use Rattle.hp_telling.specs.Telling.{Halts, IsTold}
+use Rattle.hp_top.specs.Telling.{Tells, WithoutMemory, Unwritten, Written, status_told}
+use Rattle.hp_telling.proofs.TellingLemmas.{halts_after, halts_longer}
 
 -- ---- statuses
 
@@ -78,23 +79,11 @@ joined_last a = ap₂ (λ t s. (t, s)) (append-nil a.0) (done_last a.1)
 
 -- ---- telling
 
--- an answer that was written with its status, or stopped, was told
-pub told_by_parts : (a : Answer) (o : Result Status Halt) (r : SinkRun) → OnOk o (Wrote a.0 r.before r.after)
-    → IfOk o (λ s. s ≡ a.1) → IfErr o (λ h. Halts h a.0 r) → IsTold a o r
-told_by_parts a (Ok s) r w e h = (e, w)
-told_by_parts a (Err halt) r w e h = h
-
 -- a run ends as its answer was told
 pub tells_what_is_told : (a : Answer) (o : Result Status Halt) (r : SinkRun) → IsTold a o r → Tells a (status_told o) r
 tells_what_is_told a (Ok s) r h = Written h.0 h.1
 tells_what_is_told a (Err NoMemory) r h = WithoutMemory refl h
 tells_what_is_told a (Err Failed) r h = Unwritten refl h.0 h.1
-
--- an answer that is told behind a text is told with that text before it
-pub told_behind : (x : List ℕ) (a : Answer) (o : Result Status Halt) (f g k : ℕ) (old mid new : Option (List ℕ)) → f ≤ g
-    → Wrote x old mid → IsTold a o (sink_run g k mid new) → IsTold (behind x a) o (sink_run f k old new)
-told_behind x a (Ok s) f g k old mid new l w h = (h.0, wrote_both x a.0 old mid new w h.1)
-told_behind x a (Err halt) f g k old mid new l w h = halts_after halt x a.0 f g k old mid new l w h
 
 -- ---- pairs
 

@@ -19,18 +19,19 @@ use Rattle.hp_top.specs.declared.pairs.Engine.TheVariants.{Copies, InPlace}
 use Rattle.hp_top.specs.declared.pairs.Sought.{Sought}
 use Rattle.hp_top.specs.declared.pairs.Sought.TheVariants.{Plans, Cheapest, After, Derivation, Shallowest}
 use Rattle.hp_top.specs.declared.pairs.Wanted.{Wanted}
-use Rattle.hp_top.specs.declared.planning.Detail.{Detail}
-use Rattle.hp_top.specs.declared.planning.Detail.TheVariants as details
-use Rattle.hp_top.specs.declared.telling.Halt.{Halt}
+use Rattle.hp_telling.specs.declared.planning.Detail.{Detail}
+use Rattle.hp_telling.specs.declared.planning.Detail.TheVariants as details
+use Rattle.hp_telling.specs.declared.halt.Halt.{Halt}
 use Rattle.hp_words.specs.declared.words.Asked.{Asked}
 use Rattle.hp_top.specs.Engines.{CanBeFound, IsOfOneTree, IsOnePair, IsSought, IsWanted, PlansBy, deepest, told_at, told_of_pairs, told_pair, told_visits, wanted_plans}
 use Rattle.hp_top.specs.Outcome.{pair_answer, pair_visits, pairs_answer, plans_heard, line_heard, first_fault, job_answer, answer_of_read, refusal_answer, told_or}
 use Rattle.hp_words.specs.Command.{Job, Options, greatest_depth, make_command}
-use Rattle.hp_top.specs.AfterReports.{after_report, heard_report}
+use Rattle.hp_telling.specs.AfterReports.{after_report, heard_report}
 use Rattle.hp_top.specs.ShallowReports.{shallow_report}
-use Rattle.hp_top.specs.Telling.{IsTold, Tells, status_told, telling}
+use Rattle.hp_telling.specs.Telling.{IsTold, telling}
+use Rattle.hp_top.specs.Telling.{Tells, status_told}
 use Rattle.hp_words.specs.Words.{IsPlanned, options_of}
-use Rattle.hp_top.proofs.ReportLemmas.{report_heard}
+use Rattle.hp_telling.proofs.ReportLemmas.{report_heard}
 use Rattle.hp_top.proofs.PairSteps.{joined_last, tells_what_is_told}
 
 -- the visits that are left at the root are at their nodes, where all visits of its tree are

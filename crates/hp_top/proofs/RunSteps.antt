@@ -30,10 +30,10 @@ use Rattle.hp_after.specs.declared.reaching.Reached.{Reached}
 use Rattle.hp_after.specs.declared.reaching.Reached.TheVariants as reached
 use Rattle.hp_shallow.specs.LeastDepth.{first_end, least_depth}
 use Rattle.hp_verify.specs.Kept.{DerivedAt, Faulty, Said, Underived, told_kept}
-use Rattle.hp_top.specs.AfterReports.{after_report, told_arrival}
-use Rattle.hp_top.specs.BestReports.{best_report}
+use Rattle.hp_telling.specs.AfterReports.{after_report, told_arrival}
+use Rattle.hp_telling.specs.BestReports.{best_report}
 use Rattle.hp_top.specs.ShallowReports.{shallow_report}
-use Rattle.hp_top.specs.VerifyReports.{told_said, verify_report}
+use Rattle.hp_telling.specs.VerifyReports.{told_said, verify_report}
 use Rattle.hp_top.specs.declared.loading.LoadError.{LoadError}
 use Rattle.hp_top.specs.declared.loading.LoadError.TheVariants as causes
 use Rattle.hp_words.specs.Command.{Command, Verification, Job, Options, Planning, Continuing, Choosing, Deepening, Checking, Showing, Summing, Request, OnFiles, Verifying, Listing, accepts, named, file_named, on_files}

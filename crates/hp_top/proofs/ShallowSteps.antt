@@ -13,7 +13,7 @@ use Rattle.hp_syntax.specs.Syntax.{Pair, Rule}
 use Rattle.hp_syntax.specs.Walk.{CutHere, Did, FaultHere, Node, Plan, Sight, Visit, count_told, root, visit, visits}
 use Rattle.hp_top.specs.Outcome.{pair_visits}
 use Rattle.hp_top.specs.ShallowReports.{TellsTheShallowest, depth_report, first_report}
-use Rattle.hp_top.proofs.ReportLemmas.{ending_saturates}
+use Rattle.hp_telling.proofs.ReportLemmas.{ending_saturates}
 
 -- a consequence of a fact of the node that is reached is one of it
 pub reached_weaker : (o : Option Node) (P Q : Node → Type 0) → MatchOption o ⊥ P → ((n : Node) → P n → Q n)

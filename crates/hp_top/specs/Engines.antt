@@ -16,13 +16,13 @@ use Rattle.hp_top.specs.declared.pairs.Engine.TheVariants.{Copies, InPlace}
 use Rattle.hp_top.specs.declared.pairs.Sought.{Sought}
 use Rattle.hp_top.specs.declared.pairs.Sought.TheVariants.{Plans, Cheapest, After, Derivation, Shallowest}
 use Rattle.hp_top.specs.declared.pairs.Wanted.{Wanted}
-use Rattle.hp_top.specs.declared.planning.Detail.TheVariants as details
-use Rattle.hp_top.specs.AfterReports.{after_report, heard_report}
-use Rattle.hp_top.specs.BestReports.{best_report}
+use Rattle.hp_telling.specs.declared.planning.Detail.TheVariants as details
+use Rattle.hp_telling.specs.AfterReports.{after_report, heard_report}
+use Rattle.hp_telling.specs.BestReports.{best_report}
 use Rattle.hp_top.specs.Outcome.{pair_visits}
 use Rattle.hp_top.specs.ShallowReports.{shallow_report}
-use Rattle.hp_top.specs.VerifyReports.{verify_report}
-use Rattle.hp_top.specs.Telling.{telling}
+use Rattle.hp_telling.specs.VerifyReports.{verify_report}
+use Rattle.hp_telling.specs.Telling.{telling}
 use Rattle.hp_words.specs.declared.words.Asked.{Asked}
 
 -- an engine can plan: the checks find no fault in the domain that it goes by, or it goes by a code

@@ -1,5 +1,3 @@
-pub mod AfterReports
-pub mod BestReports
 pub mod CheckTexts
 pub mod Engines
 pub mod Loading
@@ -13,4 +11,3 @@ pub mod Serving
 pub mod ShallowReports
 pub mod Telling
 pub mod Touching
-pub mod VerifyReports

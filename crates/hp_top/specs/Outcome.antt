@@ -27,13 +27,13 @@ use Rattle.hp_syntax.specs.TextForms.{Form, IsRead}
 use Rattle.hp_syntax.specs.Walk.{Visit, heard_visits, root, visits}
 use Rattle.hp_syntax.specs.Written.{domain_text, problem_text}
 use Rattle.hp_best.specs.Bounded.{is_priced}
-use Rattle.hp_top.specs.AfterReports.{after_report}
-use Rattle.hp_top.specs.BestReports.{best_report}
+use Rattle.hp_telling.specs.AfterReports.{after_report}
+use Rattle.hp_telling.specs.BestReports.{best_report}
 use Rattle.hp_top.specs.CheckTexts.{check_text}
 use Rattle.hp_words.specs.Command.{Command, Verification, Job, Options, Planning, Choosing, Deepening, Continuing, Checking, Showing, Summing, OnFiles, Verifying, Listing, Making, accepts}
 use Rattle.hp_top.specs.Making.{made_files, made_command, made_lines}
 use Rattle.hp_top.specs.ShallowReports.{shallow_report}
-use Rattle.hp_top.specs.VerifyReports.{verify_report}
+use Rattle.hp_telling.specs.VerifyReports.{verify_report}
 
 -- the bytes of each file, by its name; there may be no such file
 abbrev pub Files : Type 0

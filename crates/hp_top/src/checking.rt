@@ -7,12 +7,13 @@ ghost use Rattle.hp_out.specs.Writing.{Wrote, sink_run};
 ghost use Rattle.hp_syntax.specs.Notes as plain;
 ghost use Rattle.hp_syntax.specs.Views.{rule_of, domain_of, pair_of, problem_of};
 ghost use Rattle.hp_top.specs.CheckTexts.{is_operator, is_method, is_axiom, atoms_written, counts_text, domain_line, pairs_text, problem_line, count_lines, notes_text, check_text};
-ghost use Rattle.hp_top.specs.Telling.{Halts};
+ghost use Rattle.hp_telling.specs.Telling.{Halts};
 
-use crate::telling::{Halt, write, write_notes};
+use crate::writing::{write, write_notes};
 use hp_check::Note;
 use hp_io::Sink;
 use hp_syntax::{Domain, Pair, Problem, Rule};
+use hp_telling::Halt;
 use itoa::Buffer;
 use std::alloc::{AllocError, Global};
 

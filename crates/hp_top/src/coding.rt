@@ -17,13 +17,14 @@ ghost use Rattle.hp_code.specs.Listing.{listing_text};
 
 use crate::loading::load_domain;
 use crate::refusing::{refuse, refuse_files};
-use crate::telling::{Halt, write};
+use crate::writing::write;
 use hp_check::check_domain;
 use hp_code::laws::codes_have_one_listing;
 use hp_code::{listing, lower};
 use hp_io::{Folder, Sink};
 use hp_out::Refusal;
 use hp_syntax::{Domain, Status};
+use hp_telling::Halt;
 use std::alloc::{AllocError, Global};
 
 /// The listing of the code of a domain in which the checks find nothing.

@@ -17,10 +17,8 @@ ghost use Rattle.hp_syntax.specs.Views.{pair_of};
 ghost use Rattle.hp_syntax.specs.Walk.{Visit, count_told};
 ghost use Rattle.hp_top.specs.Outcome.{pair_visits};
 ghost use Rattle.hp_top.specs.ShallowReports.{depth_report, first_report, shallow_report};
-ghost use Rattle.hp_top.specs.Telling.{Halts, IsTold};
+ghost use Rattle.hp_telling.specs.Telling.{Halts, IsTold};
 
-use crate::planning::{Detail, Progress, close, write_plan};
-use crate::telling::Halt;
 use hp_code::Code;
 use hp_code::laws::{compiled_rules_are_a_code, lowered_rules_have_the_tree};
 use hp_io::Sink;
@@ -29,6 +27,7 @@ use hp_out::{Ending, Pen};
 use hp_shallow::{Least, ShallowEnd, shallow};
 use hp_syntax::limits::{GREATEST_DEPTH, MOST_LEVELS};
 use hp_syntax::{Pair, Status};
+use hp_telling::{Detail, Halt, Progress, close, write_plan};
 use std::alloc::Global;
 
 /// Writes the depth that decides.

@@ -11,10 +11,10 @@ ghost use Rattle.hp_syntax.specs.Report.{Answer};
 ghost use Rattle.hp_syntax.specs.declared.status.Status.TheVariants as Status;
 ghost use Rattle.hp_syntax.specs.Syntax.{Pair, Rule};
 ghost use Rattle.hp_syntax.specs.Terms.{Term};
-ghost use Rattle.hp_top.specs.BestReports.{TellsTheCheapest};
+ghost use Rattle.hp_telling.specs.BestReports.{TellsTheCheapest};
 ghost use Rattle.hp_top.specs.Outcome.{Files, Outcome, pair_visits};
 ghost use Rattle.hp_top.specs.ShallowReports.{TellsTheShallowest, shallow_report};
-ghost use Rattle.hp_top.specs.VerifyReports.{verify_report};
+ghost use Rattle.hp_telling.specs.VerifyReports.{verify_report};
 ghost use Rattle.hp_verify.specs.Kept.{HasPlan};
 
 use hp_best::laws::{bounded_walks_choose_the_cheapest, priced_costs_never_fall};

@@ -2,17 +2,14 @@
 #![tactic(auto)]
 
 mod checking;
-mod choosing;
 mod coding;
 mod command;
 mod deepening;
-mod following;
 pub mod laws;
 mod loading;
 mod making;
 mod paging;
 mod pairs;
-mod planning;
 mod reading;
 mod refusing;
 pub mod rereading;
@@ -20,8 +17,7 @@ pub mod samples;
 mod serving;
 mod showing;
 mod summing;
-mod telling;
-mod verifying;
+mod writing;
 
 pub use command::run;
 pub use hp_syntax::Status;

@@ -9,14 +9,15 @@ ghost use Rattle.hp_syntax.specs.Report.{Answer};
 ghost use Rattle.hp_syntax.specs.Syntax.{Rule};
 ghost use Rattle.hp_syntax.specs.Views.{pair_of};
 ghost use Rattle.hp_top.specs.Engines.{CanPlan, IsWanted, PlansBy, told_of_pairs};
-ghost use Rattle.hp_top.specs.Telling.{IsTold, Tells};
+ghost use Rattle.hp_telling.specs.Telling.{IsTold};
+ghost use Rattle.hp_top.specs.Telling.{Tells};
 
 use crate::pairs::{Engine, Wanted, tell_pairs};
-use crate::telling::Halt;
 use core::mem::replace_with;
 use hp_io::Sink;
 use hp_out::{Origin, Paged};
 use hp_syntax::{Pair, Status};
+use hp_telling::Halt;
 use std::alloc::Global;
 use std::marker::Brand;
 

@@ -15,14 +15,9 @@ ghost use Rattle.hp_syntax.specs.Syntax.{Rule};
 ghost use Rattle.hp_syntax.specs.Views.{domain_of, pair_of};
 ghost use Rattle.hp_top.specs.Engines.{CanBeFound, CanPlan, IsOfOneTree, IsWanted, PlansBy, told_of_pairs, told_pair, told_visits};
 ghost use Rattle.hp_top.specs.Outcome.{pair_visits};
-ghost use Rattle.hp_top.specs.Telling.{Halts, IsTold};
+ghost use Rattle.hp_telling.specs.Telling.{Halts, IsTold};
 
-use crate::choosing::tell_best;
 use crate::deepening::tell_least;
-use crate::following::tell_after;
-use crate::planning::{Detail, tell};
-use crate::telling::Halt;
-use crate::verifying::tell_verdict;
 use hp_best::laws::priced_costs_never_fall;
 use hp_code::Code;
 use hp_code::laws::{compiled_rules_are_a_code, lowered_rules_have_the_tree};
@@ -34,6 +29,7 @@ use hp_plain::PlainWalk;
 use hp_search::Planner;
 use hp_syntax::limits::{GREATEST_DEPTH, GREATEST_PLAIN_DEPTH, MOST_LEVELS};
 use hp_syntax::{Domain, Ground, Pair, Status};
+use hp_telling::{Detail, Halt, tell, tell_after, tell_best, tell_verdict};
 use std::alloc::{AllocError, Global};
 
 /// What is looked for in each pair.

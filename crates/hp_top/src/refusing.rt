@@ -7,7 +7,7 @@ ghost use Rattle.hp_top.specs.Serving.{load_answer};
 ghost use Rattle.hp_top.specs.Telling.{Tells};
 
 use crate::loading::LoadError;
-use crate::telling::write_refusal;
+use crate::writing::write_refusal;
 use hp_io::{Input, Sink};
 use hp_out::{Refusal, text_of};
 use hp_syntax::Status;

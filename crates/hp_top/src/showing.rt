@@ -4,12 +4,13 @@ ghost use Rattle.std.specs.Prelude.{◌≤◌, ◌++◌, OnOk, IfErr};
 ghost use Rattle.hp_out.specs.Writing.{Wrote, sink_run};
 ghost use Rattle.hp_syntax.specs.Views.{domain_of, problem_of};
 ghost use Rattle.hp_syntax.specs.Written as written;
-ghost use Rattle.hp_top.specs.Telling.{Halts};
+ghost use Rattle.hp_telling.specs.Telling.{Halts};
 
-use crate::telling::{Halt, write};
+use crate::writing::write;
 use hp_io::Sink;
 use hp_print::{domain_text, problem_text};
 use hp_syntax::{Domain, Problem};
+use hp_telling::Halt;
 use std::alloc::Global;
 
 fn show_domain<K: Sink>(alloc: Global, domain: &Domain, out: &mut K) -> Result<(), Halt>

@@ -11,16 +11,16 @@ ghost use Rattle.hp_syntax.specs.Syntax.{Rule};
 ghost use Rattle.hp_syntax.specs.Views.{problem_of};
 ghost use Rattle.hp_top.specs.Making.{made_lines};
 ghost use Rattle.hp_top.specs.Outcome.{line_heard, pairs_answer};
-ghost use Rattle.hp_top.specs.Telling.{Halts, IsTold};
+ghost use Rattle.hp_telling.specs.Telling.{Halts, IsTold};
 
 use crate::checking::{atoms_written, push_count};
 use crate::pairs::{Engine, Sought, Wanted, tell_pairs};
-use crate::planning::Detail;
-use crate::telling::{Halt, write};
+use crate::writing::write;
 use hp_code::Code;
 use hp_io::Sink;
 use hp_syntax::limits::{MADE_DEPTH, USUAL_LEVELS};
 use hp_syntax::{Problem, Status};
+use hp_telling::{Detail, Halt};
 use std::alloc::{AllocError, Global};
 
 /// The line of a made problem: its seed, and how many packages it has.

@@ -3,7 +3,7 @@ use Rattle.hp_out.specs.Writing.{sink_run}
 use Rattle.hp_syntax.specs.Notes.{notes}
 use Rattle.hp_syntax.specs.Views.{domain_of, problem_of}
 use Rattle.hp_top.specs.CheckTexts.{count_lines, notes_text}
-use Rattle.hp_top.proofs.TellingLemmas.{err_after, halts_longer}
+use Rattle.hp_telling.proofs.TellingLemmas.{err_after, halts_longer}
 use Rattle.hp_top.proofs.checking.tell_accepted.Goals as goal
 
 -- a stop of the notes is one behind the lines of counts

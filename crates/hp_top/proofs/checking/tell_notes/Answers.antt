@@ -1,7 +1,7 @@
 use Rattle.std.proofs.Common.{map, codes}
 use Rattle.hp_check.specs.NoteViews.{note_of}
 use Rattle.hp_top.specs.CheckTexts.{notes_text}
-use Rattle.hp_top.proofs.TellingLemmas.{ok_after, err_after}
+use Rattle.hp_telling.proofs.TellingLemmas.{ok_after, err_after}
 use Rattle.hp_top.proofs.checking.tell_notes.Goals as goal
 
 -- a stop of the last line is one behind the notes

@@ -3,8 +3,7 @@ use Rattle.hp_out.specs.Lines.{depth_text}
 use Rattle.hp_out.specs.Writing.{sink_run}
 use Rattle.hp_shallow.specs.LeastDepth.{expansions_below}
 use Rattle.hp_top.specs.ShallowReports.{first_report}
-use Rattle.hp_top.proofs.PairSteps.{told_behind}
-use Rattle.hp_top.proofs.TellingLemmas.{halts_longer}
+use Rattle.hp_telling.proofs.TellingLemmas.{halts_longer, told_behind}
 use Rattle.hp_top.proofs.deepening.tell_depth.Goals as goal
 
 -- what was found is told behind the depth that decides

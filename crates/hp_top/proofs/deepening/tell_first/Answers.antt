@@ -3,7 +3,7 @@ use Rattle.hp_net.specs.Standings.{node_reached}
 use Rattle.hp_out.specs.Writing.{sink_run}
 use Rattle.hp_syntax.specs.declared.status.Status.TheVariants as status
 use Rattle.hp_syntax.specs.Report.{Answer, Stopped, ending_text, shown, told_plan}
-use Rattle.hp_top.proofs.PairSteps.{told_behind, told_by_parts}
+use Rattle.hp_telling.proofs.TellingLemmas.{told_behind, told_by_parts}
 use Rattle.hp_top.proofs.ShallowSteps.{reached_weaker}
 use Rattle.hp_top.proofs.deepening.tell_first.Goals as goal
 

@@ -3,7 +3,7 @@ use Rattle.hp_out.specs.Writing.{sink_run}
 use Rattle.hp_search.specs.Planned.{stands_planned, tree_planned}
 use Rattle.hp_shallow.specs.LeastDepth.{expansions_below}
 use Rattle.hp_syntax.specs.Report.{Answer}
-use Rattle.hp_top.specs.Telling.{IsTold}
+use Rattle.hp_telling.specs.Telling.{IsTold}
 use Rattle.hp_top.proofs.ShallowSteps.{plan_told}
 use Rattle.hp_top.proofs.deepening.tell_found.Goals as goal
 

@@ -9,7 +9,7 @@ use Rattle.hp_syntax.specs.Views.{pair_of}
 use Rattle.hp_syntax.specs.Walk.{Visit, root}
 use Rattle.hp_top.specs.Outcome.{pair_visits}
 use Rattle.hp_top.specs.ShallowReports.{depth_report}
-use Rattle.hp_top.specs.Telling.{IsTold}
+use Rattle.hp_telling.specs.Telling.{IsTold}
 use Rattle.hp_top.proofs.ShallowSteps.{walked_at}
 use Rattle.hp_top.proofs.deepening.tell_least.Goals as goal
 

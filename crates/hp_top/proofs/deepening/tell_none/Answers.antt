@@ -3,8 +3,8 @@ use Rattle.hp_out.specs.Endings.{ending_of}
 use Rattle.hp_out.specs.Writing.{sink_run}
 use Rattle.hp_shallow.specs.LeastDepth.{first_end}
 use Rattle.hp_syntax.specs.Report.{Answer, ending_text, status_of}
-use Rattle.hp_top.specs.Telling.{IsTold}
-use Rattle.hp_top.proofs.PairSteps.{told_by_parts}
+use Rattle.hp_telling.specs.Telling.{IsTold}
+use Rattle.hp_telling.proofs.TellingLemmas.{told_by_parts}
 use Rattle.hp_top.proofs.ShallowSteps.{ending_is, no_stop, none_told}
 use Rattle.hp_top.proofs.deepening.tell_none.Goals as goal
 

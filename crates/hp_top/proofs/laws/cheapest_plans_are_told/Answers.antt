@@ -1,7 +1,7 @@
 use Rattle.hp_best.specs.Bounded.{is_priced}
 use Rattle.hp_syntax.specs.Walk.{root}
 use Rattle.hp_top.specs.Outcome.{pair_visits}
-use Rattle.hp_top.proofs.CheapestLemmas.{tells_the_cheapest}
+use Rattle.hp_telling.proofs.CheapestLemmas.{tells_the_cheapest}
 use Rattle.hp_top.proofs.laws.cheapest_plans_are_told.Goals as goal
 
 pub returns : goal.returns

@@ -1,6 +1,6 @@
 use Rattle.hp_syntax.specs.Walk.{root}
 use Rattle.hp_top.specs.Outcome.{pair_visits}
-use Rattle.hp_top.proofs.VerifySteps.{done_is_derived}
+use Rattle.hp_telling.proofs.VerifySteps.{done_is_derived}
 use Rattle.hp_verify.specs.Kept.{told_kept}
 use Rattle.hp_top.proofs.laws.plans_are_verified.Goals as goal
 

@@ -1,6 +1,6 @@
 use Rattle.std.proofs.Common.{◌≡◌, drop, subst}
 use Rattle.std.specs.Prelude.{Err}
-use Rattle.hp_top.specs.declared.telling.Halt.TheVariants.{NoMemory, Failed}
+use Rattle.hp_telling.specs.declared.halt.Halt.TheVariants.{NoMemory, Failed}
 use Rattle.hp_top.proofs.PagingSteps.{failed_behind, unwritten_behind, wanting_behind, written_behind}
 use Rattle.hp_top.proofs.paging.close.Goals as goal
 

@@ -3,7 +3,7 @@ use Rattle.hp_out.specs.Writing.{sink_run}
 use Rattle.hp_syntax.specs.Report.{Answer}
 use Rattle.hp_syntax.specs.Views.{domain_of, pair_of}
 use Rattle.hp_top.specs.Outcome.{pair_visits}
-use Rattle.hp_top.specs.Telling.{IsTold}
+use Rattle.hp_telling.specs.Telling.{IsTold}
 use Rattle.hp_top.specs.declared.pairs.Engine.TheVariants.{Copies}
 use Rattle.hp_top.proofs.PlanEnds.{can_be_found, copies_one_tree, tree_told}
 use Rattle.hp_top.proofs.pairs.tell_by_copies.Goals as goal

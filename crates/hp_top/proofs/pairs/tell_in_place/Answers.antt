@@ -2,7 +2,7 @@ use Rattle.std.proofs.Common.{subst, sym}
 use Rattle.hp_out.specs.Writing.{sink_run}
 use Rattle.hp_syntax.specs.Report.{Answer}
 use Rattle.hp_syntax.specs.Views.{pair_of}
-use Rattle.hp_top.specs.Telling.{IsTold}
+use Rattle.hp_telling.specs.Telling.{IsTold}
 use Rattle.hp_top.proofs.PlanEnds.{other_one_tree, shallowest_told}
 use Rattle.hp_top.proofs.pairs.tell_in_place.Goals as goal
 

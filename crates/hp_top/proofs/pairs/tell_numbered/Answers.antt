@@ -1,7 +1,6 @@
 use Rattle.hp_out.specs.Writing.{sink_run}
 use Rattle.hp_syntax.specs.Report.{pair_header}
-use Rattle.hp_top.proofs.PairSteps.{told_behind}
-use Rattle.hp_top.proofs.TellingLemmas.{halts_longer}
+use Rattle.hp_telling.proofs.TellingLemmas.{halts_longer, told_behind}
 use Rattle.hp_top.proofs.pairs.tell_numbered.Goals as goal
 
 -- what is told of the pair is told behind its line

@@ -3,7 +3,7 @@ use Rattle.hp_out.specs.Writing.{sink_run}
 use Rattle.hp_syntax.specs.Report.{Answer}
 use Rattle.hp_syntax.specs.Views.{pair_of}
 use Rattle.hp_top.specs.declared.pairs.Engine.TheVariants.{InPlace}
-use Rattle.hp_top.specs.Telling.{IsTold}
+use Rattle.hp_telling.specs.Telling.{IsTold}
 use Rattle.hp_top.proofs.PlanEnds.{can_be_found, tree_told}
 use Rattle.hp_top.proofs.pairs.tell_tree_in_place.Goals as goal
 

@@ -2,9 +2,9 @@ use Rattle.std.proofs.Common.{sym, subst}
 use Rattle.hp_out.specs.Writing.{sink_run}
 use Rattle.hp_syntax.specs.Report.{Answer, nothing_seen}
 use Rattle.hp_top.specs.Engines.{CanBeFound, told_visits}
-use Rattle.hp_top.specs.Telling.{IsTold, telling}
-use Rattle.hp_top.proofs.PairSteps.{told_by_parts}
-use Rattle.hp_top.proofs.ReportLemmas.{report_heard}
+use Rattle.hp_telling.specs.Telling.{IsTold, telling}
+use Rattle.hp_telling.proofs.TellingLemmas.{told_by_parts}
+use Rattle.hp_telling.proofs.ReportLemmas.{report_heard}
 use Rattle.hp_top.proofs.pairs.tell_walk.Goals as goal
 
 pub tell-requires-clause-plans : goal.tell-requires-clause-plans

@@ -1,7 +1,7 @@
 use Rattle.std.proofs.Common.{ap}
 use Rattle.hp_out.specs.Writing.{sink_run}
 use Rattle.hp_syntax.specs.Views.{domain_of, problem_of}
-use Rattle.hp_top.specs.BestReports.{best_report}
+use Rattle.hp_telling.specs.BestReports.{best_report}
 use Rattle.hp_top.specs.Outcome.{pairs_answer}
 use Rattle.hp_top.proofs.PlanEnds.{tells_same}
 use Rattle.hp_top.proofs.serving.serve_best.Goals as goal

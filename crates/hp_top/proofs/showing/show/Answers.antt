@@ -1,6 +1,6 @@
 use Rattle.hp_syntax.specs.Views.{domain_of, problem_of}
 use Rattle.hp_syntax.specs.Written as written
-use Rattle.hp_top.proofs.TellingLemmas.{err_after}
+use Rattle.hp_telling.proofs.TellingLemmas.{err_after}
 use Rattle.hp_top.proofs.showing.show.Goals as goal
 
 -- a stop of the problem's text is one behind the domain's

@@ -5,10 +5,9 @@ use Rattle.hp_syntax.specs.Report.{Answer}
 use Rattle.hp_syntax.specs.Views.{problem_of}
 use Rattle.hp_top.specs.Making.{made_lines}
 use Rattle.hp_top.specs.Outcome.{line_heard, pairs_answer}
-use Rattle.hp_top.specs.Telling.{IsTold}
-use Rattle.hp_top.proofs.PairSteps.{told_behind}
+use Rattle.hp_telling.specs.Telling.{IsTold}
+use Rattle.hp_telling.proofs.TellingLemmas.{halts_longer, told_behind}
 use Rattle.hp_top.proofs.PlanEnds.{lines_told}
-use Rattle.hp_top.proofs.TellingLemmas.{halts_longer}
 use Rattle.hp_top.proofs.summing.sum_up.Goals as goal
 
 -- what is told of the pairs is told behind the lines of the made problem

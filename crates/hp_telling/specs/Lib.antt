@@ -1,0 +1,4 @@
+pub mod AfterReports
+pub mod BestReports
+pub mod Telling
+pub mod VerifyReports
