@@ -1,5 +1,5 @@
 -- What is written of the lines of a text: each one as it is, and behind a finding what it means and where it is.
-use Rattle.std.specs.Prelude.{ℕ, ◌==◌, cond, List, [], ◌∷◌, ◌++◌, Option, Some, None, option_and_then, codes, decimal, ◌+◌, Bool, true, false}
+use Rattle.std.specs.Prelude.{ℕ, ◌==◌, cond, List, [], ◌∷◌, ◌++◌, Option, Some, None, option_and_then, replicate, codes, decimal, ◌+◌, Bool, true, false}
 use Rattle.hp_io.specs.declared.folder.Input.TheVariants as inputs
 use Rattle.hp_out.specs.declared.refusal.Refusal.{Refusal}
 use Rattle.hp_out.specs.declared.refusal.Refusal.TheVariants as refusals
@@ -12,11 +12,14 @@ use Rattle.hp_syntax.specs.declared.pattern.Span.{Span}
 use Rattle.hp_doctor.specs.declared.finding.Aim.{Aim}
 use Rattle.hp_doctor.specs.declared.finding.Finding.{Finding}
 use Rattle.hp_doctor.specs.declared.finding.Finding.TheVariants.{Refused, Unserved, Met}
+use Rattle.hp_doctor.specs.declared.mending.Mend.{Mend}
+use Rattle.hp_doctor.specs.declared.mending.Mend.TheVariants.{Close, Cut}
+use Rattle.hp_doctor.specs.declared.mending.Mended.{Mended}
 use Rattle.hp_doctor.specs.declared.nesting.Nested.{Nested}
 use Rattle.hp_doctor.specs.declared.hints.TheConstants as says
 use Rattle.hp_doctor.specs.Findings.{finding_of}
 use Rattle.hp_doctor.specs.Nesting.{nested_rule}
-use Rattle.hp_doctor.specs.Sentences.{sentence}
+use Rattle.hp_doctor.specs.Sentences.{refusal_sentence, sentence}
 use Rattle.hp_doctor.specs.Texts.{File, Texts, chosen}
 
 -- ---- what a finding is about
@@ -62,19 +65,43 @@ finding_text t f = told_in (option_and_then (chosen t) (aim_of f).which) (aim_of
 abbrev pub nested_sentence : ℕ → List ℕ
 nested_sentence line = says.NESTED.now ++ decimal line ++ says.MISSING.now
 
-abbrev pub nested_text : List ℕ → List ℕ → Option Nested → List ℕ
-nested_text name text None = []
-nested_text name text (Some n) =
+abbrev pub nested_text : List ℕ → List ℕ → Nested → List ℕ
+nested_text name text n =
     shown name text (record { from = n.inner; to = n.inner + 1 }) (nested_sentence (line_of text n.outer))
 
--- the first rule inside another one, where the text is there
-abbrev pub nested_by_name : List ℕ → Option (List ℕ) → List ℕ
-nested_by_name name None = []
-nested_by_name name (Some text) = nested_text name text (nested_rule text)
+-- what is said of a file that is read when its brackets are in pairs
+abbrev pub read_sentence : Mend → List ℕ
+read_sentence (Close count) = says.WITH.now ++ replicate count 41 ++ says.READ.now
+read_sentence (Cut offset) = says.CUT_READ.now
 
-abbrev pub nested_in : Option File → List ℕ
-nested_in None = []
-nested_in (Some f) = nested_by_name f.name f.text
+-- what is said of one that is refused then, before the sentence of the refusal
+abbrev pub refused_opening : Mend → List ℕ
+refused_opening (Close count) = says.CLOSED.now
+refused_opening (Cut offset) = says.CUT.now
+
+-- in a file, and at its place where it is refused
+abbrev pub mended_by : File → Mend → Option Refusal → List ℕ
+mended_by f how None = named_text f.name (read_sentence how)
+mended_by f how (Some r) = located f.name f.text (refusal_aim r).span (refused_opening how ++ refusal_sentence r)
+
+abbrev pub mended_text : File → Option Mended → List ℕ
+mended_text f None = []
+mended_text f (Some m) = mended_by f m.mend m.refusal
+
+-- the first rule inside another one, or, where there is none, what would be said of the file if its brackets were in
+-- pairs
+abbrev pub unpaired_by : File → List ℕ → Option Nested → List ℕ
+unpaired_by f text None = mended_text f f.mended
+unpaired_by f text (Some n) = nested_text f.name text n
+
+-- where the text is there
+abbrev pub unpaired_text : File → Option (List ℕ) → List ℕ
+unpaired_text f None = []
+unpaired_text f (Some text) = unpaired_by f text (nested_rule text)
+
+abbrev pub unpaired_in : Option File → List ℕ
+unpaired_in None = []
+unpaired_in (Some f) = unpaired_text f f.text
 
 -- brackets that are open at the end, or one that closes nothing
 abbrev pub are_unpaired : TextKind → Bool
@@ -89,7 +116,7 @@ are_unpaired kinds.TooLarge = false
 
 -- where a bracket may be missing, of a text whose brackets aren't in pairs
 abbrev pub refusal_hint : Texts → Refusal → List ℕ
-refusal_hint t (refusals.Text which kind offset) = cond (are_unpaired kind) (nested_in (chosen t which)) []
+refusal_hint t (refusals.Text which kind offset) = cond (are_unpaired kind) (unpaired_in (chosen t which)) []
 refusal_hint t refusals.Usage = []
 refusal_hint t (refusals.Read which) = []
 refusal_hint t (refusals.Form which what span) = []

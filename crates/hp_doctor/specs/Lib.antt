@@ -4,6 +4,7 @@ pub mod Findings
 pub mod Laws
 pub mod Linted
 pub mod Loading
+pub mod Mending
 pub mod Nesting
 pub mod Sentences
 pub mod Telling

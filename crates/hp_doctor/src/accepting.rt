@@ -1,21 +1,26 @@
 //! Reading and checking a domain and a problem as the planner does.
 
-ghost use Rattle.std.specs.Prelude.{◌≡◌, IfErr, IfOk, None, Some};
+ghost use Rattle.std.specs.Prelude.{◌≡◌, ℕ, IfErr, IfOk, List, None, Some, map};
 ghost use Rattle.hp_io.specs.declared.folder.Input.TheVariants as inputs;
-ghost use Rattle.hp_doctor.specs.Accepting.{Has, IsAccepted, StopBoth, Stops, StopsAtCheck, faults, of_form, of_text, refused_status, refusal_status};
+ghost use Rattle.hp_doctor.specs.Accepting.{Has, IsAccepted, StopBoth, Stops, StopsAtCheck, faults, of_form, of_text};
+ghost use Rattle.hp_doctor.specs.Accepting.{refused_status, refusal_status};
+ghost use Rattle.hp_doctor.specs.Mending.{steps_form};
 ghost use Rattle.hp_doctor.specs.Texts.{file_of, texts_of};
 ghost use Rattle.hp_syntax.specs.Checks.{first_of};
+ghost use Rattle.hp_syntax.specs.Forest.{IsForest};
 ghost use Rattle.hp_syntax.specs.Grammar.{domain_form, problem_form};
+ghost use Rattle.hp_syntax.specs.GroundViews.{ground_of};
 ghost use Rattle.hp_syntax.specs.TextForms.{IsRead};
 ghost use Rattle.hp_syntax.specs.Views.{domain_of, problem_of};
+ghost use Rattle.hp_text.specs.Nodes.{forest_of};
 
 use crate::texts::{Text, Texts};
 use hp_check::first_fault;
-use hp_forms::{FormRefusal, into_domain, into_problem};
+use hp_forms::{FormRefusal, into_domain, into_problem, plan_steps};
 use hp_io::Input;
 use hp_out::{Refusal, text_of};
-use hp_syntax::{Domain, Problem, Status};
-use hp_text::{TextRefusal, read};
+use hp_syntax::{Domain, Ground, Problem, Status};
+use hp_text::{Forest, TextRefusal, read};
 use std::alloc::Global;
 
 /// Why files aren't accepted.
@@ -85,7 +90,7 @@ fn of_form(which: Input, refusal: FormRefusal) -> Stop
 }
 
 /// The domain that a text is.
-fn domain_in(alloc: Global, text: &[u8]) -> Result<Domain, Stop>
+pub fn domain_in(alloc: Global, text: &[u8]) -> Result<Domain, Stop>
     ensures domain { IfOk result (λ d. IsRead domain_form text.now (domain_of d)) }
     ensures stops { IfErr result (Stops inputs.Domain domain_form (Some text.now)) }
 {
@@ -99,7 +104,7 @@ fn domain_in(alloc: Global, text: &[u8]) -> Result<Domain, Stop>
 }
 
 /// The problem that a text is.
-fn problem_in(alloc: Global, text: &[u8]) -> Result<Problem, Stop>
+pub fn problem_in(alloc: Global, text: &[u8]) -> Result<Problem, Stop>
     ensures problem { IfOk result (λ p. IsRead problem_form text.now (problem_of p)) }
     ensures stops { IfErr result (Stops inputs.Problem problem_form (Some text.now)) }
 {
@@ -109,6 +114,30 @@ fn problem_in(alloc: Global, text: &[u8]) -> Result<Problem, Stop>
             Err(refusal) => Err(of_form(Input::Problem, refusal)),
         },
         Err(refusal) => Err(of_text(Input::Problem, refusal)),
+    }
+}
+
+/// The steps of the plan that a forest is.
+fn plan_of(alloc: Global, forest: &Forest) -> Result<Vec<Ground>, Stop>
+    ensures plan { (text : List ℕ) → IsForest text (forest_of forest.now)
+        → IfOk result (λ v. IsRead steps_form text (map ground_of v.items)) }
+    ensures stops { (text : List ℕ) → IsForest text (forest_of forest.now)
+        → IfErr result (Stops inputs.Plan steps_form (Some text)) }
+{
+    match plan_steps(alloc, forest) {
+        Ok(steps) => Ok(steps),
+        Err(refusal) => Err(of_form(Input::Plan, refusal)),
+    }
+}
+
+/// The steps of the plan that a text is.
+pub fn plan_in(alloc: Global, text: &[u8]) -> Result<Vec<Ground>, Stop>
+    ensures plan { IfOk result (λ v. IsRead steps_form text.now (map ground_of v.items)) }
+    ensures stops { IfErr result (Stops inputs.Plan steps_form (Some text.now)) }
+{
+    match read(alloc, text) {
+        Ok(forest) => plan_of(alloc, &forest),
+        Err(refusal) => Err(of_text(Input::Plan, refusal)),
     }
 }
 

@@ -171,7 +171,7 @@ fn tell_refusal<K: Sink>(
 }
 
 /// The status of a telling that came to its end, or stopped.
-fn status_told(told: Result<(), Halt>, status: Status) -> Status
+pub fn status_told(told: Result<(), Halt>, status: Status) -> Status
     ensures { result ≡ status_told told status }
 {
     match told {
@@ -194,7 +194,8 @@ fn lint_pair<K: Sink>(alloc: Global, files: &Texts, pair: &Accepted, out: &mut K
     status_told(told, Status::Done)
 }
 
-fn refuse<K: Sink>(alloc: Global, files: &Texts, refusal: Refusal, out: &mut K) -> Status
+/// Writes the line by which the planner refuses files, with what it means, and answers its status.
+pub fn refuse<K: Sink>(alloc: Global, files: &Texts, refusal: Refusal, out: &mut K) -> Status
     ensures tells { Tells (explained (texts_of files.now) (refusal_text refusal), refusal_status refusal) result
         (sink_run (K.faults out.old) (K.faults out.new) (K.bytes out.old) (K.bytes out.new)) }
     ensures later { K.faults out.old ≤ K.faults out.new }

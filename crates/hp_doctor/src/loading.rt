@@ -5,8 +5,10 @@ ghost use Rattle.hp_io.specs.Rules.{Rose};
 ghost use Rattle.hp_io.specs.declared.folder.Input.{Input};
 ghost use Rattle.hp_io.specs.declared.folder.Input.TheVariants as inputs;
 ghost use Rattle.hp_doctor.specs.Loading.{Grows, IsHeld, IsPlanRead, IsRead, ReadsTo};
-ghost use Rattle.hp_doctor.specs.Texts.{file_of};
+ghost use Rattle.hp_doctor.specs.Mending.{AreMended, IsMended, IsPlanMended};
+ghost use Rattle.hp_doctor.specs.Texts.{file_of, texts_of};
 
+use crate::mending::mend_text;
 use crate::texts::{Text, Texts};
 use hp_io::{BeginError, Folder, Input};
 use hp_places::Lines;
@@ -25,7 +27,8 @@ pub struct Names<'a> {
 }
 
 impl<'a> Texts<'a> {
-    /// Reads the files of a run, as far as the planner reads them. One that can't be read is held without its text.
+    /// Reads the files of a run, as far as the planner reads them. One that can't be read is held without its text. One
+    /// whose brackets aren't in pairs is read once more with brackets that are.
     pub fn read<F: Folder>(
         alloc: Global,
         folder: &mut F,
@@ -37,6 +40,7 @@ impl<'a> Texts<'a> {
             (F.faults folder.old inputs.Problem) (F.faults folder.new inputs.Problem) (file_of t.problem)) }
         ensures plan { IfOk result (λ t. IsPlanRead (option_map (λ n. n.now) names.entry.plan) (F.file folder.old)
             (F.faults folder.old inputs.Plan) (F.faults folder.new inputs.Plan) (option_map file_of t.plan)) }
+        ensures mended { IfOk result (λ t. AreMended (texts_of t)) }
         ensures tells { (n : List ℕ) → F.file folder.new n ≡ F.file folder.old n }
         ensures counts { (w : Input) → F.faults folder.old w ≤ F.faults folder.new w }
     {
@@ -149,6 +153,35 @@ fn lines_of(alloc: Global, bytes: Vec<u8>) -> Result<Option<Lines>, NoMemory>
     }
 }
 
+/// A file that was read, with what would be said of it if its brackets were in pairs.
+fn held<'a>(
+    alloc: Global,
+    which: Input,
+    name: &'a str,
+    lines: Option<Lines>,
+) -> Result<Text<'a>, NoMemory>
+    ensures name { IfOk result (λ t. (file_of t).name ≡ name.now) }
+    ensures text { IfOk result (λ t. (file_of t).text ≡ option_map (λ l. l.text.items) lines) }
+    ensures mended { IfOk result (λ t. IsMended which (file_of t).text (file_of t).mended) }
+{
+    let name = name.as_bytes();
+    match lines {
+        None => Ok(Text {
+            name,
+            lines: None,
+            mended: None,
+        }),
+        Some(lines) => {
+            let mended = mend_text(alloc, which, lines.text())?;
+            Ok(Text {
+                name,
+                lines: Some(lines),
+                mended,
+            })
+        }
+    }
+}
+
 fn read_text<'a, F: Folder>(
     alloc: Global,
     folder: &mut F,
@@ -157,14 +190,13 @@ fn read_text<'a, F: Folder>(
 ) -> Result<Text<'a>, NoMemory>
     ensures read { IfOk result (λ t. IsRead name.now (F.file folder.old name.now) (F.faults folder.old which)
         (F.faults folder.new which) (file_of t)) }
+    ensures mended { IfOk result (λ t. IsMended which (file_of t).text (file_of t).mended) }
     ensures files { (n : List ℕ) → F.file folder.new n ≡ F.file folder.old n }
     ensures later { (w : Input) → F.faults folder.old w ≤ F.faults folder.new w }
 {
     let lines = read_file(alloc, folder, which, name)?;
-    Ok(Text {
-        name: name.as_bytes(),
-        lines,
-    })
+    let text = held(alloc, which, name, lines)?;
+    Ok(text)
 }
 
 fn read_plan<'a, F: Folder>(
@@ -174,6 +206,7 @@ fn read_plan<'a, F: Folder>(
 ) -> Result<Option<Text<'a>>, NoMemory>
     ensures read { IfOk result (λ t. IsPlanRead (option_map (λ n. n.now) name.entry) (F.file folder.old)
         (F.faults folder.old inputs.Plan) (F.faults folder.new inputs.Plan) (option_map file_of t)) }
+    ensures mended { IfOk result (λ t. IsPlanMended (option_map file_of t)) }
     ensures files { (n : List ℕ) → F.file folder.new n ≡ F.file folder.old n }
     ensures later { (w : Input) → F.faults folder.old w ≤ F.faults folder.new w }
 {

@@ -56,7 +56,7 @@ pub fn push_in(
 }
 
 /// A sentence in a file, with its place where the text is there and there is one.
-fn push_located(
+pub fn push_located(
     out: &mut Vec<u8>,
     text: &Text,
     span: Option<Span>,
@@ -73,7 +73,7 @@ fn push_located(
 }
 
 /// A sentence behind the name of a file.
-fn push_named(out: &mut Vec<u8>, name: &[u8], says: &[u8]) -> Result<(), AllocError>
+pub fn push_named(out: &mut Vec<u8>, name: &[u8], says: &[u8]) -> Result<(), AllocError>
     ensures { OnOk result (out.new.items ≡ out.old.items ++ named_text name.now says.now) }
 {
     out.extend_from_slice(name)?;

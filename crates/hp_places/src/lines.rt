@@ -1,9 +1,9 @@
 //! The lines of a text.
 
-ghost use Rattle.std.specs.Prelude.{◌≡◌, ◌≤◌, ◌<◌, IfOk, drop, length, slice_index};
+ghost use Rattle.std.specs.Prelude.{◌≡◌, ◌-◌, ◌≤◌, ◌<◌, IfOk, drop, length, slice_index};
 ghost use Rattle.hp_places.specs.Places.{column_of, line_of};
 ghost use Rattle.hp_places.specs.Shown.{line_at, until_feed, without_return};
-ghost use Rattle.hp_places.specs.Starts.{IsFound, IsLast, line_starts};
+ghost use Rattle.hp_places.specs.Starts.{IsFound, IsLast, IsLine, line_starts, next_start};
 
 use std::alloc::{AllocError, Global};
 
@@ -54,8 +54,26 @@ impl Lines {
     pub fn line_at(&self, offset: usize) -> &[u8]
         ensures { result.now ≡ line_at self.now.text.items offset }
     {
-        let start = self.starts[self.index(offset)];
-        without_return(until_feed(&self.text()[start..]))
+        let index = self.index(offset);
+        without_return(self.line(index))
+    }
+
+    /// The line of an index, without the line feed that ends it.
+    fn line(&self, index: usize) -> &[u8]
+        requires { index < length self.now.starts.items }
+        ensures { result.now ≡ until_feed (drop (slice_index self.now.starts.items index) self.now.text.items) }
+    {
+        let from = self.starts[index];
+        let to = self.line_end(index);
+        &self.text()[from..to]
+    }
+
+    /// Where the line of an index ends, before its line feed.
+    fn line_end(&self, index: usize) -> usize
+        requires { index < length self.now.starts.items }
+        ensures { IsLine self.now.text.items (slice_index self.now.starts.items index) result }
+    {
+        end_before(self.starts.as_slice(), self.text().len(), index)
     }
 
     /// The index of the start of an offset's line.
@@ -100,16 +118,16 @@ fn last_start(starts: &[usize], offset: usize) -> usize
     low
 }
 
-/// The bytes up to the first line feed.
-fn until_feed(bytes: &[u8]) -> &[u8]
-    ensures { result.now ≡ until_feed bytes.now }
+/// Where the line of an index ends in a text of this size, by the start of the next one.
+fn end_before(starts: &[usize], size: usize, index: usize) -> usize
+    requires { index < length starts.now }
+    ensures { result ≡ next_start starts.now size index - 1 }
 {
-    for (i, byte) in bytes.iter().enumerate() {
-        if *byte == b'\n' {
-            return &bytes[..i];
-        }
+    if index + 1 < starts.len() {
+        starts[index + 1].saturating_sub(1)
+    } else {
+        size
     }
-    bytes
 }
 
 /// A line without the carriage return at its end.

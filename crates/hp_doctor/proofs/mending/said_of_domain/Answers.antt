@@ -1,0 +1,8 @@
+use Rattle.hp_syntax.specs.Views.{domain_of}
+use Rattle.hp_doctor.proofs.mending.said_of_domain.Goals as goal
+
+pub returns-in-Ok : goal.returns-in-Ok
+returns-in-Ok c = record { value = domain_of c.in-Ok.domain; read = c.in-Ok.ensures.domain }
+
+pub returns-in-Err-Refused : goal.returns-in-Err-Refused
+returns-in-Err-Refused c = rw c.in-Err-Refused.field-0-is at c.in-Err-Refused.ensures.stops

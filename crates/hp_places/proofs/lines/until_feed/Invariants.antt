@@ -1,6 +1,0 @@
-use Rattle.std.proofs.Common.{◌≡◌, ◌++◌, take, drop}
-use Rattle.hp_places.specs.Shown.{until_feed}
-use Rattle.hp_places.proofs.lines.until_feed.Given as goal
-
-abbrev pub invariant-loop-i : goal.invariant-loop-i
-invariant-loop-i l = until_feed l.bytes ≡ take l.i l.bytes ++ until_feed (drop l.i l.bytes)
