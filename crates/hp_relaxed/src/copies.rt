@@ -41,8 +41,9 @@ fn copy_box(alloc: Global, expression: &Expr) -> Result<Box<Expr>, AllocError>
     Ok(Box::new(alloc, copy)?)
 }
 
+/// Equal expressions, spans included.
 #[cycle(copy_expression)]
-fn copy_expressions(alloc: Global, parts: &[Expr]) -> Result<Vec<Expr>, AllocError>
+pub fn copy_expressions(alloc: Global, parts: &[Expr]) -> Result<Vec<Expr>, AllocError>
     ensures same { IfOk result (λ copies. map expression_of copies.items ≡ map expression_of parts.now) }
 {
     let mut copies = Vec::with_capacity(alloc, parts.len())?;

@@ -15,9 +15,11 @@ pub mod laws;
 mod staying;
 mod toll;
 
+pub use crate::copies::{copy_axiom, copy_expressions, copy_names};
 use crate::free::free_rules;
 pub use crate::given::{Origin, Relaxed};
 use crate::giving::Given;
+pub use crate::staying::{body_of, conjunction};
 use crate::toll::{payer, toll_of};
 use hp_syntax::{Domain, Name, Problem, Rule};
 use std::alloc::{AllocError, Global};

@@ -40,7 +40,7 @@ fn is_cut(answer: ShallowEnd) -> bool
 }
 
 /// The walk of a pair at a depth, up to its first plan. So many decompositions were made before.
-fn walk_at<'a>(
+pub fn walk_at<'a>(
     alloc: Global,
     code: &'a Code,
     pair: &Pair,

@@ -5,5 +5,5 @@ mod deepening;
 pub mod laws;
 mod walking;
 
-pub use deepening::{Least, shallow};
+pub use deepening::{Least, shallow, walk_at};
 pub use walking::ShallowEnd;

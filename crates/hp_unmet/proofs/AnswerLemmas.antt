@@ -1,0 +1,219 @@
+-- The answer, by what is found with all parts and with some.
+use Rattle.std.proofs.Common.{◌≡◌, ◌≢◌, ℕ, zero, suc, ◌+◌, ◌<◌, ◌≤◌, Bool, true, false, cond, List, length, Option, Some, None, refl, sym, ap, ◌∙◌, arith, ⊎_elim}
+use Rattle.std.specs.Prelude.{nat_lt}
+use Rattle.std.proofs.lemmas.Bool.{cases_lt, cond-true, cond-false, le-ltb, lt-ltb}
+use Rattle.hp_shallow.specs.declared.walking.ShallowEnd.TheVariants as ends
+use Rattle.hp_syntax.specs.declared.fault.RunFault.{RunFault}
+use Rattle.hp_syntax.specs.Events.{Finding, Satisfied, Faulty, Undecided, Nothing, State}
+use Rattle.hp_syntax.specs.Matching.{match_atom}
+use Rattle.hp_syntax.specs.Syntax as syntax
+use Rattle.hp_syntax.specs.Terms.{Term, Symbol, Number, Listed, NoTerm, More}
+use Rattle.hp_syntax.specs.Values.{Bindings, unbound}
+use Rattle.hp_unmet.specs.Begun.{is_atom}
+use Rattle.hp_unmet.specs.Conjunctions.{Conjunction, answer_by, answer_from, answer_if, answer_of, answer_where, found, matched}
+use Rattle.hp_unmet.specs.Trials.{IsFirstMissing, end_found, is_satisfied}
+use Rattle.hp_unmet.specs.declared.unmet.Unmet.{Unmet}
+use Rattle.hp_unmet.specs.declared.unmet.Unmet.TheVariants as unmets
+use Rattle.hp_unmet.proofs.FoundLemmas.{found_where, is_matched, is_unmatched, keeps, none_where}
+
+-- ---- what the end of a walk says
+
+pub at_plan : (x : Finding) → ends.Plan ≡ end_found x → x ≡ Satisfied
+at_plan Satisfied e = refl
+at_plan (Faulty f) e = let never : ends.Plan ≡ ends.Fault f = e in absurd (cc)
+at_plan Undecided e = let never : ends.Plan ≡ ends.Cut = e in absurd (cc)
+at_plan Nothing e = let never : ends.Plan ≡ ends.End = e in absurd (cc)
+
+pub at_end : (x : Finding) → ends.End ≡ end_found x → x ≡ Nothing
+at_end Satisfied e = let never : ends.End ≡ ends.Plan = e in absurd (cc)
+at_end (Faulty f) e = let never : ends.End ≡ ends.Fault f = e in absurd (cc)
+at_end Undecided e = let never : ends.End ≡ ends.Cut = e in absurd (cc)
+at_end Nothing e = refl
+
+pub at_cut : (x : Finding) → ends.Cut ≡ end_found x → x ≡ Undecided
+at_cut Satisfied e = let never : ends.Cut ≡ ends.Plan = e in absurd (cc)
+at_cut (Faulty f) e = let never : ends.Cut ≡ ends.Fault f = e in absurd (cc)
+at_cut Undecided e = refl
+at_cut Nothing e = let never : ends.Cut ≡ ends.End = e in absurd (cc)
+
+pub at_fault : (f : RunFault) (x : Finding) → ends.Fault f ≡ end_found x → x ≡ Faulty f
+at_fault f Satisfied e = let never : ends.Fault f ≡ ends.Plan = e in absurd (cc)
+at_fault f (Faulty g) e =
+    let same : ends.Fault f ≡ ends.Fault g = e in let own : g ≡ f = cc in ap (λ x. Faulty x) own
+at_fault f Undecided e = let never : ends.Fault f ≡ ends.Cut = e in absurd (cc)
+at_fault f Nothing e = let never : ends.Fault f ≡ ends.End = e in absurd (cc)
+
+pub is_met : (x : Finding) → true ≡ is_satisfied x → x ≡ Satisfied
+is_met Satisfied e = refl
+is_met (Faulty f) e = absurd (cc)
+is_met Undecided e = absurd (cc)
+is_met Nothing e = absurd (cc)
+
+pub not_met : (x : Finding) → false ≡ is_satisfied x → x ≢ Satisfied
+not_met Satisfied e = λ h. let never : false ≡ true = e in cc
+not_met (Faulty f) e = λ h. cc
+not_met Undecided e = λ h. cc
+not_met Nothing e = λ h. cc
+
+-- a limit or a fault is met before any satisfier
+abbrev pub is_in_doubt : Finding → Bool
+is_in_doubt Satisfied = false
+is_in_doubt (Faulty f) = true
+is_in_doubt Undecided = true
+is_in_doubt Nothing = false
+
+-- ---- the answer
+
+module _ (found : ℕ → Finding)
+    (keeps : (j k : ℕ) → j ≤ k → found j ≢ Satisfied → found k ≡ found j) where
+  -- what is satisfied with more parts is satisfied with fewer
+  met_by : (x y : Finding) → (x ≢ Satisfied → y ≡ x) → y ≡ Satisfied → x ≡ Satisfied
+  met_by Satisfied y h e = refl
+  met_by (Faulty f) y h e = sym (h (λ k. cc)) ∙ e
+  met_by Undecided y h e = sym (h (λ k. cc)) ∙ e
+  met_by Nothing y h e = sym (h (λ k. cc)) ∙ e
+
+  pub met_before : (j k : ℕ) → j ≤ k → found k ≡ Satisfied → found j ≡ Satisfied
+  met_before j k l e = met_by (found j) (found k) (keeps j k l) e
+
+  -- with one part more that is satisfied the answer is that behind it
+  goes_on : (n left : ℕ) → found (n + 1) ≡ Satisfied → answer_from found n (suc left) ≡ answer_from found (n + 1) left
+  goes_on n left e = ap (λ x. answer_by x n (answer_from found (n + 1) left)) e
+
+  -- where all parts are satisfied none is told apart
+  pub all_met : (n left : ℕ) → found (n + left) ≡ Satisfied → answer_from found n left ≡ unmets.None
+  all_met n zero e = refl
+  all_met n (suc left) e =
+      let here : n + suc left ≡ n + 1 + left = omega arith in
+      goes_on n left (met_before (n + 1) (n + suc left) (omega arith) e)
+      ∙ all_met (n + 1) left (ap found (sym here) ∙ e)
+
+  -- the first part with which nothing is found is told
+  part_by : (n left place : ℕ) → n ≤ place → place < n + left → found place ≡ Satisfied → found (place + 1) ≡ Nothing
+      → answer_from found n left ≡ unmets.Part place
+  part_by n zero place l m met missing = absurd (omega arith)
+  part_by n (suc left) place l m met missing =
+      ⊎_elim
+      (λ k. goes_on n left (met_before (n + 1) place (omega arith) met)
+      ∙ part_by (n + 1) left place (omega arith) (omega arith) met missing)
+      (λ k. let same : n ≡ place = omega arith in
+      ap (λ x. answer_by x n (answer_from found (n + 1) left)) (ap (λ j. found (j + 1)) same ∙ missing)
+      ∙ ap (λ j. unmets.Part j) same) (cases_lt n place)
+
+  pub part_told : (count place : ℕ) → IsFirstMissing found count place
+      → answer_from found 0 count ≡ unmets.Part place
+  part_told count place h = part_by 0 count place (omega arith) (let l = h.within in omega arith) h.met h.missing
+
+  -- where a limit or a fault is met with all parts, it's met with one part more or behind that
+  doubt_step : (n left : ℕ) (x : Finding) → found (n + 1) ≡ x
+      → (found (n + 1) ≡ Satisfied → answer_from found (n + 1) left ≡ unmets.Unknown)
+      → is_in_doubt (found (n + suc left)) ≡ true
+      → answer_by x n (answer_from found (n + 1) left) ≡ unmets.Unknown
+  doubt_step n left Satisfied e behind doubt = behind e
+  doubt_step n left Nothing e behind doubt =
+      let same : found (n + suc left) ≡ Nothing =
+      keeps (n + 1) (n + suc left) (omega arith)
+      (λ h. let never : Nothing ≡ Satisfied = sym e ∙ h in cc) ∙ e in
+      let never : false ≡ true = sym (ap is_in_doubt same) ∙ doubt in absurd (cc)
+  doubt_step n left (Faulty f) e behind doubt = refl
+  doubt_step n left Undecided e behind doubt = refl
+
+  doubt_by : (n left : ℕ) → found n ≡ Satisfied → is_in_doubt (found (n + left)) ≡ true
+      → answer_from found n left ≡ unmets.Unknown
+  doubt_by n zero met doubt =
+      let here : n + 0 ≡ n = omega arith in
+      let never : false ≡ true = sym (ap is_in_doubt (ap found here ∙ met)) ∙ doubt in absurd (cc)
+  doubt_by n (suc left) met doubt =
+      let here : n + suc left ≡ n + 1 + left = omega arith in
+      doubt_step n left (found (n + 1)) refl
+      (λ e. doubt_by (n + 1) left e (ap (λ j. is_in_doubt (found j)) (sym here) ∙ doubt)) doubt
+
+  pub doubt_told : (count : ℕ) → found 0 ≡ Satisfied → is_in_doubt (found count) ≡ true
+      → answer_from found 0 count ≡ unmets.Unknown
+  doubt_told count met doubt =
+      let here : 0 + count ≡ count = omega arith in
+      doubt_by 0 count met (ap (λ j. is_in_doubt (found j)) here ∙ doubt)
+
+module _ (rules : List syntax.Rule) (nest : ℕ) (state : State) (c : Conjunction) (task : Term) (count : ℕ)
+    (all : length c.parts ≡ count) where
+  abbrev own : ℕ → Finding
+  own = found rules nest state c task
+
+  own_keeps : (j k : ℕ) → j ≤ k → own j ≢ Satisfied → own k ≡ own j
+  own_keeps = keeps rules nest state c task
+
+  abbrev answered : Option Bindings → Unmet
+  answered o = answer_where rules nest state c task o
+
+  -- where the head matches, the answer is that of all parts
+  answered_by : (b : Bindings) (u : Unmet) → matched c task ≡ Some b → answer_from own 0 count ≡ u
+      → u ≡ answered (matched c task)
+  answered_by b u is e = sym (ap answered is ∙ (ap (answer_from own 0) all ∙ e))
+
+  -- of fewer than two parts none is told
+  pub few_parts : count < 2 → unmets.None ≡ answer_of rules nest state task c
+  few_parts h =
+      sym (cond-true (nat_lt (length c.parts) 2) unmets.None (answered (matched c task))
+      (lt-ltb (length c.parts) 2 (omega arith)))
+
+  -- and of more the answer is that where the head matches
+  pub many_parts : (u : Unmet) → 2 ≤ count → u ≡ answered (matched c task) → u ≡ answer_of rules nest state task c
+  many_parts u h e =
+      e
+      ∙ sym (cond-false (nat_lt (length c.parts) 2) unmets.None (answered (matched c task))
+      (le-ltb (length c.parts) 2 (omega arith)))
+
+  -- all parts are satisfied
+  pub none_unmet : own count ≡ Satisfied → unmets.None ≡ answered (matched c task)
+  none_unmet e =
+      let first = met_before own own_keeps 0 count (omega arith) e in
+      let m = is_matched rules nest state c task (matched c task) refl first in
+      let here : 0 + count ≡ count = omega arith in
+      answered_by m.0 unmets.None m.1 (all_met own own_keeps 0 count (ap own here ∙ e))
+
+  -- a part is the first with which nothing is found
+  pub part_unmet : (place : ℕ) → own 0 ≡ Satisfied → IsFirstMissing own count place
+      → unmets.Part place ≡ answered (matched c task)
+  part_unmet place first h =
+      let m = is_matched rules nest state c task (matched c task) refl first in
+      answered_by m.0 (unmets.Part place) m.1 (part_told own own_keeps count place h)
+
+  -- a limit or a fault is met
+  pub unknown_unmet : is_in_doubt (own count) ≡ true → unmets.Unknown ≡ answered (matched c task)
+  unknown_unmet doubt = by (matched c task) refl
+    where
+      by : (o : Option Bindings) → matched c task ≡ o → unmets.Unknown ≡ answered (matched c task)
+      by None is =
+          let never : false ≡ true =
+          sym (ap (λ o. is_in_doubt (found_where rules nest state c o count)) is) ∙ doubt in
+          absurd (cc)
+      by (Some b) is =
+          let first : own 0 ≡ Satisfied =
+          ap (λ o. found_where rules nest state c o 0) is ∙ none_where rules nest state c b in
+          answered_by b unmets.Unknown is (doubt_told own own_keeps count first doubt)
+
+  -- where the head doesn't match nothing is asked
+  pub unmatched_unmet : own 0 ≢ Satisfied → unmets.None ≡ answered (matched c task)
+  unmatched_unmet unmet = sym (ap answered (is_unmatched rules nest state c task (matched c task) refl unmet))
+
+-- ---- a task that is no atom
+
+no_match : (a : syntax.Atom) (t : Term) (e : Bindings) → is_atom t ≡ false → match_atom a t e ≡ None
+no_match a (Symbol name) e h = refl
+no_match a (Number n) e h = refl
+no_match a (Listed NoTerm) e h = refl
+no_match a (Listed (More (Symbol name) ts)) e h = let never : true ≡ false = h in absurd (cc)
+no_match a (Listed (More (Number n) ts)) e h = refl
+no_match a (Listed (More (Listed us) ts)) e h = refl
+
+module _ (rules : List syntax.Rule) (nest : ℕ) (state : State) (task : Term) (unmet : is_atom task ≡ false) where
+  by_count : (c : Conjunction) (b : Bool)
+      → cond b unmets.None (answer_where rules nest state c task (matched c task)) ≡ unmets.None
+  by_count c true = refl
+  by_count c false =
+      ap (λ o. answer_where rules nest state c task o) (no_match c.head task (unbound (length c.vars)) unmet)
+
+  -- no head matches a task that is no atom
+  pub no_task : (o : Option Conjunction) → unmets.None ≡ answer_if rules nest state task o
+  no_task None = refl
+  no_task (Some c) = sym (by_count c (nat_lt (length c.parts) 2))

@@ -1,0 +1,107 @@
+-- What is found of the events of more and more parts of a conjunction.
+use Rattle.std.proofs.Common.{◌≡◌, ◌≢◌, ℕ, zero, suc, List, [], ◌∷◌, ◌++◌, Some, None, refl, sym, ap, ◌∙◌}
+use Rattle.std.proofs.lemmas.List.{append-nil}
+use Rattle.std.proofs.lemmas.List.Concat.{flat_map-append}
+use Rattle.hp_syntax.specs.declared.pattern.Span.{Span}
+use Rattle.hp_syntax.specs.Events.{Event, Sat, Cut, Fault, Finding, Satisfied, State, atom_events, events, events_of_all, finding, finding_with, in_place, sat, through}
+use Rattle.hp_syntax.specs.Preconditions.{heard, precondition_events}
+use Rattle.hp_syntax.specs.Syntax as syntax
+use Rattle.hp_syntax.specs.Values.{Bindings}
+use Rattle.hp_syntax.specs.Views.{as_expressions}
+
+-- ---- events
+
+-- what is found of events is found of those that are heard
+pub heard_finding : (xs : List Event) → finding (heard xs) ≡ finding xs
+heard_finding [] = refl
+heard_finding (Sat e ∷ xs) = refl
+heard_finding (Cut ∷ xs) = ap (finding_with Cut) (heard_finding xs)
+heard_finding (Fault f ∷ xs) = refl
+
+-- where no satisfier is found, the same is found whatever stands in the place of satisfiers
+pub through_finding : (xs : List Event) (f : Bindings → List Event) → finding xs ≢ Satisfied
+    → finding (through xs f) ≡ finding xs
+through_finding [] f unmet = refl
+through_finding (Sat e ∷ xs) f unmet = absurd (unmet refl)
+through_finding (Cut ∷ xs) f unmet =
+    ap (finding_with Cut) (through_finding xs f (λ e. unmet (ap (finding_with Cut) e)))
+through_finding (Fault x ∷ xs) f unmet = refl
+
+-- events in the place of events in the place of satisfiers
+through_through : (f g : Bindings → List Event) (xs : List Event)
+    → through (through xs f) g ≡ through xs (λ b. through (f b) g)
+through_through f g [] = refl
+through_through f g (Sat e ∷ xs) =
+    flat_map-append (in_place g) (f e) (through xs f) ∙ ap (λ ys. through (f e) g ++ ys) (through_through f g xs)
+through_through f g (Cut ∷ xs) = ap (λ ys. Cut ∷ ys) (through_through f g xs)
+through_through f g (Fault x ∷ xs) = ap (λ ys. Fault x ∷ ys) (through_through f g xs)
+
+-- ---- parts
+
+module _ (atoms : syntax.Atom → Bindings → List Event) where
+  -- the events of some parts, by those of atoms
+  abbrev of_parts : List syntax.Expression → Bindings → List Event
+  of_parts ps e = events_of_all atoms (as_expressions ps) e
+
+  -- those of parts behind others stand in the place of the satisfiers of these
+  parts_behind : (ps qs : List syntax.Expression) (e : Bindings)
+      → of_parts (ps ++ qs) e ≡ through (of_parts ps e) (of_parts qs)
+  unfolding events events_of_all
+  parts_behind [] qs e = sym (append-nil (of_parts qs e))
+  parts_behind (p ∷ ps) qs e =
+      ap (through (events atoms p e)) (λ i b. parts_behind ps qs b i)
+      ∙ sym (through_through (of_parts ps) (of_parts qs) (events atoms p e))
+
+  -- where some first parts aren't satisfied, the same is found with more of them
+  more_parts : (ps qs : List syntax.Expression) (e : Bindings) → finding (of_parts ps e) ≢ Satisfied
+      → finding (of_parts (ps ++ qs) e) ≡ finding (of_parts ps e)
+  more_parts ps qs e unmet =
+      ap finding (parts_behind ps qs e) ∙ through_finding (of_parts ps e) (of_parts qs) unmet
+
+  -- no part is always satisfied
+  no_parts : (e : Bindings) → finding (of_parts [] e) ≡ Satisfied
+  unfolding events events_of_all
+  no_parts e = refl
+
+-- ---- preconditions
+
+module _ (axioms : List syntax.Axiom) (state : State) (s : Span) where
+  -- the events of atoms with so many axiom levels
+  abbrev atoms_with : ℕ → syntax.Atom → Bindings → List Event
+  atoms_with zero = atom_events axioms None state
+  atoms_with (suc n) = atom_events axioms (Some (sat axioms n state)) state
+
+  -- the precondition of some parts
+  abbrev pub asks : List syntax.Expression → syntax.Precondition
+  asks ps = syntax.Plain (syntax.And s (as_expressions ps))
+
+  -- what is found of it is found of the parts
+  found_of_parts : (nest : ℕ) (ps : List syntax.Expression) (e : Bindings)
+      → finding (precondition_events axioms nest state (asks ps) e) ≡ finding (of_parts (atoms_with nest) ps e)
+  unfolding precondition_events sat events events_of_all
+  found_of_parts zero ps e = heard_finding (events_of_all (atom_events axioms None state) (as_expressions ps) e)
+  found_of_parts (suc n) ps e =
+      heard_finding (events_of_all (atom_events axioms (Some (sat axioms n state)) state) (as_expressions ps) e)
+
+  module _ (nest : ℕ) (e : Bindings) where
+    -- what is found of the precondition of some parts
+    abbrev pub found_asking : List syntax.Expression → Finding
+    found_asking ps = finding (precondition_events axioms nest state (asks ps) e)
+
+    -- where some first parts aren't satisfied, the same is found with more of them
+    pub found_with_more : (ps qs : List syntax.Expression) → found_asking ps ≢ Satisfied
+        → found_asking (ps ++ qs) ≡ found_asking ps
+    found_with_more ps qs unmet =
+        found_of_parts nest (ps ++ qs) e
+        ∙ (more_parts (atoms_with nest) ps qs e (λ h. unmet (found_of_parts nest ps e ∙ h))
+        ∙ sym (found_of_parts nest ps e))
+
+    -- no part is always satisfied
+    pub found_with_none : found_asking [] ≡ Satisfied
+    found_with_none = found_of_parts nest [] e ∙ no_parts (atoms_with nest) e
+
+-- what is found doesn't depend on where the conjunction stands
+pub found_alike : (axioms : List syntax.Axiom) (state : State) (s t : Span) (nest : ℕ) (e : Bindings)
+    (ps : List syntax.Expression) → found_asking axioms state s nest e ps ≡ found_asking axioms state t nest e ps
+found_alike axioms state s t nest e ps =
+    found_of_parts axioms state s nest ps e ∙ sym (found_of_parts axioms state t nest ps e)

@@ -1,0 +1,11 @@
+pub mod SaidLemmas
+pub mod BegunSteps
+pub mod LookUps
+pub mod PartLemmas
+pub mod FindingLemmas
+pub mod FoundLemmas
+pub mod AnswerLemmas
+pub mod HalvingSteps
+pub mod TrialRules
+pub mod TrialWalks
+pub mod LawSteps

@@ -1,0 +1,5 @@
+use Rattle.hp_unmet.proofs.PartLemmas.{made_same}
+use Rattle.hp_unmet.proofs.parts.of_branch.Goals as goal
+
+pub returns : goal.returns
+returns c = made_same _ _ _ _ _ _ c.as_slice.ensures.value c.conjuncts.ensures

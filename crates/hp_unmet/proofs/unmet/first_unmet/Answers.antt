@@ -1,0 +1,33 @@
+use Rattle.std.proofs.Common.{map, ap₂, ◌∙◌, subst}
+use Rattle.std.proofs.lemmas.Result.{IfOk-weaker}
+use Rattle.hp_syntax.specs.GroundViews.{ground_of}
+use Rattle.hp_syntax.specs.Views.{domain_of}
+use Rattle.hp_unmet.specs.Begun.{BeginsIfAtom, state_of}
+use Rattle.hp_unmet.specs.Conjunctions.{answer_if, asked_in}
+use Rattle.hp_unmet.proofs.AnswerLemmas.{no_task}
+use Rattle.hp_unmet.proofs.unmet.first_unmet.Goals as goal
+
+pub unmet_in-requires-clause-one : goal.unmet_in-requires-clause-one
+unmet_in-requires-clause-one c =
+    (subst (BeginsIfAtom (map ground_of c.args.state.now) (ground_of c.args.task.now)) c.in-Some.is
+    c.in_ok-found.ensures).one
+
+pub returns-in-Some : goal.returns-in-Some
+returns-in-Some c =
+    let rules = (domain_of c.args.domain.now).rules in
+    let o = asked_in rules c.args.rule c.args.branch in
+    let begins =
+    subst (BeginsIfAtom (map ground_of c.args.state.now) (ground_of c.args.task.now)) c.in-Some.is
+    c.in_ok-found.ensures in
+    IfOk-weaker c.unmet_in.result _ _
+    (λ u h. h
+    ∙ ap₂ (λ s t. answer_if rules c.args.nest s t o) begins.state begins.task')
+    c.unmet_in.ensures
+
+pub returns-in-None : goal.returns-in-None
+returns-in-None c =
+    let rules = (domain_of c.args.domain.now).rules in
+    no_task rules c.args.nest (state_of (map ground_of c.args.state.now)) (ground_of c.args.task.now)
+    (subst (BeginsIfAtom (map ground_of c.args.state.now) (ground_of c.args.task.now)) c.in-None.is
+    c.in_ok-found.ensures)
+    (asked_in rules c.args.rule c.args.branch)

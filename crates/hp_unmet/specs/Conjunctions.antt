@@ -1,0 +1,102 @@
+-- The first part of a conjunction that nothing satisfies together with those before it.
+use Rattle.std.specs.Prelude.{ℕ, ◌+◌, zero, suc, cond, nat_lt, List, [], length, take, slice_get, Option, None, Some, option_map}
+use Rattle.std.specs.Option.{option_and_then}
+use Rattle.hp_syntax.specs.declared.pattern.Span.{Span}
+use Rattle.hp_syntax.specs.Events.{Event, Finding, Satisfied, Faulty, Undecided, Nothing, State, axioms_of, finding}
+use Rattle.hp_syntax.specs.Matching.{match_atom}
+use Rattle.hp_syntax.specs.Preconditions.{precondition_events}
+use Rattle.hp_syntax.specs.Syntax as syntax
+use Rattle.hp_syntax.specs.Terms.{Term}
+use Rattle.hp_syntax.specs.Values.{Bindings, unbound}
+use Rattle.hp_syntax.specs.Views.{as_expressions}
+use Rattle.hp_relaxed.specs.Giving.{body_of, listed}
+use Rattle.hp_unmet.specs.Begun.{state_of}
+use Rattle.hp_unmet.specs.declared.unmet.Unmet.{Unmet}
+use Rattle.hp_unmet.specs.declared.unmet.Unmet.TheVariants as unmets
+
+-- ---- the parts of a precondition
+
+-- the parts of a conjunction; in any other expression none are told apart
+abbrev pub conjuncts : syntax.Expression → List syntax.Expression
+conjuncts (syntax.Holds s a) = []
+conjuncts (syntax.And s parts) = listed parts
+conjuncts (syntax.Or s parts) = []
+conjuncts (syntax.Not s part) = []
+conjuncts (syntax.Forall s vars range body) = []
+conjuncts (syntax.Assign s v value) = []
+conjuncts (syntax.Test s call) = []
+
+-- the parts of a precondition, with the span, the variables and the head of its rule
+pub record Conjunction : Type 0 where
+  pub span : Span
+  pub vars : List (List ℕ)
+  pub head : syntax.Atom
+  pub parts : List syntax.Expression
+
+-- those of a precondition of any kind
+abbrev pub conjunction : Span → List (List ℕ) → syntax.Atom → syntax.Precondition → Conjunction
+conjunction s vars head pre = record { span = s; vars = vars; head = head; parts = conjuncts (body_of pre) }
+
+abbrev pub in_branch : syntax.Method → syntax.Branch → Conjunction
+in_branch m b = conjunction m.span m.vars m.head b.pre
+
+-- that of an operator, or of the branch of a method that has this number
+abbrev pub asked_by : ℕ → syntax.Rule → Option Conjunction
+asked_by branch (syntax.Does o) = Some (conjunction o.span o.vars o.head o.pre)
+asked_by branch (syntax.Refines m) = option_map (in_branch m) (slice_get m.branches branch)
+asked_by branch (syntax.Concludes x) = None
+
+-- that of the rule of a number
+abbrev pub asked_in : List syntax.Rule → ℕ → ℕ → Option Conjunction
+asked_in rules rule branch = option_and_then (asked_by branch) (slice_get rules rule)
+
+-- so many of the first parts, together
+abbrev pub first_parts : Conjunction → ℕ → syntax.Precondition
+first_parts c n = syntax.Plain (syntax.And c.span (as_expressions (take n c.parts)))
+
+-- the bindings under which the head matches a task
+abbrev pub matched : Conjunction → Term → Option Bindings
+matched c task = match_atom c.head task (unbound (length c.vars))
+
+-- ---- the first that nothing satisfies
+
+-- the answer where so many parts are satisfied, by what is found with one part more, and by the answer where that is
+-- satisfied too
+abbrev pub answer_by : Finding → ℕ → Unmet → Unmet
+answer_by Satisfied n behind = behind
+answer_by Nothing n behind = unmets.Part n
+answer_by (Faulty f) n behind = unmets.Unknown
+answer_by Undecided n behind = unmets.Unknown
+
+-- the answer where so many parts are satisfied, and so many are left, by what is found with each number of them
+abbrev pub answer_from : (ℕ → Finding) → ℕ → ℕ → Unmet
+answer_from found n zero = unmets.None
+answer_from found n (suc left) = answer_by (found (n + 1)) n (answer_from found (n + 1) left)
+
+module _ (rules : List syntax.Rule) (nest : ℕ) (state : State) where
+  -- what looking for satisfiers of so many of the first parts meets in the state, under the bindings of the head
+  abbrev pub first_events : Conjunction → Option Bindings → ℕ → List Event
+  first_events c None n = []
+  first_events c (Some e) n = precondition_events (axioms_of rules) nest state (first_parts c n) e
+
+  -- what is found with so many: a satisfier before any fault, a fault, a cut, or no event at all
+  abbrev pub found : Conjunction → Term → ℕ → Finding
+  found c task n = finding (first_events c (matched c task) n)
+
+  -- where the head doesn't match the task nothing is asked
+  abbrev pub answer_where : Conjunction → Term → Option Bindings → Unmet
+  answer_where c task None = unmets.None
+  answer_where c task (Some e) = answer_from (found c task) 0 (length c.parts)
+
+  -- where there are fewer than two parts none is told apart
+  abbrev pub answer_of : Term → Conjunction → Unmet
+  answer_of task c = cond (nat_lt (length c.parts) 2) unmets.None (answer_where c task (matched c task))
+
+  abbrev pub answer_if : Term → Option Conjunction → Unmet
+  answer_if task None = unmets.None
+  answer_if task (Some c) = answer_of task c
+
+-- what of a precondition is satisfied in the state of these terms, where the head of its rule matches the task
+abbrev pub first_unmet : List syntax.Rule → ℕ → List Term → Term → ℕ → ℕ → Unmet
+first_unmet rules nest terms task rule branch =
+    answer_if rules nest (state_of terms) task (asked_in rules rule branch)

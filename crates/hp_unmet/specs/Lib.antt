@@ -1,0 +1,5 @@
+pub mod Begun
+pub mod Conjunctions
+pub mod FirstUnmet
+pub mod Halving
+pub mod Trials

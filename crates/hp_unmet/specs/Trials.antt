@@ -1,0 +1,98 @@
+-- Trials: the first parts of a conjunction as the precondition of a method, by which a task is done where they are
+-- satisfied.
+use Rattle.std.specs.Prelude.{◌≡◌, ◌+◌, ◌<◌, ◌≤◌, ℕ, Bool, true, false, List, [], ◌∷◌, length, map, None}
+use Rattle.std.specs.List.{All, flat_map}
+use Rattle.hp_shallow.specs.declared.walking.ShallowEnd.{ShallowEnd}
+use Rattle.hp_shallow.specs.declared.walking.ShallowEnd.TheVariants as ends
+use Rattle.hp_syntax.specs.Checks.{InHead, atom_faults, expressions_faults, rule_faults, vars_faults}
+use Rattle.hp_syntax.specs.Events.{Finding, Satisfied, Faulty, Undecided, Nothing, State, axioms_of}
+use Rattle.hp_syntax.specs.Numbered.{AtomBelow, ExpressionsBelow, IsNumberedRule}
+use Rattle.hp_syntax.specs.Syntax as syntax
+use Rattle.hp_syntax.specs.Terms.{Term}
+use Rattle.hp_syntax.specs.Views.{as_expressions, atom_of, domain_of, expression_of, pair_of}
+use Rattle.hp_syntax.specs.declared.limits.TheConstants.{MOST_LEVELS}
+use Rattle.hp_unmet.specs.Begun.{HasOneTask, first_state, task_of}
+use Rattle.hp_unmet.specs.Conjunctions.{Conjunction, answer_of, answer_where, first_parts, found, matched}
+use Rattle.hp_unmet.specs.declared.parts.Parts.{Parts}
+use Rattle.hp_unmet.specs.declared.trial.Trial.{Trial}
+use Rattle.hp_unmet.specs.declared.unmet.Unmet.{Unmet}
+
+-- ---- the rules of a trial
+
+-- where so many of the first parts are satisfied, nothing is left to do
+abbrev pub trial_branch : Conjunction → ℕ → syntax.Branch
+trial_branch c n = record { name = None; pre = first_parts c n; tasks = syntax.Ordered syntax.NoTasks }
+
+abbrev pub trial_method : Conjunction → ℕ → syntax.Method
+trial_method c n =
+    record { span = c.span; vars = c.vars; head = c.head; branches = trial_branch c n ∷ [] }
+
+-- this method, and the axioms of the rules
+abbrev pub trial_rules : List syntax.Rule → Conjunction → ℕ → List syntax.Rule
+trial_rules rules c n = syntax.Refines (trial_method c n) ∷ map syntax.Concludes (axioms_of rules)
+
+-- the rules are numbered and without faults, and so is a method with this head and these parts
+pub record CanBeAsked (rules : List syntax.Rule) (c : Conjunction) : Type 0 where
+  pub numbered : All IsNumberedRule rules
+  pub faultless : flat_map rule_faults rules ≡ []
+  pub head_below : AtomBelow (length c.vars) c.head
+  pub parts_below : ExpressionsBelow (length c.vars) (as_expressions c.parts)
+  pub few : vars_faults c.vars c.span ≡ []
+  pub head_faultless : atom_faults InHead c.head ≡ []
+  pub parts_faultless : expressions_faults 2 (as_expressions c.parts) ≡ []
+
+-- ---- a trial
+
+abbrev pub conjunction_of : Parts → Conjunction
+conjunction_of p = record {
+  span = p.span;
+  vars = p.vars.now;
+  head = atom_of p.head.now;
+  parts = map expression_of p.parts.now;
+}
+
+abbrev pub rules_tried : Trial → List syntax.Rule
+rules_tried t = (domain_of t.domain.now).rules
+
+abbrev pub state_tried : Trial → State
+state_tried t = first_state (pair_of t.pair.now)
+
+abbrev pub task_tried : Trial → Term
+task_tried t = task_of (pair_of t.pair.now).tasks
+
+pub record CanBeTried (t : Trial) : Type 0 where
+  pub asked : CanBeAsked (rules_tried t) (conjunction_of t.asked)
+  pub one : HasOneTask (pair_of t.pair.now)
+  pub levels : t.nest ≤ MOST_LEVELS
+
+-- what is found with so many of the first parts
+abbrev pub tried : Trial → ℕ → Finding
+tried t n = found (rules_tried t) t.nest (state_tried t) (conjunction_of t.asked) (task_tried t) n
+
+abbrev pub answer_matched : Trial → Unmet
+answer_matched t =
+    answer_where (rules_tried t) t.nest (state_tried t) (conjunction_of t.asked) (task_tried t)
+    (matched (conjunction_of t.asked) (task_tried t))
+
+abbrev pub answer_tried : Trial → Unmet
+answer_tried t = answer_of (rules_tried t) t.nest (state_tried t) (task_tried t) (conjunction_of t.asked)
+
+-- ---- what a trial comes to
+
+abbrev pub end_found : Finding → ShallowEnd
+end_found Satisfied = ends.Plan
+end_found (Faulty f) = ends.Fault f
+end_found Undecided = ends.Cut
+end_found Nothing = ends.End
+
+abbrev pub is_satisfied : Finding → Bool
+is_satisfied Satisfied = true
+is_satisfied (Faulty f) = false
+is_satisfied Undecided = false
+is_satisfied Nothing = false
+
+-- so many of the first parts are satisfied, and with the next one there is no event at all
+pub record IsFirstMissing (found : ℕ → Finding) (count place : ℕ) : Type 0 where
+  pub within : place < count
+  pub met : found place ≡ Satisfied
+  pub missing : found (place + 1) ≡ Nothing

@@ -1,0 +1,10 @@
+//! The first part of a precondition that nothing satisfies together with the parts before it.
+#![tactic(auto)]
+
+mod begun;
+pub mod laws;
+mod parts;
+mod trial;
+mod unmet;
+
+pub use unmet::{Unmet, first_unmet};

@@ -1,0 +1,80 @@
+//! The parts of the preconditions of a domain.
+ghost use Rattle.std.specs.Prelude.{◌≡◌, map, option_map};
+ghost use Rattle.hp_syntax.specs.Views.{atom_of, branch_of, domain_of, expression_of, method_of, operator_of, precondition_of, rule_of};
+ghost use Rattle.hp_relaxed.specs.Giving.{body_of};
+ghost use Rattle.hp_unmet.specs.Conjunctions as plain;
+ghost use Rattle.hp_unmet.specs.Trials.{conjunction_of};
+
+use hp_relaxed::body_of;
+use hp_syntax::{AtomPat, Branch, Domain, Expr, ExprKind, Method, Name, Operator, Pre, Rule, Span};
+
+/// The parts of a precondition, with the span, the variables and the head of its rule.
+#[derive(Clone, Copy)]
+pub struct Parts<'a> {
+    pub span: Span,
+    pub vars: &'a [Name],
+    pub head: &'a AtomPat,
+    pub parts: &'a [Expr],
+}
+
+/// The parts of a conjunction, and none of another precondition.
+fn conjuncts(pre: &Pre) -> &[Expr]
+    ensures { map expression_of result.now ≡ plain.conjuncts (body_of (precondition_of pre.now)) }
+{
+    let body = body_of(pre);
+    match &body.kind {
+        ExprKind::And(parts) => parts.as_slice(),
+        ExprKind::Atom(_) => &[],
+        ExprKind::Or(_) => &[],
+        ExprKind::Not(_) => &[],
+        ExprKind::Forall(_, _, _) => &[],
+        ExprKind::Assign(_, _) => &[],
+        ExprKind::Call(_) => &[],
+    }
+}
+
+fn of_operator(operator: &Operator) -> Parts<'_>
+    ensures { let o = operator_of operator.now in
+        conjunction_of result ≡ plain.conjunction o.span o.vars o.head o.pre }
+{
+    Parts {
+        span: operator.span,
+        vars: operator.vars.as_slice(),
+        head: &operator.head,
+        parts: conjuncts(&operator.pre),
+    }
+}
+
+fn of_branch<'a>(method: &'a Method, branch: &'a Branch) -> Parts<'a>
+    ensures { conjunction_of result ≡ plain.in_branch (method_of method.now) (branch_of branch.now) }
+{
+    Parts {
+        span: method.span,
+        vars: method.vars.as_slice(),
+        head: &method.head,
+        parts: conjuncts(&branch.pre),
+    }
+}
+
+fn asked_by(rule: &Rule, branch: usize) -> Option<Parts<'_>>
+    ensures { option_map conjunction_of result ≡ plain.asked_by branch (rule_of rule.now) }
+{
+    match rule {
+        Rule::Operator(operator) => Some(of_operator(operator)),
+        Rule::Method(method) => match method.branches.get(branch) {
+            Some(own) => Some(of_branch(method, own)),
+            None => None,
+        },
+        Rule::Axiom(_) => None,
+    }
+}
+
+/// The parts of the precondition of an operator, or of a branch of a method, by their places.
+pub fn asked_in(domain: &Domain, rule: usize, branch: usize) -> Option<Parts<'_>>
+    ensures { option_map conjunction_of result ≡ plain.asked_in (domain_of domain.now).rules rule branch }
+{
+    match domain.rules.get(rule) {
+        Some(own) => asked_by(own, branch),
+        None => None,
+    }
+}

@@ -1,0 +1,196 @@
+//! The first part that nothing satisfies.
+ghost use Rattle.std.specs.Prelude.{◌≡◌, ◌+◌, ◌-◌, ◌<◌, ◌≤◌, IfOk, None, length, map};
+ghost use Rattle.hp_syntax.specs.declared.limits.TheConstants.{MOST_LEVELS};
+ghost use Rattle.hp_syntax.specs.Checks.{domain_faults, first_of};
+ghost use Rattle.hp_syntax.specs.Events.{Satisfied, Nothing};
+ghost use Rattle.hp_syntax.specs.GroundViews.{ground_of};
+ghost use Rattle.hp_syntax.specs.Numbered.{IsNumberedDomain};
+ghost use Rattle.hp_syntax.specs.Views.{domain_of, pair_of};
+ghost use Rattle.hp_unmet.specs.Begun.{HasOneTask, first_state, task_of};
+ghost use Rattle.hp_unmet.specs.Conjunctions.{answer_if, asked_in, first_unmet};
+ghost use Rattle.hp_unmet.specs.Halving.{IsBetween};
+ghost use Rattle.hp_unmet.specs.Trials.{CanBeTried, IsFirstMissing, answer_matched, answer_tried, is_satisfied, tried};
+
+use crate::begun::begun;
+use crate::parts::asked_in;
+use crate::trial::Trial;
+use hp_shallow::ShallowEnd;
+use hp_syntax::{Domain, Ground, Pair};
+use std::alloc::{AllocError, Global};
+
+// A conjunction has at least so many parts.
+const FEWEST_PARTS: usize = 2;
+
+/// What of a precondition is satisfied in a state, by the parts of its conjunction from the first on.
+#[derive(Clone, Copy, Debug, PartialEq, Eq)]
+pub enum Unmet {
+    /// All parts together have a satisfier, or there are fewer than two, or nothing is asked: there is no such operator
+    /// or branch, or its head doesn't match the task.
+    None,
+    /// The parts before this one, by its place, have a satisfier together; with this one there is none, and no limit of
+    /// nesting and no fault is met.
+    Part(usize),
+    /// Some first parts have a satisfier together; with the next one there is none before a fault, and a limit of
+    /// nesting or a fault is met.
+    Unknown,
+}
+
+/// So many of the first parts are satisfied, and with so many nothing is found.
+#[derive(Clone, Copy)]
+struct Between {
+    met: usize,
+    unmet: usize,
+}
+
+fn middle_of(low: usize, high: usize) -> usize
+    requires { low + 1 < high }
+    ensures above { low < result }
+    ensures below { result < high }
+{
+    low + (high - low) / 2
+}
+
+impl Trial<'_> {
+    fn is_met(&self, alloc: Global, count: usize) -> Result<bool, AllocError>
+        requires can { CanBeTried self.now }
+        requires within { count ≤ length self.now.asked.parts.now }
+        ensures { IfOk result (λ b. b ≡ is_satisfied (tried self.now count)) }
+    {
+        match self.ending(alloc, count)? {
+            ShallowEnd::Plan => Ok(true),
+            ShallowEnd::End => Ok(false),
+            ShallowEnd::Cut => Ok(false),
+            ShallowEnd::Fault(_) => Ok(false),
+        }
+    }
+
+    /// Two such numbers that are nearer to each other.
+    fn nearer(&self, alloc: Global, between: Between) -> Result<Between, AllocError>
+        requires can { CanBeTried self.now }
+        requires held { IsBetween (tried self.now) (length self.now.asked.parts.now) between }
+        requires apart { between.met + 1 < between.unmet }
+        ensures held { IfOk result (IsBetween (tried self.now) (length self.now.asked.parts.now)) }
+        ensures nearer { IfOk result (λ b. b.unmet - b.met < between.unmet - between.met) }
+    {
+        let middle = middle_of(between.met, between.unmet);
+        let is_met = self.is_met(alloc, middle)?;
+        if is_met {
+            Ok(Between {
+                met: middle,
+                unmet: between.unmet,
+            })
+        } else {
+            Ok(Between {
+                met: between.met,
+                unmet: middle,
+            })
+        }
+    }
+
+    /// The place of the first part with which nothing is found, by halving: where some first parts aren't satisfied, no
+    /// more of them are.
+    fn first_missing(&self, alloc: Global) -> Result<usize, AllocError>
+        requires can { CanBeTried self.now }
+        requires first { tried self.now 0 ≡ Satisfied }
+        requires all { tried self.now (length self.now.asked.parts.now) ≡ Nothing }
+        ensures { IfOk result (IsFirstMissing (tried self.now) (length self.now.asked.parts.now)) }
+    {
+        let mut between = Between {
+            met: 0,
+            unmet: self.asked.parts.len(),
+        };
+        while between.met + 1 < between.unmet {
+            let nearer = self.nearer(alloc, between)?;
+            between = nearer;
+        }
+        Ok(between.met)
+    }
+
+    // Nothing is found with all parts: that may be because the head doesn't match.
+    fn missing(&self, alloc: Global) -> Result<Unmet, AllocError>
+        requires can { CanBeTried self.now }
+        requires all { tried self.now (length self.now.asked.parts.now) ≡ Nothing }
+        ensures { IfOk result (λ u. u ≡ answer_matched self.now) }
+    {
+        let is_met = self.is_met(alloc, 0)?;
+        if is_met {
+            let place = self.first_missing(alloc)?;
+            Ok(Unmet::Part(place))
+        } else {
+            Ok(Unmet::None)
+        }
+    }
+
+    fn answer(&self, alloc: Global) -> Result<Unmet, AllocError>
+        requires can { CanBeTried self.now }
+        ensures { IfOk result (λ u. u ≡ answer_tried self.now) }
+    {
+        let count = self.asked.parts.len();
+        if count < FEWEST_PARTS {
+            return Ok(Unmet::None);
+        }
+        match self.ending(alloc, count)? {
+            ShallowEnd::Plan => Ok(Unmet::None),
+            ShallowEnd::End => self.missing(alloc),
+            ShallowEnd::Cut => Ok(Unmet::Unknown),
+            ShallowEnd::Fault(_) => Ok(Unmet::Unknown),
+        }
+    }
+}
+
+fn unmet_in(
+    alloc: Global,
+    domain: &Domain,
+    rule: usize,
+    branch: usize,
+    pair: &Pair,
+    nest: u32,
+) -> Result<Unmet, AllocError>
+    requires numbered { IsNumberedDomain (domain_of domain.now) }
+    requires checked { first_of (domain_faults (domain_of domain.now)) ≡ None }
+    requires one { HasOneTask (pair_of pair.now) }
+    requires nest { nest ≤ MOST_LEVELS }
+    ensures { IfOk result (λ u. u ≡ answer_if (domain_of domain.now).rules nest (first_state (pair_of pair.now))
+        (task_of (pair_of pair.now).tasks) (asked_in (domain_of domain.now).rules rule branch)) }
+{
+    match asked_in(domain, rule, branch) {
+        Some(asked) => {
+            let trial = Trial {
+                domain,
+                asked,
+                pair,
+                nest,
+            };
+            trial.answer(alloc)
+        }
+        None => Ok(Unmet::None),
+    }
+}
+
+/// What of the precondition of an operator, or of a branch of a method, is satisfied in a state, where the head matches
+/// a task: the rule and the branch are told by their places in the domain, the state by its atoms, of which each counts
+/// once and what is no atom doesn't count. Axioms may call one another so deep.
+///
+/// A walk is made for all parts, and where nothing satisfies these some more by halving their number, about as many as
+/// the number has binary digits. Each begins with the whole state.
+pub fn first_unmet(
+    alloc: Global,
+    domain: &Domain,
+    rule: usize,
+    branch: usize,
+    state: &[Ground],
+    task: &Ground,
+    nest: u32,
+) -> Result<Unmet, AllocError>
+    requires numbered { IsNumberedDomain (domain_of domain.now) }
+    requires checked { first_of (domain_faults (domain_of domain.now)) ≡ None }
+    requires nest { nest ≤ MOST_LEVELS }
+    ensures { IfOk result (λ u. u ≡ first_unmet (domain_of domain.now).rules nest (map ground_of state.now)
+        (ground_of task.now) rule branch) }
+{
+    let found = begun(alloc, state, task)?;
+    match found {
+        Some(pair) => unmet_in(alloc, domain, rule, branch, &pair, nest),
+        None => Ok(Unmet::None),
+    }
+}
