@@ -1,0 +1,45 @@
+//! Where preconditions stand.
+ghost use Rattle.std.specs.Prelude.{◌≡◌, map, option_map, slice_get};
+ghost use Rattle.hp_syntax.specs.Views.{branch_of, domain_of, precondition_of, rule_of};
+ghost use Rattle.hp_lint.specs.Branches as plain;
+ghost use Rattle.hp_doctor_why.specs.Said.{span_at, span_in};
+
+use hp_syntax::{Branch, Domain, Pre, Rule, Span};
+
+fn precondition_span(pre: &Pre) -> Span
+    ensures { result ≡ plain.precondition_span (precondition_of pre.now) }
+{
+    match pre {
+        Pre::Plain(whole) | Pre::First(whole) | Pre::Sorted(_, whole) => whole.span,
+    }
+}
+
+fn branch_span(branches: &[Branch], branch: usize) -> Option<Span>
+    ensures { result
+        ≡ option_map (λ b. plain.precondition_span b.pre) (slice_get (map branch_of branches.now) branch) }
+{
+    match branches.get(branch) {
+        Some(branch) => Some(precondition_span(&branch.pre)),
+        None => None,
+    }
+}
+
+fn span_in(rule: &Rule, branch: usize) -> Option<Span>
+    ensures { result ≡ span_in branch (rule_of rule.now) }
+{
+    match rule {
+        Rule::Operator(operator) => Some(precondition_span(&operator.pre)),
+        Rule::Method(method) => branch_span(method.branches.as_slice(), branch),
+        Rule::Axiom(_) => None,
+    }
+}
+
+/// Where the precondition of a rule stands, of a method that of a branch.
+pub fn span_at(domain: &Domain, rule: usize, branch: usize) -> Option<Span>
+    ensures { result ≡ span_at (domain_of domain.now) rule branch }
+{
+    match domain.rules.get(rule) {
+        Some(rule) => span_in(rule, branch),
+        None => None,
+    }
+}

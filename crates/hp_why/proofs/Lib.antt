@@ -1,0 +1,12 @@
+pub mod LoweredSteps
+pub mod WaySteps
+pub mod FinishedPlans
+pub mod OriginLemmas
+pub mod NumberedTwins
+pub mod PlanLemmas
+pub mod QuietLemmas
+pub mod CutSteps
+pub mod ReasonSteps
+pub mod StateSteps
+pub mod JudgedSteps
+pub mod VerdictLemmas

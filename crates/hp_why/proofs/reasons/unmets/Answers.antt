@@ -1,0 +1,19 @@
+use Rattle.std.proofs.Common.{arith}
+use Rattle.hp_why.specs.Twin.{unmets_from}
+use Rattle.hp_why.proofs.ReasonSteps.{unmets_all, unmets_more}
+use Rattle.hp_why.proofs.reasons.unmets.Goals as goal
+
+pub unmet_in-requires-clause-within : goal.unmet_in-requires-clause-within
+unmet_in-requires-clause-within c = omega (arith, c.loop-count-test.true, c.requires.along)
+
+pub loop-count-preserved : goal.loop-count-preserved
+loop-count-preserved c =
+    unmets_more c.args.twin.now c.args.path.now c.args.deeds.now c.loop-count.count c.loop-count.unmets.items
+    (unmets_from c.args.twin.now c.args.path.now 0 c.args.deeds.now) c.loop-count.invariant
+    c.index-deeds-count.result c.in_ok-unmet.unmet c.push.new.self.items c.loop-count-test.true
+    c.index-deeds-count.is c.in_ok-unmet.ensures c.in_ok-push.ensures.items
+
+pub returns : goal.returns
+returns c =
+    unmets_all c.args.twin.now c.args.path.now c.args.deeds.now c.loop-count.count c.loop-count.unmets.items
+    (unmets_from c.args.twin.now c.args.path.now 0 c.args.deeds.now) c.loop-count.invariant c.loop-count-test.false

@@ -1,0 +1,122 @@
+//! The verdict, by what the search for the cheapest plan of a twin found.
+ghost use Rattle.std.specs.Prelude.{◌≡◌, ◌-◌, ◌^◌, true, nat_lt, pos, IfOk, Option, Some, None};
+ghost use Rattle.std.specs.List.{All, list_all};
+ghost use Rattle.hp_best.specs.Bounded.{IsCheapestOf, IsFound, NeverFalls};
+ghost use Rattle.hp_laws.specs.TreeLaws.{IsFaultless};
+ghost use Rattle.hp_why.specs.Twin.{Answers, CanSearch, Judged, JudgedBest, JudgedNone, JudgedPath, JudgedPlan, visits_of};
+
+use crate::left::first_left;
+use crate::reasons::reasons;
+use crate::twin::Twin;
+use crate::verdict::Verdict;
+use hp_best::{BestEnd, Chosen, Found, best};
+use hp_search::Planner;
+use hp_way::{Way, way_to};
+use std::alloc::{AllocError, Global};
+
+/// The cheapest plan of a twin.
+fn cheapest(alloc: Global, twin: &Twin, priced: bool) -> Result<Found, AllocError>
+    requires search { CanSearch twin.now }
+    requires falls { priced ≡ true → NeverFalls (visits_of twin.now) }
+    ensures found { IfOk result (λ f. IsFound priced f (visits_of twin.now)) }
+    ensures cheapest { IfOk result (λ f. All (λ v. IsFaultless v.sight) (visits_of twin.now)
+        → IsCheapestOf f.best (visits_of twin.now)) }
+{
+    let mut walk = Planner::new(alloc, twin.code, twin.pair, twin.depth, twin.nest)?;
+    best(alloc, &mut walk, priced)
+}
+
+/// Whether each number of a path is told as itself.
+fn is_exact(path: &[u64]) -> bool
+    ensures { result ≡ list_all (λ i. nat_lt i (2 ^ 64 - 1)) path.now }
+{
+    path.iter().all(|number| *number < u64::MAX)
+}
+
+/// Why there is no plan, where the cheapest one of the twin stands at a path and costs something.
+fn judge_path(alloc: Global, twin: &Twin, path: &[u64], is_cut: bool) -> Result<Verdict, AllocError>
+    requires { CanSearch twin.now }
+    ensures { IfOk result (JudgedPath twin.now path.now is_cut) }
+{
+    if !is_exact(path) {
+        return Ok(Verdict::Lost);
+    }
+    match way_to(alloc, twin.code, twin.pair, twin.depth, twin.nest, path)? {
+        Way::Plan(deeds) => {
+            let reasons = reasons(alloc, twin, path, deeds)?;
+            Ok(Verdict::GivenUp { reasons, is_cut })
+        }
+        Way::Absent => Ok(Verdict::Lost),
+        Way::Fault(_) => Ok(Verdict::Lost),
+    }
+}
+
+/// Whether there is a plan, where this is the cheapest one of the twin, and else why not.
+fn judge_plan(
+    alloc: Global,
+    twin: &Twin,
+    chosen: &Chosen,
+    is_cut: bool,
+) -> Result<Verdict, AllocError>
+    requires { CanSearch twin.now }
+    ensures { IfOk result (JudgedPlan twin.now chosen.now is_cut) }
+{
+    if chosen.cost == 0 {
+        return Ok(Verdict::Plan);
+    }
+    judge_path(alloc, twin, chosen.path.as_slice(), is_cut)
+}
+
+/// What is left to do, where the twin has no plan either.
+fn judge_none(alloc: Global, twin: &Twin, is_cut: bool) -> Result<Verdict, AllocError>
+    requires { CanSearch twin.now }
+    ensures { IfOk result (JudgedNone twin.now is_cut) }
+{
+    if is_cut {
+        let left = first_left(alloc, twin)?;
+        Ok(Verdict::Nothing { left })
+    } else {
+        Ok(Verdict::Nothing { left: None })
+    }
+}
+
+fn judge_best(
+    alloc: Global,
+    twin: &Twin,
+    best: &Option<Chosen>,
+    is_cut: bool,
+) -> Result<Verdict, AllocError>
+    requires { CanSearch twin.now }
+    ensures { IfOk result (JudgedBest twin.now best.now is_cut) }
+{
+    match best {
+        Some(chosen) => judge_plan(alloc, twin, chosen, is_cut),
+        None => judge_none(alloc, twin, is_cut),
+    }
+}
+
+fn judge(
+    alloc: Global,
+    twin: &Twin,
+    ending: BestEnd,
+    best: &Option<Chosen>,
+) -> Result<Verdict, AllocError>
+    requires { CanSearch twin.now }
+    ensures { IfOk result (Judged twin.now ending best.now) }
+{
+    match ending {
+        BestEnd::End => judge_best(alloc, twin, best, false),
+        BestEnd::Cut => judge_best(alloc, twin, best, true),
+        BestEnd::Fault(fault) => Ok(Verdict::Fault(fault)),
+    }
+}
+
+/// Looks for the cheapest plan of a twin, and says by it why there is none of the domain.
+pub fn search(alloc: Global, twin: &Twin, priced: bool) -> Result<Verdict, AllocError>
+    requires search { CanSearch twin.now }
+    requires falls { priced ≡ true → NeverFalls (visits_of twin.now) }
+    ensures { IfOk result (Answers twin.now priced) }
+{
+    let found = cheapest(alloc, twin, priced)?;
+    judge(alloc, twin, found.ending, &found.best)
+}
