@@ -1,0 +1,4 @@
+pub mod ChainLemmas
+pub mod GoingSteps
+pub mod NumberSteps
+pub mod RollSteps

@@ -1,0 +1,6 @@
+pub mod Chains
+pub mod Derived
+pub mod Goings
+pub mod Numbering
+pub mod Orders
+pub mod Rolls

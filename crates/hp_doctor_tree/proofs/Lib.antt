@@ -1,0 +1,4 @@
+pub mod DeedSteps
+pub mod TellingSteps
+pub mod TextSteps
+pub mod TreeSteps

@@ -1,0 +1,4 @@
+pub mod Deeds
+pub mod Drawings
+pub mod TreeTold
+pub mod Words

@@ -1,0 +1,93 @@
+-- What `tree` writes of two files and a path: what the files are refused for, or what stands at the path.
+use Rattle.std.specs.Prelude.{◌≡◌, ℕ, zero, suc, Bool, List, [], ◌++◌, length, map, slice_get, Option, Some, None, codes}
+use Rattle.hp_code.specs.Lowered.{lowered_rules}
+use Rattle.hp_derivation.specs.declared.roll.Stood.{Stood}
+use Rattle.hp_derivation.specs.Derived.{derived}
+use Rattle.hp_io.specs.declared.folder.Input.TheVariants as inputs
+use Rattle.hp_out.specs.RefusalTexts.{refusal_text}
+use Rattle.hp_out.specs.Writing.{SinkRun, Wrote}
+use Rattle.hp_out.specs.declared.refusal.Refusal.{Refusal}
+use Rattle.hp_out.specs.declared.refusal.Refusal.TheVariants.{NoPair}
+use Rattle.hp_syntax.specs.declared.fault.RunFault.{RunFault}
+use Rattle.hp_syntax.specs.declared.status.Status.{Status}
+use Rattle.hp_syntax.specs.declared.status.Status.TheVariants as status
+use Rattle.hp_syntax.specs.PlaceTexts.{at_span}
+use Rattle.hp_syntax.specs.Report.{Answer, fault_word}
+use Rattle.hp_syntax.specs.Syntax.{Domain, Pair, Problem, Rule}
+use Rattle.hp_syntax.specs.Walk.{root}
+use Rattle.hp_way.specs.Ways.{Deed, IsWay, deed_of}
+use Rattle.hp_way.specs.declared.ways.Way.{Way}
+use Rattle.hp_way.specs.declared.ways.Way.TheVariants as ways
+use Rattle.hp_doctor.specs.Accepting.{AreRefused, IsAccepted, refusal_status}
+use Rattle.hp_doctor.specs.Explained.{explained, told_in}
+use Rattle.hp_doctor.specs.Linted.{Tells}
+use Rattle.hp_doctor.specs.Sentences.{fault_sentence}
+use Rattle.hp_doctor.specs.Texts.{File, Texts, chosen}
+use Rattle.hp_doctor_tree.specs.declared.trees.Asked.{Asked}
+use Rattle.hp_doctor_tree.specs.Deeds.{steps_from}
+use Rattle.hp_doctor_tree.specs.Drawings.{drawing_text}
+
+-- ---- what stands at a path
+
+-- a plan: all tasks on its way. Deeds that lead to one have a derivation
+abbrev pub parts_or_none : Option (List Stood × List ℕ) → List Stood × List ℕ
+parts_or_none None = ([], [])
+parts_or_none (Some parts) = parts
+
+abbrev pub parts_text : File → List Rule → List Deed → Bool → List Stood × List ℕ → List ℕ
+parts_text f rules ds dot parts =
+    drawing_text f
+    (record { rules = rules; deeds = ds; steps = steps_from rules 0 ds; tasks = parts.0; dot = dot })
+    parts.1
+
+abbrev pub plan_text : File → List Rule → Pair → List Deed → Bool → List ℕ
+plan_text f rules pair ds dot = parts_text f rules ds dot (parts_or_none (derived rules pair ds))
+
+-- nothing, in the planner's words
+abbrev pub absent_text : List ℕ
+absent_text = codes "no plan at path\n"
+
+-- a fault comes before: the planner's words for it, and what it means
+abbrev pub fault_text : Texts → RunFault → List ℕ
+fault_text t f =
+    codes "fault " ++ at_span (fault_word f.kind) f.span ++ codes "\n"
+    ++ told_in (chosen t inputs.Domain) (Some f.span) (fault_sentence f.kind)
+
+abbrev pub way_answer : Texts → List Rule → Pair → Bool → Way → Answer
+way_answer t rules pair dot (ways.Plan ds) = (plan_text t.domain rules pair (map deed_of ds.items) dot, status.Done)
+way_answer t rules pair dot ways.Absent = (absent_text, status.NoSuchPath)
+way_answer t rules pair dot (ways.Fault f) = (fault_text t f, status.RunFault)
+
+-- what is told of a pair: that of the way to the path, in the tree of the lowered rules, which is that of the rules
+pub record IsTreeOf (t : Texts) (a : Asked) (rules : List Rule) (pair : Pair) (answer : Answer) : Type 0 where
+  pub way : Way
+  pub there : IsWay (lowered_rules rules) a.nest (root pair a.depth) a.path.now way
+  pub is : answer ≡ way_answer t rules pair a.dot way
+
+-- ---- what is told of the files
+
+-- the pair of a number, from 1 on
+abbrev pub pair_at : ℕ → List Pair → Option Pair
+pair_at zero ps = None
+pair_at (suc i) ps = slice_get ps i
+
+-- the line by which the planner refuses the files, as it is explained; or that there is no such pair; or what is told
+-- of the pair
+pub data IsTree (t : Texts) (a : Asked) (answer : Answer) : Type 0 where
+  Refused : (r : Refusal) → AreRefused t r → answer ≡ (explained t (refusal_text r), refusal_status r)
+      → IsTree t a answer
+  Pairless : (d : Domain) (p : Problem) → IsAccepted t d p → pair_at a.pair p.pairs ≡ None
+      → answer ≡ (explained t (refusal_text (NoPair a.pair (length p.pairs))), status.ProblemRefused)
+      → IsTree t a answer
+  Accepted : (d : Domain) (p : Problem) (pair : Pair) → IsAccepted t d p → pair_at a.pair p.pairs ≡ Some pair
+      → IsTreeOf t a d.rules pair answer → IsTree t a answer
+
+-- ---- how it is told
+
+-- an answer of this kind was told, or memory was wanting before it was known, and nothing was written
+pub data TellsOf (Is : Answer → Type 0) (s : Status) (r : SinkRun) : Type 0 where
+  Told : (answer : Answer) → Is answer → Tells answer s r → TellsOf Is s r
+  Unknown : s ≡ status.NoMemory → Wrote [] r.before r.after → TellsOf Is s r
+
+abbrev pub TellsTree : Texts → Asked → Status → SinkRun → Type 0
+TellsTree t a s r = TellsOf (IsTree t a) s r

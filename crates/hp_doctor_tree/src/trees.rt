@@ -1,0 +1,321 @@
+//! Telling how a plan came about.
+
+ghost use Rattle.std.specs.List.{All};
+ghost use Rattle.std.specs.Prelude.{◌≡◌, ◌≤◌, ◌<◌, ◌-◌, ◌^◌, ◌++◌, None, OnOk, IfErr, codes, map, option_map};
+ghost use Rattle.hp_doctor.specs.Accepting.{IsAccepted};
+ghost use Rattle.hp_doctor.specs.Linted.{Tells};
+ghost use Rattle.hp_doctor.specs.Telling.{Halts};
+ghost use Rattle.hp_doctor.specs.Texts.{file_of, texts_of};
+ghost use Rattle.hp_out.specs.Writing.{Wrote, sink_run};
+ghost use Rattle.hp_syntax.specs.declared.limits.TheConstants.{GREATEST_DEPTH, MOST_LEVELS};
+ghost use Rattle.hp_syntax.specs.Checks.{domain_faults, first_of};
+ghost use Rattle.hp_syntax.specs.GroundPatterns.{IsGroundPair};
+ghost use Rattle.hp_syntax.specs.Numbered.{IsNumberedDomain};
+ghost use Rattle.hp_syntax.specs.PlaceTexts.{at_span};
+ghost use Rattle.hp_syntax.specs.Report.{fault_word};
+ghost use Rattle.hp_syntax.specs.Views.{domain_of, pair_of, problem_of};
+ghost use Rattle.hp_way.specs.Ways.{deed_of};
+ghost use Rattle.hp_derivation.specs.Goings.{parts_of};
+ghost use Rattle.hp_doctor_tree.specs.TreeTold.{IsTreeOf, TellsOf, TellsTree, absent_text, fault_text, pair_at, parts_or_none, plan_text, way_answer};
+
+use crate::deeds::steps;
+use crate::drawing::Drawing;
+use crate::telling::tell_drawing;
+use hp_code::laws::compiled_rules_are_a_code;
+use hp_code::lower;
+use hp_derivation::{Derivation, Stood, derivation_of};
+use hp_doctor::{
+    Accepted, Finding, Halt, Stop, Text, Texts, accept, push_in, refuse, sentence, status_told,
+    write,
+};
+use hp_io::{Input, Sink};
+use hp_laws::pair_laws::{accepted_domains_are_checked, accepted_pairs_are_ground};
+use hp_out::Refusal;
+use hp_syntax::laws::forms_are_numbered;
+use hp_syntax::{Domain, FaultKind, Pair, RunFault, Status};
+use hp_way::{Deed, Way, way_to};
+use itoa::Buffer;
+use std::alloc::{AllocError, Global};
+
+/// What is asked of the tree of a pair.
+#[derive(Clone, Copy)]
+pub struct Asked<'a> {
+    pub depth: u32,
+    /// How deep axioms may call one another.
+    pub nest: u32,
+    /// The number of the pair, from 1 on.
+    pub pair: u64,
+    /// The path of the plan.
+    pub path: &'a [u64],
+    /// A graph is wanted in place of lines.
+    pub dot: bool,
+}
+
+// ---- a plan
+
+/// All tasks by their numbers, and the order in which they are read; none where nothing was derived.
+fn parts(derivation: &Option<Derivation>) -> (&[Stood], &[usize])
+    ensures tasks { result.0.now ≡ (parts_or_none (option_map parts_of derivation.now)).0 }
+    ensures order { result.1.now ≡ (parts_or_none (option_map parts_of derivation.now)).1 }
+{
+    match derivation {
+        Some(derivation) => (derivation.tasks.as_slice(), derivation.order.as_slice()),
+        None => (&[], &[]),
+    }
+}
+
+/// Writes a plan, by the deeds that lead to it.
+fn tell_plan<K: Sink>(
+    alloc: Global,
+    file: &Text,
+    domain: &Domain,
+    pair: &Pair,
+    deeds: &[Deed],
+    dot: bool,
+    out: &mut K,
+) -> Result<(), Halt>
+    ensures ok { OnOk result (Wrote (plan_text (file_of file.now) (domain_of domain.now).rules (pair_of pair.now)
+        (map deed_of deeds.now) dot) (K.bytes out.old) (K.bytes out.new)) }
+    ensures err { IfErr result (λ h. Halts h (plan_text (file_of file.now) (domain_of domain.now).rules
+        (pair_of pair.now) (map deed_of deeds.now) dot)
+        (sink_run (K.faults out.old) (K.faults out.new) (K.bytes out.old) (K.bytes out.new))) }
+    ensures later { K.faults out.old ≤ K.faults out.new }
+{
+    let Ok(counted) = steps(alloc, domain, deeds) else {
+        return Err(Halt::NoMemory);
+    };
+    let Ok(derived) = derivation_of(alloc, domain, pair, deeds) else {
+        return Err(Halt::NoMemory);
+    };
+    let (tasks, order) = parts(&derived);
+    let drawing = Drawing {
+        domain,
+        deeds,
+        steps: counted.as_slice(),
+        tasks,
+        dot,
+    };
+    tell_drawing(alloc, file, &drawing, order, out)
+}
+
+// ---- no plan
+
+fn fault_word(kind: FaultKind) -> &'static [u8]
+    ensures { result.now ≡ fault_word kind }
+{
+    match kind {
+        FaultKind::NotGround => b"NotGround",
+        FaultKind::NotNumber => b"NotNumber",
+        FaultKind::Overflow => b"Overflow",
+        FaultKind::ZeroDivisor => b"ZeroDivisor",
+        FaultKind::NegativePower => b"NegativePower",
+        FaultKind::NotList => b"NotList",
+        FaultKind::TooDeep => b"TooDeep",
+        FaultKind::FractionPower => b"FractionPower",
+    }
+}
+
+/// The word of a fault and its span, on a line of their own.
+fn push_fault_line(out: &mut Vec<u8>, fault: RunFault) -> Result<(), AllocError>
+    ensures { OnOk result (out.new.items
+        ≡ out.old.items ++ codes "fault " ++ at_span (fault_word fault.kind) fault.span ++ codes "\n") }
+{
+    let mut number = Buffer::new();
+    out.extend_from_slice(b"fault ")?;
+    out.extend_from_slice(fault_word(fault.kind))?;
+    out.extend_from_slice(b" at ")?;
+    out.extend_from_slice(number.format(fault.span.from).as_bytes())?;
+    out.extend_from_slice(b"-")?;
+    out.extend_from_slice(number.format(fault.span.to).as_bytes())?;
+    out.extend_from_slice(b"\n")
+}
+
+/// A fault, and what it means.
+fn push_fault(out: &mut Vec<u8>, files: &Texts, fault: RunFault) -> Result<(), AllocError>
+    ensures { OnOk result (out.new.items ≡ out.old.items ++ fault_text (texts_of files.now) fault) }
+{
+    push_fault_line(out, fault)?;
+    let file = files.of(Input::Domain);
+    push_in(out, file, Some(fault.span), sentence(Finding::Met(fault)))
+}
+
+/// Writes a fault, and what it means.
+fn tell_fault<K: Sink>(
+    alloc: Global,
+    files: &Texts,
+    fault: RunFault,
+    out: &mut K,
+) -> Result<(), Halt>
+    ensures ok { OnOk result (Wrote (fault_text (texts_of files.now) fault) (K.bytes out.old) (K.bytes out.new)) }
+    ensures err { IfErr result (λ h. Halts h (fault_text (texts_of files.now) fault)
+        (sink_run (K.faults out.old) (K.faults out.new) (K.bytes out.old) (K.bytes out.new))) }
+    ensures later { K.faults out.old ≤ K.faults out.new }
+{
+    let mut text = Vec::new(alloc);
+    match push_fault(&mut text, files, fault) {
+        Ok(()) => write(out, text.as_slice()),
+        Err(_) => Err(Halt::NoMemory),
+    }
+}
+
+// ---- what stands at a path
+
+/// Writes a plan, and answers the status.
+fn answer_plan<K: Sink>(
+    alloc: Global,
+    file: &Text,
+    domain: &Domain,
+    pair: &Pair,
+    deeds: &[Deed],
+    dot: bool,
+    out: &mut K,
+) -> Status
+    ensures tells { Tells (
+      plan_text (file_of file.now) (domain_of domain.now).rules (pair_of pair.now)
+          (map deed_of deeds.now) dot,
+      Status.Done,
+    ) result
+        (sink_run (K.faults out.old) (K.faults out.new) (K.bytes out.old) (K.bytes out.new)) }
+    ensures later { K.faults out.old ≤ K.faults out.new }
+{
+    let told = tell_plan(alloc, file, domain, pair, deeds, dot, out);
+    status_told(told, Status::Done)
+}
+
+/// Writes that there is no plan, and answers the status.
+fn answer_absent<K: Sink>(out: &mut K) -> Status
+    ensures tells { Tells (absent_text, Status.NoSuchPath) result
+        (sink_run (K.faults out.old) (K.faults out.new) (K.bytes out.old) (K.bytes out.new)) }
+    ensures later { K.faults out.old ≤ K.faults out.new }
+{
+    let told = write(out, b"no plan at path\n");
+    status_told(told, Status::NoSuchPath)
+}
+
+/// Writes a fault, and answers the status.
+fn answer_fault<K: Sink>(alloc: Global, files: &Texts, fault: RunFault, out: &mut K) -> Status
+    ensures tells { Tells (fault_text (texts_of files.now) fault, Status.RunFault) result
+        (sink_run (K.faults out.old) (K.faults out.new) (K.bytes out.old) (K.bytes out.new)) }
+    ensures later { K.faults out.old ≤ K.faults out.new }
+{
+    let told = tell_fault(alloc, files, fault, out);
+    status_told(told, Status::RunFault)
+}
+
+/// Writes what stands at a path of a pair, and answers the status.
+fn answer_way<K: Sink>(
+    alloc: Global,
+    files: &Texts,
+    domain: &Domain,
+    pair: &Pair,
+    way: &Way,
+    dot: bool,
+    out: &mut K,
+) -> Status
+    ensures tells { Tells (way_answer (texts_of files.now) (domain_of domain.now).rules (pair_of pair.now) dot way.now)
+        result (sink_run (K.faults out.old) (K.faults out.new) (K.bytes out.old) (K.bytes out.new)) }
+    ensures later { K.faults out.old ≤ K.faults out.new }
+{
+    match way {
+        Way::Plan(deeds) => {
+            let deeds = deeds.as_slice();
+            answer_plan(alloc, &files.domain, domain, pair, deeds, dot, out)
+        }
+        Way::Absent => answer_absent(out),
+        Way::Fault(fault) => answer_fault(alloc, files, *fault, out),
+    }
+}
+
+/// Goes to the path of a pair, and writes what stands there.
+fn answer_pair<K: Sink>(
+    alloc: Global,
+    files: &Texts,
+    domain: &Domain,
+    pair: &Pair,
+    asked: &Asked,
+    out: &mut K,
+) -> Status
+    requires numbered { IsNumberedDomain (domain_of domain.now) }
+    requires checked { first_of (domain_faults (domain_of domain.now)) ≡ None }
+    requires pair { IsGroundPair (pair_of pair.now) }
+    requires depth { asked.now.depth ≤ GREATEST_DEPTH }
+    requires nest { asked.now.nest ≤ MOST_LEVELS }
+    requires small { All (λ i. i < 2 ^ 64 - 1) asked.now.path.now }
+    ensures tells { TellsOf (IsTreeOf (texts_of files.now) asked.now (domain_of domain.now).rules (pair_of pair.now))
+        result (sink_run (K.faults out.old) (K.faults out.new) (K.bytes out.old) (K.bytes out.new)) }
+    ensures later { K.faults out.old ≤ K.faults out.new }
+{
+    // Nothing runs here: the law makes known that a code reads back as the lowered rules.
+    compiled_rules_are_a_code();
+    let Ok(code) = lower(alloc, domain) else {
+        return Status::NoMemory;
+    };
+    match way_to(alloc, &code, pair, asked.depth, asked.nest, asked.path) {
+        Ok(way) => answer_way(alloc, files, domain, pair, &way, asked.dot, out),
+        Err(_) => Status::NoMemory,
+    }
+}
+
+// ---- the files
+
+/// The pair of a number, from 1 on, if there is one.
+fn pair_at(pairs: &[Pair], number: u64) -> Option<&Pair>
+    ensures { option_map (λ p. pair_of p.now) result ≡ pair_at number (map pair_of pairs.now) }
+{
+    if number == 0 {
+        return None;
+    }
+    pairs.get((number - 1) as usize)
+}
+
+/// Writes what is asked of files that are accepted.
+fn answer_accepted<K: Sink>(
+    alloc: Global,
+    files: &Texts,
+    accepted: &Accepted,
+    asked: &Asked,
+    out: &mut K,
+) -> Status
+    requires accepted { IsAccepted (texts_of files.now) (domain_of accepted.now.domain)
+        (problem_of accepted.now.problem) }
+    requires depth { asked.now.depth ≤ GREATEST_DEPTH }
+    requires nest { asked.now.nest ≤ MOST_LEVELS }
+    requires small { All (λ i. i < 2 ^ 64 - 1) asked.now.path.now }
+    ensures tells { TellsTree (texts_of files.now) asked.now result
+        (sink_run (K.faults out.old) (K.faults out.new) (K.bytes out.old) (K.bytes out.new)) }
+    ensures later { K.faults out.old ≤ K.faults out.new }
+{
+    // Nothing runs here: the laws make known that what is accepted can be compiled and walked.
+    forms_are_numbered();
+    accepted_domains_are_checked();
+    accepted_pairs_are_ground();
+    let pairs = accepted.problem.pairs.as_slice();
+    match pair_at(pairs, asked.pair) {
+        Some(pair) => answer_pair(alloc, files, &accepted.domain, pair, asked, out),
+        None => {
+            let refusal = Refusal::NoPair(asked.pair, pairs.len() as u64);
+            refuse(alloc, files, refusal, out)
+        }
+    }
+}
+
+/// Reads and checks a domain and a problem as the planner does, goes to the plan at a path of one of its pairs, and
+/// writes all tasks on its way: each below the one that it came from, with where its rule is, or as a graph. Where no
+/// plan stands there, or a fault comes before it, that is written. Where the planner would refuse the files, its line
+/// is written with what it means. The status is the planner's.
+pub fn tree<K: Sink>(alloc: Global, files: &Texts, asked: &Asked, out: &mut K) -> Status
+    requires depth { asked.now.depth ≤ GREATEST_DEPTH }
+    requires nest { asked.now.nest ≤ MOST_LEVELS }
+    requires small { All (λ i. i < 2 ^ 64 - 1) asked.now.path.now }
+    // All that there is to tell was written, or, after want of memory, a prefix of it, and after a fault of the sink a
+    // proper one. There is no other status than that of what is told and those two.
+    ensures tells { TellsTree (texts_of files.now) asked.now result
+        (sink_run (K.faults out.old) (K.faults out.new) (K.bytes out.old) (K.bytes out.new)) }
+    ensures sink_count { K.faults out.old ≤ K.faults out.new }
+{
+    match accept(alloc, files) {
+        Ok(accepted) => answer_accepted(alloc, files, &accepted, asked, out),
+        Err(Stop::Refused(refusal)) => refuse(alloc, files, refusal, out),
+        Err(Stop::NoMemory) => Status::NoMemory,
+    }
+}
