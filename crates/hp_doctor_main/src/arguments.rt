@@ -1,7 +1,9 @@
 //! The command line.
 
-use clap::{Arg, ArgMatches, Command};
+use crate::tree_words::{TreeWords, asked_tree, tree_command};
+use clap::{Arg, ArgMatches, Command, value_parser};
 use hp_doctor::Names;
+use hp_syntax::limits::{GREATEST_DEPTH, MOST_LEVELS, USUAL_LEVELS};
 use std::alloc::{AllocError, Global};
 
 /// What the words ask for.
@@ -11,6 +13,14 @@ pub enum Asked<'a> {
     Where(Names<'a>),
     /// What looks wrong in these files is to be told.
     Lint(Names<'a>),
+    /// How a plan of these files came about is to be told.
+    Tree(TreeWords<'a>),
+    /// Why there is no plan of these files within a depth, where axioms may call one another so deep, is to be told.
+    Why {
+        names: Names<'a>,
+        depth: u32,
+        nest: u32,
+    },
 }
 
 /// The command line: a subcommand for each thing that the doctor does.
@@ -21,7 +31,9 @@ pub fn command<'a>(alloc: Global) -> Result<Command<'a>, AllocError> {
         .subcommand_required(true)
         .arg_required_else_help(true)
         .subcommand(where_command(alloc)?)?
-        .subcommand(lint_command(alloc)?)
+        .subcommand(lint_command(alloc)?)?
+        .subcommand(tree_command(alloc)?)?
+        .subcommand(why_command(alloc)?)
 }
 
 fn lint_command<'a>(alloc: Global) -> Result<Command<'a>, AllocError> {
@@ -54,6 +66,39 @@ fn where_command<'a>(alloc: Global) -> Result<Command<'a>, AllocError> {
         .arg(plan)
 }
 
+fn why_command<'a>(alloc: Global) -> Result<Command<'a>, AllocError> {
+    let domain = Arg::new(alloc, "DOMAIN")
+        .required(true)
+        .help("The file of the domain");
+    let problem = Arg::new(alloc, "PROBLEM")
+        .required(true)
+        .help("The file of the problem");
+    let depth = Arg::new(alloc, "DEPTH")
+        .required(true)
+        .value_parser(value_parser!(u32).range(0..=i64::from(GREATEST_DEPTH)))
+        .help("How many decompositions a plan may have at most");
+    let nest = Arg::new(alloc, "nest")
+        .long("nest")
+        .value_name("N")
+        .value_parser(value_parser!(u32).range(0..=i64::from(MOST_LEVELS)))
+        .help("How deep axioms may call one another, 64 where it isn't given");
+    Command::new(alloc, "why")
+        .about(
+            "Says why a problem has no plan: the fewest preconditions that must be given up for one",
+        )
+        .arg(domain)?
+        .arg(problem)?
+        .arg(depth)?
+        .arg(nest)
+}
+
+/// What the words ask for, where they ask why there is no plan.
+fn why_asked<'a>(words: &ArgMatches<'a>, names: Names<'a>) -> Option<Asked<'a>> {
+    let depth = words.get_one::<u32>("DEPTH")?;
+    let nest = words.get_one::<u32>("nest").unwrap_or(USUAL_LEVELS);
+    Some(Asked::Why { names, depth, nest })
+}
+
 /// What the words ask for.
 pub fn request<'a>(matches: &ArgMatches<'a>) -> Option<Asked<'a>> {
     let (name, words) = matches.subcommand()?;
@@ -65,6 +110,22 @@ pub fn request<'a>(matches: &ArgMatches<'a>) -> Option<Asked<'a>> {
             problem,
             plan: None,
         }));
+    }
+    if name == "tree" {
+        let names = Names {
+            domain,
+            problem,
+            plan: None,
+        };
+        return Some(Asked::Tree(asked_tree(words, names)?));
+    }
+    if name == "why" {
+        let names = Names {
+            domain,
+            problem,
+            plan: None,
+        };
+        return why_asked(words, names);
     }
     if name != "where" {
         return None;

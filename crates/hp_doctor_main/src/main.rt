@@ -2,14 +2,20 @@
 #![tactic(auto)]
 
 mod arguments;
+mod tree_words;
 
 use crate::arguments::{Asked, command, request};
+use crate::tree_words::TreeWords;
 use clap::Error;
 use clap::error::ErrorKind;
 use hp_doctor::{HostPieces, Names, Texts, explain, lint};
+use hp_doctor_tree::{Asked as AskedTree, tree};
+use hp_doctor_why::why;
 use hp_io::{Failed, HostFolder, HostSink};
 use hp_out::Paged;
 use hp_syntax::Status;
+use hp_syntax::limits::{GREATEST_DEPTH, MOST_LEVELS};
+use hp_words::{is_path, path};
 use std::alloc::Global;
 use std::env::Env;
 use std::marker::Brand;
@@ -50,6 +56,52 @@ fn lint_files(rt: &HostRuntime, names: Names) -> Status {
     close(status, flushed)
 }
 
+/// Tells how the plan at a path came about.
+fn tree_of_files(rt: &HostRuntime, words: TreeWords) -> Status {
+    if !is_path(words.path) || words.depth > GREATEST_DEPTH || words.nest > MOST_LEVELS {
+        return Status::Usage;
+    }
+    let Ok(path) = path(rt.alloc(), words.path) else {
+        return Status::NoMemory;
+    };
+    let Ok(texts) = Texts::read(rt.alloc(), &mut HostFolder::new(rt), words.names) else {
+        return Status::NoMemory;
+    };
+    let asked = AskedTree {
+        depth: words.depth,
+        nest: words.nest,
+        pair: words.pair,
+        path: path.as_slice(),
+        dot: words.dot,
+    };
+    let mut out = Paged::<Brand, _>::new(HostSink::new(rt));
+    let status = tree(rt.alloc(), &texts, &asked, &mut out);
+    let flushed = out.flush();
+    drop(out.into_sink());
+    close(status, flushed)
+}
+
+/// The words of a path that are none.
+fn no_path(alloc: Global) -> Result<Error, Error> {
+    let says = "PATH is numbers joined by points, as `gudsjilp plan --paths` tells them, or `-`";
+    Ok(command(alloc)?.error(ErrorKind::ValueValidation, says)?)
+}
+
+/// Tells why there is no plan of these files within a depth, where axioms may call one another so deep. The command
+/// line lets no greater numbers through.
+fn tell_why(rt: &HostRuntime, names: Names, depth: u32, nest: u32) -> Status {
+    let Ok(texts) = Texts::read(rt.alloc(), &mut HostFolder::new(rt), names) else {
+        return Status::NoMemory;
+    };
+    let mut out = Paged::<Brand, _>::new(HostSink::new(rt));
+    let depth = depth.min(GREATEST_DEPTH);
+    let nest = nest.min(MOST_LEVELS);
+    let status = why(rt.alloc(), &texts, depth, nest, &mut out);
+    let flushed = out.flush();
+    drop(out.into_sink());
+    close(status, flushed)
+}
+
 /// The status of a run that is over, by how the last page was written.
 fn close(status: Status, flushed: Result<(), Failed>) -> Status {
     match (status, flushed) {
@@ -65,6 +117,9 @@ fn run(rt: &HostRuntime, words: &[String]) -> Result<u8, Error> {
     let status = match request(&matches) {
         Some(Asked::Where(names)) => explain_input(rt, names),
         Some(Asked::Lint(names)) => lint_files(rt, names),
+        Some(Asked::Tree(words)) if !is_path(words.path) => return Err(no_path(rt.alloc())?),
+        Some(Asked::Tree(words)) => tree_of_files(rt, words),
+        Some(Asked::Why { names, depth, nest }) => tell_why(rt, names, depth, nest),
         None => Status::Usage,
     };
     Ok(status.code())

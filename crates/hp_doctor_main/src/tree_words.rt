@@ -1,0 +1,85 @@
+//! The words of `tree`.
+
+use clap::{Arg, ArgAction, ArgMatches, Command, value_parser};
+use hp_doctor::Names;
+use hp_syntax::limits::{GREATEST_DEPTH, MOST_LEVELS, USUAL_LEVELS};
+use std::alloc::{AllocError, Global};
+
+/// What the words of `tree` ask for.
+#[derive(Clone, Copy)]
+pub struct TreeWords<'a> {
+    pub names: Names<'a>,
+    pub depth: u32,
+    /// How deep axioms may call one another.
+    pub nest: u32,
+    /// The number of the pair, from 1 on.
+    pub pair: u64,
+    /// The word of the path.
+    pub path: &'a str,
+    /// A graph is wanted in place of lines.
+    pub dot: bool,
+}
+
+pub fn tree_command<'a>(alloc: Global) -> Result<Command<'a>, AllocError> {
+    let domain = Arg::new(alloc, "DOMAIN")
+        .required(true)
+        .help("The file of the domain");
+    let problem = Arg::new(alloc, "PROBLEM")
+        .required(true)
+        .help("The file of the problem");
+    let depth = Arg::new(alloc, "DEPTH")
+        .required(true)
+        .value_parser(value_parser!(u32).range(0..=i64::from(GREATEST_DEPTH)))
+        .help("How many decompositions a plan may have at most");
+    let path = Arg::new(alloc, "PATH")
+        .required(true)
+        .help("The plan's path, as `gudsjilp plan --paths` tells it");
+    Command::new(alloc, "tree")
+        .about("Tells how a plan came about: each task below the one that it came from")
+        .arg(domain)?
+        .arg(problem)?
+        .arg(depth)?
+        .arg(path)?
+        .arg(nest_option(alloc))?
+        .arg(pair_option(alloc))?
+        .arg(dot_option(alloc))
+}
+
+fn nest_option<'a>(alloc: Global) -> Arg<'a> {
+    Arg::new(alloc, "nest")
+        .long("nest")
+        .value_name("N")
+        .value_parser(value_parser!(u32).range(0..=i64::from(MOST_LEVELS)))
+        .help("How deep axioms may call one another, 64 where it isn't given")
+}
+
+fn pair_option<'a>(alloc: Global) -> Arg<'a> {
+    Arg::new(alloc, "pair")
+        .long("pair")
+        .value_name("I")
+        .value_parser(value_parser!(u64).range(1..))
+        .help("The pair of a problem set, 1 where it isn't given")
+}
+
+fn dot_option<'a>(alloc: Global) -> Arg<'a> {
+    Arg::new(alloc, "dot")
+        .long("dot")
+        .action(ArgAction::SetTrue)
+        .help("Writes a graph for Graphviz")
+}
+
+/// What the words of `tree` ask for, behind the names of the files.
+pub fn asked_tree<'a>(words: &ArgMatches<'a>, names: Names<'a>) -> Option<TreeWords<'a>> {
+    let depth = words.get_one::<u32>("DEPTH")?;
+    let path = words.get_str("PATH")?;
+    let nest = words.get_one::<u32>("nest").unwrap_or(USUAL_LEVELS);
+    let pair = words.get_one::<u64>("pair").unwrap_or(1);
+    Some(TreeWords {
+        names,
+        depth,
+        nest,
+        pair,
+        path,
+        dot: words.get_flag("dot"),
+    })
+}
