@@ -29,7 +29,7 @@ use Rattle.hp_doctor_tree.specs.Drawings.{drawing_text}
 
 -- ---- what stands at a path
 
--- a plan: all tasks on its way. Deeds that lead to one have a derivation
+-- a plan: all tasks on its way, and nothing where deeds have no derivation
 abbrev pub parts_or_none : Option (List Stood × List ℕ) → List Stood × List ℕ
 parts_or_none None = ([], [])
 parts_or_none (Some parts) = parts
