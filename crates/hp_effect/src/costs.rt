@@ -9,7 +9,7 @@ ghost use Rattle.hp_effect.specs.Costs.{Costs, number_in};
 
 use hp_cells::{Cell, Cells, View};
 use hp_eval::{EvalStop, Slots, value};
-use hp_syntax::{FaultKind, Pat, RunFault};
+use hp_syntax::{FaultKind, Pat, PatKind, RunFault};
 use std::alloc::Global;
 
 // The number that a cell's term is.
@@ -32,6 +32,10 @@ pub fn cost(alloc: Global, pat: &Pat, slots: &Slots, cells: &mut Cells) -> Resul
     ensures costs { Costs result (cost_value (pattern_of pat.now) (bindings_of cells.old slots.now)) }
     ensures cells { Grows cells.old cells.new }
 {
+    // A written number is known without a cell for it.
+    if let PatKind::Num(n) = &pat.kind {
+        return Ok(*n);
+    }
     let cell = value(alloc, pat, slots, cells)?;
     match number(cell, cells) {
         Some(n) => Ok(n),
