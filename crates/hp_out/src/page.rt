@@ -65,11 +65,15 @@ impl Page {
         write_all(sink, text)
     }
 
-    // Puts a text on the page, where it has the room.
+    // Puts a text on the page, where it has the room. Most are a bracket, a space or the end of a line, for which
+    // nothing is copied.
     fn fits(&mut self, text: &[u8]) -> bool
         ensures { self.new ≡ (if result then self.old ++ text.now else self.old) }
     {
-        self.bytes.try_extend_from_slice(text).is_ok()
+        match text {
+            [byte] => self.bytes.try_push(*byte).is_ok(),
+            _ => self.bytes.try_extend_from_slice(text).is_ok(),
+        }
     }
 
     /// Puts texts on the page, one behind the other.
