@@ -1,8 +1,9 @@
 -- The next child of an agenda, step by step.
 use Rattle.std.proofs.Common.{◌≡◌, ℕ, ◌<◌, ◌≤◌, true, false, List, [], ◌++◌, length, Option, Some, None, inl, inr, refl, sym, ◌∙◌, ap, ap₂, subst, append_assoc, arith}
-use Rattle.std.specs.Prelude.{is_some}
+use Rattle.std.specs.Prelude.{Box, is_some}
 use Rattle.std.proofs.lemmas.Bool.{cases_lt}
 use Rattle.std.proofs.lemmas.List.Elements.{All-weaker}
+use Rattle.std.specs.Global.{Global}
 use Rattle.hp_syntax.specs.Terms.{Term}
 use Rattle.hp_eval.specs.Growth.{Grows}
 use Rattle.hp_eval.proofs.GrowthLemmas.{grows_length}
@@ -91,7 +92,7 @@ given_some (Some x) e h = absurd cc
 -- ---- scenes of the same code, and the same search node
 
 module _ (s t : Scene) (code : s.code ≡ t.code) (h g : HeldNode) (node : h ≡ g) where
-  pub open_at : (terms : List Term) (base n : ℕ) (o : Option Choice) → MaybeOpen s terms base n h o
+  pub open_at : (terms : List Term) (base n : ℕ) (o : Option (Box Choice Global)) → MaybeOpen s terms base n h o
       → MaybeOpen t terms base n g o
   open_at terms base n o is =
       subst (λ k. MaybeOpen t terms base n k o) node (open_in_scene s t code terms base n h o is)
@@ -119,8 +120,8 @@ module _ (s t : Scene) (code : s.code ≡ t.code) (h g : HeldNode) (node : h ≡
   agenda_children_at nest terms a =
       agenda_scene s t code nest terms h a ∙ ap (λ k. agenda_children t nest terms k a) node
 
-  pub takes_at : (nest : ℕ) (old new : List Term) (before : Option Choice) (given : Option Given) (child : HeldNode)
-      (left : Option Choice) → TakesOpen s nest old new h before given child left
+  pub takes_at : (nest : ℕ) (old new : List Term) (before : Option (Box Choice Global)) (given : Option Given)
+      (child : HeldNode) (left : Option (Box Choice Global)) → TakesOpen s nest old new h before given child left
       → TakesOpen t nest old new g before given child left
   takes_at nest old new before given child left takes =
       subst (λ k. TakesOpen t nest old new k before given child left) node (record {

@@ -1,6 +1,7 @@
 -- Children of agendas over terms that agree below a count, and by scenes of the same code.
 use Rattle.std.proofs.Common.{◌≡◌, ℕ, ◌≤◌, List, [], ◌++◌, take, Option, Some, None, refl, ap, ap₂, subst, arith}
-use Rattle.std.specs.Prelude.{flat_map}
+use Rattle.std.specs.Prelude.{Box, flat_map}
+use Rattle.std.specs.Global.{Global}
 use Rattle.hp_syntax.specs.Terms.{Term}
 use Rattle.hp_syntax.specs.Walk.{child_of}
 use Rattle.hp_code.specs.CodeViews.{CodeView}
@@ -46,10 +47,10 @@ choice_agrees n c d s nest h x node is same =
     (events_agree n c d s h x is same)
 
 -- so are those of a choice, if one is open
-pub open_agrees : (n : ℕ) (c d : List Term) (s : Scene) (nest base : ℕ) (h : HeldNode) (o : Option Choice)
+pub open_agrees : (n : ℕ) (c d : List Term) (s : Scene) (nest base : ℕ) (h : HeldNode) (o : Option (Box Choice Global))
     → IsHeldNode n h → MaybeOpen s c base n h o → take n c ≡ take n d → if_open s nest c h o ≡ if_open s nest d h o
 open_agrees n c d s nest base h None node is same = refl
-open_agrees n c d s nest base h (Some x) node is same = choice_agrees n c d s nest h x node is.choice same
+open_agrees n c d s nest base h (Some x) node is same = choice_agrees n c d s nest h x.value node is.choice same
 
 -- so are those of a queue
 pub queue_agrees : (n : ℕ) (c d : List Term) (k : CodeView) (nest : ℕ) (h : HeldNode) (q : Queue) → IsHeldNode n h
@@ -85,11 +86,11 @@ choice_below n c d s h x is same =
     }
 
 -- so does one that is open, if it is
-pub open_below : (n : ℕ) (c d : List Term) (s : Scene) (base : ℕ) (h : HeldNode) (o : Option Choice)
+pub open_below : (n : ℕ) (c d : List Term) (s : Scene) (base : ℕ) (h : HeldNode) (o : Option (Box Choice Global))
     → MaybeOpen s c base n h o → take n c ≡ take n d → MaybeOpen s d base n h o
 open_below n c d s base h None is same = tt
 open_below n c d s base h (Some x) is same = record {
-  choice = choice_below n c d s h x is.choice same;
+  choice = choice_below n c d s h x.value is.choice same;
   candidate = is.candidate;
   kept = is.kept;
   deep = is.deep;
@@ -104,7 +105,7 @@ agenda_below n c d s base h a is same =
 -- ---- other counts
 
 -- cells below a count are below a greater one, and satisfiers keep no fewer than a smaller number
-pub open_within : (s : Scene) (terms : List Term) (base low n m : ℕ) (h : HeldNode) (o : Option Choice)
+pub open_within : (s : Scene) (terms : List Term) (base low n m : ℕ) (h : HeldNode) (o : Option (Box Choice Global))
     → MaybeOpen s terms base n h o → low ≤ base → n ≤ m → MaybeOpen s terms low m h o
 open_within s terms base low n m h None is l k = tt
 open_within s terms base low n m h (Some x) is l k = record {
@@ -147,10 +148,10 @@ choice_scene s t e nest terms h x =
     (code_same s t e) (scene_same s t h.stage e)
 
 -- so are those of a choice, if one is open
-pub open_scene : (s t : Scene) → s.code ≡ t.code → (nest : ℕ) (terms : List Term) (h : HeldNode) (o : Option Choice)
-    → if_open s nest terms h o ≡ if_open t nest terms h o
+pub open_scene : (s t : Scene) → s.code ≡ t.code → (nest : ℕ) (terms : List Term) (h : HeldNode)
+    (o : Option (Box Choice Global)) → if_open s nest terms h o ≡ if_open t nest terms h o
 open_scene s t e nest terms h None = refl
-open_scene s t e nest terms h (Some x) = choice_scene s t e nest terms h x
+open_scene s t e nest terms h (Some x) = choice_scene s t e nest terms h x.value
 
 -- so are those of an agenda
 pub agenda_scene : (s t : Scene) → s.code ≡ t.code → (nest : ℕ) (terms : List Term) (h : HeldNode) (a : Agenda)
@@ -175,10 +176,10 @@ choice_in_scene s t e terms n g x is = record {
 
 -- so is one that is open, if it is
 pub open_in_scene : (s t : Scene) → s.code ≡ t.code → (terms : List Term) (base n : ℕ) (h : HeldNode)
-    (o : Option Choice) → MaybeOpen s terms base n h o → MaybeOpen t terms base n h o
+    (o : Option (Box Choice Global)) → MaybeOpen s terms base n h o → MaybeOpen t terms base n h o
 open_in_scene s t e terms base n h None is = tt
 open_in_scene s t e terms base n h (Some x) is = record {
-  choice = choice_in_scene s t e terms n h.stage x is.choice;
+  choice = choice_in_scene s t e terms n h.stage x.value is.choice;
   candidate = is.candidate;
   kept = is.kept;
   deep = is.deep;

@@ -1,8 +1,9 @@
 -- What an open choice has given stays so over terms that agree, by scenes of the same code and where it goes on.
 use Rattle.std.proofs.Common.{◌≡◌, ℕ, zero, suc, ◌<◌, List, [], ◌∷◌, ◌++◌, length, map, take, Option, Some, None, IfSome, refl, sym, ◌∙◌, ap, ap₂, subst, append_assoc, arith, get_or}
-use Rattle.std.specs.Prelude.{slice_get, Result, Ok, Err, IfOk, OnOk}
+use Rattle.std.specs.Prelude.{Box, slice_get, Result, Ok, Err, IfOk, OnOk}
 use Rattle.std.proofs.lemmas.List.{append-nil}
 use Rattle.std.proofs.lemmas.Option.{slice_get_read}
+use Rattle.std.specs.Global.{Global}
 use Rattle.hp_syntax.specs.Networks.{Place, candidates}
 use Rattle.hp_syntax.specs.Syntax.{Rule}
 use Rattle.hp_syntax.specs.Terms.{Term}
@@ -48,16 +49,16 @@ serving_by v n t = record v { node = n; task = t }
 
 module _ (n : ℕ) (c d : List Term) (s : Scene) (nest base : ℕ) (h : HeldNode) (node : IsHeldNode n h)
     (same : take n c ≡ take n d) where
-  last_agrees : (number : ℕ) (o : Option Choice) (last : List Child) → MaybeOpen s c base n h o
+  last_agrees : (number : ℕ) (o : Option (Box Choice Global)) (last : List Child) → MaybeOpen s c base n h o
       → LastGiven s nest c h number o last → LastGiven s nest d h number o last
   last_agrees number None last is g = g
   last_agrees number (Some x) last is (earlier, gave) = (
     earlier,
-    gave_alike (code_in s) (code_in s) nest (serving_of c h number x) (serving_of d h number x) (earlier ++ last)
-        (held_children s nest c h x) (held_children s nest d h x) refl
-        (ap₂ (serving_by (serving_of c h number x)) (held_agrees n c d h node same)
-        (term_agrees n c d same x.task is.choice.task))
-        (choice_agrees n c d s nest h x node is.choice same) gave,
+    gave_alike (code_in s) (code_in s) nest (serving_of c h number x.value) (serving_of d h number x.value)
+        (earlier ++ last) (held_children s nest c h x.value) (held_children s nest d h x.value) refl
+        (ap₂ (serving_by (serving_of c h number x.value)) (held_agrees n c d h node same)
+        (term_agrees n c d same x.value.task is.choice.task))
+        (choice_agrees n c d s nest h x.value node is.choice same) gave,
   )
 
   -- what an agenda has given stays so over terms that agree below a count
@@ -69,14 +70,14 @@ module _ (n : ℕ) (c d : List Term) (s : Scene) (nest base : ℕ) (h : HeldNode
 -- ---- scenes of the same code, and the same search node
 
 module _ (s t : Scene) (code : s.code ≡ t.code) (nest : ℕ) (terms : List Term) where
-  last_in_scene : (h : HeldNode) (number : ℕ) (o : Option Choice) (last : List Child)
+  last_in_scene : (h : HeldNode) (number : ℕ) (o : Option (Box Choice Global)) (last : List Child)
       → LastGiven s nest terms h number o last → LastGiven t nest terms h number o last
   last_in_scene h number None last g = g
   last_in_scene h number (Some x) last (earlier, gave) = (
     earlier,
-    gave_alike (code_in s) (code_in t) nest (serving_of terms h number x) (serving_of terms h number x)
-        (earlier ++ last) (held_children s nest terms h x) (held_children t nest terms h x) (code_same s t code) refl
-        (choice_scene s t code nest terms h x) gave,
+    gave_alike (code_in s) (code_in t) nest (serving_of terms h number x.value) (serving_of terms h number x.value)
+        (earlier ++ last) (held_children s nest terms h x.value) (held_children t nest terms h x.value)
+        (code_same s t code) refl (choice_scene s t code nest terms h x.value) gave,
   )
 
   -- it stays so in a scene of the same code, at the same search node
@@ -89,12 +90,12 @@ module _ (s t : Scene) (code : s.code ≡ t.code) (nest : ℕ) (terms : List Ter
 -- ---- what was given last
 
 module _ (s : Scene) (nest : ℕ) (terms : List Term) (h : HeldNode) where
-  settled : (number : ℕ) (o : Option Choice) (last : List Child) → LastGiven s nest terms h number o last
+  settled : (number : ℕ) (o : Option (Box Choice Global)) (last : List Child) → LastGiven s nest terms h number o last
       → LastGiven s nest terms h number o []
   settled number None last g = refl
   settled number (Some x) last (earlier, gave) = (
     earlier ++ last,
-    subst (λ given. ChoiceGave s nest terms h number x given) (sym (append-nil (earlier ++ last))) gave,
+    subst (λ given. ChoiceGave s nest terms h number x.value given) (sym (append-nil (earlier ++ last))) gave,
   )
 
   -- what was given last was given
@@ -127,21 +128,23 @@ ends_with terms child (Some (given.Fault f)) before =
 module _ (s : Scene) (nest : ℕ) (old new : List Term) (grows : Grows old new) (h : HeldNode)
     (node : IsHeldNode (length old) h) where
   -- the next child was given by the choice, and the others are left
-  pub choice_gave_next : (number : ℕ) (x y : Choice) (given : Option Given) (child : HeldNode)
-      → x.task < length old → y.id ≡ x.id → ServesStill x y
-      → held_children s nest old h x ≡ given_children new child given ++ held_children s nest new h y
+  pub choice_gave_next : (number : ℕ) (x y : Box Choice Global) (given : Option Given) (child : HeldNode)
+      → x.value.task < length old → y.value.id ≡ x.value.id → ServesStill x.value y.value
+      → held_children s nest old h x.value ≡ given_children new child given ++ held_children s nest new h y.value
       → LastGiven s nest old h number (Some x) []
       → LastGiven s nest new h number (Some y) (did_given new child given)
   choice_gave_next number x y given child below id still next (earlier, gave) =
       let e = ends_with new child given earlier in
-      let same : serving_of old h number x ≡ serving_of new h number y =
-      ap₂ (serving_by (serving_of old h number x)) (sym (node_stays old new grows h node))
-      (sym (term_stays old new grows x.task below))
-      ∙ (ap₂ (λ i t. record (serving_of new h number x) { place = place_in h.network i; task = term_at new t })
+      let same : serving_of old h number x.value ≡ serving_of new h number y.value =
+      ap₂ (serving_by (serving_of old h number x.value)) (sym (node_stays old new grows h node))
+      (sym (term_stays old new grows x.value.task below))
+      ∙ (ap₂ (λ i t. record (serving_of new h number x.value) { place = place_in h.network i; task = term_at new t })
       (sym id) (sym still.task)
-      ∙ ap₂ (λ r b. record (serving_of new h number y) { rule = r; branch = b }) (sym still.rule) (sym still.branch)) in
-      let own : HasGiven (code_in s) nest (serving_of new h number y) (earlier ++ []) (held_children s nest old h x) =
-      subst (λ v. HasGiven (code_in s) nest v (earlier ++ []) (held_children s nest old h x)) same gave in (
+      ∙ ap₂ (λ r b. record (serving_of new h number y.value) { rule = r; branch = b }) (sym still.rule)
+      (sym still.branch)) in
+      let own : HasGiven (code_in s) nest (serving_of new h number y.value) (earlier ++ [])
+      (held_children s nest old h x.value) =
+      subst (λ v. HasGiven (code_in s) nest v (earlier ++ []) (held_children s nest old h x.value)) same gave in (
         e.earlier,
         record {
           next = own.next;
@@ -151,8 +154,8 @@ module _ (s : Scene) (nest : ℕ) (old new : List Term) (grows : Grows old new) 
           children =
               own.children
               ∙ (ap₂ ◌++◌ (append-nil earlier) next
-              ∙ (sym (append_assoc earlier (given_children new child given) (held_children s nest new h y))
-              ∙ ap (λ xs. xs ++ held_children s nest new h y) e.is));
+              ∙ (sym (append_assoc earlier (given_children new child given) (held_children s nest new h y.value))
+              ∙ ap (λ xs. xs ++ held_children s nest new h y.value) e.is));
         },
       )
 
@@ -226,49 +229,50 @@ some_weaker (Some x) P Q f h = f x h
 module _ (s : Scene) (nest : ℕ) (terms : List Term) (h : HeldNode) (number id task rule : ℕ) (n : Node) (t : Term)
     (r : Rule) where
   -- the choice of a rule that is opened for a candidate has given nothing yet
-  pub opened_last : (o : Option Choice) → node_of terms h ≡ n → term_at terms task ≡ t
+  pub opened_last : (o : Option (Box Choice Global)) → node_of terms h ≡ n → term_at terms task ≡ t
       → IsNext (situation_at n) number (place_in h.network id) t → rule_of (code_in s) rule ≡ Some r
-      → IfSome o (λ c. (c.id ≡ id) × (c.task ≡ task)) → IfSome o (λ c. c.rule ≡ rule)
-      → IfSome o (λ c. ServesBy (rules_in (code_in s)) nest n.state t r c.branch)
+      → IfSome o (λ c. (c.value.id ≡ id) × (c.value.task ≡ task)) → IfSome o (λ c. c.value.rule ≡ rule)
+      → IfSome o (λ c. ServesBy (rules_in (code_in s)) nest n.state t r c.value.branch)
       → children_if s nest terms h.stage n (place_in h.network id) o
       ≡ rule_children (rules_in (code_in s)) nest n (place_in h.network id) t r
       → LastGiven s nest terms h number o []
   opened_last None node own next is names by serves children = refl
   opened_last (Some c) node own next is names by serves children =
       let p = place_in h.network id in
-      let left = choice_children s nest terms h.stage n p c in
+      let left = choice_children s nest terms h.stage n p c.value in
       let begun : HasGiven (code_in s) nest
-      (record { node = n; number = number; place = p; task = t; rule = rule; branch = c.branch }) [] left =
+      (record { node = n; number = number; place = p; task = t; rule = rule; branch = c.value.branch }) [] left =
       record { next = next; own = r; is = is; serves = serves; children = sym children } in
-      let same : record { node = n; number = number; place = p; task = t; rule = rule; branch = c.branch }
-      ≡ serving_of terms h number c =
-      ap₂ (λ m u. record { node = m; number = number; place = p; task = u; rule = rule; branch = c.branch }) (sym node)
-      (sym own)
+      let same : record { node = n; number = number; place = p; task = t; rule = rule; branch = c.value.branch }
+      ≡ serving_of terms h number c.value =
+      ap₂ (λ m u. record { node = m; number = number; place = p; task = u; rule = rule; branch = c.value.branch })
+      (sym node) (sym own)
       ∙ (ap₂ (λ i u. record {
         node = node_of terms h;
         number = number;
         place = place_in h.network i;
         task = term_at terms u;
         rule = rule;
-        branch = c.branch;
+        branch = c.value.branch;
       }) (sym names.0) (sym names.1)
-      ∙ ap (λ k. record (serving_of terms h number c) { rule = k }) (sym by)) in (
+      ∙ ap (λ k. record (serving_of terms h number c.value) { rule = k }) (sym by)) in (
         [],
-        gave_alike (code_in s) (code_in s) nest _ (serving_of terms h number c) [] left (held_children s nest terms h c)
-            refl same
-            (ap₂ (λ m i. choice_children s nest terms h.stage m (place_in h.network i) c) (sym node) (sym names.0))
+        gave_alike (code_in s) (code_in s) nest _ (serving_of terms h number c.value) [] left
+            (held_children s nest terms h c.value) refl same
+            (ap₂ (λ m i. choice_children s nest terms h.stage m (place_in h.network i) c.value) (sym node)
+            (sym names.0))
             begun,
       )
 
 -- ---- the next child of the choice that is open
 
 module _ (s : Scene) (nest base : ℕ) (old new : List Term) (grows : Grows old new) (h : HeldNode)
-    (node : IsHeldNode (length old) h) (a b : Agenda) (x y : Choice) (opened : a.open ≡ Some x)
+    (node : IsHeldNode (length old) h) (a b : Agenda) (x y : Box Choice Global) (opened : a.open ≡ Some x)
     (left : b.open ≡ Some y) (queue : b.queue ≡ a.queue) (is : MaybeOpen s old base (length old) h a.open)
-    (id : y.id ≡ x.id) (last : HasLast s nest old h a []) where
+    (id : y.value.id ≡ x.value.id) (last : HasLast s nest old h a []) where
   -- what it gives is what was given last
-  open_gave_next : (given : Option Given) (child : HeldNode) → ServesStill x y → Takes s nest old new h x given child y
-      → HasLast s nest new h b (did_given new child given)
+  open_gave_next : (given : Option Given) (child : HeldNode) → ServesStill x.value y.value
+      → Takes s nest old new h x.value given child y.value → HasLast s nest new h b (did_given new child given)
   open_gave_next given child still takes =
       let own = subst (MaybeOpen s old base (length old) h) opened is in
       let begun : LastGiven s nest old h a.queue.at (Some x) [] =
@@ -282,8 +286,8 @@ module _ (s : Scene) (nest base : ℕ) (old new : List Term) (grows : Grows old 
             begun));
       }
 
-  pub open_gives_next : {E : Type 0} (r : Result (Option Given) E) (child : HeldNode) → OnOk r (ServesStill x y)
-      → IfOk r (λ given. Takes s nest old new h x given child y)
+  pub open_gives_next : {E : Type 0} (r : Result (Option Given) E) (child : HeldNode)
+      → OnOk r (ServesStill x.value y.value) → IfOk r (λ given. Takes s nest old new h x.value given child y.value)
       → IfOk r (λ given. HasLast s nest new h b (did_given new child given))
   open_gives_next (Ok given) child still takes = open_gave_next given child still takes
   open_gives_next (Err e) child still takes = tt

@@ -1,10 +1,11 @@
 -- The children of a queue by the rules that are left for the first candidate.
 use Rattle.std.proofs.Common.{◌≡◌, ◌==◌, ℕ, zero, suc, ◌+◌, ◌<◌, ◌≤◌, Bool, true, false, cond, eq-eqb, inl, inr, take, List, [], ◌∷◌, ◌++◌, length, map, drop, get_or, Option, Some, None, IfSome, refl, sym, ◌∙◌, ap, ap₂, subst, append_assoc, arith}
 use Rattle.std.specs.List.{All}
-use Rattle.std.specs.Prelude.{flat_map, is_some}
+use Rattle.std.specs.Prelude.{Box, flat_map, is_some}
 use Rattle.std.proofs.lemmas.Bool.{cases_lt, ne_eqb}
 use Rattle.std.proofs.lemmas.List.{append-nil, drop-append-le, drop_all, get_or_default, length-drop, length-map, length-take-le, take-append-drop, take_all}
 use Rattle.std.proofs.lemmas.List.Elements.{All-nil, All-cons, All-take}
+use Rattle.std.specs.Global.{Global}
 use Rattle.hp_syntax.specs.Networks.{Network, Empty, Task, Ordered, Unordered, Place, candidates, part_at}
 use Rattle.hp_syntax.specs.Syntax.{Rule}
 use Rattle.hp_syntax.specs.Terms.{Term}
@@ -235,16 +236,17 @@ rules_done c nest n net q within =
 
 module _ (s : Scene) (nest : ℕ) (new : List Term) (h : HeldNode) (id task : ℕ) where
   -- a choice of a candidate gives the search node the children that it gives the node
-  pub opened_children : (n : Node) (o : Option Choice) → node_of new h ≡ n
-      → IfSome o (λ c. (c.id ≡ id) × (c.task ≡ task))
+  pub opened_children : (n : Node) (o : Option (Box Choice Global)) → node_of new h ≡ n
+      → IfSome o (λ c. (c.value.id ≡ id) × (c.value.task ≡ task))
       → if_open s nest new h o ≡ children_if s nest new h.stage n (place_in h.network id) o
   opened_children n None e names = refl
   opened_children n (Some c) e names =
-      ap₂ (λ m i. choice_children s nest new h.stage m (place_in h.network i) c) e names.0
+      ap₂ (λ m i. choice_children s nest new h.stage m (place_in h.network i) c.value) e names.0
 
   -- it is open
-  pub opened_is : (base : ℕ) (o : Option Choice) → IfSome o (IsChoice s new (length new) h.stage)
-      → IfSome o (λ c. (c.id ≡ id) × (c.task ≡ task)) → IfSome o (λ c. base ≤ picked_kept c.sats)
+  pub opened_is : (base : ℕ) (o : Option (Box Choice Global))
+      → IfSome o (λ c. IsChoice s new (length new) h.stage c.value)
+      → IfSome o (λ c. (c.value.id ≡ id) × (c.value.task ≡ task)) → IfSome o (λ c. base ≤ picked_kept c.value.sats)
       → IsCandidate h.network id → 0 < h.depth → MaybeOpen s new base (length new) h o
   opened_is base None is names kept candidate deep = tt
   opened_is base (Some c) is names kept candidate deep = record {

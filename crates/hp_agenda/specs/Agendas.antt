@@ -1,5 +1,6 @@
 -- The children of a node that are left.
-use Rattle.std.specs.Prelude.{◌≡◌, ℕ, List, [], ◌++◌, Option, None}
+use Rattle.std.specs.Prelude.{◌≡◌, ℕ, List, [], ◌++◌, Option, None, Box}
+use Rattle.std.specs.Global.{Global}
 use Rattle.hp_syntax.specs.Terms.{Term}
 use Rattle.hp_syntax.specs.Walk.{Child}
 use Rattle.hp_suspended.specs.declared.scene.Scene.{Scene}
@@ -23,8 +24,8 @@ pub record IsAgenda (s : Scene) (terms : List Term) (base n : ℕ) (h : HeldNode
 
 -- a child is the next of those that were left of the open choice, and the others are left; where there is none, none
 -- was left
-pub record TakesOpen (s : Scene) (nest : ℕ) (old new : List Term) (h : HeldNode) (before : Option Choice)
-    (given : Option Given) (child : HeldNode) (left : Option Choice) : Type 0 where
+pub record TakesOpen (s : Scene) (nest : ℕ) (old new : List Term) (h : HeldNode) (before : Option (Box Choice Global))
+    (given : Option Given) (child : HeldNode) (left : Option (Box Choice Global)) : Type 0 where
   pub next : if_open s nest old h before ≡ given_children new child given ++ if_open s nest new h left
   pub all : given ≡ None → if_open s nest new h left ≡ []
 

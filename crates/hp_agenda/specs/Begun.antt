@@ -1,5 +1,6 @@
 -- What the open choice of an agenda has given, and by which candidate, rule and branch.
-use Rattle.std.specs.Prelude.{◌≡◌, ℕ, ◌<◌, List, [], ◌∷◌, ◌++◌, length, map, take, Option, Some, None}
+use Rattle.std.specs.Prelude.{◌≡◌, ℕ, ◌<◌, List, [], ◌∷◌, ◌++◌, length, map, take, Option, Some, None, Box}
+use Rattle.std.specs.Global.{Global}
 use Rattle.hp_syntax.specs.Networks.{Place, candidates}
 use Rattle.hp_syntax.specs.Syntax.{Rule}
 use Rattle.hp_syntax.specs.Terms.{Term}
@@ -65,10 +66,10 @@ ChoiceGave s nest terms h number c given =
     HasGiven (code_in s) nest (serving_of terms h number c) given (held_children s nest terms h c)
 
 -- the last children that the choice which is open gave are these; where none is open there are none
-abbrev pub LastGiven : Scene → ℕ → List Term → HeldNode → ℕ → Option Choice → List Child → Type 0
+abbrev pub LastGiven : Scene → ℕ → List Term → HeldNode → ℕ → Option (Box Choice Global) → List Child → Type 0
 LastGiven s nest terms h number None last = last ≡ []
 LastGiven s nest terms h number (Some c) last =
-    (earlier : List Child) × ChoiceGave s nest terms h number c (earlier ++ last)
+    (earlier : List Child) × ChoiceGave s nest terms h number c.value (earlier ++ last)
 
 -- the same of an agenda, whose queue has the candidates in their order
 pub record HasLast (s : Scene) (nest : ℕ) (terms : List Term) (h : HeldNode) (a : Agenda) (last : List Child) : Type 0

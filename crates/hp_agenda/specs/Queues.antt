@@ -1,5 +1,6 @@
 -- The candidates that are left, the rules that are left for the first of them, and the children by these.
-use Rattle.std.specs.Prelude.{◌≡◌, ℕ, ◌+◌, ◌*◌, ◌<◌, ◌≤◌, Bool, true, cond, List, [], ◌∷◌, ◌++◌, length, drop, Option, Some, None, is_some, flat_map}
+use Rattle.std.specs.Prelude.{◌≡◌, ℕ, ◌+◌, ◌*◌, ◌<◌, ◌≤◌, Bool, true, cond, List, [], ◌∷◌, ◌++◌, length, drop, Option, Some, None, is_some, flat_map, Box}
+use Rattle.std.specs.Global.{Global}
 use Rattle.std.specs.List.{All}
 use Rattle.hp_syntax.specs.Networks.{Network, Empty, Task, Ordered, Unordered, Place, part_at}
 use Rattle.hp_syntax.specs.Syntax.{Rule}
@@ -53,9 +54,9 @@ abbrev pub queue_children : CodeView → ℕ → Node → Linked → Queue → L
 queue_children c nest n net q = by_queue c nest n net q.rules.now (candidates_left net q)
 
 -- those of a choice, if one is open
-abbrev pub if_open : Scene → ℕ → List Term → HeldNode → Option Choice → List Child
+abbrev pub if_open : Scene → ℕ → List Term → HeldNode → Option (Box Choice Global) → List Child
 if_open s nest terms h None = []
-if_open s nest terms h (Some c) = held_children s nest terms h c
+if_open s nest terms h (Some c) = held_children s nest terms h c.value
 
 -- ---- invariants
 
@@ -84,6 +85,6 @@ pub record IsOpen (s : Scene) (terms : List Term) (base n : ℕ) (h : HeldNode) 
   pub kept : base ≤ picked_kept c.sats
   pub deep : 0 < h.depth
 
-abbrev pub MaybeOpen : Scene → List Term → ℕ → ℕ → HeldNode → Option Choice → Type 0
+abbrev pub MaybeOpen : Scene → List Term → ℕ → ℕ → HeldNode → Option (Box Choice Global) → Type 0
 MaybeOpen s terms base n h None = Unit {0}
-MaybeOpen s terms base n h (Some c) = IsOpen s terms base n h c
+MaybeOpen s terms base n h (Some c) = IsOpen s terms base n h c.value

@@ -20,7 +20,7 @@ use std::alloc::{AllocError, Global};
 /// The children of a node that are left: those of the choice that is open, and then those by the rules and candidates
 /// behind it.
 pub struct Agenda<'a> {
-    pub open: Option<Choice>,
+    pub open: Option<Box<Choice>>,
     pub queue: Queue<'a>,
 }
 

@@ -129,7 +129,7 @@ impl<'a> Queue<'a> {
         nest: u32,
         site: &Site<'a>,
         cells: &mut Cells,
-    ) -> Result<Option<Choice>, AllocError>
+    ) -> Result<Option<Box<Choice>>, AllocError>
         requires site { IsSite cells.old site.now }
         requires queue { IsQueue (code_in site.now.scene) (held_now site.now) self.old }
         requires some { self.old.at < length self.old.candidates.items }

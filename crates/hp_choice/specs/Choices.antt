@@ -1,5 +1,6 @@
 -- The choice of a rule at a task: the events that are left, and the children that they give.
-use Rattle.std.specs.Prelude.{◌≡◌, ℕ, ◌<◌, ◌≤◌, true, List, [], ◌∷◌, ◌++◌, length, Option, Some, None, flat_map}
+use Rattle.std.specs.Prelude.{◌≡◌, ℕ, ◌<◌, ◌≤◌, true, List, [], ◌∷◌, ◌++◌, length, Option, Some, None, flat_map, Box}
+use Rattle.std.specs.Global.{Global}
 use Rattle.hp_syntax.specs.Networks.{Place}
 use Rattle.hp_syntax.specs.Terms.{Term}
 use Rattle.hp_syntax.specs.Values.{Bindings}
@@ -52,9 +53,9 @@ choice_children s nest terms g n p c =
     flat_map (child_of (deed_done (code_in s) nest n p (term_at terms c.task) c.deed)) (events_left s terms g c)
 
 -- those of a choice, if there is one
-abbrev pub children_if : Scene → ℕ → List Term → Stage → Node → Place → Option Choice → List Child
+abbrev pub children_if : Scene → ℕ → List Term → Stage → Node → Place → Option (Box Choice Global) → List Child
 children_if s nest terms g n p None = []
-children_if s nest terms g n p (Some c) = choice_children s nest terms g n p c
+children_if s nest terms g n p (Some c) = choice_children s nest terms g n p c.value
 
 -- those of a choice at a search node
 abbrev pub held_children : Scene → ℕ → List Term → HeldNode → Choice → List Child

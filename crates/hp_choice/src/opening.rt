@@ -78,7 +78,12 @@ struct Opening<'s, 'a> {
 
 impl Opening<'_, '_> {
     // The choice of an operator under the bindings with which its head matches.
-    fn by_operator(&self, rule: usize, slots: Slots, cells: &Cells) -> Result<Choice, AllocError>
+    fn by_operator(
+        &self,
+        rule: usize,
+        slots: Slots,
+        cells: &Cells,
+    ) -> Result<Box<Choice>, AllocError>
         requires rule { let c = code_in self.now.scene.now in
             (o : Operator) × (beside rule (rule_nodes c) (rules_in c) ≡ Some (Does o)) }
         requires ready { IsReady self.now.scene.now cells.now slots }
@@ -87,14 +92,14 @@ impl Opening<'_, '_> {
         ensures children { let s = self.now.scene.now in let c = code_in s in
             IfOk result (λ x. (o : Operator) (n : Node) (p : Place)
             → beside rule (rule_nodes c) (rules_in c) ≡ Some (Does o) → n.state ≡ state_in (setting_of s cells.now)
-            → choice_children s self.now.nest cells.now s.world.now n p x
+            → choice_children s self.now.nest cells.now s.world.now n p x.value
             ≡ operator_children (rules_in c) self.now.nest n p (term_at cells.now self.now.task) o
             (Some (bindings_of cells.now slots))) }
         ensures choice { let s = self.now.scene.now in
-            IfOk result (IsChoice s cells.now (length cells.now) s.world.now) }
-        ensures names { IfOk result (λ x. (x.id ≡ self.now.id) × (x.task ≡ self.now.task)) }
-        ensures served { IfOk result (λ x. (x.rule ≡ rule) × (x.branch ≡ 0)) }
-        ensures kept { IfOk result (λ x. length cells.now ≤ picked_kept x.sats) }
+            IfOk result (λ x. IsChoice s cells.now (length cells.now) s.world.now x.value) }
+        ensures names { IfOk result (λ x. (x.value.id ≡ self.now.id) × (x.value.task ≡ self.now.task)) }
+        ensures served { IfOk result (λ x. (x.value.rule ≡ rule) × (x.value.branch ≡ 0)) }
+        ensures kept { IfOk result (λ x. length cells.now ≤ picked_kept x.value.sats) }
     {
         // Nothing runs here: the law makes known that an operator comes to what its nodes do.
         operators_come_to_what_their_bodies_do();
@@ -102,7 +107,7 @@ impl Opening<'_, '_> {
         let pre = rule + 1;
         let sats = satisfiers(self.alloc, self.scene, cells, pre, self.nest, &slots)?;
         let start = node_at(pre, self.scene).to;
-        Ok(Choice {
+        let choice = Choice {
             id: self.id,
             task: self.task,
             rule,
@@ -111,7 +116,8 @@ impl Opening<'_, '_> {
             slots,
             sats,
             first: None,
-        })
+        };
+        Ok(Box::new(self.alloc, choice)?)
     }
 
     // The choice of a method under the bindings with which its head matches: that of its first branch whose
@@ -121,7 +127,7 @@ impl Opening<'_, '_> {
         rule: usize,
         slots: Slots,
         cells: &mut Cells,
-    ) -> Result<Option<Choice>, AllocError>
+    ) -> Result<Option<Box<Choice>>, AllocError>
         requires rule { let c = code_in self.now.scene.now in
             (m : Method) × (beside rule (rule_nodes c) (rules_in c) ≡ Some (Refines m)) }
         requires ready { IsReady self.now.scene.now cells.old slots }
@@ -133,14 +139,14 @@ impl Opening<'_, '_> {
             → children_if s self.now.nest cells.new s.world.now n p x
             ≡ method_children (rules_in c) self.now.nest n p m (Some (bindings_of cells.old slots))) }
         ensures choice { let s = self.now.scene.now in
-            IfOk result (λ x. IfSome x (IsChoice s cells.new (length cells.new) s.world.now)) }
-        ensures names { IfOk result (λ x. IfSome x (λ c. (c.id ≡ self.now.id) × (c.task ≡ self.now.task))) }
-        ensures rule { IfOk result (λ x. IfSome x (λ c. c.rule ≡ rule)) }
+            IfOk result (λ x. IfSome x (λ c. IsChoice s cells.new (length cells.new) s.world.now c.value)) }
+        ensures names { IfOk result (λ x. IfSome x (λ c. (c.value.id ≡ self.now.id) × (c.value.task ≡ self.now.task))) }
+        ensures rule { IfOk result (λ x. IfSome x (λ c. c.value.rule ≡ rule)) }
         ensures branch { let s = self.now.scene.now in let c = code_in s in
             IfOk result (λ x. IfSome x (λ d. (m : Method) (n : Node)
             → beside rule (rule_nodes c) (rules_in c) ≡ Some (Refines m) → n.state ≡ state_in (setting_of s cells.old)
-            → IsChosenAt (rules_in c) self.now.nest n.state (bindings_of cells.old slots) m.branches d.branch)) }
-        ensures kept { IfOk result (λ x. IfSome x (λ c. length cells.old ≤ picked_kept c.sats)) }
+            → IsChosenAt (rules_in c) self.now.nest n.state (bindings_of cells.old slots) m.branches d.value.branch)) }
+        ensures kept { IfOk result (λ x. IfSome x (λ c. length cells.old ≤ picked_kept c.value.sats)) }
         ensures cells { Grows cells.old cells.new }
     {
         let mut slots = slots;
@@ -162,23 +168,27 @@ impl Opening<'_, '_> {
                     sats,
                     first,
                 },
-            ) => Ok(Some(Choice {
-                id: self.id,
-                task: self.task,
-                rule,
-                branch: number,
-                deed: Deed::Decompose { tasks },
-                slots,
-                sats,
-                first: Some(first),
-            })),
+            ) => {
+                let choice = Choice {
+                    id: self.id,
+                    task: self.task,
+                    rule,
+                    branch: number,
+                    deed: Deed::Decompose { tasks },
+                    slots,
+                    sats,
+                    first: Some(first),
+                };
+                Ok(Some(Box::new(self.alloc, choice)?))
+            }
             None => Ok(None),
         }
     }
 }
 
 /// The choice of a rule at a task, by the rule's node, with so many axiom levels: at most 128. There is none where the
-/// head doesn't match, or where no branch of a method has any events.
+/// head doesn't match, or where no branch of a method has any events. It stays where it is while what holds it is
+/// moved.
 pub fn open<'a>(
     alloc: Global,
     scene: &Scene<'a>,
@@ -187,7 +197,7 @@ pub fn open<'a>(
     id: TaskId,
     task: Cell,
     cells: &mut Cells,
-) -> Result<Option<Choice>, AllocError>
+) -> Result<Option<Box<Choice>>, AllocError>
     requires rule { is_some (beside rule (rule_nodes (code_in scene.now)) (rules_in (code_in scene.now))) ≡ true }
     requires atoms { AllBelow (length cells.old) (live_atoms scene.now.world.now.places) }
     requires knows { Knows cells.old scene.now.world }
@@ -198,15 +208,15 @@ pub fn open<'a>(
         → n.state ≡ state_in (setting_of scene.now cells.old)
         → children_if scene.now nest cells.new scene.now.world.now n p o
         ≡ rule_children (rules_in (code_in scene.now)) nest n p (term_at cells.old task) r) }
-    ensures choice { IfOk result (λ o. IfSome o (IsChoice scene.now cells.new (length cells.new)
-        scene.now.world.now)) }
-    ensures names { IfOk result (λ o. IfSome o (λ c. (c.id ≡ id) × (c.task ≡ task))) }
-    ensures rule { IfOk result (λ o. IfSome o (λ c. c.rule ≡ rule)) }
+    ensures choice { IfOk result (λ o. IfSome o (λ c. IsChoice scene.now cells.new (length cells.new)
+        scene.now.world.now c.value)) }
+    ensures names { IfOk result (λ o. IfSome o (λ c. (c.value.id ≡ id) × (c.value.task ≡ task))) }
+    ensures rule { IfOk result (λ o. IfSome o (λ c. c.value.rule ≡ rule)) }
     ensures branch { IfOk result (λ o. IfSome o (λ c. (r : Rule) (n : Node)
         → beside rule (rule_nodes (code_in scene.now)) (rules_in (code_in scene.now)) ≡ Some r
         → n.state ≡ state_in (setting_of scene.now cells.old)
-        → ServesBy (rules_in (code_in scene.now)) nest n.state (term_at cells.old task) r c.branch)) }
-    ensures kept { IfOk result (λ o. IfSome o (λ c. length cells.old ≤ picked_kept c.sats)) }
+        → ServesBy (rules_in (code_in scene.now)) nest n.state (term_at cells.old task) r c.value.branch)) }
+    ensures kept { IfOk result (λ o. IfSome o (λ c. length cells.old ≤ picked_kept c.value.sats)) }
     ensures cells { Grows cells.old cells.new }
 {
     let opening = Opening {

@@ -1,10 +1,11 @@
 -- The decompositions that led to the node reached, as the frames on the path tell them.
 use Rattle.std.proofs.Common.{◌≡◌, ◌≢◌, ℕ, suc, ◌+◌, ◌-◌, ◌<◌, ◌≤◌, Bool, true, get_or, List, [], ◌∷◌, ◌++◌, length}
 use Rattle.std.proofs.Common.{Some, None, is_some, refl, sym, ◌∙◌, ap, subst, arith}
-use Rattle.std.specs.Prelude.{Contains, slice_get}
+use Rattle.std.specs.Prelude.{Box, Contains, slice_get}
 use Rattle.std.proofs.lemmas.List.{length-append}
 use Rattle.std.proofs.lemmas.List.Elements.{Contains-append_left, Contains-push}
 use Rattle.std.proofs.lemmas.Option.{slice_get-get_or}
+use Rattle.std.specs.Global.{Global}
 use Rattle.hp_syntax.specs.Terms.{Term}
 use Rattle.hp_syntax.specs.Walk.{Child, DidChild, Node, node_at, rule_children}
 use Rattle.hp_code.specs.CodeViews.{rules_in}
@@ -45,10 +46,10 @@ not_empty p j e = let a = ap length e in let b = length-append p (j ∷ []) in o
 -- ---- a frame, and the moment of the next node on the path
 
 -- the task of a choice that is open at a frame is below what the frame needs
-task_below : (site : Site) (nest : ℕ) (terms : List Term) (n : ℕ) (f : Frame) (x : Choice)
-    → IsFrame site nest terms n f → f.agenda.open ≡ Some x → x.task < n
+task_below : (site : Site) (nest : ℕ) (terms : List Term) (n : ℕ) (f : Frame) (x : Box Choice Global)
+    → IsFrame site nest terms n f → f.agenda.open ≡ Some x → x.value.task < n
 task_below site nest terms n f x frame is =
-    let opened : IsOpen site.scene terms f.base n (held_at site f.mark) x =
+    let opened : IsOpen site.scene terms f.base n (held_at site f.mark) x.value =
     subst (MaybeOpen site.scene terms f.base n (held_at site f.mark)) is frame.agenda.choice in
     opened.choice.task
 
@@ -69,38 +70,39 @@ module _ (s : Search) (f : Frame) (m : Mark)
       let long = ap length given in
       omega (arith, long)
 
-  module _ (x : Choice) (is : f.agenda.open ≡ Some x) where
+  module _ (x : Box Choice Global) (is : f.agenda.open ≡ Some x) where
     gave : (earlier : List Child)
-        × ChoiceGave s.site.scene s.nest s.cells (held_at s.site f.mark) f.agenda.queue.at x
+        × ChoiceGave s.site.scene s.nest s.cells (held_at s.site f.mark) f.agenda.queue.at x.value
         (earlier ++ DidChild own_child ∷ [])
     gave =
         subst (λ o. LastGiven s.site.scene s.nest s.cells (held_at s.site f.mark) f.agenda.queue.at o
         (DidChild own_child ∷ [])) is last
 
     -- its rule is one of the code
-    pub gave_rule : is_some (rule_of (code_in s.site.scene) x.rule) ≡ true
+    pub gave_rule : is_some (rule_of (code_in s.site.scene) x.value.rule) ≡ true
     gave_rule = ap is_some gave.1.is
 
     -- with the place of the rule, the candidate and the branch lead to the next node
     gave_leads : (place : ℕ)
-        → slice_get (rules_in (code_in s.site.scene)) place ≡ rule_of (code_in s.site.scene) x.rule
+        → slice_get (rules_in (code_in s.site.scene)) place ≡ rule_of (code_in s.site.scene) x.value.rule
         → LedTo (rules_in_search s) s.nest s.cells own_node own_child
-        (record { candidate = f.agenda.queue.at; task = x.task; rule = place; branch = x.branch })
+        (record { candidate = f.agenda.queue.at; task = x.value.task; rule = place; branch = x.value.branch })
     gave_leads place there =
         let own = gave.1 in
         let known = there ∙ own.is in
         let given : Contains (rule_children (rules_in_search s) s.nest own_node
-        (place_in (held_at s.site f.mark).network x.id) (term_at s.cells x.task) own.own) (DidChild own_child) =
+        (place_in (held_at s.site f.mark).network x.value.id) (term_at s.cells x.value.task) own.own)
+        (DidChild own_child) =
         subst (λ cs. Contains cs (DidChild own_child)) (sym own.children)
         (Contains-append_left (gave.0 ++ DidChild own_child ∷ []) _ (DidChild own_child)
         (Contains-push gave.0 (DidChild own_child))) in
         let led = rule_leads (rules_in_search s) s.nest f.agenda.queue.at place own_node own_child
-        (place_in (held_at s.site f.mark).network x.id) (term_at s.cells x.task) own.next own.own
+        (place_in (held_at s.site f.mark).network x.value.id) (term_at s.cells x.value.task) own.next own.own
         known given in
         record {
           event = led.event;
           leads = led.leads;
-          place = place_in (held_at s.site f.mark).network x.id;
+          place = place_in (held_at s.site f.mark).network x.value.id;
           next = own.next;
           own = own.own;
           is = known;
@@ -115,10 +117,10 @@ module _ (s : Search) (h : IsSearch s) (f : Frame) (fs : List Frame) (pushed : s
       (DidChild (node_of s.cells (held_at s.site s.top.mark)) ∷ [])
   open_last = (came_first s h f fs pushed).0.given
 
-  pub is_led : (x : Choice) → f.agenda.open ≡ Some x → (live : Bool) (place : ℕ)
-      → slice_get (rules_in (code_in s.site.scene)) place ≡ rule_of (code_in s.site.scene) x.rule
+  pub is_led : (x : Box Choice Global) → f.agenda.open ≡ Some x → (live : Bool) (place : ℕ)
+      → slice_get (rules_in (code_in s.site.scene)) place ≡ rule_of (code_in s.site.scene) x.value.rule
       → IsLed (planned s live)
-      (record { candidate = f.agenda.queue.at; task = x.task; rule = place; branch = x.branch })
+      (record { candidate = f.agenda.queue.at; task = x.value.task; rule = place; branch = x.value.branch })
   is_led x is live place there =
       let rules = rules_in_search s in
       let l = level_of s.site s.nest s.cells f in
@@ -129,7 +131,7 @@ module _ (s : Search) (h : IsSearch s) (f : Frame) (fs : List Frame) (pushed : s
       ap (path_to rules s.nest) split in
       let reached = subst (AreReached rules s.nest (tree_in s).root) split h.stack.above in
       let lead = lead_first s h f fs pushed in
-      let low : x.task < f.floor = task_below s.site s.nest s.cells f.floor f x lead.0 is in
+      let low : x.value.task < f.floor = task_below s.site s.nest s.cells f.floor f x lead.0 is in
       let high : f.floor ≤ s.top.base = lead.2 in
       let all : s.top.base ≤ length s.cells = h.top.base in
       record {
@@ -153,13 +155,14 @@ module _ (s : Search) (h : IsSearch s) (k : ℕ) (f : Frame) (stands : slice_get
       (DidChild (node_of s.cells (held_at s.site (child_there s h k f stands).mark)) ∷ [])
   last_there = (child_there s h k f stands).last.given
 
-  pub is_led_at : (x : Choice) → f.agenda.open ≡ Some x → (live : Bool) (place : ℕ)
-      → slice_get (rules_in (code_in s.site.scene)) place ≡ rule_of (code_in s.site.scene) x.rule
+  pub is_led_at : (x : Box Choice Global) → f.agenda.open ≡ Some x → (live : Bool) (place : ℕ)
+      → slice_get (rules_in (code_in s.site.scene)) place ≡ rule_of (code_in s.site.scene) x.value.rule
       → IsLedAt (planned s live) k
-      (record { candidate = f.agenda.queue.at; task = x.task; rule = place; branch = x.branch })
+      (record { candidate = f.agenda.queue.at; task = x.value.task; rule = place; branch = x.value.branch })
   is_led_at x is live place there =
       let marks = has_marks s live h in
-      let low : x.task < f.floor = task_below s.site s.nest s.cells f.floor f x (frame_there s h k f stands).0 is in
+      let low : x.value.task < f.floor =
+      task_below s.site s.nest s.cells f.floor f x (frame_there s h k f stands).0 is in
       let high : f.floor ≤ length s.cells = floor_within s h k f stands in
       record {
         above = node_of s.cells (held_at s.site f.mark);

@@ -10,6 +10,7 @@ ghost use Rattle.hp_search.specs.Searches.{IsSearch};
 
 use crate::search::Search;
 use hp_cells::Cell;
+use hp_choice::Choice;
 use hp_code::{Code, CodeNode};
 
 /// The decomposition that led to the node reached: the place of its task among the candidates of the parent, the task,
@@ -55,12 +56,15 @@ impl Search<'_> {
     {
         match self.above.as_slice().last() {
             Some(parent) => match &parent.agenda.open {
-                Some(choice) => Some(Decomposition {
-                    candidate: parent.agenda.queue.at,
-                    task: choice.task,
-                    rule: place_of_rule(self.site.scene.code, choice.rule),
-                    branch: choice.branch,
-                }),
+                Some(choice) => {
+                    let choice: &Choice = choice;
+                    Some(Decomposition {
+                        candidate: parent.agenda.queue.at,
+                        task: choice.task,
+                        rule: place_of_rule(self.site.scene.code, choice.rule),
+                        branch: choice.branch,
+                    })
+                }
                 None => None,
             },
             None => None,
@@ -75,12 +79,15 @@ impl Search<'_> {
     {
         let above = self.frame_at(level);
         match &above.agenda.open {
-            Some(choice) => Decomposition {
-                candidate: above.agenda.queue.at,
-                task: choice.task,
-                rule: place_of_rule(self.site.scene.code, choice.rule),
-                branch: choice.branch,
-            },
+            Some(choice) => {
+                let choice: &Choice = choice;
+                Decomposition {
+                    candidate: above.agenda.queue.at,
+                    task: choice.task,
+                    rule: place_of_rule(self.site.scene.code, choice.rule),
+                    branch: choice.branch,
+                }
+            }
             None => unreachable!(),
         }
     }

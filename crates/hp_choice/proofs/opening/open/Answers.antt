@@ -87,8 +87,8 @@ returns-in_ok-by_operator-in-Some-clause-branch c = λ r n found state.
     let t = term_at c.args.cells.now c.args.task in
     let h = has_operator code c.args.rule (laid_of c.node_at.result.now) (atom_of c.in-Operator.head) s.code.now.kept
     c.node_at.ensures.is r found (ap operation_of c.in-Operator.is) in
-    subst (λ x. ServesBy (rules_in code) c.args.nest n.state t x c.in_ok-by_operator-in-Some.field-0.branch) (sym h.is)
-    c.in_ok-by_operator-in-Some.ensures.served.1
+    subst (λ x. ServesBy (rules_in code) c.args.nest n.state t x c.in_ok-by_operator-in-Some.field-0.value.branch)
+    (sym h.is) c.in_ok-by_operator-in-Some.ensures.served.1
 
 pub returns-in-None-clause-children : goal.returns-in-None-clause-children
 returns-in-None-clause-children c = λ r n p found state.
@@ -145,7 +145,7 @@ returns-in-Some-2-clause-branch c =
     c.node_at.ensures.is r found (ap operation_of c.in-Method.is) in
     let many = ap length (c.vars-vars.ensures ∙ h.vars_are) in
     let same = ap₂ (λ a k. match_atom a t (unbound k)) h.head_is (sym many) in
-    subst (λ q. ServesBy (rules_in code) c.args.nest n.state t q d.branch) (sym h.is)
+    subst (λ q. ServesBy (rules_in code) c.args.nest n.state t q d.value.branch) (sym h.is)
     (record { matched = _; head = same ∙ met.0; chosen = own h.own n (found ∙ ap Some h.is) state })))
     c.by_method.ensures.branch
 

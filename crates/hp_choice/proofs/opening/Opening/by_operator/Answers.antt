@@ -1,4 +1,4 @@
-use Rattle.std.proofs.Common.{◌≡◌, ◌+◌, Some, is_some, ap, sym, subst, ◌∙◌}
+use Rattle.std.proofs.Common.{◌≡◌, ◌+◌, Some, is_some, length, ap, sym, subst, ◌∙◌}
 use Rattle.std.proofs.lemmas.Option.{same_Some, slice_get_within}
 use Rattle.hp_syntax.specs.Events.{axioms_of}
 use Rattle.hp_syntax.specs.Preconditions.{precondition_events}
@@ -9,6 +9,7 @@ use Rattle.hp_code.specs.CodeViews.{rules_in}
 use Rattle.hp_eval.specs.Slotted.{bindings_of}
 use Rattle.hp_operator.specs.Bodies.{IsBodyIn, body_at}
 use Rattle.hp_suspended.specs.SceneViews.{code_in}
+use Rattle.hp_choice.specs.Choices.{IsChoice, choice_children}
 use Rattle.hp_choice.proofs.OpeningLemmas.{operator_choice, operator_left}
 use Rattle.hp_choice.proofs.RuleReadings.{rule_node, rule_within}
 use Rattle.hp_choice.proofs.opening.Opening.by_operator.Goals as goal
@@ -44,7 +45,8 @@ returns-clause-children c = λ o n p found state.
     let end = c.node_at.result.now.to in
     let same = same_Some nodes.node (laid_of c.node_at-2.result.now) (sym nodes.there ∙ c.node_at-2.ensures.is) in
     let is = subst (λ (l : Laid). body_at (code_in s) l.to end ≡ Some nodes.body) same nodes.is in
-    operator_left s me.nest terms me.id me.task c.args.rule 0 slots c.in_ok-sats.sats start end o nodes.body is
+    ap (choice_children s me.nest terms s.world.now n p) c.in_ok-new.ensures.ok
+    ∙ operator_left s me.nest terms me.id me.task c.args.rule 0 slots c.in_ok-sats.sats start end o nodes.body is
     (λ axioms w e. c.operators_come_to_what_their_bodies_do.ensures axioms me.nest w o nodes.body e nodes.dels
     nodes.adds nodes.cost)
     n p
@@ -63,5 +65,6 @@ returns-clause-choice c =
     let same = same_Some nodes.node (laid_of c.node_at-2.result.now) (sym nodes.there ∙ c.node_at-2.ensures.is) in
     let body = subst (λ (l : Laid). IsBodyIn (code_in s) l.to end) same nodes.nodes in
     let sats = c.in_ok-sats.ensures in
-    operator_choice s me.nest c.args.cells.now me.id me.task c.args.rule 0 c.args.slots c.in_ok-sats.sats start end
-    c.requires.task body sats.suits sats.fits sats.kept sats.live sats.open
+    subst (IsChoice s c.args.cells.now (length c.args.cells.now) s.world.now) (sym c.in_ok-new.ensures.ok)
+    (operator_choice s me.nest c.args.cells.now me.id me.task c.args.rule 0 c.args.slots c.in_ok-sats.sats start end
+    c.requires.task body sats.suits sats.fits sats.kept sats.live sats.open)
