@@ -113,14 +113,14 @@ module _ (pre : Precondition) (needs bound : List Use) where
   body_clean (syntax.Assign s v value) h = alone_clean pre needs bound (syntax.Assign s v value)
   body_clean (syntax.Test s call) h = alone_clean pre needs bound (syntax.Test s call)
 
-left_clean : (bound behind : List Use) (pre : Precondition) → precondition_faults pre ≡ []
-    → IsCleanWhere (left_of bound behind pre)
-left_clean bound behind (syntax.Plain e) h =
-    body_clean (syntax.Plain e) (needed_by behind (parts_of e)) bound e h
-left_clean bound behind (syntax.First e) h =
-    body_clean (syntax.First e) (needed_by behind (parts_of e)) bound e h
-left_clean bound behind (syntax.Sorted key e) h =
-    body_clean (syntax.Sorted key e) (needed_by behind (parts_of e)) bound e
+left_clean : (rules : List Rule) (bound behind : List Use) (pre : Precondition) → precondition_faults pre ≡ []
+    → IsCleanWhere (left_of rules bound behind pre)
+left_clean rules bound behind (syntax.Plain e) h =
+    body_clean (syntax.Plain e) (needed_by rules behind (parts_of e)) bound e h
+left_clean rules bound behind (syntax.First e) h =
+    body_clean (syntax.First e) (needed_by rules behind (parts_of e)) bound e h
+left_clean rules bound behind (syntax.Sorted key e) h =
+    body_clean (syntax.Sorted key e) (needed_by rules behind (parts_of e)) bound e
     (both_empty _ (expression_faults 1 e) h).1
 
 -- ---- rules
@@ -197,32 +197,36 @@ clean_both (a ∷ as') bs h k =
     let b = both_empty (rule_faults a) (flat_map rule_faults as') h in
     together (rule_faults a) (flat_map rule_faults (as' ++ bs)) b.0 (clean_both as' bs b.1 k)
 
-branches_clean : (toll : List ℕ) (m : Method) (bs : List Branch)
-    → vars_faults m.vars m.span ++ atom_faults InHead m.head ≡ [] → flat_map branch_faults bs ≡ []
-    → flat_map rule_faults (flat_map (branch_giving_up toll m) bs) ≡ []
-branches_clean toll m [] h k = refl
-branches_clean toll m (b ∷ bs) h k =
-    let all = both_empty (branch_faults b) (flat_map branch_faults bs) k in
-    let one = both_empty (precondition_faults b.pre) (tasks_faults InBody b.tasks) all.0 in
-    clean_both (branch_giving_up toll m b) (flat_map (branch_giving_up toll m) bs)
-    (branch_given_clean toll m b (left_of_branch m.head b) h one.1 (left_clean (atom_uses false m.head) (atoms_uses (task_atoms b.tasks)) b.pre one.0))
-    (branches_clean toll m bs h all.1)
+module _ (rules : List Rule) (toll : List ℕ) where
+  branches_clean : (m : Method) (bs : List Branch) → vars_faults m.vars m.span ++ atom_faults InHead m.head ≡ []
+      → flat_map branch_faults bs ≡ [] → flat_map rule_faults (flat_map (branch_giving_up rules toll m) bs) ≡ []
+  branches_clean m [] h k = refl
+  branches_clean m (b ∷ bs) h k =
+      let all = both_empty (branch_faults b) (flat_map branch_faults bs) k in
+      let one = both_empty (precondition_faults b.pre) (tasks_faults InBody b.tasks) all.0 in
+      clean_both (branch_giving_up rules toll m b) (flat_map (branch_giving_up rules toll m) bs)
+      (branch_given_clean toll m b (left_of_branch rules m.head b) h one.1
+      (left_clean rules (atom_uses false m.head) (atoms_uses (task_atoms b.tasks)) b.pre one.0))
+      (branches_clean m bs h all.1)
 
-giving_clean : (toll : List ℕ) (r : Rule) → rule_faults r ≡ [] → flat_map rule_faults (giving_up toll r) ≡ []
-giving_clean toll (Does o) h =
-    let c = operator_parts o h in
-    operator_given_clean o (left_of_operator o) h (left_clean (atom_uses false o.head) (behind_operator o) o.pre c.pre)
-giving_clean toll (Refines m) h =
-    let b = both_empty (vars_faults m.vars m.span ++ atom_faults InHead m.head) (flat_map branch_faults m.branches) h in
-    branches_clean toll m m.branches b.0 b.1
-giving_clean toll (Concludes x) h = refl
+  giving_clean : (r : Rule) → rule_faults r ≡ [] → flat_map rule_faults (giving_up rules toll r) ≡ []
+  giving_clean (Does o) h =
+      let c = operator_parts o h in
+      operator_given_clean o (left_of_operator rules o) h
+      (left_clean rules (atom_uses false o.head) (behind_operator o) o.pre c.pre)
+  giving_clean (Refines m) h =
+      let b = both_empty (vars_faults m.vars m.span ++ atom_faults InHead m.head) (flat_map branch_faults m.branches)
+      h in
+      branches_clean m m.branches b.0 b.1
+  giving_clean (Concludes x) h = refl
 
-all_giving_clean : (toll : List ℕ) (rs : List Rule) → flat_map rule_faults rs ≡ []
-    → flat_map rule_faults (all_giving_up toll rs) ≡ []
-all_giving_clean toll [] h = refl
-all_giving_clean toll (r ∷ rs) h =
-    let b = both_empty (rule_faults r) (flat_map rule_faults rs) h in
-    clean_both (giving_up toll r) (all_giving_up toll rs) (giving_clean toll r b.0) (all_giving_clean toll rs b.1)
+  each_giving_clean : (rs : List Rule) → flat_map rule_faults rs ≡ []
+      → flat_map rule_faults (flat_map (giving_up rules toll) rs) ≡ []
+  each_giving_clean [] h = refl
+  each_giving_clean (r ∷ rs) h =
+      let b = both_empty (rule_faults r) (flat_map rule_faults rs) h in
+      clean_both (giving_up rules toll r) (flat_map (giving_up rules toll) rs) (giving_clean r b.0)
+      (each_giving_clean rs b.1)
 
 payer_clean : (toll : List ℕ) → rule_faults (payer toll) ≡ []
 unfolding expression_faults pattern_faults
@@ -247,4 +251,4 @@ twin_checked d p h =
     let b = both_empty (flat_map rule_faults d.rules) (problem_faults d p) (none_found _ h) in
     ap first_of (together _ (problem_faults d p)
     (twin_clean (toll_of d p) d.rules (all_giving_up (toll_of d p) d.rules) b.0
-    (all_giving_clean (toll_of d p) d.rules b.0)) b.1)
+    (each_giving_clean d.rules (toll_of d p) d.rules b.0)) b.1)

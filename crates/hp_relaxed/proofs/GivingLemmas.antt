@@ -116,24 +116,25 @@ module _ (toll : List ℕ) where
       (h, All-cons (HasTolls toll 1) (branch_with toll b pre) [] (paid_once b.tasks k) (All-nil (HasTolls toll 1)))
       (All-nil (GivesUp toll))
 
-  branches_give : (m : Method) (bs : List Branch) → m.head.name ≢ toll → All (HasTolls toll 0) bs
-      → All (GivesUp toll) (flat_map (branch_giving_up toll m) bs)
-  branches_give m [] h k = All-nil (GivesUp toll)
-  branches_give m (b ∷ bs) h k =
-      All-append (GivesUp toll) (branch_giving_up toll m b) (flat_map (branch_giving_up toll m) bs)
-      (branch_gives m b (left_of_branch m.head b) h (All-head (HasTolls toll 0) b bs k))
-      (branches_give m bs h (All-tail (HasTolls toll 0) b bs k))
+  module _ (rules : List Rule) where
+    branches_give : (m : Method) (bs : List Branch) → m.head.name ≢ toll → All (HasTolls toll 0) bs
+        → All (GivesUp toll) (flat_map (branch_giving_up rules toll m) bs)
+    branches_give m [] h k = All-nil (GivesUp toll)
+    branches_give m (b ∷ bs) h k =
+        All-append (GivesUp toll) (branch_giving_up rules toll m b) (flat_map (branch_giving_up rules toll m) bs)
+        (branch_gives m b (left_of_branch rules m.head b) h (All-head (HasTolls toll 0) b bs k))
+        (branches_give m bs h (All-tail (HasTolls toll 0) b bs k))
 
-  rule_gives : (r : Rule) → IsUnused toll r → All (GivesUp toll) (giving_up toll r)
-  rule_gives (Does o) h = operator_gives o (left_of_operator o) h
-  rule_gives (Refines m) h = branches_give m m.branches h.0 h.1
-  rule_gives (Concludes x) h = All-nil (GivesUp toll)
+    rule_gives : (r : Rule) → IsUnused toll r → All (GivesUp toll) (giving_up rules toll r)
+    rule_gives (Does o) h = operator_gives o (left_of_operator rules o) h
+    rule_gives (Refines m) h = branches_give m m.branches h.0 h.1
+    rule_gives (Concludes x) h = All-nil (GivesUp toll)
 
-  rules_give : (rs : List Rule) → All (IsUnused toll) rs → All (GivesUp toll) (all_giving_up toll rs)
-  rules_give [] h = All-nil (GivesUp toll)
-  rules_give (r ∷ rs) h =
-      All-append (GivesUp toll) (giving_up toll r) (all_giving_up toll rs)
-      (rule_gives r (All-head (IsUnused toll) r rs h)) (rules_give rs (All-tail (IsUnused toll) r rs h))
+    rules_give : (rs : List Rule) → All (IsUnused toll) rs → All (GivesUp toll) (flat_map (giving_up rules toll) rs)
+    rules_give [] h = All-nil (GivesUp toll)
+    rules_give (r ∷ rs) h =
+        All-append (GivesUp toll) (giving_up rules toll r) (flat_map (giving_up rules toll) rs)
+        (rule_gives r (All-head (IsUnused toll) r rs h)) (rules_give rs (All-tail (IsUnused toll) r rs h))
 
   -- ---- the pairs
 
@@ -167,7 +168,7 @@ module _ (d : Domain) (p : Problem) where
       let named = longest_parts (flat_map task_head d.rules) (domain_atoms d) (length (toll_of d p)) parts.0 in
       let free = rules_unused (toll_of d p) d.rules named.0 named.1 in record {
         unused = free;
-        giving = rules_give (toll_of d p) d.rules free;
+        giving = rules_give (toll_of d p) d.rules d.rules free;
         paying = (refl, nowhere, refl);
       }
 

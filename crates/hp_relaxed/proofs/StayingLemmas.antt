@@ -1,20 +1,20 @@
 -- Parts that are gone through from left to right, of which some stay.
-use Rattle.std.proofs.Common.{◌≡◌, ℕ, ◌+◌, ◌<◌, ◌≤◌, Bool, true, false, ◌&&◌, not, cond, List, [], ◌∷◌, ◌++◌, length, get_or, take, refl, sym, ◌∙◌, ap, ap₂, subst, append_assoc, arith}
+use Rattle.std.proofs.Common.{◌≡◌, ℕ, ◌+◌, ◌<◌, ◌≤◌, Bool, true, false, ◌&&◌, ◌||◌, not, cond, List, [], ◌∷◌, ◌++◌, length, get_or, drop, map, take, refl, sym, ◌∙◌, ap, ap₂, subst, append_assoc, arith}
 use Rattle.std.specs.Borrow.{Bor}
 use Rattle.std.specs.List.{list_any}
-use Rattle.std.proofs.lemmas.List.{append-nil, length-map, take_more, map-append}
+use Rattle.std.proofs.lemmas.List.{append-nil, drop_all, drop_more, length-map, take_more, map-append}
 use Rattle.std.proofs.lemmas.Bool.Decides.{nat_tests}
 use Rattle.std.specs.Prelude.{nat_lt, Some, None}
 use Rattle.hp_syntax.specs.declared.expression.Expr.{Expr}
-use Rattle.hp_syntax.specs.Syntax.{Expression, Precondition}
+use Rattle.hp_syntax.specs.Syntax.{Expression, Precondition, Rule}
 use Rattle.hp_syntax.specs.Views.{as_expressions}
 use Rattle.hp_lint.specs.declared.uses.Use.{Use}
 use Rattle.hp_lint.specs.declared.variables.Counts.{Counts}
 use Rattle.hp_lint.specs.LintViews.{Counted}
 use Rattle.hp_lint.specs.Variables.{bound_in}
 use Rattle.hp_lint.proofs.CountLemmas.{is_seen-is}
-use Rattle.hp_relaxed.specs.Giving.{if_fewer, is_missing, listed, parts_of, stays, staying, surely_bound, with_parts}
-use Rattle.hp_relaxed.specs.GivingViews.{lent_expression, lent_expressions, is_missing_in, Passed, GoesThrough, Stay}
+use Rattle.hp_relaxed.specs.Giving.{asked_of, binds_needed, if_fewer, is_missing, listed, needed_by, needed_with, parts_of, stays, staying, surely_bound, with_parts}
+use Rattle.hp_relaxed.specs.GivingViews.{lent_expression, lent_expressions, is_missing_in, is_needed_in, Passed, GoesThrough, Stay}
 
 -- ---- parts
 
@@ -46,6 +46,37 @@ pub missing_told : (needs bound : List Use) (needed old : Counts) → Counted ne
     → is_missing_in needed old ≡ is_missing needs bound
 missing_told needs bound needed old h k =
     λ i u. is_seen-is needs needed h i u.var && not (is_seen-is bound old k i u.var)
+
+-- an element of a mapped list passes a test where an element passes it mapped
+pub any_mapped : {A B : Type 0} (p : B → Bool) (f : A → B) (xs : List A)
+    → list_any (λ x. p (f x)) xs ≡ list_any p (map f xs)
+any_mapped p f [] = refl
+any_mapped p f (x ∷ xs) = ap (λ b. p (f x) || b) (any_mapped p f xs)
+
+module _ (rules : List Rule) (done : List Use) (needed : Counts) (e : Expression) (h : Counted done needed) where
+  binding_told : list_any (is_needed_in needed) (bound_in e) ≡ binds_needed done e
+  binding_told = ap (λ p. list_any p (bound_in e)) (λ i u. is_seen-is done needed h i u.var)
+
+  -- a part that can bind what is needed asks for more, and another one for nothing
+  pub asks_more : list_any (is_needed_in needed) (bound_in e) ≡ true
+      → done ++ asked_of rules e ≡ needed_with rules done e
+  asks_more t = ap (λ b. cond b (done ++ asked_of rules e) done) (sym t ∙ binding_told)
+
+  pub asks_nothing : list_any (is_needed_in needed) (bound_in e) ≡ false → done ≡ needed_with rules done e
+  asks_nothing t = ap (λ b. cond b (done ++ asked_of rules e) done) (sym t ∙ binding_told)
+
+module _ (rules : List Rule) (behind : List Use) (es : List (Bor Expr)) where
+  -- behind all parts nothing asks
+  pub none_asks : (i : ℕ) → length es ≤ i → behind ≡ needed_by rules behind (lent_expressions (drop i es))
+  none_asks i l = sym (ap (λ xs. needed_by rules behind (lent_expressions xs)) (drop_all i es l))
+
+  -- one part more, to the left
+  pub one_asks : (i j : ℕ) (d : Bor Expr) → j ≡ i + 1 → i < length es → d ≡ get_or es i d
+      → needed_with rules (needed_by rules behind (lent_expressions (drop j es))) (lent_expression d)
+      ≡ needed_by rules behind (lent_expressions (drop i es))
+  one_asks i j d k l at =
+      ap₂ (λ n x. needed_with rules (needed_by rules behind (lent_expressions (drop n es))) (lent_expression x)) k at
+      ∙ sym (ap (λ xs. needed_by rules behind (lent_expressions xs)) (drop_more es i d l))
 
 -- one more place behind those that were counted
 pub counted_more : (done us : List Use) (i : ℕ) (d : Use) (new : Counts) → i < length us

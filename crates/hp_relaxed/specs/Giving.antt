@@ -1,5 +1,5 @@
 -- What is left of a precondition that is given up, and the rules that give one up.
-use Rattle.std.specs.Prelude.{ℕ, ◌+◌, Bool, true, false, ◌&&◌, not, nat_lt, max, cond, pos, List, [], ◌∷◌, ◌++◌, length, replicate, Option, None, Some}
+use Rattle.std.specs.Prelude.{ℕ, ◌+◌, Bool, true, false, ◌&&◌, not, nat_lt, bytes_eq, max, cond, pos, List, [], ◌∷◌, ◌++◌, length, replicate, Option, None, Some}
 use Rattle.std.specs.List.{list_any, flat_map}
 use Rattle.hp_syntax.specs.declared.pattern.Span.{Span}
 use Rattle.hp_syntax.specs.Notes.{task_atoms, domain_atoms, problem_atoms}
@@ -28,20 +28,32 @@ unfoldable mutual
   asked_of_patterns syntax.NoPattern = []
   asked_of_patterns (syntax.Before p ps) = asked_of_pattern p ++ asked_of_patterns ps
 
--- the variables that an expression asks to be bound already: those in calls, and those of a value that is assigned
-unfoldable mutual
-  pub asked_of : syntax.Expression → List Use
-  asked_of (syntax.Holds s a) = asked_of_patterns a.args
-  asked_of (syntax.And s parts) = asked_of_each parts
-  asked_of (syntax.Or s parts) = asked_of_each parts
-  asked_of (syntax.Not s part) = asked_of part
-  asked_of (syntax.Forall s vars range body) = asked_of range ++ asked_of body
-  asked_of (syntax.Assign s v value) = pattern_uses true value
-  asked_of (syntax.Test s call) = pattern_uses true call
+-- an axiom of the rules may conclude an atom of this name
+abbrev pub concludes : List ℕ → syntax.Rule → Bool
+concludes name (syntax.Does o) = false
+concludes name (syntax.Refines m) = false
+concludes name (syntax.Concludes x) = bytes_eq x.head.name name
 
-  pub asked_of_each : syntax.Expressions → List Use
-  asked_of_each syntax.NoExpression = []
-  asked_of_each (syntax.Also e es) = asked_of e ++ asked_of_each es
+module _ (rules : List syntax.Rule) where
+  -- the variables that an atom asks to be bound already: those in its calls, or all, where an axiom may conclude it,
+  -- which may calculate with them
+  abbrev pub asked_of_atom : syntax.Atom → List Use
+  asked_of_atom a = cond (list_any (concludes a.name) rules) (atom_uses true a) (asked_of_patterns a.args)
+
+  -- those that an expression asks to be bound already, also those of a value that is assigned
+  unfoldable mutual
+    pub asked_of : syntax.Expression → List Use
+    asked_of (syntax.Holds s a) = asked_of_atom a
+    asked_of (syntax.And s parts) = asked_of_each parts
+    asked_of (syntax.Or s parts) = asked_of_each parts
+    asked_of (syntax.Not s part) = asked_of part
+    asked_of (syntax.Forall s vars range body) = asked_of range ++ asked_of body
+    asked_of (syntax.Assign s v value) = pattern_uses true value
+    asked_of (syntax.Test s call) = pattern_uses true call
+
+    pub asked_of_each : syntax.Expressions → List Use
+    asked_of_each syntax.NoExpression = []
+    asked_of_each (syntax.Also e es) = asked_of e ++ asked_of_each es
 
 -- what each satisfier of an expression binds; of an 'or' another satisfier may bind something else
 unfoldable mutual
@@ -59,14 +71,6 @@ unfoldable mutual
   surely_bound_in_each (syntax.Also e es) = surely_bound e ++ surely_bound_in_each es
 
 -- ---- what is left of a precondition
-
--- a part that can bind nothing doesn't stay, and so asks for nothing
-abbrev pub where_bound : List Use → List Use → List Use
-where_bound [] asked = []
-where_bound (u ∷ us) asked = asked
-
-abbrev pub asked_by_part : syntax.Expression → List Use
-asked_by_part e = where_bound (bound_in e) (asked_of e)
 
 abbrev pub listed : syntax.Expressions → List syntax.Expression
 listed syntax.NoExpression = []
@@ -111,29 +115,40 @@ with_body (syntax.Sorted key e) body = syntax.Plain body
 abbrev pub with_parts : syntax.Precondition → List syntax.Expression → syntax.Precondition
 with_parts pre parts = with_body pre (syntax.And (expression_span (body_of pre)) (as_expressions parts))
 
--- the variables that are needed by what stands behind the precondition, and by its parts
-abbrev pub needed_by : List Use → List syntax.Expression → List Use
-needed_by behind parts = behind ++ flat_map asked_by_part parts
+-- a part can bind a variable that is needed
+abbrev pub binds_needed : List Use → syntax.Expression → Bool
+binds_needed needed e = list_any (λ u. is_bound needed u.var) (bound_in e)
+
+module _ (rules : List syntax.Rule) where
+  -- such a part asks for more
+  abbrev pub needed_with : List Use → syntax.Expression → List Use
+  needed_with needed e = cond (binds_needed needed e) (needed ++ asked_of rules e) needed
+
+  -- the variables that are needed by what stands behind parts, and by those of them that can bind one of these
+  abbrev pub needed_by : List Use → List syntax.Expression → List Use
+  needed_by behind [] = behind
+  needed_by behind (e ∷ es) = needed_with (needed_by behind es) e
 
 -- what is left of a precondition, unless all its parts stay
 abbrev pub if_fewer : syntax.Precondition → List syntax.Expression → List syntax.Expression → Option syntax.Precondition
 if_fewer pre parts kept = cond (nat_lt (length kept) (length parts)) (Some (with_parts pre kept)) None
 
-abbrev pub left_of : List Use → List Use → syntax.Precondition → Option syntax.Precondition
-left_of bound behind pre =
-    if_fewer pre (parts_of (body_of pre))
-    (staying (needed_by behind (parts_of (body_of pre))) bound (parts_of (body_of pre)))
-
 -- the variables of an operator's effects and its cost
 abbrev pub behind_operator : syntax.Operator → List Use
 behind_operator o = flat_map effect_uses o.dels ++ flat_map effect_uses o.adds ++ pattern_uses true o.cost
 
-abbrev pub left_of_operator : syntax.Operator → Option syntax.Precondition
-left_of_operator o = left_of (atom_uses false o.head) (behind_operator o) o.pre
+module _ (rules : List syntax.Rule) where
+  abbrev pub left_of : List Use → List Use → syntax.Precondition → Option syntax.Precondition
+  left_of bound behind pre =
+      if_fewer pre (parts_of (body_of pre))
+      (staying (needed_by rules behind (parts_of (body_of pre))) bound (parts_of (body_of pre)))
 
--- those of the tasks of a branch, of a method with a head
-abbrev pub left_of_branch : syntax.Atom → syntax.Branch → Option syntax.Precondition
-left_of_branch head b = left_of (atom_uses false head) (atoms_uses (task_atoms b.tasks)) b.pre
+  abbrev pub left_of_operator : syntax.Operator → Option syntax.Precondition
+  left_of_operator o = left_of (atom_uses false o.head) (behind_operator o) o.pre
+
+  -- what is left in a branch of a method with a head, by the variables of its tasks
+  abbrev pub left_of_branch : syntax.Atom → syntax.Branch → Option syntax.Precondition
+  left_of_branch head b = left_of (atom_uses false head) (atoms_uses (task_atoms b.tasks)) b.pre
 
 -- ---- the rules that give up
 
@@ -174,17 +189,18 @@ abbrev pub branch_given : List ℕ → syntax.Method → syntax.Branch → Optio
 branch_given toll m b None = []
 branch_given toll m b (Some pre) = method_giving toll m b pre ∷ []
 
-abbrev pub branch_giving_up : List ℕ → syntax.Method → syntax.Branch → List syntax.Rule
-branch_giving_up toll m b = branch_given toll m b (left_of_branch m.head b)
+module _ (rules : List syntax.Rule) (toll : List ℕ) where
+  abbrev pub branch_giving_up : syntax.Method → syntax.Branch → List syntax.Rule
+  branch_giving_up m b = branch_given toll m b (left_of_branch rules m.head b)
 
--- the rules that give up a precondition of a rule
-abbrev pub giving_up : List ℕ → syntax.Rule → List syntax.Rule
-giving_up toll (syntax.Does o) = operator_given o (left_of_operator o)
-giving_up toll (syntax.Refines m) = flat_map (branch_giving_up toll m) m.branches
-giving_up toll (syntax.Concludes x) = []
+  -- the rules that give up a precondition of a rule
+  abbrev pub giving_up : syntax.Rule → List syntax.Rule
+  giving_up (syntax.Does o) = operator_given o (left_of_operator rules o)
+  giving_up (syntax.Refines m) = flat_map (branch_giving_up m) m.branches
+  giving_up (syntax.Concludes x) = []
 
 abbrev pub all_giving_up : List ℕ → List syntax.Rule → List syntax.Rule
-all_giving_up toll rules = flat_map (giving_up toll) rules
+all_giving_up toll rules = flat_map (giving_up rules toll) rules
 
 -- ---- where they come from
 
@@ -195,25 +211,26 @@ origin_where origin (Some pre) = origin ∷ []
 abbrev pub origin_at : ℕ → ℕ → Origin
 origin_at rule branch = record { rule = rule; branch = branch }
 
--- for the branches from a place on
-abbrev pub branch_origins : ℕ → syntax.Atom → ℕ → List syntax.Branch → List Origin
-branch_origins rule head i [] = []
-branch_origins rule head i (b ∷ bs) =
-    origin_where (origin_at rule i) (left_of_branch head b) ++ branch_origins rule head (i + 1) bs
+module _ (rules : List syntax.Rule) where
+  -- for the branches from a place on
+  abbrev pub branch_origins : ℕ → syntax.Atom → ℕ → List syntax.Branch → List Origin
+  branch_origins rule head i [] = []
+  branch_origins rule head i (b ∷ bs) =
+      origin_where (origin_at rule i) (left_of_branch rules head b) ++ branch_origins rule head (i + 1) bs
 
-abbrev pub rule_origins : ℕ → syntax.Rule → List Origin
-rule_origins i (syntax.Does o) = origin_where (origin_at i 0) (left_of_operator o)
-rule_origins i (syntax.Refines m) = branch_origins i m.head 0 m.branches
-rule_origins i (syntax.Concludes x) = []
+  abbrev pub rule_origins : ℕ → syntax.Rule → List Origin
+  rule_origins i (syntax.Does o) = origin_where (origin_at i 0) (left_of_operator rules o)
+  rule_origins i (syntax.Refines m) = branch_origins i m.head 0 m.branches
+  rule_origins i (syntax.Concludes x) = []
 
--- for the rules from a place on
-abbrev pub origins_from : ℕ → List syntax.Rule → List Origin
-origins_from i [] = []
-origins_from i (r ∷ rs) = rule_origins i r ++ origins_from (i + 1) rs
+  -- for the rules from a place on
+  abbrev pub origins_from : ℕ → List syntax.Rule → List Origin
+  origins_from i [] = []
+  origins_from i (r ∷ rs) = rule_origins i r ++ origins_from (i + 1) rs
 
 -- the place of the rule and that of its branch, for each rule that gives up
 abbrev pub origins : List syntax.Rule → List Origin
-origins rules = origins_from 0 rules
+origins rules = origins_from rules 0 rules
 
 -- ---- the toll
 

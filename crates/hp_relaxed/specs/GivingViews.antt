@@ -27,6 +27,10 @@ lent_expression e = expression_of e.now
 abbrev pub lent_expressions : List (Bor Expr) → List syntax.Expression
 lent_expressions es = map lent_expression es
 
+-- a variable is needed by some count
+abbrev pub is_needed_in : Counts → Use → Bool
+is_needed_in needed u = is_seen needed u.var
+
 -- a variable is needed by some count, and not bound by another
 abbrev pub is_missing_in : Counts → Counts → Use → Bool
 is_missing_in needed bound u = is_seen needed u.var && not (is_seen bound u.var)

@@ -11,7 +11,7 @@ use crate::copies::{copy_label, copy_names, copy_operator_with};
 use crate::given::{Origin, Relaxed};
 use crate::staying::{body_of, needed_by, parts_of, staying, with_parts};
 use crate::toll::{price_at, toll_task};
-use hp_lint::{Counts, Uses, bound_by_head};
+use hp_lint::{Counts, Use, Uses, bound_by_head};
 use hp_syntax::{Branch, Domain, Expr, Method, Name, NetPat, Operator, Pre, Rule};
 use std::alloc::{AllocError, Global};
 
@@ -49,32 +49,35 @@ fn if_fewer(
 
 fn left_of_parts(
     alloc: Global,
+    rules: &[Rule],
     bound: &mut Counts,
-    behind: &mut Uses,
+    behind: &[Use],
     pre: &Pre,
     parts: &[&Expr],
 ) -> Result<Option<Pre>, AllocError>
     ensures { IfOk result (λ left. (known : List Use) → Counted known bound.old
         → option_map precondition_of left ≡ plain.if_fewer (precondition_of pre.now) (lent_expressions parts.now)
-        (plain.staying (plain.needed_by behind.old.list.items (lent_expressions parts.now)) known
+        (plain.staying (plain.needed_by (map rule_of rules.now) behind.now (lent_expressions parts.now)) known
         (lent_expressions parts.now))) }
 {
-    let needed = needed_by(alloc, behind, parts)?;
+    let needed = needed_by(alloc, rules, behind, parts)?;
     let kept = staying(alloc, &needed, bound, parts)?;
     if_fewer(alloc, pre, parts, kept.as_slice())
 }
 
 fn left_of(
     alloc: Global,
+    rules: &[Rule],
     bound: &mut Counts,
-    behind: &mut Uses,
+    behind: &[Use],
     pre: &Pre,
 ) -> Result<Option<Pre>, AllocError>
     ensures { IfOk result (λ left. (known : List Use) → Counted known bound.old
-        → option_map precondition_of left ≡ plain.left_of known behind.old.list.items (precondition_of pre.now)) }
+        → option_map precondition_of left
+        ≡ plain.left_of (map rule_of rules.now) known behind.now (precondition_of pre.now)) }
 {
     let parts = parts_of(alloc, body_of(pre))?;
-    left_of_parts(alloc, bound, behind, pre, parts.as_slice())
+    left_of_parts(alloc, rules, bound, behind, pre, parts.as_slice())
 }
 
 fn behind_operator(uses: &mut Uses, operator: &Operator) -> Result<(), AllocError>
@@ -86,28 +89,45 @@ fn behind_operator(uses: &mut Uses, operator: &Operator) -> Result<(), AllocErro
     uses.pattern(true, &operator.cost)
 }
 
-fn left_of_operator(alloc: Global, operator: &Operator) -> Result<Option<Pre>, AllocError>
+fn left_of_operator(
+    alloc: Global,
+    rules: &[Rule],
+    operator: &Operator,
+) -> Result<Option<Pre>, AllocError>
     ensures { IfOk result (λ left. option_map precondition_of left
-        ≡ plain.left_of_operator (operator_of operator.now)) }
+        ≡ plain.left_of_operator (map rule_of rules.now) (operator_of operator.now)) }
 {
     let mut bound = bound_by_head(alloc, &operator.head)?;
     let mut behind = Uses::new(alloc);
     behind_operator(&mut behind, operator)?;
-    left_of(alloc, &mut bound, &mut behind, &operator.pre)
+    left_of(
+        alloc,
+        rules,
+        &mut bound,
+        behind.list.as_slice(),
+        &operator.pre,
+    )
 }
 
 fn left_of_branch(
     alloc: Global,
+    rules: &[Rule],
     method: &Method,
     branch: &Branch,
 ) -> Result<Option<Pre>, AllocError>
     ensures { IfOk result (λ left. option_map precondition_of left
-        ≡ plain.left_of_branch (atom_of method.now.head) (branch_of branch.now)) }
+        ≡ plain.left_of_branch (map rule_of rules.now) (atom_of method.now.head) (branch_of branch.now)) }
 {
     let mut bound = bound_by_head(alloc, &method.head)?;
     let mut behind = Uses::new(alloc);
     behind.tasks(alloc, &branch.tasks)?;
-    left_of(alloc, &mut bound, &mut behind, &branch.pre)
+    left_of(
+        alloc,
+        rules,
+        &mut bound,
+        behind.list.as_slice(),
+        &branch.pre,
+    )
 }
 
 fn paid_tasks(alloc: Global, toll: &Name, tasks: &NetPat) -> Result<NetPat, AllocError>
@@ -191,19 +211,22 @@ impl Given {
     fn operator(
         &mut self,
         alloc: Global,
+        rules: &[Rule],
         operator: &Operator,
         place: usize,
     ) -> Result<(), AllocError>
         ensures { OnOk result (Gives
-            (plain.operator_given (operator_of operator.now) (plain.left_of_operator (operator_of operator.now)))
-            (plain.origin_where (plain.origin_at place 0) (plain.left_of_operator (operator_of operator.now)))
+            (plain.operator_given (operator_of operator.now)
+            (plain.left_of_operator (map rule_of rules.now) (operator_of operator.now)))
+            (plain.origin_where (plain.origin_at place 0)
+            (plain.left_of_operator (map rule_of rules.now) (operator_of operator.now)))
             self.old self.new) }
     {
         let origin = Origin {
             rule: place,
             branch: 0,
         };
-        let left = left_of_operator(alloc, operator)?;
+        let left = left_of_operator(alloc, rules, operator)?;
         match left {
             Some(pre) => self.give_operator(alloc, operator, pre, origin),
             None => Ok(()),
@@ -230,17 +253,19 @@ impl Given {
     fn branch(
         &mut self,
         alloc: Global,
+        rules: &[Rule],
         toll: &Name,
         method: &Method,
         branch: &Branch,
         origin: Origin,
     ) -> Result<(), AllocError>
         ensures { OnOk result (Gives
-            (plain.branch_giving_up toll.now (method_of method.now) (branch_of branch.now))
-            (plain.origin_where origin (plain.left_of_branch (atom_of method.now.head) (branch_of branch.now)))
+            (plain.branch_giving_up (map rule_of rules.now) toll.now (method_of method.now) (branch_of branch.now))
+            (plain.origin_where origin
+            (plain.left_of_branch (map rule_of rules.now) (atom_of method.now.head) (branch_of branch.now)))
             self.old self.new) }
     {
-        let left = left_of_branch(alloc, method, branch)?;
+        let left = left_of_branch(alloc, rules, method, branch)?;
         match left {
             Some(pre) => self.give_branch(alloc, toll, method, branch, pre, origin),
             None => Ok(()),
@@ -250,21 +275,24 @@ impl Given {
     fn branches(
         &mut self,
         alloc: Global,
+        rules: &[Rule],
         toll: &Name,
         method: &Method,
         branches: &[Branch],
         rule: usize,
     ) -> Result<(), AllocError>
         ensures { OnOk result (Gives
-            (flat_map (plain.branch_giving_up toll.now (method_of method.now)) (map branch_of branches.now))
-            (plain.branch_origins rule (atom_of method.now.head) 0 (map branch_of branches.now)) self.old self.new) }
+            (flat_map (plain.branch_giving_up (map rule_of rules.now) toll.now (method_of method.now))
+            (map branch_of branches.now))
+            (plain.branch_origins (map rule_of rules.now) rule (atom_of method.now.head) 0 (map branch_of branches.now))
+            self.old self.new) }
     {
         for (place, branch) in branches.iter().enumerate() {
             let origin = Origin {
                 rule,
                 branch: place,
             };
-            self.branch(alloc, toll, method, branch, origin)?;
+            self.branch(alloc, rules, toll, method, branch, origin)?;
         }
         Ok(())
     }
@@ -272,17 +300,25 @@ impl Given {
     fn rule(
         &mut self,
         alloc: Global,
+        rules: &[Rule],
         toll: &Name,
         rule: &Rule,
         place: usize,
     ) -> Result<(), AllocError>
-        ensures { OnOk result (Gives (plain.giving_up toll.now (rule_of rule.now))
-            (plain.rule_origins place (rule_of rule.now)) self.old self.new) }
+        ensures { OnOk result (Gives (plain.giving_up (map rule_of rules.now) toll.now (rule_of rule.now))
+            (plain.rule_origins (map rule_of rules.now) place (rule_of rule.now)) self.old self.new) }
     {
         match rule {
-            Rule::Operator(operator) => self.operator(alloc, operator, place),
+            Rule::Operator(operator) => self.operator(alloc, rules, operator, place),
             Rule::Method(method) => {
-                self.branches(alloc, toll, method, method.branches.as_slice(), place)
+                self.branches(
+                    alloc,
+                    rules,
+                    toll,
+                    method,
+                    method.branches.as_slice(),
+                    place,
+                )
             }
             Rule::Axiom(_) => Ok(()),
         }
@@ -294,7 +330,7 @@ impl Given {
             (plain.origins (map rule_of rules.now)) self.old self.new) }
     {
         for (place, rule) in rules.iter().enumerate() {
-            self.rule(alloc, toll, rule, place)?;
+            self.rule(alloc, rules, toll, rule, place)?;
         }
         Ok(())
     }

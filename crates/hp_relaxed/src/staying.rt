@@ -1,18 +1,18 @@
 //! The parts of a precondition that stay where it is given up.
-ghost use Rattle.std.specs.Prelude.{◌≡◌, ◌++◌, ◌∷◌, [], IfOk, OnOk, List};
+ghost use Rattle.std.specs.Prelude.{◌≡◌, ◌++◌, ◌∷◌, [], IfOk, OnOk, List, map};
 ghost use Rattle.std.specs.List.{list_any};
 ghost use Rattle.hp_syntax.specs.Syntax.{And};
-ghost use Rattle.hp_syntax.specs.Views.{as_expressions, expression_of, expressions_of, precondition_of};
+ghost use Rattle.hp_syntax.specs.Views.{as_expressions, expression_of, expressions_of, precondition_of, rule_of};
 ghost use Rattle.hp_lint.specs.LintViews.{Counted};
 ghost use Rattle.hp_lint.specs.Variables.{bound_in};
 ghost use Rattle.hp_lint.specs.declared.uses.Use.{Use};
 ghost use Rattle.hp_relaxed.specs.Giving as plain;
-ghost use Rattle.hp_relaxed.specs.GivingViews.{lent_expressions, is_missing_in, Keeps, GoesThrough, Stay};
+ghost use Rattle.hp_relaxed.specs.GivingViews.{lent_expressions, is_missing_in, is_needed_in, Keeps, GoesThrough, Stay};
 
-use crate::asked::{asked_by_parts, surely_bound};
+use crate::asked::{asked_of, surely_bound};
 use crate::copies::copy_expression;
 use hp_lint::{Counts, Use, Uses};
-use hp_syntax::{Expr, ExprKind, Pre, Span};
+use hp_syntax::{Expr, ExprKind, Pre, Rule, Span};
 use std::alloc::{AllocError, Global};
 
 /// The expression of a precondition.
@@ -58,12 +58,67 @@ pub fn parts_of(alloc: Global, body: &Expr) -> Result<Vec<&Expr>, AllocError>
     }
 }
 
-/// The variables that are needed by what stands behind a precondition, and by its parts.
-pub fn needed_by(alloc: Global, behind: &mut Uses, parts: &[&Expr]) -> Result<Counts, AllocError>
-    ensures { IfOk result (Counted (plain.needed_by behind.old.list.items (lent_expressions parts.now))) }
+fn any_is_needed(needed: &Counts, uses: &[Use]) -> bool
+    ensures { result ≡ list_any (is_needed_in needed.now) uses.now }
 {
-    asked_by_parts(alloc, behind, parts)?;
-    Counts::of(alloc, behind.list.as_slice())
+    uses.iter().any(|found| needed.has(found.var))
+}
+
+fn binds_needed(alloc: Global, needed: &Counts, part: &Expr) -> Result<bool, AllocError>
+    ensures { IfOk result (λ b. b ≡ list_any (is_needed_in needed.now) (bound_in (expression_of part.now))) }
+{
+    let mut uses = Uses::new(alloc);
+    uses.bound_in(part)?;
+    Ok(any_is_needed(needed, uses.list.as_slice()))
+}
+
+fn add_asked(
+    alloc: Global,
+    rules: &[Rule],
+    needed: &mut Counts,
+    part: &Expr,
+) -> Result<(), AllocError>
+    ensures { OnOk result ((done : List Use) → Counted done needed.old
+        → Counted (done ++ plain.asked_of (map rule_of rules.now) (expression_of part.now)) needed.new) }
+{
+    let mut uses = Uses::new(alloc);
+    asked_of(&mut uses, rules, part)?;
+    add_all(needed, uses.list.as_slice())
+}
+
+/// Adds what a part asks for to what is needed, where it can bind any of that.
+fn add_needed(
+    alloc: Global,
+    rules: &[Rule],
+    needed: &mut Counts,
+    part: &Expr,
+) -> Result<(), AllocError>
+    ensures { OnOk result ((done : List Use) → Counted done needed.old
+        → Counted (plain.needed_with (map rule_of rules.now) done (expression_of part.now)) needed.new) }
+{
+    let binds = binds_needed(alloc, needed, part)?;
+    if binds {
+        add_asked(alloc, rules, needed, part)
+    } else {
+        Ok(())
+    }
+}
+
+/// The variables that are needed by what stands behind parts, and by those of them that can bind one of these.
+pub fn needed_by(
+    alloc: Global,
+    rules: &[Rule],
+    behind: &[Use],
+    parts: &[&Expr],
+) -> Result<Counts, AllocError>
+    ensures { IfOk result (Counted
+        (plain.needed_by (map rule_of rules.now) behind.now (lent_expressions parts.now))) }
+{
+    let mut needed = Counts::of(alloc, behind)?;
+    for place in (0..parts.len()).rev() {
+        add_needed(alloc, rules, &mut needed, parts[place])?;
+    }
+    Ok(needed)
 }
 
 fn any_is_missing(needed: &Counts, bound: &Counts, uses: &[Use]) -> bool

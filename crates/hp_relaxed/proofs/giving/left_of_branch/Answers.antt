@@ -1,7 +1,7 @@
-use Rattle.std.proofs.Common.{◌++◌, false, ap, ◌∙◌}
+use Rattle.std.proofs.Common.{◌++◌, false, map, ap, ◌∙◌}
 use Rattle.std.proofs.lemmas.Result.{IfOk-weaker}
 use Rattle.hp_syntax.specs.Notes.{task_atoms}
-use Rattle.hp_syntax.specs.Views.{atom_of, branch_of}
+use Rattle.hp_syntax.specs.Views.{atom_of, branch_of, rule_of}
 use Rattle.hp_lint.specs.Variables.{atom_uses, atoms_uses}
 use Rattle.hp_relaxed.specs.Giving.{left_of}
 use Rattle.hp_relaxed.proofs.giving.left_of_branch.Goals as goal
@@ -11,6 +11,6 @@ returns c =
     let o = branch_of c.args.branch.now in
     let bound = atom_uses false (atom_of c.args.method.now.head) in
     let needs = atoms_uses (task_atoms o.tasks) in
-    let places = c.in_ok-tasks.ensures ∙ ap (λ us. us ++ needs) c.new-behind.ensures in
+    let places = c.as_slice.ensures.value ∙ (c.in_ok-tasks.ensures ∙ ap (λ us. us ++ needs) c.new-behind.ensures) in
     IfOk-weaker c.left_of.result _ _
-    (λ left h. h bound c.in_ok-bound.ensures ∙ ap (λ us. left_of bound us o.pre) places) c.left_of.ensures
+    (λ left h. h bound c.in_ok-bound.ensures ∙ ap (λ us. left_of (map rule_of c.args.rules.now) bound us o.pre) places) c.left_of.ensures

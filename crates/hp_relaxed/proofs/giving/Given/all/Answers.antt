@@ -1,8 +1,9 @@
 use Rattle.std.proofs.Common.{◌+◌, map, refl}
+use Rattle.std.specs.List.{flat_map}
 use Rattle.hp_syntax.specs.Views.{rule_of}
 use Rattle.hp_syntax.proofs.ListLemmas.{made_on}
 use Rattle.hp_lint.proofs.BranchLemmas.{made_on_from}
-use Rattle.hp_relaxed.specs.Giving.{all_giving_up, giving_up, origins_from, rule_origins}
+use Rattle.hp_relaxed.specs.Giving.{giving_up, origins_from, rule_origins}
 use Rattle.hp_relaxed.proofs.giving.Given.all.Goals as goal
 
 pub loop-place-preserved : goal.loop-place-preserved
@@ -10,10 +11,10 @@ loop-place-preserved c =
     let rs = c.args.rules.now in
     let i = c.loop-place.place in
     let r = c.index-rules-place.result in record {
-      rules_left = made_on (λ ys. all_giving_up c.args.toll.now (map rule_of ys))
-          (λ y. giving_up c.args.toll.now (rule_of y)) rs i r _ _ _ (λ y ys. refl) c.loop-place-test.true
+      rules_left = made_on (λ ys. flat_map (giving_up (map rule_of rs) c.args.toll.now) (map rule_of ys))
+          (λ y. giving_up (map rule_of rs) c.args.toll.now (rule_of y)) rs i r _ _ _ (λ y ys. refl) c.loop-place-test.true
           c.index-rules-place.is c.loop-place.invariant.rules_left c.in_ok-rule.ensures.rules_added;
       origins_left = made_on_from rs i r c.loop-place-test.true c.index-rules-place.is
-          (λ n ys. origins_from n (map rule_of ys)) (λ n. rule_origins n (rule_of r)) (λ n. n + 1) i _ _ _ refl
+          (λ n ys. origins_from (map rule_of rs) n (map rule_of ys)) (λ n. rule_origins (map rule_of rs) n (rule_of r)) (λ n. n + 1) i _ _ _ refl
           c.loop-place.invariant.origins_left c.in_ok-rule.ensures.origins_added;
     }

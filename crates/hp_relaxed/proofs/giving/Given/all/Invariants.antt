@@ -1,13 +1,14 @@
 use Rattle.std.proofs.Common.{◌≡◌, ◌++◌, drop, map}
+use Rattle.std.specs.List.{flat_map}
 use Rattle.hp_syntax.specs.Views.{rule_of}
-use Rattle.hp_relaxed.specs.Giving.{all_giving_up, origins, origins_from}
+use Rattle.hp_relaxed.specs.Giving.{all_giving_up, giving_up, origins, origins_from}
 use Rattle.hp_relaxed.proofs.giving.Given.all.Given as goal
 
 abbrev pub invariant-loop-place : goal.invariant-loop-place
 invariant-loop-place l =
     record {
-      rules_left : map rule_of l.self.rules.items ++ all_giving_up l.toll (map rule_of (drop l.place l.rules))
+      rules_left : map rule_of l.self.rules.items ++ flat_map (giving_up (map rule_of l.rules) l.toll) (map rule_of (drop l.place l.rules))
           ≡ map rule_of l.fn.self.rules.items ++ all_giving_up l.toll (map rule_of l.rules);
-      origins_left : l.self.origins.items ++ origins_from l.place (map rule_of (drop l.place l.rules))
+      origins_left : l.self.origins.items ++ origins_from (map rule_of l.rules) l.place (map rule_of (drop l.place l.rules))
           ≡ l.fn.self.origins.items ++ origins (map rule_of l.rules);
     }
