@@ -2,9 +2,10 @@
 ghost use Rattle.std.specs.Prelude.{◌≡◌, map, option_map, slice_get};
 ghost use Rattle.hp_syntax.specs.Views.{branch_of, domain_of, precondition_of, rule_of};
 ghost use Rattle.hp_lint.specs.Branches as plain;
-ghost use Rattle.hp_doctor_why.specs.Said.{span_at, span_in};
+ghost use Rattle.hp_doctor_why.specs.Said.{part_span_at, span_at, span_in};
 
 use hp_syntax::{Branch, Domain, Pre, Rule, Span};
+use hp_unmet::part_at;
 
 fn precondition_span(pre: &Pre) -> Span
     ensures { result ≡ plain.precondition_span (precondition_of pre.now) }
@@ -40,6 +41,16 @@ pub fn span_at(domain: &Domain, rule: usize, branch: usize) -> Option<Span>
 {
     match domain.rules.get(rule) {
         Some(rule) => span_in(rule, branch),
+        None => None,
+    }
+}
+
+/// Where a part of that precondition stands, by its place.
+pub fn part_span_at(domain: &Domain, rule: usize, branch: usize, place: usize) -> Option<Span>
+    ensures { result ≡ part_span_at (domain_of domain.now) rule branch place }
+{
+    match part_at(domain, rule, branch, place) {
+        Some(part) => Some(part.span),
         None => None,
     }
 }

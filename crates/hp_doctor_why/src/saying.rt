@@ -1,5 +1,5 @@
 //! What is said of a verdict.
-ghost use Rattle.std.specs.Prelude.{◌≡◌, ◌++◌, OnOk, is_some, length, map};
+ghost use Rattle.std.specs.Prelude.{◌≡◌, ◌++◌, OnOk, Some, is_some, length, map};
 ghost use Rattle.std.specs.List.{flat_map};
 ghost use Rattle.hp_syntax.specs.GroundViews.{ground_of};
 ghost use Rattle.hp_syntax.specs.Report.{pair_header};
@@ -7,16 +7,17 @@ ghost use Rattle.hp_syntax.specs.TermTexts.{term_text};
 ghost use Rattle.hp_syntax.specs.Views.{domain_of, problem_of};
 ghost use Rattle.hp_lint.specs.LintViews.{remark_of};
 ghost use Rattle.hp_doctor.specs.declared.finding.Finding.TheVariants.{Met};
-ghost use Rattle.hp_doctor.specs.Explained.{finding_text};
+ghost use Rattle.hp_doctor.specs.Explained.{finding_text, told_in};
 ghost use Rattle.hp_doctor.specs.Texts.{texts_of};
 ghost use Rattle.hp_why.specs.Whys.{reason_of, terms_of};
 ghost use Rattle.hp_doctor_why.specs.Said as plain;
 
-use crate::places::span_at;
+use crate::places::{part_span_at, span_at};
 use hp_doctor::{Accepted, Finding, Texts, push_in, push_remark, sentence};
 use hp_lint::{Concern, Remark};
 use hp_print::ground_text;
 use hp_syntax::{Domain, Ground, RunFault};
+use hp_unmet::Unmet;
 use hp_why::{Reason, Verdict};
 use itoa::Buffer;
 use std::alloc::AllocError;
@@ -26,6 +27,11 @@ const TO_DO: &[u8] = b"to do task `";
 
 const GIVEN_UP: &[u8] = b"`, this is given up";
 
+/// What is said of the first part of a precondition that nothing satisfies, and of a later one.
+const FIRST_UNMET: &[u8] = b"nothing satisfies this part of it";
+
+const LATER_UNMET: &[u8] = b"nothing satisfies this part of it together with those before it";
+
 const PLAN: &[u8] = b"there is a plan\n";
 
 const LEFT: &[u8] = b"left to do at the first cut:";
@@ -33,6 +39,8 @@ const LEFT: &[u8] = b"left to do at the first cut:";
 const NOTHING: &[u8] = b"nothing helps";
 
 const FAULT: &[u8] = b"met a fault\n";
+
+const TWIN_FAULT: &[u8] = b"there is no plan, and giving up met a fault\n";
 
 const LOST: &[u8] = b"a plan was found for what is given up, but not the way to it\n";
 
@@ -52,7 +60,55 @@ fn push_sentence(out: &mut Vec<u8>, task: &Ground) -> Result<(), AllocError>
     out.extend_from_slice(GIVEN_UP)
 }
 
+fn part_sentence(place: usize) -> &'static [u8]
+    ensures { result.now ≡ plain.part_sentence place }
+{
+    if place == 0 {
+        return FIRST_UNMET;
+    }
+    LATER_UNMET
+}
+
+/// Puts the first part at its place behind other bytes that nothing satisfies, where it is known.
+fn push_unmet(
+    out: &mut Vec<u8>,
+    files: &Texts,
+    domain: &Domain,
+    reason: &Reason,
+) -> Result<(), AllocError>
+    ensures { OnOk result (out.new.items ≡ out.old.items
+        ++ plain.unmet_text (texts_of files.now) (domain_of domain.now) reason.now.rule reason.now.branch
+        reason.now.unmet) }
+{
+    match reason.unmet {
+        Unmet::Part(place) => {
+            let span = part_span_at(domain, reason.rule, reason.branch, place);
+            push_in(out, Some(&files.domain), span, part_sentence(place))
+        }
+        Unmet::None => Ok(()),
+        Unmet::Unknown => Ok(()),
+    }
+}
+
 /// Puts what is given up at its place behind other bytes.
+fn push_given_up(
+    out: &mut Vec<u8>,
+    files: &Texts,
+    domain: &Domain,
+    reason: &Reason,
+) -> Result<(), AllocError>
+    ensures { OnOk result (out.new.items ≡ out.old.items
+        ++ told_in (Some (texts_of files.now).domain)
+        (plain.span_at (domain_of domain.now) reason.now.rule reason.now.branch)
+        (plain.reason_sentence (ground_of reason.now.task))) }
+{
+    let mut says = Vec::new(*out.allocator());
+    push_sentence(&mut says, &reason.task)?;
+    let span = span_at(domain, reason.rule, reason.branch);
+    push_in(out, Some(&files.domain), span, says.as_slice())
+}
+
+/// Puts what is given up behind other bytes, and what of it is satisfied.
 fn push_reason(
     out: &mut Vec<u8>,
     files: &Texts,
@@ -62,10 +118,8 @@ fn push_reason(
     ensures { OnOk result (out.new.items ≡ out.old.items
         ++ plain.reason_text (texts_of files.now) (domain_of domain.now) (reason_of reason.now)) }
 {
-    let mut says = Vec::new(*out.allocator());
-    push_sentence(&mut says, &reason.task)?;
-    let span = span_at(domain, reason.rule, reason.branch);
-    push_in(out, Some(&files.domain), span, says.as_slice())
+    push_given_up(out, files, domain, reason)?;
+    push_unmet(out, files, domain, reason)
 }
 
 fn push_reasons(
@@ -199,9 +253,15 @@ fn push_nothing(
     out.extend_from_slice(b"\n")
 }
 
-fn push_fault(out: &mut Vec<u8>, files: &Texts, fault: RunFault) -> Result<(), AllocError>
+/// Puts a fault at its place behind other bytes, and a line behind it.
+fn push_fault(
+    out: &mut Vec<u8>,
+    files: &Texts,
+    fault: RunFault,
+    line: &[u8],
+) -> Result<(), AllocError>
     ensures { OnOk result (out.new.items
-        ≡ out.old.items ++ (finding_text (texts_of files.now) (Met fault) ++ FAULT.now)) }
+        ≡ out.old.items ++ (finding_text (texts_of files.now) (Met fault) ++ line.now)) }
 {
     push_in(
         out,
@@ -209,7 +269,7 @@ fn push_fault(out: &mut Vec<u8>, files: &Texts, fault: RunFault) -> Result<(), A
         Some(fault.span),
         sentence(Finding::Met(fault)),
     )?;
-    out.extend_from_slice(FAULT)
+    out.extend_from_slice(line)
 }
 
 /// Puts what is said of a verdict behind other bytes.
@@ -224,11 +284,12 @@ pub fn push_verdict(
 {
     match verdict {
         Verdict::Plan => out.extend_from_slice(PLAN),
+        Verdict::Fault(fault) => push_fault(out, files, *fault, FAULT),
         Verdict::GivenUp { reasons, is_cut } => {
             push_given(out, files, &pair.domain, reasons.as_slice(), *is_cut)
         }
         Verdict::Nothing { left } => push_nothing(out, files, pair, left),
-        Verdict::Fault(fault) => push_fault(out, files, *fault),
+        Verdict::TwinFault(fault) => push_fault(out, files, *fault, TWIN_FAULT),
         Verdict::Lost => out.extend_from_slice(LOST),
     }
 }

@@ -50,6 +50,10 @@ asked_by branch (syntax.Concludes x) = None
 abbrev pub asked_in : List syntax.Rule → ℕ → ℕ → Option Conjunction
 asked_in rules rule branch = option_and_then (asked_by branch) (slice_get rules rule)
 
+-- the part at a place among them
+abbrev pub part_at : List syntax.Rule → ℕ → ℕ → ℕ → Option syntax.Expression
+part_at rules rule branch place = option_and_then (λ c. slice_get c.parts place) (asked_in rules rule branch)
+
 -- so many of the first parts, together
 abbrev pub first_parts : Conjunction → ℕ → syntax.Precondition
 first_parts c n = syntax.Plain (syntax.And c.span (as_expressions (take n c.parts)))

@@ -7,4 +7,5 @@ mod parts;
 mod trial;
 mod unmet;
 
+pub use parts::part_at;
 pub use unmet::{Unmet, first_unmet};

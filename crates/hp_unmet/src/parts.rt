@@ -78,3 +78,14 @@ pub fn asked_in(domain: &Domain, rule: usize, branch: usize) -> Option<Parts<'_>
         None => None,
     }
 }
+
+/// The part of a conjunction that stands at a place, of the precondition of an operator or of a branch of a method.
+pub fn part_at(domain: &Domain, rule: usize, branch: usize, place: usize) -> Option<&Expr>
+    ensures { option_map (λ e. expression_of e.now) result
+        ≡ plain.part_at (domain_of domain.now).rules rule branch place }
+{
+    match asked_in(domain, rule, branch) {
+        Some(asked) => asked.parts.get(place),
+        None => None,
+    }
+}

@@ -1,6 +1,6 @@
 -- What is answered, step by step.
-use Rattle.std.proofs.Common.{◌≡◌, ◌≢◌, ℕ, ◌<◌, Bool, true, false, ◌&&◌, List, [], ◌∷◌, length, map, Option, Some, None, Result, Ok, Err, IfOk, MatchOption, refl, sym, ◌∙◌, ap}
-use Rattle.std.specs.Prelude.{nat_lt, pos, zip}
+use Rattle.std.proofs.Common.{◌≡◌, ℕ, ◌<◌, Bool, true, false, ◌&&◌, List, [], ◌∷◌, length, map, Option, Some, None, Result, Ok, Err, IfOk, MatchOption, refl, sym, ◌∙◌, ap}
+use Rattle.std.specs.Prelude.{nat_lt, zip}
 use Rattle.std.specs.List.{All, list_all, filter_map}
 use Rattle.std.proofs.lemmas.Bool.Decides.{nat_tests}
 use Rattle.std.proofs.lemmas.List.Elements.{All-nil, All-cons, All-head, All-tail}
@@ -10,7 +10,6 @@ use Rattle.hp_syntax.specs.Syntax.{Rule}
 use Rattle.hp_syntax.specs.Walk.{Node}
 use Rattle.hp_after.specs.declared.reaching.Reached.TheVariants as reached
 use Rattle.hp_after.specs.Reach.{reaching}
-use Rattle.hp_best.specs.declared.bounding.Chosen.{Chosen}
 use Rattle.hp_syntax.specs.Views.{domain_of}
 use Rattle.hp_syntax.specs.declared.domain.Domain.{Domain}
 use Rattle.std.proofs.Common.{vec_len}
@@ -21,9 +20,7 @@ use Rattle.std.proofs.lemmas.List.{length-map}
 use Rattle.hp_way.specs.Ways.{Deed, LeadAlong, Here, Through, LeadToPlan, deed_of}
 use Rattle.hp_why.specs.declared.twin.Twin.{Twin}
 use Rattle.hp_why.specs.declared.verdict.Reason as code
-use Rattle.hp_why.specs.declared.verdict.Verdict.{Verdict}
-use Rattle.hp_why.specs.declared.verdict.Verdict.TheVariants as verdicts
-use Rattle.hp_why.specs.Twin.{IsExact, IsMissed, JudgedPath, JudgedPlan, OnWay, reason_in, tree_of, unmets_from, visits_of}
+use Rattle.hp_why.specs.Twin.{IsExact, IsMissed, OnWay, reason_in, tree_of, unmets_from, visits_of}
 use Rattle.hp_why.specs.Whys.{reason_of}
 use Rattle.hp_why.proofs.ReasonSteps.{reasons_same}
 
@@ -90,24 +87,10 @@ on_way t p ds reasons exact lead e = record {
   told = ap (map reason_of) e ∙ reasons_same t p 0 ds;
 }
 
-dear_plan : (t : Twin) (c : Chosen) (cut : Bool) → c.cost ≢ pos 0 → (v : Verdict)
-    → JudgedPath t c.path.items cut v → JudgedPlan t c cut v
-dear_plan t c cut n verdicts.Plan h = absurd h
-dear_plan t c cut n (verdicts.GivenUp reasons is_cut) h = (n, h)
-dear_plan t c cut n (verdicts.Nothing left) h = absurd h
-dear_plan t c cut n (verdicts.Fault f) h = absurd h
-dear_plan t c cut n verdicts.Lost h = h
-
 -- a consequence of a fact of each Ok value follows for an Ok value
 pub ok_weaker : {T E : Type 0} (P Q : T → Type 0) (r : Result T E) → IfOk r P → ((x : T) → P x → Q x) → IfOk r Q
 ok_weaker P Q (Ok x) p f = f x p
 ok_weaker P Q (Err e) p f = tt
-
--- what is answered at the path of a plan that costs something is answered of the plan
-pub plan_by_path : {E : Type 0} (t : Twin) (c : Chosen) (cut : Bool) (r : Result Verdict E) → c.cost ≢ pos 0
-    → IfOk r (JudgedPath t c.path.items cut) → IfOk r (JudgedPlan t c cut)
-plan_by_path t c cut r n h =
-    ok_weaker (JudgedPath t c.path.items cut) (JudgedPlan t c cut) r h (λ v k. dear_plan t c cut n v k)
 
 -- ---- walks
 

@@ -4,6 +4,7 @@ pub mod FinishedPlans
 pub mod OriginLemmas
 pub mod NumberedTwins
 pub mod PlanLemmas
+pub mod OwnEnds
 pub mod QuietLemmas
 pub mod CutSteps
 pub mod ReasonSteps

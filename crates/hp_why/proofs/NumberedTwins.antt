@@ -71,12 +71,13 @@ module _ (count : ℕ) where
       by true = with_below pre (syntax.And (expression_span (body_of pre)) (as_expressions kept)) h
       by false = tt
 
-  left_below : (bound behind : List Use) (pre : Precondition) → PreconditionBelow count pre
-      → IsBelowWhere (left_of bound behind pre)
-  left_below bound behind pre h =
+  left_below : (rules : List Rule) (bound behind : List Use) (pre : Precondition) → PreconditionBelow count pre
+      → IsBelowWhere (left_of rules bound behind pre)
+  left_below rules bound behind pre h =
       let parts = parts_of (body_of pre) in
-      fewer_below pre parts (staying (needed_by behind parts) bound parts)
-      (staying_below (needed_by behind parts) bound parts (parts_below (body_of pre) (body_below pre h)))
+      let needs = needed_by rules behind parts in
+      fewer_below pre parts (staying needs bound parts)
+      (staying_below needs bound parts (parts_below (body_of pre) (body_below pre h)))
 
   cost_below : (p : Pattern) → PatternBelow count p → PatternBelow count (free_cost p)
   cost_below (syntax.Number s n) h = tt
@@ -120,15 +121,16 @@ module _ (toll : List ℕ) where
       })
       (All-nil IsNumberedRule)
 
-  giving_numbered : (r : Rule) → IsNumberedRule r → All IsNumberedRule (giving_up toll r)
-  giving_numbered (Does o) h =
-      operator_given_numbered o (left_of_operator o) h (left_below (length o.vars) _ _ o.pre h.pre)
-  giving_numbered (Refines m) h =
-      all_join (branch_giving_up toll m) IsNumberedRule m.branches
-      (All-weaker (BranchBelow (length m.vars)) (λ b. All IsNumberedRule (branch_giving_up toll m b))
-      (λ b k. branch_given_numbered m b (left_of_branch m.head b) h k (left_below (length m.vars) _ _ b.pre k.0))
+  giving_numbered : (rules : List Rule) (r : Rule) → IsNumberedRule r → All IsNumberedRule (giving_up rules toll r)
+  giving_numbered rules (Does o) h =
+      operator_given_numbered o (left_of_operator rules o) h (left_below (length o.vars) rules _ _ o.pre h.pre)
+  giving_numbered rules (Refines m) h =
+      all_join (branch_giving_up rules toll m) IsNumberedRule m.branches
+      (All-weaker (BranchBelow (length m.vars)) (λ b. All IsNumberedRule (branch_giving_up rules toll m b))
+      (λ b k. branch_given_numbered m b (left_of_branch rules m.head b) h k
+      (left_below (length m.vars) rules _ _ b.pre k.0))
       m.branches h.branches)
-  giving_numbered (Concludes x) h = All-nil IsNumberedRule
+  giving_numbered rules (Concludes x) h = All-nil IsNumberedRule
 
   payer_numbered : IsNumberedRule (payer toll)
   payer_numbered = record {
@@ -146,8 +148,8 @@ module _ (toll : List ℕ) where
       (All-map IsNumberedRule free_rule rules
       (All-weaker IsNumberedRule (λ r. IsNumberedRule (free_rule r)) free_numbered rules h))
       (All-append IsNumberedRule (all_giving_up toll rules) (payer toll ∷ [])
-      (all_join (giving_up toll) IsNumberedRule rules
-      (All-weaker IsNumberedRule (λ r. All IsNumberedRule (giving_up toll r)) giving_numbered rules h))
+      (all_join (giving_up rules toll) IsNumberedRule rules
+      (All-weaker IsNumberedRule (λ r. All IsNumberedRule (giving_up rules toll r)) (giving_numbered rules) rules h))
       (All-cons IsNumberedRule (payer toll) [] payer_numbered (All-nil IsNumberedRule)))
 
 -- each rule of the twin of a numbered domain is numbered

@@ -30,28 +30,31 @@ joined_long : {A B : Type 0} (xs ys : List A) (us vs : List B) → length xs ≡
 joined_long xs ys us vs h k =
     length-append xs ys ∙ ap₂ (λ a b. a + b) h k ∙ sym (length-append us vs)
 
-branches_one : (toll : List ℕ) (m : Method) (rule i : ℕ) (bs : List Branch)
-    → length (branch_origins rule m.head i bs) ≡ length (flat_map (branch_giving_up toll m) bs)
-branches_one toll m rule i [] = refl
-branches_one toll m rule i (b ∷ bs) =
-    joined_long (origin_where (origin_at rule i) (left_of_branch m.head b)) (branch_origins rule m.head (i + 1) bs)
-    (branch_giving_up toll m b) (flat_map (branch_giving_up toll m) bs)
-    (branch_one toll (origin_at rule i) m b (left_of_branch m.head b)) (branches_one toll m rule (i + 1) bs)
+module _ (rules : List Rule) (toll : List ℕ) where
+  branches_one : (m : Method) (rule i : ℕ) (bs : List Branch)
+      → length (branch_origins rules rule m.head i bs) ≡ length (flat_map (branch_giving_up rules toll m) bs)
+  branches_one m rule i [] = refl
+  branches_one m rule i (b ∷ bs) =
+      joined_long (origin_where (origin_at rule i) (left_of_branch rules m.head b))
+      (branch_origins rules rule m.head (i + 1) bs) (branch_giving_up rules toll m b)
+      (flat_map (branch_giving_up rules toll m) bs)
+      (branch_one toll (origin_at rule i) m b (left_of_branch rules m.head b)) (branches_one m rule (i + 1) bs)
 
-rule_one : (toll : List ℕ) (i : ℕ) (r : Rule) → length (rule_origins i r) ≡ length (giving_up toll r)
-rule_one toll i (Does o) = operator_one (origin_at i 0) o (left_of_operator o)
-rule_one toll i (Refines m) = branches_one toll m i 0 m.branches
-rule_one toll i (Concludes x) = refl
+  rule_one : (i : ℕ) (r : Rule) → length (rule_origins rules i r) ≡ length (giving_up rules toll r)
+  rule_one i (Does o) = operator_one (origin_at i 0) o (left_of_operator rules o)
+  rule_one i (Refines m) = branches_one m i 0 m.branches
+  rule_one i (Concludes x) = refl
 
-rules_one : (toll : List ℕ) (i : ℕ) (rs : List Rule) → length (origins_from i rs) ≡ length (all_giving_up toll rs)
-rules_one toll i [] = refl
-rules_one toll i (r ∷ rs) =
-    joined_long (rule_origins i r) (origins_from (i + 1) rs) (giving_up toll r) (all_giving_up toll rs)
-    (rule_one toll i r) (rules_one toll (i + 1) rs)
+  rules_one : (i : ℕ) (rs : List Rule)
+      → length (origins_from rules i rs) ≡ length (flat_map (giving_up rules toll) rs)
+  rules_one i [] = refl
+  rules_one i (r ∷ rs) =
+      joined_long (rule_origins rules i r) (origins_from rules (i + 1) rs) (giving_up rules toll r)
+      (flat_map (giving_up rules toll) rs) (rule_one i r) (rules_one (i + 1) rs)
 
 -- as many rules give something up as there are origins
 pub as_many_origins : (toll : List ℕ) (rules : List Rule) → length (all_giving_up toll rules) ≡ length (origins rules)
-as_many_origins toll rules = sym (rules_one toll 0 rules)
+as_many_origins toll rules = sym (rules_one rules toll 0 rules)
 
 -- ---- what choices give up
 

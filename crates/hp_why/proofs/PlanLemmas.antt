@@ -14,73 +14,27 @@ use Rattle.hp_best.specs.declared.bounding.Found.{Found}
 use Rattle.hp_best.specs.Bounded.{ChosenIsCheapest, IsAt, IsCheapest, IsChosen, IsFound, bounded, bounded_turn, chosen_plan}
 use Rattle.hp_best.proofs.ChoiceLemmas.{chosen_is_cheapest}
 use Rattle.hp_relaxed.specs.Twins.{for_nothing, free_plans, plans_among, price}
-use Rattle.hp_why.specs.Whys.{HasNoPlan, HasPlan}
-
--- ---- whether there is a plan
-
-later_plan : (v : Visit) (vs : List Visit) → HasPlan vs → HasPlan (v ∷ vs)
-later_plan v vs (k, x, l, e, p) = (suc k, x, omega (arith, l), e, p)
-
-plan_or_none_by : (v : Visit) (vs : List Visit) → HasPlan vs ⊎ HasNoPlan vs → (b : Bool) → is_plan v.sight ≡ b
-    → HasPlan (v ∷ vs) ⊎ HasNoPlan (v ∷ vs)
-plan_or_none_by v vs r true e = inl (zero, v, omega arith, refl, e)
-plan_or_none_by v vs (inl h) false e = inl (later_plan v vs h)
-plan_or_none_by v vs (inr h) false e = inr (All-cons (λ w. is_plan w.sight ≡ false) v vs e h)
-
--- visits hold a plan or none
-pub plan_or_none : (vs : List Visit) → HasPlan vs ⊎ HasNoPlan vs
-plan_or_none [] = inr (All-nil (λ w. is_plan w.sight ≡ false))
-plan_or_none (v ∷ vs) = plan_or_none_by v vs (plan_or_none vs) (is_plan v.sight) refl
+use Rattle.hp_why.specs.Whys.{HasNoPlan}
 
 -- the plans among visits without one are none
-pub no_plans : (vs : List Visit) → HasNoPlan vs → plans_among vs ≡ []
+no_plans : (vs : List Visit) → HasNoPlan vs → plans_among vs ≡ []
 no_plans [] h = refl
 no_plans (v ∷ vs) h =
     let plans = filter (λ w. is_plan w.sight) vs in
     ap (λ b. map (λ w. w.node) (cond b (v ∷ plans) plans)) (All-head (λ w. is_plan w.sight ≡ false) v vs h)
     ∙ no_plans vs (All-tail (λ w. is_plan w.sight ≡ false) v vs h)
 
-none_by : (v : Visit) (vs : List Visit) → (plans_among vs ≡ [] → HasNoPlan vs) → (b : Bool) → is_plan v.sight ≡ b
-    → map (λ w. w.node) (cond b (v ∷ filter (λ w. is_plan w.sight) vs) (filter (λ w. is_plan w.sight) vs)) ≡ []
-    → HasNoPlan (v ∷ vs)
-none_by v vs r true e k = absurd cc
-none_by v vs r false e k = All-cons (λ w. is_plan w.sight ≡ false) v vs e (r k)
-
--- and where these are none there is no plan
-pub none_among : (vs : List Visit) → plans_among vs ≡ [] → HasNoPlan vs
-none_among [] h = All-nil (λ w. is_plan w.sight ≡ false)
-none_among (v ∷ vs) h = none_by v vs (λ k. none_among vs k) (is_plan v.sight) refl h
-
 -- ---- plans that cost nothing
 
-abbrev IsDear : Visit → Type 0
+abbrev pub IsDear : Visit → Type 0
 IsDear v = is_plan v.sight ≡ true → v.node.cost ≢ pos 0
 
 abbrev is_free : Node → Bool
 is_free n = int_eq n.cost (pos 0)
 
-not_free : (c : ℤ) → c ≢ pos 0 → int_eq c (pos 0) ≡ false
-not_free c h = by (int_eq c (pos 0)) refl
-  where
-    by : (b : Bool) → int_eq c (pos 0) ≡ b → int_eq c (pos 0) ≡ false
-    by true e = absurd (h ((Decides-int_eq c (pos 0)).0 e))
-    by false e = e
-
 abbrev plans_by : Bool → Visit → List Visit → List Node
 plans_by b v vs =
     map (λ w. w.node) (cond b (v ∷ filter (λ w. is_plan w.sight) vs) (filter (λ w. is_plan w.sight) vs))
-
-no_free_by : (v : Visit) (vs : List Visit) → IsDear v → free_plans vs ≡ [] → (b : Bool) → is_plan v.sight ≡ b
-    → filter is_free (plans_by b v vs) ≡ []
-no_free_by v vs h r true e =
-    ap (λ b. cond b (v.node ∷ free_plans vs) (free_plans vs)) (not_free v.node.cost (h e)) ∙ r
-no_free_by v vs h r false e = r
-
--- where each plan costs something, none is free
-pub no_free : (vs : List Visit) → All IsDear vs → free_plans vs ≡ []
-no_free [] h = refl
-no_free (v ∷ vs) h =
-    no_free_by v vs (All-head IsDear v vs h) (no_free vs (All-tail IsDear v vs h)) (is_plan v.sight) refl
 
 dear_free : (v : Visit) (vs : List Visit) → (free_plans vs ≡ [] → All IsDear vs) → (b : Bool)
     → int_eq v.node.cost (pos 0) ≡ b → cond b (v.node ∷ free_plans vs) (free_plans vs) ≡ [] → All IsDear (v ∷ vs)
@@ -95,33 +49,15 @@ dear_by v vs r true e h = dear_free v vs r (int_eq v.node.cost (pos 0)) refl h
 dear_by v vs r false e h =
     All-cons IsDear v vs (λ p. let k : false ≡ true = sym e ∙ p in absurd cc) (r h)
 
--- and where none is free, each costs something
-pub dear_where : (vs : List Visit) → free_plans vs ≡ [] → All IsDear vs
+-- where no plan is free, each costs something
+dear_where : (vs : List Visit) → free_plans vs ≡ [] → All IsDear vs
 dear_where [] h = All-nil IsDear
 dear_where (v ∷ vs) h = dear_by v vs (λ k. dear_where vs k) (is_plan v.sight) refl h
 
--- where there is no plan, none is free
-pub none_free : (vs : List Visit) → HasNoPlan vs → free_plans vs ≡ []
-none_free vs h = ap (filter is_free) (no_plans vs h)
-
-nothing_mapped : (ns : List Node) → map for_nothing ns ≡ [] → ns ≡ []
-nothing_mapped [] h = refl
-nothing_mapped (n ∷ ns) h = absurd cc
-
-module _ (own twin : List Visit) (same : free_plans twin ≡ map for_nothing (plans_among own)) where
-  -- where no plan of a twin is free, the domain has none
-  pub own_none : free_plans twin ≡ [] → HasNoPlan own
-  own_none h = none_among own (nothing_mapped (plans_among own) (sym same ∙ h))
-
-  -- where one is free, the domain has one
-  pub own_some : (v : Visit) → Contains twin v → is_plan v.sight ≡ true → v.node.cost ≡ pos 0 → HasPlan own
-  own_some v c p e = by (plan_or_none own)
-    where
-      by : HasPlan own ⊎ HasNoPlan own → HasPlan own
-      by (inl h) = h
-      by (inr h) =
-          let free : free_plans twin ≡ [] = same ∙ ap (map for_nothing) (no_plans own h) in
-          absurd (All-contains IsDear twin v (dear_where twin free) c p e)
+-- where the domain has no plan, each plan of its twin costs something
+pub own_dear : (own twin : List Visit) → free_plans twin ≡ map for_nothing (plans_among own) → HasNoPlan own
+    → All IsDear twin
+own_dear own twin same h = dear_where twin (same ∙ ap (map for_nothing) (no_plans own h))
 
 -- ---- the cheapest plan
 
@@ -146,16 +82,6 @@ pub cheapest_among : (v : Visit) (vs : List Visit) → IsCheapest v vs → Conta
 cheapest_among v vs h =
     subst (λ l. Contains l v) (sym h.here)
     (Contains-append_right h.before (v ∷ h.after) v (contains_first v h.after))
-
-costs_nothing : (c w : ℤ) (k : ℕ) → c ≡ pos (1000 * k) → c ≤ℤ w → w ≡ pos 0 → c ≡ pos 0
-costs_nothing c w k e l z = omega (arith, ints)
-
--- where the cheapest plan costs something, each does
-pub all_dear : (v : Visit) (vs : List Visit) (k : ℕ) → IsCheapest v vs → v.node.cost ≡ pos (price * k)
-    → v.node.cost ≢ pos 0 → All IsDear vs
-all_dear v vs k h e n =
-    All-weaker (λ w. is_plan w.sight ≡ true → v.node.cost ≤ℤ w.node.cost) IsDear
-    (λ w l p z. n (costs_nothing v.node.cost w.node.cost k e (l p) z)) vs (no_cheaper v vs h)
 
 -- what costs no more gives up no more
 pub gives_no_more : (c d : ℤ) (k l : ℕ) → c ≡ pos (price * k) → d ≡ pos (price * l) → c ≤ℤ d → k ≤ l

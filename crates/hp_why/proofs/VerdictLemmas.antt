@@ -25,9 +25,8 @@ use Rattle.hp_best.specs.declared.bounding.Found.{Found}
 use Rattle.hp_best.specs.Bounded.{IsAt, IsCheapest, IsCheapestOf, IsFound, NeverFalls, end_told, is_priced}
 use Rattle.hp_best.proofs.CostLemmas.{never_falls}
 use Rattle.hp_code.specs.Codes.{code_of}
-use Rattle.hp_code.specs.CodeViews.{CodeView, IsCodeOf, or_empty, rules_in}
+use Rattle.hp_code.specs.CodeViews.{CodeView, IsCodeOf, rules_in}
 use Rattle.hp_code.specs.Lowered.{lowered_rules}
-use Rattle.hp_code.proofs.CodeLemmas.{code_reads}
 use Rattle.hp_code.proofs.RuleLemmas.{visits_same}
 use Rattle.hp_relaxed.specs.Giving.{origins, payer, toll_of}
 use Rattle.hp_relaxed.specs.Twins.{for_nothing, free_plans, given_up, plans_among, price}
@@ -39,18 +38,15 @@ use Rattle.hp_net.specs.Standings.{Tree, tree_visits}
 use Rattle.hp_why.specs.declared.twin.Twin.{Twin}
 use Rattle.hp_why.specs.declared.verdict.Verdict.{Verdict}
 use Rattle.hp_why.specs.declared.verdict.Verdict.TheVariants as verdicts
-use Rattle.hp_why.specs.Twin.{Answers, IsExact, IsMissed, IsTwinOf, Judged, JudgedBest, JudgedNone, JudgedPlan, OnWay, given_along, reasons_by, tree_of, visits_of}
-use Rattle.hp_why.specs.Whys.{Asked, IsLeast, IsLost, IsPlanned, IsGivenUp, HelpsNothing, IsSound, IsWhy, Reason, Shows, ShowsCheapest, first_cut, giving, next_tasks, own_visits, reason_of, terms_of, twin_ending, twin_rules, twin_visits}
+use Rattle.hp_why.specs.Twin.{Answers, IsExact, IsMissed, IsTwinOf, Judged, JudgedBest, JudgedNone, JudgedPath, OnWay, given_along, reasons_by, tree_of, visits_of}
+use Rattle.hp_why.specs.Whys.{Asked, IsLeast, IsLost, IsGivenUp, IsUnplanned, HelpsNothing, IsSound, IsWhy, Reason, Shows, ShowsCheapest, first_cut, giving, next_tasks, own_visits, reason_of, terms_of, twin_ending, twin_rules, twin_visits}
 use Rattle.hp_why.proofs.FinishedPlans.{plan_finished}
 use Rattle.hp_why.proofs.OriginLemmas.{as_many_origins, counted}
-use Rattle.hp_why.proofs.PlanLemmas.{all_dear, cheapest_among, exact_or_great, found_among, gives_no_more, gives_nothing, no_cheaper, no_free, none_chosen, none_free, own_none, own_some, plan_sight, told_exact, IsGreat}
+use Rattle.hp_why.proofs.OwnEnds.{code_lowered, code_visits}
+use Rattle.hp_why.proofs.PlanLemmas.{cheapest_among, exact_or_great, found_among, gives_no_more, gives_nothing, no_cheaper, none_chosen, own_dear, plan_sight, told_exact, IsDear, IsGreat}
 use Rattle.hp_why.proofs.QuietLemmas.{quiet}
 use Rattle.hp_why.proofs.StateSteps.{tree_at}
 use Rattle.hp_why.proofs.WaySteps.{derived_from_root, given}
-
--- the rules in the code of rules are these, lowered
-pub code_lowered : (rules : List Rule) (c : CodeView) → IsCodeOf rules c → rules_in c ≡ lowered_rules rules
-code_lowered rules c is = ap or_empty (code_reads rules c is)
 
 module _ (a : Asked) (contained : Contains a.problem.pairs a.pair) where
   -- the free plans of the twin are those of the domain
@@ -88,14 +84,6 @@ module _ (a : Asked) (contained : Contains a.problem.pairs a.pair) where
       (no_cheaper v (twin_visits a) cheap) (x.0, x.2, x.3) (ap is_plan plan.0) in
       gives_no_more v.node.cost w.node.cost (length reasons) (given_up a.domain.rules (giving a) cs)
       (costs_reasons v.node reasons s) (plan.3 ∙ costs cs steps cost after d e) no_less
-
-  -- the domain has no plan where the cheapest of the twin costs something
-  no_plan : (v : Visit) (reasons : List Reason) → IsCheapest v (twin_visits a) → Shows a v.node reasons
-      → v.node.cost ≢ pos 0 → All (λ w. is_plan w.sight ≡ false) (own_visits a)
-  no_plan v reasons cheap s n =
-      own_none (own_visits a) (twin_visits a) free_same
-      (no_free (twin_visits a)
-      (all_dear v (twin_visits a) (length reasons) cheap (costs_reasons v.node reasons s) n))
 
   -- ---- the node at a path
 
@@ -163,24 +151,20 @@ module _ (a : Asked) (contained : Contains a.problem.pairs a.pair) where
 
     -- ---- the verdict
 
-    module _ (f : Found) (found : IsFound (is_priced (twin_rules a)) f (twin_visits a))
+    module _ (unplanned : IsUnplanned a) (f : Found) (found : IsFound (is_priced (twin_rules a)) f (twin_visits a))
         (cheapest : IsSound a → IsCheapestOf f.best (twin_visits a)) (cut : Bool)
         (quietly : twin_ending a ≡ quiet_ending cut) where
-      -- a plan was found that costs nothing
-      plan_right : (c : Chosen) → f.best ≡ Some c → c.cost ≡ pos 0 → IsPlanned a
-      plan_right c e z =
+      -- a plan that was found costs something
+      dear_chosen : (c : Chosen) → f.best ≡ Some c → c.cost ≢ pos 0
+      dear_chosen c e z =
           let v = found_among (is_priced (twin_rules a)) f c (twin_visits a) found e in
-          record {
-            plan =
-                own_some (own_visits a) (twin_visits a) free_same v.0 v.1 v.2 (sym v.3.cost ∙ z);
-            is_cut = cut;
-            ending = quietly;
-          }
+          All-contains IsDear (twin_visits a) v.0
+          (own_dear (own_visits a) (twin_visits a) free_same unplanned.none) v.1 v.2 (sym v.3.cost ∙ z)
 
-      -- one was found that costs something, and the way to it was gone
-      given_right : (c : Chosen) → f.best ≡ Some c → c.cost ≢ pos 0 → (reasons : List Reason) (is_cut : Bool)
-          → is_cut ≡ cut → OnWay t c.path.items reasons → IsGivenUp a reasons is_cut
-      given_right c e dear reasons is_cut k w =
+      -- one was found, and the way to it was gone
+      given_right : (c : Chosen) → f.best ≡ Some c → (reasons : List Reason) (is_cut : Bool) → is_cut ≡ cut
+          → OnWay t c.path.items reasons → IsGivenUp a reasons is_cut
+      given_right c e reasons is_cut k w =
           let s = shows c.path.items reasons w in
           let h = holds_there c.path.items reasons w in
           let v = found_among (is_priced (twin_rules a)) f c (twin_visits a) found e in
@@ -198,15 +182,10 @@ module _ (a : Asked) (contained : Contains a.problem.pairs a.pair) where
           } in
           record {
             leads = (w.node, s);
-            some = λ none. dear (cost ∙ gives_nothing w.node.cost (length reasons)
+            some = λ none. dear_chosen c e (cost ∙ gives_nothing w.node.cost (length reasons)
                 (costs_reasons w.node reasons s) (ap length none));
             cheapest = best;
             least = λ sound. least (best sound).plan reasons (best sound).cheapest (best sound).shows;
-            none =
-                λ sound.
-                let b = subst (λ o. IsCheapestOf o (twin_visits a)) e (cheapest sound) in
-                no_plan (best sound).plan reasons (best sound).cheapest (best sound).shows
-                (λ z. dear (b.1.cost ∙ z));
             ending = quietly ∙ ap quiet_ending (sym k);
           }
 
@@ -238,13 +217,14 @@ module _ (a : Asked) (contained : Contains a.problem.pairs a.pair) where
               (subst (λ q. (reaching q (visits_of t)).knows.answer ≡ reached.At) (sym path)
               (subst (λ us. (reaching v.path us).knows.answer ≡ reached.At) (sym same_visits) met.0)))
 
-      best_right : (c : Chosen) → f.best ≡ Some c → (v : Verdict) → JudgedPlan t c cut v → IsWhy a v
-      best_right c e verdicts.Plan h = plan_right c e h
-      best_right c e (verdicts.GivenUp reasons is_cut) h =
-          given_right c e h.0 (map reason_of reasons.items) is_cut h.1.0 h.1.1
-      best_right c e (verdicts.Nothing left) h = absurd h
+      best_right : (c : Chosen) → f.best ≡ Some c → (v : Verdict) → JudgedPath t c.path.items cut v → IsWhy a v
+      best_right c e verdicts.Plan h = absurd h
       best_right c e (verdicts.Fault g) h = absurd h
-      best_right c e verdicts.Lost h = lost_right c e h
+      best_right c e (verdicts.GivenUp reasons is_cut) h =
+          (unplanned, given_right c e (map reason_of reasons.items) is_cut h.0 h.1)
+      best_right c e (verdicts.Nothing left) h = absurd h
+      best_right c e (verdicts.TwinFault g) h = absurd h
+      best_right c e verdicts.Lost h = (unplanned, lost_right c e h)
 
       -- no plan was found
       left_right : (left : Option (List Term)) → f.best ≡ None
@@ -255,8 +235,6 @@ module _ (a : Asked) (contained : Contains a.problem.pairs a.pair) where
           record {
             sound = q.faults;
             nothing = q.plans;
-            none =
-                own_none (own_visits a) (twin_visits a) free_same (none_free (twin_visits a) q.plans);
             left =
                 h ∙ (ap (λ us. cond cut (option_map next_tasks (first_cut us)) None) same_visits
                 ∙ where_cut cut (first_cut (twin_visits a)) q.cuts);
@@ -270,45 +248,45 @@ module _ (a : Asked) (contained : Contains a.problem.pairs a.pair) where
 
       none_right : f.best ≡ None → (v : Verdict) → JudgedNone t cut v → IsWhy a v
       none_right e verdicts.Plan h = absurd h
-      none_right e (verdicts.GivenUp reasons is_cut) h = absurd h
-      none_right e (verdicts.Nothing left) h = left_right (terms_of left) e h
       none_right e (verdicts.Fault g) h = absurd h
+      none_right e (verdicts.GivenUp reasons is_cut) h = absurd h
+      none_right e (verdicts.Nothing left) h = (unplanned, left_right (terms_of left) e h)
+      none_right e (verdicts.TwinFault g) h = absurd h
       none_right e verdicts.Lost h = absurd h
 
       judged_right : (o : Option Chosen) → f.best ≡ o → (v : Verdict) → JudgedBest t o cut v → IsWhy a v
       judged_right None e v h = none_right e v h
       judged_right (Some c) e v h = best_right c e v h
 
-    ended_right : (f : Found) → IsFound (is_priced (twin_rules a)) f (twin_visits a)
+    ended_right : IsUnplanned a → (f : Found) → IsFound (is_priced (twin_rules a)) f (twin_visits a)
         → (IsSound a → IsCheapestOf f.best (twin_visits a)) → (x : BestEnd) → f.ending ≡ x → (v : Verdict)
         → Judged t x f.best v → IsWhy a v
-    ended_right f found cheapest ends.End e v h =
-        judged_right f found cheapest false (sym found.ending ∙ ap end_told e) f.best refl v h
-    ended_right f found cheapest ends.Cut e v h =
-        judged_right f found cheapest true (sym found.ending ∙ ap end_told e) f.best refl v h
-    ended_right f found cheapest (ends.Fault g) e v h =
-        subst (IsWhy a) (sym h) (sym found.ending ∙ ap end_told e)
+    ended_right unplanned f found cheapest ends.End e v h =
+        judged_right unplanned f found cheapest false (sym found.ending ∙ ap end_told e) f.best refl v h
+    ended_right unplanned f found cheapest ends.Cut e v h =
+        judged_right unplanned f found cheapest true (sym found.ending ∙ ap end_told e) f.best refl v h
+    ended_right unplanned f found cheapest (ends.Fault g) e v h =
+        subst (IsWhy a) (sym h) (unplanned, sym found.ending ∙ ap end_told e)
 
     -- what is answered by the search of the twin is right
-    answer_right : (priced : Bool) (v : Verdict) → priced ≡ is_priced (twin_rules a) → Answers t priced v → IsWhy a v
-    answer_right priced v e h =
+    answer_right : IsUnplanned a → (priced : Bool) (v : Verdict) → priced ≡ is_priced (twin_rules a)
+        → Answers t priced v → IsWhy a v
+    answer_right unplanned priced v e h =
         let found : IsFound (is_priced (twin_rules a)) h.found (twin_visits a) =
         subst (λ b. IsFound b h.found (twin_visits a)) e (subst (IsFound priced h.found) same_visits h.is) in
-        ended_right h.found found
+        ended_right unplanned h.found found
         (λ sound. subst (IsCheapestOf h.found.best) same_visits
         (h.cheapest (subst (All (λ u. IsFaultless u.sight)) (sym same_visits) sound)))
         h.found.ending refl v h.judged
 
--- what a search of the twin answers is right
+-- what a search of the twin answers is right, where the domain has no plan
 pub search_right : {t : Twin} {priced : Bool} {v : Verdict} → Answers t priced v → (a : Asked)
-    → Contains a.problem.pairs a.pair → IsTwinOf a t → priced ≡ is_priced (twin_rules a) → IsWhy a v
-search_right {t} {priced} {v} h a contained is e =
-    answer_right a contained t is (code_lowered (twin_rules a) (code_of t.code.now) is.code) priced v e h
+    → Contains a.problem.pairs a.pair → IsUnplanned a → IsTwinOf a t → priced ≡ is_priced (twin_rules a) → IsWhy a v
+search_right {t} {priced} {v} h a contained unplanned is e =
+    answer_right a contained t is (code_lowered (twin_rules a) (code_of t.code.now) is.code) unplanned priced v e h
 
 -- by priced rules costs never fall in the tree of their code
 pub code_never_falls : (rules : List Rule) (c : CodeView) (nest : ℕ) (n : Node) → IsCodeOf rules c
     → is_priced rules ≡ true → NeverFalls (visits (rules_in c) nest n [])
 code_never_falls rules c nest n is e =
-    subst NeverFalls
-    (sym (ap (λ rs. visits rs nest n []) (code_lowered rules c is) ∙ visits_same rules nest n []))
-    (never_falls rules nest e n)
+    subst NeverFalls (sym (code_visits rules c nest n is)) (never_falls rules nest e n)

@@ -1,5 +1,5 @@
 -- The twin of a domain as code searches it, and what the search comes to.
-use Rattle.std.specs.Prelude.{◌≡◌, ◌≢◌, ◌+◌, ◌-◌, ◌^◌, ◌<◌, ◌≤◌, ℕ, nat_le, Bool, true, false, cond, pos, List, [], ◌∷◌, ◌++◌, length, map, slice_get, take, Option, Some, None, option_map}
+use Rattle.std.specs.Prelude.{◌≡◌, ◌≢◌, ◌+◌, ◌-◌, ◌^◌, ◌<◌, ◌≤◌, ℕ, nat_le, Bool, true, false, cond, List, [], ◌∷◌, ◌++◌, length, map, slice_get, take, Option, Some, None, option_map}
 use Rattle.std.specs.List.{All}
 use Rattle.hp_syntax.specs.declared.limits.TheConstants.{GREATEST_DEPTH, MOST_LEVELS}
 use Rattle.hp_syntax.specs.Checks.{domain_faults, first_of}
@@ -147,41 +147,34 @@ pub record OnWay (t : Twin) (p : List ℕ) (reasons : List Reason) : Type 0 wher
 abbrev pub IsMissed : Twin → List ℕ → Type 0
 IsMissed t p = IsExact p → (reaching p (visits_of t)).knows.answer ≢ reached.At
 
--- what is answered where the cheapest plan stands at a path, and costs something
+-- what is answered where the cheapest plan stands at a path
 abbrev pub JudgedPath : Twin → List ℕ → Bool → Verdict → Type 0
 JudgedPath t p cut verdicts.Plan = ⊥
+JudgedPath t p cut (verdicts.Fault f) = ⊥
 JudgedPath t p cut (verdicts.GivenUp reasons is_cut) = (is_cut ≡ cut) × OnWay t p (map reason_of reasons.items)
 JudgedPath t p cut (verdicts.Nothing left) = ⊥
-JudgedPath t p cut (verdicts.Fault f) = ⊥
+JudgedPath t p cut (verdicts.TwinFault f) = ⊥
 JudgedPath t p cut verdicts.Lost = IsMissed t p
-
--- what is answered where there is a cheapest plan
-abbrev pub JudgedPlan : Twin → Chosen → Bool → Verdict → Type 0
-JudgedPlan t c cut verdicts.Plan = c.cost ≡ pos 0
-JudgedPlan t c cut (verdicts.GivenUp reasons is_cut) =
-    (c.cost ≢ pos 0) × JudgedPath t c.path.items cut (verdicts.GivenUp reasons is_cut)
-JudgedPlan t c cut (verdicts.Nothing left) = ⊥
-JudgedPlan t c cut (verdicts.Fault f) = ⊥
-JudgedPlan t c cut verdicts.Lost = IsMissed t c.path.items
 
 -- what is answered where there is none
 abbrev pub JudgedNone : Twin → Bool → Verdict → Type 0
 JudgedNone t cut verdicts.Plan = ⊥
+JudgedNone t cut (verdicts.Fault f) = ⊥
 JudgedNone t cut (verdicts.GivenUp reasons is_cut) = ⊥
 JudgedNone t cut (verdicts.Nothing left) =
     terms_of left ≡ cond cut (option_map next_tasks (first_cut (visits_of t))) None
-JudgedNone t cut (verdicts.Fault f) = ⊥
+JudgedNone t cut (verdicts.TwinFault f) = ⊥
 JudgedNone t cut verdicts.Lost = ⊥
 
 abbrev pub JudgedBest : Twin → Option Chosen → Bool → Verdict → Type 0
 JudgedBest t None cut v = JudgedNone t cut v
-JudgedBest t (Some c) cut v = JudgedPlan t c cut v
+JudgedBest t (Some c) cut v = JudgedPath t c.path.items cut v
 
 -- what is answered where the search for it ended so
 abbrev pub Judged : Twin → BestEnd → Option Chosen → Verdict → Type 0
 Judged t ends.End best v = JudgedBest t best false v
 Judged t ends.Cut best v = JudgedBest t best true v
-Judged t (ends.Fault f) best v = v ≡ verdicts.Fault f
+Judged t (ends.Fault f) best v = v ≡ verdicts.TwinFault f
 
 -- what the search found in the visits of the twin, and what is answered then
 pub record Answers (t : Twin) (priced : Bool) (v : Verdict) : Type 0 where

@@ -2,6 +2,7 @@
 use Rattle.std.specs.Prelude.{◌≡◌, ◌≢◌, ◌-◌, ◌^◌, ◌≤◌, ℕ, nat_le, Bool, true, false, cond, ℤ, Vec, List, [], ◌∷◌, ◌++◌, length, map, slice_get, Option, Some, None, option_map}
 use Rattle.std.specs.Global.{Global}
 use Rattle.std.specs.List.{All, Any, flat_map}
+use Rattle.hp_syntax.specs.declared.fault.RunFault.{RunFault}
 use Rattle.hp_syntax.specs.declared.pattern.Ground.{Ground}
 use Rattle.hp_syntax.specs.Events.{State}
 use Rattle.hp_syntax.specs.GroundViews.{ground_of}
@@ -9,7 +10,7 @@ use Rattle.hp_syntax.specs.Networks.{Network, Empty, Task, Ordered, Unordered, P
 use Rattle.hp_syntax.specs.Report.{Ending, AtFault, nothing_seen, quiet_ending}
 use Rattle.hp_syntax.specs.Syntax.{Domain, Pair, Problem, Rule}
 use Rattle.hp_syntax.specs.Terms.{Term}
-use Rattle.hp_syntax.specs.Walk.{Node, Visit, Did, Plan, CutHere, FaultHere, is_plan, root, visits}
+use Rattle.hp_syntax.specs.Walk.{Node, Visit, Did, Plan, CutHere, FaultHere, heard_visits, is_plan, root, visits}
 use Rattle.hp_laws.specs.Derivations.{Choosing, Situation, Derives, Nothing, ByOperator, ByMethod, first_situation, situation_at}
 use Rattle.hp_laws.specs.TreeLaws.{IsFaultless}
 use Rattle.hp_best.specs.Bounded.{IsCheapest, bounded, is_priced, last_of}
@@ -53,9 +54,12 @@ twin_visits a = visits (twin_rules a) a.nest (root a.pair a.depth) []
 abbrev pub twin_ending : Asked → Ending
 twin_ending a = (last_of nothing_seen (bounded (is_priced (twin_rules a)) (twin_visits a))).ending
 
+abbrev pub HasNoFault : List Visit → Type 0
+HasNoFault vs = All (λ v. IsFaultless v.sight) vs
+
 -- no fault is met anywhere in the twin's tree
 abbrev pub IsSound : Asked → Type 0
-IsSound a = All (λ v. IsFaultless v.sight) (twin_visits a)
+IsSound a = HasNoFault (twin_visits a)
 
 abbrev pub HasPlan : List Visit → Type 0
 HasPlan vs = Any (λ v. is_plan v.sight ≡ true) vs
@@ -154,26 +158,41 @@ first_cut (v ∷ vs) =
 
 -- ---- the verdict
 
--- the pair has a plan
-pub record IsPlanned (a : Asked) : Type 0 where
-  pub plan : HasPlan (own_visits a)
-  pub is_cut : Bool
-  pub ending : twin_ending a ≡ quiet_ending is_cut
+-- the pair has a plan, and no fault is met before it
+abbrev pub IsPlanned : Asked → Type 0
+IsPlanned a = HasPlan (heard_visits (own_visits a))
 
--- it has none, and a plan is come to by giving these up
+-- a fault is met, and there is neither a plan nor another fault before it
+pub record MeetsFault (vs : List Visit) (f : RunFault) : Type 0 where
+  pub before : List Visit
+  pub at : Visit
+  pub after : List Visit
+  pub here : vs ≡ before ++ at ∷ after
+  pub sight : at.sight ≡ FaultHere f
+  pub faultless : HasNoFault before
+  pub none : HasNoPlan before
+
+-- no fault is met, and there is no plan
+pub record HasNeither (vs : List Visit) : Type 0 where
+  pub faultless : HasNoFault vs
+  pub none : HasNoPlan vs
+
+-- the pair has no plan, and it is known that it has none
+abbrev pub IsUnplanned : Asked → Type 0
+IsUnplanned a = HasNeither (own_visits a)
+
+-- a plan is come to by giving these up
 pub record IsGivenUp (a : Asked) (reasons : List Reason) (is_cut : Bool) : Type 0 where
   pub leads : (n : Node) × Shows a n reasons
   pub some : reasons ≢ []
   pub cheapest : IsSound a → ShowsCheapest a reasons
   pub least : IsSound a → IsLeast a (length reasons)
-  pub none : IsSound a → HasNoPlan (own_visits a)
   pub ending : twin_ending a ≡ quiet_ending is_cut
 
 -- even the twin has none; where its tree is cut, these tasks are left at the first cut
 pub record HelpsNothing (a : Asked) (tasks : Option (List Term)) : Type 0 where
   pub sound : IsSound a
   pub nothing : HasNoPlan (twin_visits a)
-  pub none : HasNoPlan (own_visits a)
   pub left : tasks ≡ option_map next_tasks (first_cut (twin_visits a))
 
 -- the way to the plan of the twin that was found can't be told: a fault stands somewhere, or a number of its path is
@@ -192,7 +211,8 @@ terms_of o = option_map (λ v. map ground_of v.items) o
 -- a verdict is right
 abbrev pub IsWhy : Asked → Verdict → Type 0
 IsWhy a verdicts.Plan = IsPlanned a
-IsWhy a (verdicts.GivenUp reasons is_cut) = IsGivenUp a (map reason_of reasons.items) is_cut
-IsWhy a (verdicts.Nothing left) = HelpsNothing a (terms_of left)
-IsWhy a (verdicts.Fault f) = twin_ending a ≡ AtFault f
-IsWhy a verdicts.Lost = IsLost a
+IsWhy a (verdicts.Fault f) = MeetsFault (own_visits a) f
+IsWhy a (verdicts.GivenUp reasons is_cut) = IsUnplanned a × IsGivenUp a (map reason_of reasons.items) is_cut
+IsWhy a (verdicts.Nothing left) = IsUnplanned a × HelpsNothing a (terms_of left)
+IsWhy a (verdicts.TwinFault f) = IsUnplanned a × (twin_ending a ≡ AtFault f)
+IsWhy a verdicts.Lost = IsUnplanned a × IsLost a

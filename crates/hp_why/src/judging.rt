@@ -1,9 +1,9 @@
 //! The verdict, by what the search for the cheapest plan of a twin found.
-ghost use Rattle.std.specs.Prelude.{◌≡◌, ◌-◌, ◌^◌, true, nat_lt, pos, IfOk, Option, Some, None};
+ghost use Rattle.std.specs.Prelude.{◌≡◌, ◌-◌, ◌^◌, true, nat_lt, IfOk, Option, Some, None};
 ghost use Rattle.std.specs.List.{All, list_all};
 ghost use Rattle.hp_best.specs.Bounded.{IsCheapestOf, IsFound, NeverFalls};
 ghost use Rattle.hp_laws.specs.TreeLaws.{IsFaultless};
-ghost use Rattle.hp_why.specs.Twin.{Answers, CanSearch, Judged, JudgedBest, JudgedNone, JudgedPath, JudgedPlan, visits_of};
+ghost use Rattle.hp_why.specs.Twin.{Answers, CanSearch, Judged, JudgedBest, JudgedNone, JudgedPath, visits_of};
 
 use crate::left::first_left;
 use crate::reasons::reasons;
@@ -33,7 +33,7 @@ fn is_exact(path: &[u64]) -> bool
     path.iter().all(|number| *number < u64::MAX)
 }
 
-/// Why there is no plan, where the cheapest one of the twin stands at a path and costs something.
+/// Why there is no plan, where the cheapest one of the twin stands at a path.
 fn judge_path(alloc: Global, twin: &Twin, path: &[u64], is_cut: bool) -> Result<Verdict, AllocError>
     requires { CanSearch twin.now }
     ensures { IfOk result (JudgedPath twin.now path.now is_cut) }
@@ -49,22 +49,6 @@ fn judge_path(alloc: Global, twin: &Twin, path: &[u64], is_cut: bool) -> Result<
         Way::Absent => Ok(Verdict::Lost),
         Way::Fault(_) => Ok(Verdict::Lost),
     }
-}
-
-/// Whether there is a plan, where this is the cheapest one of the twin, and else why not.
-fn judge_plan(
-    alloc: Global,
-    twin: &Twin,
-    chosen: &Chosen,
-    is_cut: bool,
-) -> Result<Verdict, AllocError>
-    requires { CanSearch twin.now }
-    ensures { IfOk result (JudgedPlan twin.now chosen.now is_cut) }
-{
-    if chosen.cost == 0 {
-        return Ok(Verdict::Plan);
-    }
-    judge_path(alloc, twin, chosen.path.as_slice(), is_cut)
 }
 
 /// What is left to do, where the twin has no plan either.
@@ -90,7 +74,7 @@ fn judge_best(
     ensures { IfOk result (JudgedBest twin.now best.now is_cut) }
 {
     match best {
-        Some(chosen) => judge_plan(alloc, twin, chosen, is_cut),
+        Some(chosen) => judge_path(alloc, twin, chosen.path.as_slice(), is_cut),
         None => judge_none(alloc, twin, is_cut),
     }
 }
@@ -107,7 +91,7 @@ fn judge(
     match ending {
         BestEnd::End => judge_best(alloc, twin, best, false),
         BestEnd::Cut => judge_best(alloc, twin, best, true),
-        BestEnd::Fault(fault) => Ok(Verdict::Fault(fault)),
+        BestEnd::Fault(fault) => Ok(Verdict::TwinFault(fault)),
     }
 }
 

@@ -27,20 +27,22 @@ impl Drop for Reason {
     }
 }
 
-/// Why a pair has no plan within a depth.
+/// Whether a pair has a plan within a depth, and why it has none.
 pub enum Verdict {
     /// It has one.
     Plan,
+    /// The walk of the domain's own tree met a fault, and no plan before it.
+    Fault(RunFault),
     /// It has none; a plan is come to by giving these up, in this order. Where the depth cut the tree of the twin
     /// somewhere, fewer may do at a greater one.
     GivenUp { reasons: Vec<Reason>, is_cut: bool },
-    /// Even where all may be given up there is none. Where the tree of the twin was cut, the tasks that could have been
+    /// It has none, even where all may be given up. Where the tree of the twin was cut, the tasks that could have been
     /// done next at the first cut.
     Nothing { left: Option<Vec<Ground>> },
-    /// The walk of the twin met a fault.
-    Fault(RunFault),
-    /// A plan of the twin was found, and the way to it couldn't be gone again: one of the numbers of its path is too
-    /// great to be told, or a fault stands beside it.
+    /// It has none; the walk of the twin, in which preconditions are given up, met a fault.
+    TwinFault(RunFault),
+    /// It has none. A plan of the twin was found, and the way to it couldn't be gone again: one of the numbers of its
+    /// path is too great to be told, or a fault stands beside it.
     Lost,
 }
 
@@ -48,9 +50,10 @@ impl Drop for Verdict {
     fn drop(self) {
         match self {
             Verdict::Plan => {}
+            Verdict::Fault(_) => {}
             Verdict::GivenUp { reasons, is_cut: _ } => drop(reasons),
             Verdict::Nothing { left } => drop(left),
-            Verdict::Fault(_) => {}
+            Verdict::TwinFault(_) => {}
             Verdict::Lost => {}
         }
     }
