@@ -3,6 +3,7 @@ pub mod Refusal
 pub mod Places
 pub mod Forest
 pub mod Names
+pub mod Hints
 pub mod Syntax
 pub mod Views
 pub mod ViewLaws

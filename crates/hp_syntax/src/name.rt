@@ -1,3 +1,7 @@
+ghost use Rattle.std.specs.Prelude.{◌≡◌};
+ghost use Rattle.std.specs.Option.{option_copied};
+ghost use Rattle.hp_syntax.specs.Hints.{or_zero};
+
 use smallvec::SmallVec;
 use std::alloc::{AllocError, Global};
 use std::hash::{Hash, Hasher};
@@ -31,6 +35,7 @@ impl Model for Name {
 
 impl Name {
     ghost use Rattle.std.specs.Prelude.{◌≡◌, IfOk};
+    ghost use Rattle.hp_syntax.specs.Hints.{hint_of};
 
     /// A name with a copy of these bytes.
     pub fn new(alloc: Global, bytes: &[u8]) -> Result<Name, AllocError>
@@ -48,11 +53,32 @@ impl Name {
         self.bytes.as_slice()
     }
 
+    /// A small number that tells most names apart, by their first and last bytes and their lengths: less than 256. It
+    /// costs less than a hash, and serves to note where a name was found last.
+    pub fn hint(&self) -> usize
+        ensures { result ≡ hint_of self.now }
+    {
+        let bytes = self.bytes();
+        let first = byte_or_zero(bytes.first());
+        let last = byte_or_zero(bytes.last());
+        (first + last * 8 + bytes.len() % 8 * 32) % 256
+    }
+
     /// An equal name, in memory of its own.
     pub fn copy(&self, alloc: Global) -> Result<Name, AllocError>
         ensures same { IfOk result (λ name. name ≡ self.now) }
     {
         Name::new(alloc, self.bytes())
+    }
+}
+
+// The byte that is found, if there is one.
+fn byte_or_zero(byte: Option<&u8>) -> usize
+    ensures { result ≡ or_zero (option_copied byte.entry) }
+{
+    match byte {
+        Some(byte) => *byte as usize,
+        None => 0,
     }
 }
 

@@ -2,7 +2,7 @@
 //! What a place is, whoever fills a table says: a number among the rules, or the node that a rule is compiled to.
 #![tactic(auto)]
 
-ghost use Rattle.std.specs.Prelude.{◌≡◌, List, ℕ, []};
+ghost use Rattle.std.specs.Prelude.{◌≡◌, List, ℕ, [], IfSome};
 ghost use Rattle.std.specs.Option.{option_copied};
 ghost use Rattle.hp_syntax.specs.Views.{rule_of};
 ghost use Rattle.hp_tables.specs.Tables.{Adds, name_as, places_in};
@@ -10,6 +10,7 @@ ghost use Rattle.hp_tables.specs.Tables.{Adds, name_as, places_in};
 use hp_syntax::{Name, Rule};
 use indexmap::IndexMap;
 use std::alloc::{AllocError, Global};
+use std::cell::Cell;
 
 /// Which rules a table has.
 #[derive(Clone, Copy)]
@@ -31,15 +32,23 @@ fn name_as(kind: Kind, rule: &Rule) -> Option<&Name>
     }
 }
 
+// So many notes a table has, one for each hint of a name.
+const NOTES: usize = 256;
+
 /// Places by names. Under each name they stand in the order in which they were added.
+///
+/// A table notes by the hint of a name which of its names was found last, so that the next look-up of this one is a
+/// comparison. A note is tested before it is used, so contracts see nothing of it.
 pub struct Table {
     places: IndexMap<Name, Vec<usize>>,
+    notes: Vec<Cell<usize>>,
 }
 
 impl Drop for Table {
     fn drop(self) {
-        let Table { places } = self;
+        let Table { places, notes } = self;
         drop(places);
+        drop(notes);
     }
 }
 
@@ -50,6 +59,7 @@ impl Table {
     {
         Table {
             places: IndexMap::new(alloc),
+            notes: Vec::new(alloc),
         }
     }
 
@@ -60,6 +70,7 @@ impl Table {
         match self.places.get_mut(name) {
             Some(places) => places.push(place)?,
             None => {
+                make_notes(&mut self.notes)?;
                 let places = vec![in alloc; place]?;
                 self.places.insert(name.copy(alloc)?, places)?;
             }
@@ -84,13 +95,50 @@ impl Table {
         }
     }
 
+    // The places of the name of a number, where it is this one.
+    fn places_at(&self, number: usize, name: &Name) -> Option<&[usize]>
+        ensures { IfSome result (λ places. places.now ≡ places_in self.now name.now) }
+    {
+        match self.places.get_index(number) {
+            Some((own, places)) if own == name => Some(places.as_slice()),
+            _ => None,
+        }
+    }
+
+    // The places of a name that may be noted. Where it isn't, it is from now on.
+    fn get_noted(&self, note: &Cell<usize>, name: &Name) -> &[usize]
+        ensures { result.now ≡ places_in self.now name.now }
+    {
+        if let Some(places) = self.places_at(note.get(), name) {
+            return places;
+        }
+        match self.places.get_full(name) {
+            Some((number, _, places)) => {
+                note.set(number);
+                places.as_slice()
+            }
+            None => &[],
+        }
+    }
+
     /// The places of a name, in the order in which they were added.
     pub fn get(&self, name: &Name) -> &[usize]
         ensures { result.now ≡ places_in self.now name.now }
     {
-        match self.places.get(name) {
-            Some(places) => places.as_slice(),
-            None => &[],
+        match self.notes.get(name.hint()) {
+            Some(note) => self.get_noted(note, name),
+            None => match self.places.get(name) {
+                Some(places) => places.as_slice(),
+                None => &[],
+            },
         }
     }
+}
+
+// Makes a note for each hint, where there are none yet.
+fn make_notes(notes: &mut Vec<Cell<usize>>) -> Result<(), AllocError> {
+    for _ in notes.len()..NOTES {
+        notes.push(Cell::new(0))?;
+    }
+    Ok(())
 }
