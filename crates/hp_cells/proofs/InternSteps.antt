@@ -69,6 +69,12 @@ module _ {names : List (List ℕ)} {keys : List Key} {depths : List ℕ} (all : 
       let here = all.stand place key there in
       here.at ∙ ap Some (one_term names (terms_of names keys) key here.term t here.stands stands)
 
+  -- at the place of the key of a symbol's number stands the symbol of the name that has the number
+  pub symbol_at : (i number : ℕ) (name : List ℕ) → slice_get keys i ≡ Some (Sym number)
+      → slice_get names number ≡ Some name → slice_get (terms_of names keys) i ≡ Some (Symbol name)
+  symbol_at i number name at numbered =
+      term_looked_up (Sym number) (Symbol name) (record { name = name; numbered = numbered; whole = refl }) (Some i) at
+
   -- the symbol of a name that is absent is absent
   pub symbol_absent : (name : List ℕ) → IsAbsent names name → IsAbsent (terms_of names keys) (Symbol name)
   symbol_absent name none i h = let k = key_of i (Symbol name) h in by k.0 k.2

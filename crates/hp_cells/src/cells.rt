@@ -12,7 +12,8 @@ use std::alloc::{AllocError, Global};
 use std::marker::Model;
 
 /// The terms that cells name. Each ground term stands once, behind its parts, and the first is the empty list. The name
-/// of a symbol is copied once, and stays when terms are given back. Contracts see the list of the terms.
+/// of a symbol is copied once, and stays when terms are given back. A look-up notes where a name's symbol stood, also
+/// through a `&Cells`, for a later one to look there first. Contracts see the list of the terms, and nothing of notes.
 pub struct Cells {
     table: Table,
 }
@@ -72,6 +73,9 @@ impl Cells {
         ensures ok { IfOk result (λ cell. Interns (Symbol name.now) cell self.old self.new) }
         ensures err { OnErr result (self.new ≡ self.old) }
     {
+        if let Some(cell) = self.table.find_symbol(name) {
+            return Ok(cell);
+        }
         let number = self.table.number_of(name)?;
         self.table.intern(Key::Sym(number), 0)
     }
@@ -102,8 +106,7 @@ impl Cells {
     pub fn find_sym(&self, name: &Name) -> Option<Cell>
         ensures { LooksUp (Symbol name.now) self.now result }
     {
-        let number = self.table.find_name(name)?;
-        self.table.find(Key::Sym(number))
+        self.table.find_symbol(name)
     }
 
     /// The cell of a number, if the number stands. No cell is made, and no memory is taken.

@@ -5,6 +5,7 @@ ghost use Rattle.hp_cells.specs.Keys.{Stands, KeepsBack, IsNumbered};
 ghost use Rattle.hp_cells.specs.Shows.{Shows, LooksBack};
 
 use hp_syntax::Name;
+use std::hash::{Hash, Hasher};
 use std::marker::Model;
 use std::mem::size_of;
 
@@ -49,13 +50,19 @@ pub enum View<'a> {
 }
 
 // The key of a term, whose parts have earlier places. A symbol is told by the number of its name.
-#[derive(Clone, Copy, PartialEq, Eq, Hash)]
+#[derive(Clone, Copy, PartialEq, Eq)]
 pub(crate) enum Key {
     Nil,
     Sym(u32),
     Num(i64),
     Cons(Cell, Cell),
 }
+
+// What the first place of a list is multiplied by as it is hashed.
+const HALF: u64 = 1 << 32;
+
+// What is added to the number of a symbol as it is hashed.
+const SYMBOL: u64 = 1 << 63;
 
 impl Key {
     // The view of the term that the key stands for, among these names.
@@ -69,6 +76,27 @@ impl Key {
             Key::Sym(number) => View::Sym(&names[number as usize]),
             Key::Num(n) => View::Num(n),
             Key::Cons(head, tail) => View::Cons(head, tail),
+        }
+    }
+}
+
+// A key is hashed as one number, which few others share: the places of a list are its halves, and the number of a symbol
+// has the highest bit.
+impl Hash for Key {
+    ghost use Rattle.std.specs.Cmp.Rules.{comparing, hashing};
+    ghost use Rattle.std.proofs.Common.{rules};
+    ghost use Rattle.hp_cells.specs.Hashed.{hashed_key};
+
+    ghost hash_input = { hashed_key };
+
+    ghost respects_eq = { Prim.search (hashing, rules) };
+
+    fn hash<H: Hasher>(&self, state: &mut H) {
+        match *self {
+            Key::Nil => state.write_u64(0),
+            Key::Sym(number) => state.write_u64(SYMBOL + number as u64),
+            Key::Num(n) => state.write_i64(n),
+            Key::Cons(head, tail) => state.write_u64(head.place as u64 * HALF + tail.place as u64),
         }
     }
 }

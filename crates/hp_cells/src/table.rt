@@ -5,15 +5,21 @@ use crate::keys::{Cell, Key};
 use hp_syntax::Name;
 use indexmap::IndexSet;
 use std::alloc::{AllocError, Global};
+use std::cell::Cell as Note;
 
 // Where there are so many terms, or names, no number is left for one more.
 const MOST: usize = u32::MAX as usize;
 
-// The names of symbols, each once and named by its place, and the keys of terms with the depths of these.
+// So many notes are kept of where names were found.
+const NOTES: usize = 256;
+
+// The names of symbols, each once and named by its place, and the keys of terms with the depths of these. A note is the
+// place where a look-up found a symbol. It is tested before it is used, so that nothing need be known of it.
 pub(crate) struct Table {
     pub(crate) names: IndexSet<Name>,
     pub(crate) keys: IndexSet<Key>,
     pub(crate) depths: Vec<u32>,
+    notes: Vec<Note<u32>>,
     alloc: Global,
 }
 
@@ -23,17 +29,19 @@ impl Drop for Table {
             names,
             keys,
             depths,
+            notes,
             alloc: _,
         } = self;
         drop(names);
         drop(keys);
         drop(depths);
+        drop(notes);
     }
 }
 
 impl Table {
-    ghost use Rattle.std.specs.Prelude.{◌≡◌, ◌≤◌, [], ◌∷◌, Some, IfOk, OnErr, length, take, slice_get};
-    ghost use Rattle.hp_syntax.specs.Terms.{Term, Listed, NoTerm};
+    ghost use Rattle.std.specs.Prelude.{◌≡◌, ◌≤◌, [], ◌∷◌, Some, IfOk, OnErr, IsTrue, length, take, slice_get};
+    ghost use Rattle.hp_syntax.specs.Terms.{Term, Symbol, Listed, NoTerm};
     ghost use Rattle.hp_cells.specs.Cells.{IsAbsent, LooksUp, Interns};
     ghost use Rattle.hp_cells.specs.Tables.{terms_in, StandsIn, StandsAtDepth, IsSound};
 
@@ -45,10 +53,12 @@ impl Table {
         let mut keys = IndexSet::new(alloc);
         keys.insert(Key::Nil)?;
         let depths = vec![in alloc; 1]?;
+        let notes = first_notes(alloc)?;
         Ok(Table {
             names: IndexSet::new(alloc),
             keys,
             depths,
+            notes,
             alloc,
         })
     }
@@ -102,6 +112,54 @@ impl Table {
         })
     }
 
+    // The cell of the symbol of a name, if the symbol stands.
+    pub(crate) fn find_symbol(&self, name: &Name) -> Option<Cell>
+        requires { IsSound self.now }
+        ensures { LooksUp (Symbol name.now) (terms_in self.now) result }
+    {
+        match self.notes.get(note_of(name)) {
+            Some(note) => self.find_noted(note, name),
+            None => self.seek_symbol(name),
+        }
+    }
+
+    // The same, by a note, which is made true where the symbol stands elsewhere.
+    fn find_noted(&self, note: &Note<u32>, name: &Name) -> Option<Cell>
+        requires { IsSound self.now }
+        ensures { LooksUp (Symbol name.now) (terms_in self.now) result }
+    {
+        let place = note.get();
+        if self.has_symbol_at(place as usize, name) {
+            return Some(Cell { place });
+        }
+        let cell = self.seek_symbol(name)?;
+        note.set(cell.place);
+        Some(cell)
+    }
+
+    // The same, by the name's number.
+    fn seek_symbol(&self, name: &Name) -> Option<Cell>
+        requires { IsSound self.now }
+        ensures { LooksUp (Symbol name.now) (terms_in self.now) result }
+    {
+        let number = self.find_name(name)?;
+        self.find(Key::Sym(number))
+    }
+
+    // Whether the symbol of a name stands at a place.
+    fn has_symbol_at(&self, place: usize, name: &Name) -> bool
+        requires { IsSound self.now }
+        ensures { IsTrue result → slice_get (terms_in self.now) place ≡ Some (Symbol name.now) }
+    {
+        match self.keys.get_index(place) {
+            Some(Key::Sym(number)) => match self.names.get_index(*number as usize) {
+                Some(own) => own == name,
+                None => false,
+            },
+            _ => false,
+        }
+    }
+
     // The cell of the term that a key stands for and that nests so deep.
     pub(crate) fn intern(&mut self, key: Key, depth: usize) -> Result<Cell, AllocError>
         requires sound { IsSound self.old }
@@ -143,5 +201,24 @@ fn note_depth(depths: &mut Vec<u32>, depth: u32, added: bool)
     if added {
         let pushed = depths.push(depth).is_ok();
         prove!(pushed);
+    }
+}
+
+// Notes that name the first place.
+fn first_notes(alloc: Global) -> Result<Vec<Note<u32>>, AllocError> {
+    let mut notes = Vec::with_capacity(alloc, NOTES)?;
+    for _ in 0..NOTES {
+        notes.push(Note::new(0))?;
+    }
+    Ok(notes)
+}
+
+// The number of the note for a name. Names may share one.
+fn note_of(name: &Name) -> usize {
+    let bytes = name.bytes();
+    match (bytes.first(), bytes.last()) {
+        (Some(first), Some(last)) => (*first as usize + *last as usize * 8 + bytes.len() % 8 * 32)
+            % NOTES,
+        _ => 0,
     }
 }
