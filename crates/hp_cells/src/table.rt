@@ -10,7 +10,7 @@ use std::cell::Cell as Note;
 // Where there are so many terms, or names, no number is left for one more.
 const MOST: usize = u32::MAX as usize;
 
-// So many notes are kept of where names were found.
+// So many notes are kept of where names were found, one for each hint of a name.
 const NOTES: usize = 256;
 
 // The names of symbols, each once and named by its place, and the keys of terms with the depths of these. A note is the
@@ -117,7 +117,7 @@ impl Table {
         requires { IsSound self.now }
         ensures { LooksUp (Symbol name.now) (terms_in self.now) result }
     {
-        match self.notes.get(note_of(name)) {
+        match self.notes.get(name.hint()) {
             Some(note) => self.find_noted(note, name),
             None => self.seek_symbol(name),
         }
@@ -211,14 +211,4 @@ fn first_notes(alloc: Global) -> Result<Vec<Note<u32>>, AllocError> {
         notes.push(Note::new(0))?;
     }
     Ok(notes)
-}
-
-// The number of the note for a name. Names may share one.
-fn note_of(name: &Name) -> usize {
-    let bytes = name.bytes();
-    match (bytes.first(), bytes.last()) {
-        (Some(first), Some(last)) => (*first as usize + *last as usize * 8 + bytes.len() % 8 * 32)
-            % NOTES,
-        _ => 0,
-    }
 }
