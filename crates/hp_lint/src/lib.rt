@@ -21,6 +21,7 @@ use crate::order::sort;
 use crate::report::Report;
 pub use crate::report::{Concern, Remark};
 pub use crate::serving::{domain_tasks, problem_tasks, task_heads};
+pub use crate::table::Table;
 use crate::texts::{tell_domain, tell_problem};
 pub use crate::uses::{Use, Uses};
 pub use crate::variables::{Counts, bound_by_head};

@@ -62,7 +62,7 @@ fn add_width(widths: &mut Vec<Width>, more: Width) -> Result<(), AllocError>
 
 /// The numbers of arguments that stand under each name. There are few under one, since each is told once.
 pub struct Table {
-    pub widths: IndexMap<Name, Vec<Width>>,
+    widths: IndexMap<Name, Vec<Width>>,
 }
 
 impl Drop for Table {

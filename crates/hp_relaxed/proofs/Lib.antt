@@ -6,6 +6,7 @@ pub mod FreeChildren
 pub mod FreePlans
 pub mod CostLemmas
 pub mod StayingLemmas
+pub mod ConcludedLemmas
 pub mod GivenLemmas
 pub mod GivingLemmas
 pub mod CheckedLemmas

@@ -1,5 +1,5 @@
 -- Parts that are gone through from left to right, of which some stay.
-use Rattle.std.proofs.Common.{◌≡◌, ℕ, ◌+◌, ◌<◌, ◌≤◌, Bool, true, false, ◌&&◌, ◌||◌, not, cond, List, [], ◌∷◌, ◌++◌, length, get_or, drop, map, take, refl, sym, ◌∙◌, ap, ap₂, subst, append_assoc, arith}
+use Rattle.std.proofs.Common.{◌≡◌, ℕ, ◌+◌, ◌<◌, ◌≤◌, Bool, true, false, ◌&&◌, not, cond, List, [], ◌∷◌, ◌++◌, length, get_or, drop, take, refl, sym, ◌∙◌, ap, ap₂, subst, append_assoc, arith}
 use Rattle.std.specs.Borrow.{Bor}
 use Rattle.std.specs.List.{list_any}
 use Rattle.std.proofs.lemmas.List.{append-nil, drop_all, drop_more, length-map, take_more, map-append}
@@ -46,12 +46,6 @@ pub missing_told : (needs bound : List Use) (needed old : Counts) → Counted ne
     → is_missing_in needed old ≡ is_missing needs bound
 missing_told needs bound needed old h k =
     λ i u. is_seen-is needs needed h i u.var && not (is_seen-is bound old k i u.var)
-
--- an element of a mapped list passes a test where an element passes it mapped
-pub any_mapped : {A B : Type 0} (p : B → Bool) (f : A → B) (xs : List A)
-    → list_any (λ x. p (f x)) xs ≡ list_any p (map f xs)
-any_mapped p f [] = refl
-any_mapped p f (x ∷ xs) = ap (λ b. p (f x) || b) (any_mapped p f xs)
 
 module _ (rules : List Rule) (done : List Use) (needed : Counts) (e : Expression) (h : Counted done needed) where
   binding_told : list_any (is_needed_in needed) (bound_in e) ≡ binds_needed done e

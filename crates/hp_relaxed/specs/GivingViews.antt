@@ -8,6 +8,7 @@ use Rattle.hp_syntax.specs.Views.{expression_of, rule_of}
 use Rattle.hp_lint.specs.declared.uses.Use.{Use}
 use Rattle.hp_lint.specs.declared.variables.Counts.{Counts}
 use Rattle.hp_lint.specs.LintViews.{Counted, is_seen}
+use Rattle.hp_relaxed.specs.declared.concluded.Concluded.{Concluded}
 use Rattle.hp_relaxed.specs.declared.given.Origin.{Origin}
 use Rattle.hp_relaxed.specs.declared.giving.Given.{Given}
 use Rattle.hp_relaxed.specs.Giving.{staying, surely_bound}
@@ -20,6 +21,10 @@ times_nothing s p =
 
 abbrev pub free_operator : syntax.Operator → syntax.Operator
 free_operator o = record o { cost = free_cost o.cost }
+
+-- the rules whose conclusions are known
+abbrev pub rules_of : Concluded → List syntax.Rule
+rules_of concluded = map rule_of concluded.rules.now
 
 abbrev pub lent_expression : Bor Expr → syntax.Expression
 lent_expression e = expression_of e.now

@@ -1,3 +1,4 @@
 pub mod Twins
 pub mod Giving
+pub mod Concluding
 pub mod GivingViews

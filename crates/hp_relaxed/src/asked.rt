@@ -1,11 +1,12 @@
 //! What parts of a precondition ask to be bound already, and what they surely bind.
-ghost use Rattle.std.specs.Prelude.{◌≡◌, ◌++◌, OnOk, map, true};
-ghost use Rattle.std.specs.List.{list_any};
-ghost use Rattle.hp_syntax.specs.Views.{atom_of, pattern_of, patterns_of, expression_of, expressions_of, rule_of};
+ghost use Rattle.std.specs.Prelude.{◌≡◌, ◌++◌, OnOk, true};
+ghost use Rattle.hp_syntax.specs.Views.{atom_of, pattern_of, patterns_of, expression_of, expressions_of};
 ghost use Rattle.hp_relaxed.specs.Giving as plain;
+ghost use Rattle.hp_relaxed.specs.GivingViews.{rules_of};
 
+use crate::concluded::Concluded;
 use hp_lint::Uses;
-use hp_syntax::{AtomPat, Expr, ExprKind, Name, Pat, PatKind, Rule};
+use hp_syntax::{AtomPat, Expr, ExprKind, Pat, PatKind};
 use std::alloc::AllocError;
 
 #[cycle(asked_of_pattern)]
@@ -35,33 +36,11 @@ fn asked_of_patterns(uses: &mut Uses, patterns: &[Pat]) -> Result<(), AllocError
     Ok(())
 }
 
-fn concludes(rule: &Rule, name: &Name) -> bool
-    ensures { result ≡ plain.concludes name.now (rule_of rule.now) }
-{
-    match rule {
-        Rule::Axiom(axiom) => axiom.head.name == *name,
-        Rule::Operator(_) => false,
-        Rule::Method(_) => false,
-    }
-}
-
-fn any_concludes(rules: &[Rule], name: &Name) -> bool
-    ensures { result ≡ list_any (λ r. plain.concludes name.now (rule_of r)) rules.now }
-{
-    rules.iter().any(|rule| concludes(rule, name))
-}
-
-fn is_concluded(rules: &[Rule], name: &Name) -> bool
-    ensures { result ≡ list_any (plain.concludes name.now) (map rule_of rules.now) }
-{
-    any_concludes(rules, name)
-}
-
-fn asked_of_atom(uses: &mut Uses, rules: &[Rule], held: &AtomPat) -> Result<(), AllocError>
+fn asked_of_atom(uses: &mut Uses, concluded: &Concluded, held: &AtomPat) -> Result<(), AllocError>
     ensures { OnOk result (uses.new.list.items
-        ≡ uses.old.list.items ++ plain.asked_of_atom (map rule_of rules.now) (atom_of held.now)) }
+        ≡ uses.old.list.items ++ plain.asked_of_atom (rules_of concluded.now) (atom_of held.now)) }
 {
-    if is_concluded(rules, &held.name) {
+    if concluded.has(&held.name) {
         uses.atom(true, held)
     } else {
         asked_of_patterns(uses, held.args.as_slice())
@@ -70,17 +49,21 @@ fn asked_of_atom(uses: &mut Uses, rules: &[Rule], held: &AtomPat) -> Result<(), 
 
 /// What an expression asks to be bound already.
 #[cycle(asked_of)]
-pub fn asked_of(uses: &mut Uses, rules: &[Rule], part: &Expr) -> Result<(), AllocError>
+pub fn asked_of(uses: &mut Uses, concluded: &Concluded, part: &Expr) -> Result<(), AllocError>
     ensures { OnOk result (uses.new.list.items
-        ≡ uses.old.list.items ++ plain.asked_of (map rule_of rules.now) (expression_of part.now)) }
+        ≡ uses.old.list.items ++ plain.asked_of (rules_of concluded.now) (expression_of part.now)) }
 {
     match &part.kind {
-        ExprKind::Atom(held) => asked_of_atom(uses, rules, held),
-        ExprKind::And(parts) | ExprKind::Or(parts) => asked_of_each(uses, rules, parts.as_slice()),
-        ExprKind::Not(part) => asked_of(uses, rules, part),
+        ExprKind::Atom(held) => asked_of_atom(uses, concluded, held),
+        ExprKind::And(parts) | ExprKind::Or(parts) => asked_of_each(
+            uses,
+            concluded,
+            parts.as_slice(),
+        ),
+        ExprKind::Not(part) => asked_of(uses, concluded, part),
         ExprKind::Forall(_, range, body) => {
-            asked_of(uses, rules, range)?;
-            asked_of(uses, rules, body)
+            asked_of(uses, concluded, range)?;
+            asked_of(uses, concluded, body)
         }
         ExprKind::Assign(_, value) => uses.pattern(true, value),
         ExprKind::Call(call) => uses.pattern(true, call),
@@ -89,12 +72,12 @@ pub fn asked_of(uses: &mut Uses, rules: &[Rule], part: &Expr) -> Result<(), Allo
 
 #[cycle(asked_of)]
 #[tactic(auto, unfolding(crate::specs::Giving::asked_of_each))]
-fn asked_of_each(uses: &mut Uses, rules: &[Rule], parts: &[Expr]) -> Result<(), AllocError>
+fn asked_of_each(uses: &mut Uses, concluded: &Concluded, parts: &[Expr]) -> Result<(), AllocError>
     ensures { OnOk result (uses.new.list.items
-        ≡ uses.old.list.items ++ plain.asked_of_each (map rule_of rules.now) (expressions_of parts.now)) }
+        ≡ uses.old.list.items ++ plain.asked_of_each (rules_of concluded.now) (expressions_of parts.now)) }
 {
     for part in parts {
-        asked_of(uses, rules, part)?;
+        asked_of(uses, concluded, part)?;
     }
     Ok(())
 }

@@ -5,8 +5,9 @@ ghost use Rattle.hp_syntax.specs.Views.{atom_of, tasks_of, precondition_of, bran
 ghost use Rattle.hp_lint.specs.LintViews.{Counted};
 ghost use Rattle.hp_lint.specs.declared.uses.Use.{Use};
 ghost use Rattle.hp_relaxed.specs.Giving as plain;
-ghost use Rattle.hp_relaxed.specs.GivingViews.{lent_expressions, Gives};
+ghost use Rattle.hp_relaxed.specs.GivingViews.{lent_expressions, rules_of, Gives};
 
+use crate::concluded::Concluded;
 use crate::copies::{copy_label, copy_names, copy_operator_with};
 use crate::given::{Origin, Relaxed};
 use crate::staying::{body_of, needed_by, parts_of, staying, with_parts};
@@ -49,7 +50,7 @@ fn if_fewer(
 
 fn left_of_parts(
     alloc: Global,
-    rules: &[Rule],
+    concluded: &Concluded,
     bound: &mut Counts,
     behind: &[Use],
     pre: &Pre,
@@ -57,27 +58,27 @@ fn left_of_parts(
 ) -> Result<Option<Pre>, AllocError>
     ensures { IfOk result (λ left. (known : List Use) → Counted known bound.old
         → option_map precondition_of left ≡ plain.if_fewer (precondition_of pre.now) (lent_expressions parts.now)
-        (plain.staying (plain.needed_by (map rule_of rules.now) behind.now (lent_expressions parts.now)) known
+        (plain.staying (plain.needed_by (rules_of concluded.now) behind.now (lent_expressions parts.now)) known
         (lent_expressions parts.now))) }
 {
-    let needed = needed_by(alloc, rules, behind, parts)?;
+    let needed = needed_by(alloc, concluded, behind, parts)?;
     let kept = staying(alloc, &needed, bound, parts)?;
     if_fewer(alloc, pre, parts, kept.as_slice())
 }
 
 fn left_of(
     alloc: Global,
-    rules: &[Rule],
+    concluded: &Concluded,
     bound: &mut Counts,
     behind: &[Use],
     pre: &Pre,
 ) -> Result<Option<Pre>, AllocError>
     ensures { IfOk result (λ left. (known : List Use) → Counted known bound.old
         → option_map precondition_of left
-        ≡ plain.left_of (map rule_of rules.now) known behind.now (precondition_of pre.now)) }
+        ≡ plain.left_of (rules_of concluded.now) known behind.now (precondition_of pre.now)) }
 {
     let parts = parts_of(alloc, body_of(pre))?;
-    left_of_parts(alloc, rules, bound, behind, pre, parts.as_slice())
+    left_of_parts(alloc, concluded, bound, behind, pre, parts.as_slice())
 }
 
 fn behind_operator(uses: &mut Uses, operator: &Operator) -> Result<(), AllocError>
@@ -91,18 +92,18 @@ fn behind_operator(uses: &mut Uses, operator: &Operator) -> Result<(), AllocErro
 
 fn left_of_operator(
     alloc: Global,
-    rules: &[Rule],
+    concluded: &Concluded,
     operator: &Operator,
 ) -> Result<Option<Pre>, AllocError>
     ensures { IfOk result (λ left. option_map precondition_of left
-        ≡ plain.left_of_operator (map rule_of rules.now) (operator_of operator.now)) }
+        ≡ plain.left_of_operator (rules_of concluded.now) (operator_of operator.now)) }
 {
     let mut bound = bound_by_head(alloc, &operator.head)?;
     let mut behind = Uses::new(alloc);
     behind_operator(&mut behind, operator)?;
     left_of(
         alloc,
-        rules,
+        concluded,
         &mut bound,
         behind.list.as_slice(),
         &operator.pre,
@@ -111,19 +112,19 @@ fn left_of_operator(
 
 fn left_of_branch(
     alloc: Global,
-    rules: &[Rule],
+    concluded: &Concluded,
     method: &Method,
     branch: &Branch,
 ) -> Result<Option<Pre>, AllocError>
     ensures { IfOk result (λ left. option_map precondition_of left
-        ≡ plain.left_of_branch (map rule_of rules.now) (atom_of method.now.head) (branch_of branch.now)) }
+        ≡ plain.left_of_branch (rules_of concluded.now) (atom_of method.now.head) (branch_of branch.now)) }
 {
     let mut bound = bound_by_head(alloc, &method.head)?;
     let mut behind = Uses::new(alloc);
     behind.tasks(alloc, &branch.tasks)?;
     left_of(
         alloc,
-        rules,
+        concluded,
         &mut bound,
         behind.list.as_slice(),
         &branch.pre,
@@ -211,22 +212,22 @@ impl Given {
     fn operator(
         &mut self,
         alloc: Global,
-        rules: &[Rule],
+        concluded: &Concluded,
         operator: &Operator,
         place: usize,
     ) -> Result<(), AllocError>
         ensures { OnOk result (Gives
             (plain.operator_given (operator_of operator.now)
-            (plain.left_of_operator (map rule_of rules.now) (operator_of operator.now)))
+            (plain.left_of_operator (rules_of concluded.now) (operator_of operator.now)))
             (plain.origin_where (plain.origin_at place 0)
-            (plain.left_of_operator (map rule_of rules.now) (operator_of operator.now)))
+            (plain.left_of_operator (rules_of concluded.now) (operator_of operator.now)))
             self.old self.new) }
     {
         let origin = Origin {
             rule: place,
             branch: 0,
         };
-        let left = left_of_operator(alloc, rules, operator)?;
+        let left = left_of_operator(alloc, concluded, operator)?;
         match left {
             Some(pre) => self.give_operator(alloc, operator, pre, origin),
             None => Ok(()),
@@ -253,19 +254,19 @@ impl Given {
     fn branch(
         &mut self,
         alloc: Global,
-        rules: &[Rule],
+        concluded: &Concluded,
         toll: &Name,
         method: &Method,
         branch: &Branch,
         origin: Origin,
     ) -> Result<(), AllocError>
         ensures { OnOk result (Gives
-            (plain.branch_giving_up (map rule_of rules.now) toll.now (method_of method.now) (branch_of branch.now))
+            (plain.branch_giving_up (rules_of concluded.now) toll.now (method_of method.now) (branch_of branch.now))
             (plain.origin_where origin
-            (plain.left_of_branch (map rule_of rules.now) (atom_of method.now.head) (branch_of branch.now)))
+            (plain.left_of_branch (rules_of concluded.now) (atom_of method.now.head) (branch_of branch.now)))
             self.old self.new) }
     {
-        let left = left_of_branch(alloc, rules, method, branch)?;
+        let left = left_of_branch(alloc, concluded, method, branch)?;
         match left {
             Some(pre) => self.give_branch(alloc, toll, method, branch, pre, origin),
             None => Ok(()),
@@ -275,16 +276,16 @@ impl Given {
     fn branches(
         &mut self,
         alloc: Global,
-        rules: &[Rule],
+        concluded: &Concluded,
         toll: &Name,
         method: &Method,
         branches: &[Branch],
         rule: usize,
     ) -> Result<(), AllocError>
         ensures { OnOk result (Gives
-            (flat_map (plain.branch_giving_up (map rule_of rules.now) toll.now (method_of method.now))
+            (flat_map (plain.branch_giving_up (rules_of concluded.now) toll.now (method_of method.now))
             (map branch_of branches.now))
-            (plain.branch_origins (map rule_of rules.now) rule (atom_of method.now.head) 0 (map branch_of branches.now))
+            (plain.branch_origins (rules_of concluded.now) rule (atom_of method.now.head) 0 (map branch_of branches.now))
             self.old self.new) }
     {
         for (place, branch) in branches.iter().enumerate() {
@@ -292,7 +293,7 @@ impl Given {
                 rule,
                 branch: place,
             };
-            self.branch(alloc, rules, toll, method, branch, origin)?;
+            self.branch(alloc, concluded, toll, method, branch, origin)?;
         }
         Ok(())
     }
@@ -300,20 +301,20 @@ impl Given {
     fn rule(
         &mut self,
         alloc: Global,
-        rules: &[Rule],
+        concluded: &Concluded,
         toll: &Name,
         rule: &Rule,
         place: usize,
     ) -> Result<(), AllocError>
-        ensures { OnOk result (Gives (plain.giving_up (map rule_of rules.now) toll.now (rule_of rule.now))
-            (plain.rule_origins (map rule_of rules.now) place (rule_of rule.now)) self.old self.new) }
+        ensures { OnOk result (Gives (plain.giving_up (rules_of concluded.now) toll.now (rule_of rule.now))
+            (plain.rule_origins (rules_of concluded.now) place (rule_of rule.now)) self.old self.new) }
     {
         match rule {
-            Rule::Operator(operator) => self.operator(alloc, rules, operator, place),
+            Rule::Operator(operator) => self.operator(alloc, concluded, operator, place),
             Rule::Method(method) => {
                 self.branches(
                     alloc,
-                    rules,
+                    concluded,
                     toll,
                     method,
                     method.branches.as_slice(),
@@ -324,14 +325,22 @@ impl Given {
         }
     }
 
+    fn rules(&mut self, alloc: Global, concluded: &Concluded, toll: &Name) -> Result<(), AllocError>
+        ensures { OnOk result (Gives (plain.all_giving_up toll.now (rules_of concluded.now))
+            (plain.origins (rules_of concluded.now)) self.old self.new) }
+    {
+        for (place, rule) in concluded.rules.iter().enumerate() {
+            self.rule(alloc, concluded, toll, rule, place)?;
+        }
+        Ok(())
+    }
+
     /// Adds the rules that give up a precondition of these, and where they come from.
     pub fn all(&mut self, alloc: Global, toll: &Name, rules: &[Rule]) -> Result<(), AllocError>
         ensures { OnOk result (Gives (plain.all_giving_up toll.now (map rule_of rules.now))
             (plain.origins (map rule_of rules.now)) self.old self.new) }
     {
-        for (place, rule) in rules.iter().enumerate() {
-            self.rule(alloc, rules, toll, rule, place)?;
-        }
-        Ok(())
+        let concluded = Concluded::by(alloc, rules)?;
+        self.rules(alloc, &concluded, toll)
     }
 }

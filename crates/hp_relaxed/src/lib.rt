@@ -7,6 +7,7 @@ ghost use Rattle.hp_relaxed.specs.Giving.{all_giving_up, origins, payer, relaxed
 ghost use Rattle.hp_relaxed.specs.Twins.{twin};
 
 mod asked;
+mod concluded;
 mod copies;
 mod free;
 mod given;

@@ -1,18 +1,19 @@
 //! The parts of a precondition that stay where it is given up.
-ghost use Rattle.std.specs.Prelude.{◌≡◌, ◌++◌, ◌∷◌, [], IfOk, OnOk, List, map};
+ghost use Rattle.std.specs.Prelude.{◌≡◌, ◌++◌, ◌∷◌, [], IfOk, OnOk, List};
 ghost use Rattle.std.specs.List.{list_any};
 ghost use Rattle.hp_syntax.specs.Syntax.{And};
-ghost use Rattle.hp_syntax.specs.Views.{as_expressions, expression_of, expressions_of, precondition_of, rule_of};
+ghost use Rattle.hp_syntax.specs.Views.{as_expressions, expression_of, expressions_of, precondition_of};
 ghost use Rattle.hp_lint.specs.LintViews.{Counted};
 ghost use Rattle.hp_lint.specs.Variables.{bound_in};
 ghost use Rattle.hp_lint.specs.declared.uses.Use.{Use};
 ghost use Rattle.hp_relaxed.specs.Giving as plain;
-ghost use Rattle.hp_relaxed.specs.GivingViews.{lent_expressions, is_missing_in, is_needed_in, Keeps, GoesThrough, Stay};
+ghost use Rattle.hp_relaxed.specs.GivingViews.{lent_expressions, is_missing_in, is_needed_in, rules_of, Keeps, GoesThrough, Stay};
 
 use crate::asked::{asked_of, surely_bound};
+use crate::concluded::Concluded;
 use crate::copies::copy_expression;
 use hp_lint::{Counts, Use, Uses};
-use hp_syntax::{Expr, ExprKind, Pre, Rule, Span};
+use hp_syntax::{Expr, ExprKind, Pre, Span};
 use std::alloc::{AllocError, Global};
 
 /// The expression of a precondition.
@@ -74,31 +75,31 @@ fn binds_needed(alloc: Global, needed: &Counts, part: &Expr) -> Result<bool, All
 
 fn add_asked(
     alloc: Global,
-    rules: &[Rule],
+    concluded: &Concluded,
     needed: &mut Counts,
     part: &Expr,
 ) -> Result<(), AllocError>
     ensures { OnOk result ((done : List Use) → Counted done needed.old
-        → Counted (done ++ plain.asked_of (map rule_of rules.now) (expression_of part.now)) needed.new) }
+        → Counted (done ++ plain.asked_of (rules_of concluded.now) (expression_of part.now)) needed.new) }
 {
     let mut uses = Uses::new(alloc);
-    asked_of(&mut uses, rules, part)?;
+    asked_of(&mut uses, concluded, part)?;
     add_all(needed, uses.list.as_slice())
 }
 
 /// Adds what a part asks for to what is needed, where it can bind any of that.
 fn add_needed(
     alloc: Global,
-    rules: &[Rule],
+    concluded: &Concluded,
     needed: &mut Counts,
     part: &Expr,
 ) -> Result<(), AllocError>
     ensures { OnOk result ((done : List Use) → Counted done needed.old
-        → Counted (plain.needed_with (map rule_of rules.now) done (expression_of part.now)) needed.new) }
+        → Counted (plain.needed_with (rules_of concluded.now) done (expression_of part.now)) needed.new) }
 {
     let binds = binds_needed(alloc, needed, part)?;
     if binds {
-        add_asked(alloc, rules, needed, part)
+        add_asked(alloc, concluded, needed, part)
     } else {
         Ok(())
     }
@@ -107,16 +108,16 @@ fn add_needed(
 /// The variables that are needed by what stands behind parts, and by those of them that can bind one of these.
 pub fn needed_by(
     alloc: Global,
-    rules: &[Rule],
+    concluded: &Concluded,
     behind: &[Use],
     parts: &[&Expr],
 ) -> Result<Counts, AllocError>
     ensures { IfOk result (Counted
-        (plain.needed_by (map rule_of rules.now) behind.now (lent_expressions parts.now))) }
+        (plain.needed_by (rules_of concluded.now) behind.now (lent_expressions parts.now))) }
 {
     let mut needed = Counts::of(alloc, behind)?;
     for place in (0..parts.len()).rev() {
-        add_needed(alloc, rules, &mut needed, parts[place])?;
+        add_needed(alloc, concluded, &mut needed, parts[place])?;
     }
     Ok(needed)
 }

@@ -1,16 +1,17 @@
-use Rattle.std.proofs.Common.{rules, inl, inr, map, refl}
+use Rattle.std.proofs.Common.{rules, inl, inr, refl}
 use Rattle.hp_syntax.specs.ViewLaws.{expression_of-atom, expression_of-and, expression_of-or, expression_of-not, expression_of-forall, expression_of-assign, expression_of-call}
-use Rattle.hp_syntax.specs.Views.{expression_of, expressions_of, rule_of}
+use Rattle.hp_syntax.specs.Views.{expression_of, expressions_of}
 use Rattle.hp_syntax.proofs.ListLemmas.{made_on}
 use Rattle.hp_lint.proofs.Steps.{put_both}
 use Rattle.hp_relaxed.specs.Giving.{asked_of, asked_of_each}
+use Rattle.hp_relaxed.specs.GivingViews.{rules_of}
 use Rattle.hp_relaxed.proofs.asked.+asked_of.Goals as goal
 
 pub asked_of_each-loop-part-preserved : goal.asked_of_each-loop-part-preserved
 unfolding asked_of
 asked_of_each-loop-part-preserved t c =
-    made_on (λ ys. asked_of_each (map rule_of c.args.rules.now) (expressions_of ys))
-    (λ y. asked_of (map rule_of c.args.rules.now) (expression_of y)) c.args.parts.now c.loop-part.part-index
+    made_on (λ ys. asked_of_each (rules_of c.args.concluded.now) (expressions_of ys))
+    (λ y. asked_of (rules_of c.args.concluded.now) (expression_of y)) c.args.parts.now c.loop-part.part-index
     c.part-item.result _ _ _ (λ y ys. refl) c.loop-part-test.true c.part-item.is c.loop-part.invariant
     c.in_ok-asked_of.ensures
 

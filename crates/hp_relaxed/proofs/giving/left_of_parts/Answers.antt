@@ -1,8 +1,8 @@
-use Rattle.std.proofs.Common.{map, ap, ◌∙◌}
+use Rattle.std.proofs.Common.{ap, ◌∙◌}
 use Rattle.std.proofs.lemmas.Result.{IfOk-weaker}
-use Rattle.hp_syntax.specs.Views.{precondition_of, rule_of}
+use Rattle.hp_syntax.specs.Views.{precondition_of}
 use Rattle.hp_relaxed.specs.Giving.{if_fewer, needed_by}
-use Rattle.hp_relaxed.specs.GivingViews.{lent_expressions}
+use Rattle.hp_relaxed.specs.GivingViews.{lent_expressions, rules_of}
 use Rattle.hp_relaxed.proofs.giving.left_of_parts.Goals as goal
 
 pub returns : goal.returns
@@ -12,5 +12,5 @@ returns c =
     (λ left h known k. h
     ∙ ap (λ es. if_fewer (precondition_of c.args.pre.now) parts es)
     (ap lent_expressions c.as_slice.ensures.value
-    ∙ c.in_ok-kept.ensures (needed_by (map rule_of c.args.rules.now) c.args.behind.now parts) known c.in_ok-needed.ensures k))
+    ∙ c.in_ok-kept.ensures (needed_by (rules_of c.args.concluded.now) c.args.behind.now parts) known c.in_ok-needed.ensures k))
     c.if_fewer.ensures
