@@ -1,5 +1,6 @@
 //! Both engines: walks of the same trees in place and by copies, side by side through their trait.
 
+mod begun_again;
 mod calls;
 mod cells_given_back;
 mod decompositions;
@@ -9,6 +10,7 @@ mod rounds;
 mod walks_at_once;
 mod ways;
 
+use crate::both::begun_again::show_begun_again;
 use crate::both::calls::{Trial, show_trial};
 use crate::both::cells_given_back::show_given_back;
 use crate::both::decompositions::show_decompositions;
@@ -69,6 +71,7 @@ pub fn print_all(rt: &(impl Files + Print + AllocGlobal)) -> io::Result<()> {
     show_texts(rt, &mut page)?;
     show_weave(rt, &mut page)?;
     show_given_back(&mut page, rt.alloc())?;
+    show_begun_again(&mut page, rt.alloc())?;
     show_decompositions(&mut page, rt.alloc())?;
     show_ways(&mut page, rt.alloc())?;
     show_calls(rt, &mut page)?;

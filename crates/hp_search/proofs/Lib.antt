@@ -1,3 +1,4 @@
+pub mod AgainSteps
 pub mod BackSteps
 pub mod CellSteps
 pub mod FrameLevels

@@ -57,6 +57,10 @@ tree_planned p = tree_of (rules_at p.site) p.nest (stack_planned p)
 abbrev pub stands_planned : Planned → Standing
 stands_planned p = standing_of (rules_at p.site) p.nest (stack_planned p)
 
+-- the tree of the same root, where so many decompositions may follow from it
+abbrev pub with_depth : ℕ → Tree → Tree
+with_depth depth t = record t { root = record t.root { depth = depth } }
+
 -- until a call fails, the search is one
 abbrev pub IsPlanned : Search → Bool → Type 0
 IsPlanned s live = live ≡ true → IsSearch s

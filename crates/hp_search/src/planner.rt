@@ -42,7 +42,7 @@ impl<'a> Model for Planner<'a> {
 }
 
 impl<'a> Planner<'a> {
-    ghost use Rattle.std.specs.Prelude.{◌≡◌, ◌≤◌, ◌<◌, [], true, false, IfOk, MatchOption, length};
+    ghost use Rattle.std.specs.Prelude.{◌≡◌, ◌≤◌, ◌<◌, [], true, false, pos, IfOk, MatchOption, OnErr, OnOk, length};
     ghost use Rattle.hp_syntax.specs.declared.limits.TheConstants.{GREATEST_DEPTH, MOST_LEVELS};
     ghost use Rattle.hp_syntax.specs.GroundPatterns.{IsGroundPair};
     ghost use Rattle.hp_syntax.specs.Views.{pair_of};
@@ -50,10 +50,10 @@ impl<'a> Planner<'a> {
     ghost use Rattle.hp_code.specs.Codes.{code_of};
     ghost use Rattle.hp_code.specs.CodeViews.{rules_in};
     ghost use Rattle.hp_links.specs.Linked.{PartBelow, focused};
-    ghost use Rattle.hp_net.specs.Standings.{node_reached, standing};
+    ghost use Rattle.hp_net.specs.Standings.{node_reached, standing, tree_visits};
     ghost use Rattle.std.specs.List.{All};
     ghost use Rattle.hp_search.specs.Led.{IsLedAt, IsStageAt, TellsDecomposition, node_on};
-    ghost use Rattle.hp_search.specs.Planned.{HasMarks, tree_planned, stands_planned};
+    ghost use Rattle.hp_search.specs.Planned.{HasMarks, tree_planned, stands_planned, with_depth};
 
     /// A walk of the tree of a pair at a depth, by the rules of a code, where axioms may call one another so deep. It
     /// stands at the root, and all visits are left.
@@ -88,6 +88,27 @@ impl<'a> Planner<'a> {
         };
         let search = Search::new(alloc, nest, site, cells)?;
         Ok(Planner { search, live: true })
+    }
+
+    /// Walks the tree of the same root once more, where so many decompositions may follow from it, over the memory that
+    /// the walk has. It stands at the root, which nothing has cost yet, whatever is left there; all visits of that tree
+    /// are left then.
+    pub fn begin_again(&mut self, depth: u32) -> Result<(), AllocError>
+        requires live { self.old.live ≡ true }
+        requires root { (stands_planned self.old).path ≡ [] }
+        requires cost { (tree_planned self.old).root.cost ≡ pos 0 }
+        requires depth { depth ≤ GREATEST_DEPTH }
+        ensures tree { OnOk result (tree_planned self.new ≡ with_depth depth (tree_planned self.old)) }
+        ensures stands { OnOk result (stands_planned self.new
+            ≡ standing [] (tree_visits (with_depth depth (tree_planned self.old))) false) }
+        ensures cells { self.new.terms ≡ self.old.terms }
+        ensures live { OnOk result (self.new.live ≡ true) }
+        ensures dead { OnErr result (self.new.live ≡ false) }
+    {
+        self.live = false;
+        self.search.begin_again(depth)?;
+        self.live = true;
+        Ok(())
     }
 
     /// The network of the node reached, with its focus. Its pasts at the moments of the path are the networks of the

@@ -1,12 +1,13 @@
 //! A walk with all that it holds, apart from whether a call has failed.
-ghost use Rattle.std.specs.Prelude.{◌≡◌, ◌≢◌, ◌≤◌, ◌<◌, ◌-◌, [], None, IfOk, OnErr, OnOk, length, true};
+ghost use Rattle.std.specs.Prelude.{◌≡◌, ◌≢◌, ◌≤◌, ◌<◌, ◌-◌, [], None, IfOk, OnErr, OnOk, length, pos, true};
+ghost use Rattle.hp_syntax.specs.declared.limits.TheConstants.{GREATEST_DEPTH};
 ghost use Rattle.hp_net.specs.Standings.{gone_back, next_below, pruned};
 ghost use Rattle.hp_site.specs.Sites.{IsMark, IsSite, held_now};
 ghost use Rattle.hp_tree.specs.SearchNodes.{node_of};
 ghost use Rattle.hp_agenda.specs.Frames.{rules_at};
 ghost use Rattle.hp_search.specs.Planned.{DropsFloor, StepCells, planned};
 ghost use Rattle.hp_search.specs.Searches.{BeginsAt, GivesBack, Goes, IsEntered, IsRested, IsRisen, IsSearch, IsTaken};
-ghost use Rattle.hp_search.specs.Searches.{Moves, base_in, stands_in, tree_in};
+ghost use Rattle.hp_search.specs.Searches.{Moves, base_in, rules_in_search, stands_in, tree_in};
 
 use hp_agenda::{Frame, Successor};
 use hp_cells::Cells;
@@ -76,6 +77,24 @@ impl<'a> Search<'a> {
             at_did: false,
             over: false,
         })
+    }
+
+    /// Begins again at the root, where it stands, so that so many decompositions may follow there. After an error the
+    /// search is lost, but for its cells.
+    pub(crate) fn begin_again(&mut self, depth: u32) -> Result<(), AllocError>
+        requires search { IsSearch self.old }
+        requires root { (stands_in self.old).path ≡ [] }
+        requires cost { (tree_in self.old).root.cost ≡ pos 0 }
+        requires depth { depth ≤ GREATEST_DEPTH }
+        ensures begins { OnOk result (BeginsAt (rules_in_search self.old) self.old.nest
+            (record (tree_in self.old).root { depth = depth }) self.new) }
+        ensures cells { self.new.cells ≡ self.old.cells }
+    {
+        self.site.depth = depth;
+        self.top = Frame::new(self.alloc, &self.site, &self.cells)?;
+        self.at_did = false;
+        self.over = false;
+        Ok(())
     }
 
     // Nothing more comes at the node reached: what was made for its successors is given back.

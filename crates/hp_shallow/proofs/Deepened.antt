@@ -1,17 +1,20 @@
 -- A search for the least depth, one depth at a time.
 use Rattle.std.proofs.Common.{◌≡◌, ℕ, suc, ◌+◌, ◌-◌, ◌^◌, ◌<◌, ◌≤◌, min, Bool, true, false, List, [], refl, sym, ap, ◌∙◌, subst, add-one, inl, inr, arith}
+use Rattle.std.specs.Prelude.{pos}
 use Rattle.std.specs.List.{All}
 use Rattle.std.proofs.lemmas.Bool.{cases_lt}
 use Rattle.hp_net.specs.Standings.{Tree, Standing, standing, IsAtItsNode}
+use Rattle.hp_search.specs.Planned.{tree_planned, with_depth}
 use Rattle.hp_syntax.specs.Report.{Ending, Stopped, AtFault, AtCut, AtEnd}
-use Rattle.hp_syntax.specs.Syntax.{Rule}
-use Rattle.hp_syntax.specs.Walk.{Node, Visit, count_told, visits}
+use Rattle.hp_syntax.specs.Syntax.{Rule, Pair}
+use Rattle.hp_syntax.specs.Walk.{Node, Visit, count_told, root, visits}
 use Rattle.hp_shallow.specs.declared.deepening.Least.{Least}
 use Rattle.hp_shallow.specs.declared.walking.ShallowEnd.{ShallowEnd}
 use Rattle.hp_shallow.specs.declared.walking.ShallowEnd.TheVariants as ends
 use Rattle.hp_shallow.proofs.DepthLemmas.{cut_at, decides, passed_by}
-use Rattle.hp_shallow.specs.Deepening.{IsAtDepth, IsLeast, is_cut}
-use Rattle.hp_shallow.specs.LeastDepth.{deciding, expansions_below, first_end, is_cut_short, least_depth, shallow_end}
+use Rattle.hp_shallow.specs.Deepening.{HasWalked, IsAtDepth, IsLeast, is_cut}
+use Rattle.hp_shallow.specs.LeastDepth.{IsWalkedAt, deciding, expansions_below, first_end, is_cut_short, least_depth}
+use Rattle.hp_shallow.specs.LeastDepth.{shallow_end}
 
 -- ---- answers
 
@@ -122,3 +125,61 @@ at_root rules nest root t s all same new =
 pub counted_with : (m before n a : ℕ) → m ≡ min (before + n) (2 ^ 64 - 1) → n ≡ count_told a
     → m ≡ count_told (before + a)
 counted_with m before n a e h = omega arith
+
+-- ---- the walks of a pair
+
+module _ (rules : List Rule) (nest : ℕ) (pair : Pair) where
+  -- the tree of the pair at a depth
+  abbrev pub tree_at : ℕ → Tree
+  tree_at depth = record { rules = rules; nest = nest; root = root pair depth }
+
+  -- nothing has cost anything at its root
+  pub root_free : (t : Tree) (depth : ℕ) → t ≡ tree_at depth → t.root.cost ≡ pos 0
+  unfolding root
+  root_free t depth e = ap (λ (u : Tree). u.root.cost) e
+
+  -- with another depth at its root it is the tree at that depth
+  pub tree_deeper : (t : Tree) (depth more : ℕ) → t ≡ tree_at depth → with_depth more t ≡ tree_at more
+  unfolding root
+  tree_deeper t depth more e = ap (with_depth more) e
+
+  -- a search has walked down to this depth, and has counted so many decompositions before
+  pub record IsDown (limit : ℕ) (l : Least) : Type 0 where
+    pub before : ℕ
+    pub walked : HasWalked l (tree_at l.depth) before
+    pub at_depth : (at : ℕ → List Visit) → IsWalkedAt rules nest pair at → IsAtDepth at limit l.depth before
+    pub within : l.depth ≤ limit
+
+  -- at first it has walked down to depth 0
+  pub down_first : (limit : ℕ) (l : Least) → l.depth ≡ 0 → HasWalked l (tree_at 0) 0 → IsDown limit l
+  down_first limit l e h = record {
+    before = 0;
+    walked = subst (λ d. HasWalked l (tree_at d) 0) (sym e) h;
+    at_depth = λ at walked. subst (λ d. IsAtDepth at limit d 0) (sym e) (at_first at limit);
+    within = omega (arith, e);
+  }
+
+  module _ (limit : ℕ) (l : Least) (h : IsDown limit l) where
+    -- where the walk was cut short above the limit, it goes one depth further down
+    pub down_next : (m : Least) → l.depth < limit → is_cut l.answer ≡ true → m.depth ≡ l.depth + 1
+        → HasWalked m (with_depth (l.depth + 1) (tree_planned l.walk)) l.expansions → IsDown limit m
+    down_next m below cut e w = record {
+      before = l.expansions;
+      walked =
+          subst (λ d. HasWalked m (tree_at d) l.expansions) (sym e)
+          (subst (λ t. HasWalked m t l.expansions)
+          (tree_deeper (tree_planned l.walk) l.depth (l.depth + 1) h.walked.tree) w);
+      at_depth =
+          λ at walked.
+          subst (λ d. IsAtDepth at limit d l.expansions) (sym e)
+          (deeper at limit l.depth h.before l.expansions (h.at_depth at walked) _ (walked l.depth)
+          h.walked.expansions below (cut_as_told l.answer _ true h.walked.answer cut));
+      within = omega (arith, below, e);
+    }
+
+    -- where it wasn't, or at the limit, it has come to the least depth
+    pub down_last : (l.depth < limit → is_cut l.answer ≡ false) → (at : ℕ → List Visit)
+        → IsWalkedAt rules nest pair at → IsLeast l at limit
+    down_last whole at walked =
+        found_here at limit l.depth h.before l.expansions (h.at_depth at walked) _ (walked l.depth)
+        h.walked.expansions l refl h.walked.answer refl h.within whole

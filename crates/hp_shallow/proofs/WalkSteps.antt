@@ -6,7 +6,7 @@ use Rattle.std.proofs.lemmas.Bool.Decides.{nat_tests}
 use Rattle.std.proofs.lemmas.List.Elements.{All-head}
 use Rattle.hp_net.proofs.Counts.{count_on}
 use Rattle.hp_net.proofs.NextVisits.{IsNext}
-use Rattle.hp_net.specs.Standings.{Tree, Standing, IsAtItsNode, node_reached}
+use Rattle.hp_net.specs.Standings.{Tree, Standing, IsAtItsNode, arrived, gone_on, next_of, node_reached}
 use Rattle.hp_syntax.specs.declared.fault.RunFault.{RunFault}
 use Rattle.hp_syntax.specs.Report.{Tally, Ended, ended, Stopped, AtFault, end_of, quiet_ending, with_cut, with_did, with_plan}
 use Rattle.hp_syntax.specs.Walk.{Sight, Visit, Did, Plan, CutHere, FaultHere, count_told, node_at}
@@ -139,3 +139,9 @@ stands_here t u s r next same a =
           ap (λ w. node_reached w r) same
           ∙ (ap (λ p. node_at t.rules t.nest t.root p) next.path ∙ at);
     }
+
+-- where nothing was left, the walk stands at its root
+pub at_root_then : (s r : Standing) → r ≡ gone_on s → s.rest ≡ [] → r.path ≡ []
+at_root_then s r gone e =
+    ap (λ (z : Standing). z.path) gone
+    ∙ ap (λ (vs : List Visit). (arrived [] (next_of vs) vs).path) e

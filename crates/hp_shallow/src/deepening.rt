@@ -1,13 +1,13 @@
 //! The walks of a pair at one depth after another.
-ghost use Rattle.std.specs.Prelude.{◌≡◌, ◌≤◌, ◌+◌, ℕ, List, true, IfOk};
+ghost use Rattle.std.specs.Prelude.{◌≡◌, ◌≤◌, ◌<◌, ◌+◌, ℕ, List, [], pos, true, IfOk, OnOk};
 ghost use Rattle.hp_code.specs.CodeViews.{rules_in};
 ghost use Rattle.hp_code.specs.Codes.{code_of};
-ghost use Rattle.hp_search.specs.Planned.{stands_planned, tree_planned};
+ghost use Rattle.hp_search.specs.Planned.{stands_planned, tree_planned, with_depth};
 ghost use Rattle.hp_syntax.specs.declared.limits.TheConstants.{GREATEST_DEPTH, MOST_LEVELS};
 ghost use Rattle.hp_syntax.specs.GroundPatterns.{IsGroundPair};
 ghost use Rattle.hp_syntax.specs.Views.{pair_of};
 ghost use Rattle.hp_syntax.specs.Walk.{Visit, count_told, root};
-ghost use Rattle.hp_shallow.specs.Deepening.{IsLeast, is_cut};
+ghost use Rattle.hp_shallow.specs.Deepening.{HasWalked, IsLeast, is_cut};
 ghost use Rattle.hp_shallow.specs.LeastDepth.{HasNoPlan, IsShallowest, IsWalkedAt, StandsAtPlan};
 ghost use Rattle.hp_shallow.specs.LeastDepth.{first_end, shallow_end, visits_at};
 
@@ -64,6 +64,7 @@ pub fn walk_at<'a>(
       nest = nest;
       root = root (pair_of pair.now) depth;
     }) }
+    ensures root { IfOk result (λ l. l.answer ≡ ShallowEnd.Cut → (stands_planned l.walk).path ≡ []) }
     ensures live { IfOk result (λ l. l.walk.live ≡ true) }
 {
     // Nothing runs here: the law makes known that each visit's path reaches its node.
@@ -80,8 +81,29 @@ pub fn walk_at<'a>(
     }
 }
 
+/// Walks one depth further from the root, over the memory of the walk that was cut short, up to the first plan.
+fn go_deeper(least: &mut Least<'_>) -> Result<(), AllocError>
+    requires live { least.old.walk.live ≡ true }
+    requires root { (stands_planned least.old.walk).path ≡ [] }
+    requires cost { (tree_planned least.old.walk).root.cost ≡ pos 0 }
+    requires depth { least.old.depth < GREATEST_DEPTH }
+    ensures depth { OnOk result (least.new.depth ≡ least.old.depth + 1) }
+    ensures walked { OnOk result (HasWalked least.new
+        (with_depth (least.old.depth + 1) (tree_planned least.old.walk)) least.old.expansions) }
+{
+    // Nothing runs here: the law makes known that each visit's path reaches its node.
+    visits_are_in_the_tree();
+    let depth = least.depth + 1;
+    least.walk.begin_again(depth)?;
+    let walked = first_end(&mut least.walk)?;
+    least.depth = depth;
+    least.expansions = least.expansions.saturating_add(walked.expansions);
+    least.answer = walked.answer;
+    Ok(())
+}
+
 /// The least depth up to a limit whose walk isn't cut short, or the limit where each is: walks one depth after another,
-/// from 0 on, each up to its first plan. The walk of one depth is gone before that of the next begins.
+/// from 0 on, each up to its first plan and over the memory that the one before had.
 pub fn shallow<'a>(
     alloc: Global,
     code: &'a Code,
@@ -113,14 +135,11 @@ pub fn shallow<'a>(
 {
     // Nothing runs here: the law makes known that no smaller depth has a plan.
     least_depths_are_least();
-    let mut depth = 0;
-    let mut expansions = 0;
+    let mut least = walk_at(alloc, code, pair, 0, nest, 0)?;
     loop {
-        let least = walk_at(alloc, code, pair, depth, nest, expansions)?;
-        if depth == limit || !is_cut(least.answer) {
+        if least.depth == limit || !is_cut(least.answer) {
             return Ok(least);
         }
-        expansions = least.expansions;
-        depth += 1;
+        go_deeper(&mut least)?;
     }
 }

@@ -1,5 +1,5 @@
 //! A walk up to its first plan.
-ghost use Rattle.std.specs.Prelude.{◌≡◌, true, Some, IfOk, OnOk};
+ghost use Rattle.std.specs.Prelude.{◌≡◌, [], true, Some, IfOk, OnOk};
 ghost use Rattle.std.specs.List.{All};
 ghost use Rattle.hp_net.specs.Standings.{IsAtItsNode};
 ghost use Rattle.hp_syntax.specs.Report.{Tally, quiet_ending};
@@ -53,6 +53,7 @@ fn go_on<W: Walk>(walk: &mut W, counts: &mut Counts) -> Result<Option<ShallowEnd
         → Turned end counts.new seen (W.stands walk.old).rest (W.stands walk.new).rest) }
     ensures plan { IfOk result (λ end. end ≡ Some ShallowEnd.Plan
         → StandsAtPlan (W.tree walk.new) (W.stands walk.new) (W.stands walk.old).rest) }
+    ensures root { IfOk result (λ end. end ≡ Some ShallowEnd.Cut → (W.stands walk.new).path ≡ []) }
     ensures at { OnOk result (All (IsAtItsNode (W.tree walk.new)) (W.stands walk.new).rest) }
     ensures tree { W.tree walk.new ≡ W.tree walk.old }
     ensures live { OnOk result (W.is_live walk.new ≡ true) }
@@ -73,7 +74,7 @@ fn go_on<W: Walk>(walk: &mut W, counts: &mut Counts) -> Result<Option<ShallowEnd
 }
 
 /// Walks up to the first plan of what is left, and stands at it then. Where there is none, or a fault comes before it,
-/// nothing is left. After an error the walk may be used no more.
+/// nothing is left; where a cut is answered, it stands at the root. After an error the walk may be used no more.
 pub fn first_end<W: Walk>(walk: &mut W) -> Result<Walked, AllocError>
     requires live { W.is_live walk.old ≡ true }
     requires at { All (IsAtItsNode (W.tree walk.old)) (W.stands walk.old).rest }
@@ -82,6 +83,7 @@ pub fn first_end<W: Walk>(walk: &mut W) -> Result<Walked, AllocError>
         ≡ count_told (first_end (W.stands walk.old).rest).tally.expansions) }
     ensures plan { IfOk result (λ w. w.answer ≡ ShallowEnd.Plan
         → StandsAtPlan (W.tree walk.new) (W.stands walk.new) (W.stands walk.old).rest) }
+    ensures root { IfOk result (λ w. w.answer ≡ ShallowEnd.Cut → (W.stands walk.new).path ≡ []) }
     ensures tree { W.tree walk.new ≡ W.tree walk.old }
     ensures live { OnOk result (W.is_live walk.new ≡ true) }
 {

@@ -1,6 +1,6 @@
 //! From two texts to walks of both engines.
 ghost use Rattle.std.specs.List.{All};
-ghost use Rattle.std.specs.Prelude.{◌≡◌, ◌≤◌, None, true, IfOk, IfSome};
+ghost use Rattle.std.specs.Prelude.{◌≡◌, ◌≤◌, None, pos, true, IfOk, IfSome};
 ghost use Rattle.hp_syntax.specs.declared.limits.TheConstants.{GREATEST_DEPTH, GREATEST_PLAIN_DEPTH, MOST_LEVELS};
 ghost use Rattle.hp_syntax.specs.Checks.{domain_faults, first_of};
 ghost use Rattle.hp_syntax.specs.Grammar.{problem_form};
@@ -8,6 +8,7 @@ ghost use Rattle.hp_syntax.specs.GroundPatterns.{IsGroundPair};
 ghost use Rattle.hp_syntax.specs.Numbered.{IsNumberedDomain};
 ghost use Rattle.hp_syntax.specs.TextForms.{IsRead};
 ghost use Rattle.hp_syntax.specs.Views.{domain_of, pair_of, problem_of};
+ghost use Rattle.hp_search.specs.Planned.{tree_planned};
 ghost use Rattle.hp_part_trials.specs.Accepted.{IsAccepted};
 
 use hp_check::first_fault;
@@ -92,7 +93,7 @@ pub fn load(alloc: Global, domain: &str, problem: &str) -> Option<Loaded>
     }
 }
 
-/// A walk in place, with all visits left.
+/// A walk in place, with all visits left. At its root nothing has cost anything.
 pub fn walk_in_place(
     alloc: Global,
     loaded: &Loaded,
@@ -102,7 +103,8 @@ pub fn walk_in_place(
     requires accepted { IsAccepted (domain_of loaded.now.domain) (pair_of loaded.now.pair) }
     requires depth { depth ≤ GREATEST_DEPTH }
     requires levels { levels ≤ MOST_LEVELS }
-    ensures { IfOk result (λ p. p.live ≡ true) }
+    ensures live { IfOk result (λ p. p.live ≡ true) }
+    ensures cost { IfOk result (λ p. (tree_planned p).root.cost ≡ pos 0) }
 {
     Planner::new(alloc, &loaded.code, &loaded.pair, depth, levels)
 }

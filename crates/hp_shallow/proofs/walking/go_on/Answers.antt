@@ -2,7 +2,7 @@ use Rattle.std.proofs.Common.{◌≡◌, refl, subst}
 use Rattle.hp_net.proofs.NextVisits.{IsNext, at_kept, cut_next, did_next, end_next, fault_next, plan_next}
 use Rattle.hp_net.specs.Standings.{next_of, step_or_end}
 use Rattle.hp_syntax.specs.Walk.{CutHere, Did, Plan}
-use Rattle.hp_shallow.proofs.WalkSteps.{closes_end, closes_fault, closes_plan, counted_cut, counted_did, goes_cut, goes_did, stands_here}
+use Rattle.hp_shallow.proofs.WalkSteps.{at_root_then, closes_end, closes_fault, closes_plan, counted_cut, counted_did, goes_cut, goes_did, stands_here}
 use Rattle.hp_shallow.proofs.walking.go_on.Goals as goal
 
 pub returns-in-Did-clause-turned : goal.returns-in-Did-clause-turned
@@ -77,6 +77,12 @@ returns-in-End-clause-turned g c = λ seen counted.
     closes_end c.args.counts.now seen counted c.quiet.result s.rest
     (end_next s.rest (subst (λ x. x ≡ step_or_end (next_of s.rest)) c.in-End.is c.in_ok-next.ensures.answer))
     c.quiet.ensures
+
+pub returns-in-End-clause-root : goal.returns-in-End-clause-root
+returns-in-End-clause-root g c = λ e.
+    let s = g.W.Walk.stands c.args.walk.now in
+    at_root_then s (g.W.Walk.stands c.next.new.self) c.in_ok-next.ensures.stands
+    (end_next s.rest (subst (λ x. x ≡ step_or_end (next_of s.rest)) c.in-End.is c.in_ok-next.ensures.answer))
 
 pub returns-in-End-clause-at : goal.returns-in-End-clause-at
 returns-in-End-clause-at g c =
