@@ -25,7 +25,7 @@ cut_told (AtFault f) = refl
 cut_told AtCut = refl
 cut_told AtEnd = refl
 
-pub cut_as_told : (a : ShallowEnd) (x : Ending) (b : Bool) → a ≡ shallow_end x → is_cut a ≡ b → is_cut_short x ≡ b
+cut_as_told : (a : ShallowEnd) (x : Ending) (b : Bool) → a ≡ shallow_end x → is_cut a ≡ b → is_cut_short x ≡ b
 cut_as_told a x b e h = sym (cut_told x) ∙ (ap is_cut (sym e) ∙ h)
 
 -- a plan is answered where the walk stopped at it
@@ -59,7 +59,7 @@ least_ends l at limit x h told =
 -- ---- one depth more
 
 -- a search begins at depth 0
-pub at_first : (at : ℕ → List Visit) (limit : ℕ) → IsAtDepth at limit 0 0
+at_first : (at : ℕ → List Visit) (limit : ℕ) → IsAtDepth at limit 0 0
 at_first at limit = record { least = ap (deciding at 0) (omega arith); expansions = refl }
 
 -- what is counted of one depth more
@@ -78,7 +78,7 @@ module _ (at : ℕ → List Visit) (limit depth n m : ℕ) (h : IsAtDepth at lim
   cut_here b e = ap (λ us. is_cut_short (first_end us).ending) here ∙ e
 
   -- where it's cut short, the search goes on
-  pub deeper : depth < limit → is_cut_short (first_end vs).ending ≡ true → IsAtDepth at limit (depth + 1) m
+  deeper : depth < limit → is_cut_short (first_end vs).ending ≡ true → IsAtDepth at limit (depth + 1) m
   deeper below cut =
       let more = limit - (depth + 1) in
       let left : limit - depth ≡ suc more = omega arith in
@@ -99,7 +99,7 @@ module _ (at : ℕ → List Visit) (limit depth n m : ℕ) (h : IsAtDepth at lim
   ]
 
   -- so the search has come to the least depth
-  pub found_here : (l : Least) → l.depth ≡ depth → l.answer ≡ shallow_end (first_end vs).ending
+  found_here : (l : Least) → l.depth ≡ depth → l.answer ≡ shallow_end (first_end vs).ending
       → l.expansions ≡ m → depth ≤ limit → (depth < limit → is_cut l.answer ≡ false) → IsLeast l at limit
   found_here l e answer expansions within whole = record {
     depth = e ∙ decides_here within (λ below. cut_as_told l.answer (first_end vs).ending false answer (whole below));

@@ -5,8 +5,8 @@ use Rattle.hp_syntax.specs.Views.{pair_of}
 use Rattle.hp_shallow.proofs.Deepened.{IsDown}
 use Rattle.hp_shallow.proofs.deepening.shallow.Given as goal
 
-abbrev pub invariant-loop-go_deeper : goal.invariant-loop-go_deeper
-invariant-loop-go_deeper l = IsDown (rules_in (code_of l.code)) l.nest (pair_of l.pair) l.limit l.least
+abbrev pub invariant-loop-least : goal.invariant-loop-least
+invariant-loop-least l = IsDown (rules_in (code_of l.code)) l.nest (pair_of l.pair) l.limit l.least
 
-abbrev pub decreases-loop-go_deeper : goal.decreases-loop-go_deeper
-decreases-loop-go_deeper l = l.limit - l.least.depth
+abbrev pub decreases-loop-least : goal.decreases-loop-least
+decreases-loop-least l = l.limit - l.least.depth
