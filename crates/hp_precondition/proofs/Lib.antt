@@ -1,2 +1,3 @@
 mod PreconditionLemmas
+mod NothingLemmas
 pub mod PickedScenes

@@ -1,15 +1,13 @@
 -- The satisfiers that a precondition takes, over scenes of one code with the same atoms; and behind a fault.
-use Rattle.std.proofs.Common.{◌≡◌, ℕ, Bool, true, false, cond, List, [], ◌∷◌, ◌++◌, map, Option, Some, None, refl, sym, ◌∙◌, ap, subst}
+use Rattle.std.proofs.Common.{◌≡◌, ℕ, Bool, true, false, cond, List, [], ◌∷◌, ◌++◌, map, Option, Some, None, refl, ap, subst}
 use Rattle.hp_syntax.specs.Terms.{Term}
-use Rattle.hp_syntax.specs.Events.{Event, Sat, Cut, Fault, is_fault, is_sat}
-use Rattle.hp_syntax.specs.Lists.{up_to}
-use Rattle.hp_syntax.specs.Preconditions.{heard, keyed, up_to_sat, Keyed, Keys, NoKey, sorted, sorted_events, sorts_before, precondition_events}
+use Rattle.hp_syntax.specs.Events.{Event, Sat, Cut, Fault}
+use Rattle.hp_syntax.specs.Preconditions.{heard, keyed, up_to_sat, Keyed, Keys, NoKey, sorted, sorted_events, sorts_before}
 use Rattle.hp_syntax.specs.Syntax as syntax
 use Rattle.hp_syntax.specs.Values.{Bindings}
-use Rattle.hp_syntax.specs.Events.{State}
 use Rattle.hp_syntax.specs.Views.{key_of}
 use Rattle.std.specs.Prelude.{ℤ}
-use Rattle.hp_eval.specs.Slotted.{Slotted}
+use Rattle.hp_eval.specs.Slotted.{Slotted, bindings_of, undone}
 use Rattle.hp_gen.specs.declared.generator.Gen.{Gen}
 use Rattle.hp_gen.specs.GenLaws.{Suits, rest_of}
 use Rattle.hp_suspended.specs.Fitting.{Fits}
@@ -18,8 +16,8 @@ use Rattle.hp_suspended.specs.SceneViews.{code_in, setting_of}
 use Rattle.hp_suspended.specs.Views.{view}
 use Rattle.hp_suspended.specs.declared.scene.Scene.{Scene}
 use Rattle.hp_pick.specs.declared.heard.Heard.{Heard}
-use Rattle.hp_pick.specs.Heard.{left_of, rest_in_order, SuitsEither, kept_of}
-use Rattle.hp_pick.specs.Noted.{entry_of, noted_events}
+use Rattle.hp_pick.specs.Heard.{rest_in_order, SuitsEither, kept_of}
+use Rattle.hp_pick.specs.Noted.{entry_of}
 use Rattle.hp_world.specs.Recorded.{IndexedBelow, Knows}
 use Rattle.hp_world.specs.Stages.{AllBelow, live_atoms}
 use Rattle.hp_precondition.specs.declared.picked.Picked.{Picked}
@@ -49,6 +47,7 @@ rest_alike (picks.First f) b d c e same =
     ap (λ xs. cond f.value.ended [] (up_to_sat xs)) (gen_alike f.value.inner b d c e same)
 rest_alike (picks.Sorted x) b d c e same =
     ap (λ xs. rest_in_order (key_of x.value.key) xs c x.value.heard) (gen_alike x.value.inner b d c e same)
+rest_alike (picks.Once o) b d c e same = refl
 
 gen_suits : (g : Gen) (b d : Scene) (c : List Term) → IsSceneAlike g.kept c b d → Suits g b c → Suits g d c
 gen_suits g b d c alike u = record {
@@ -70,6 +69,7 @@ pub suits_alike : (s : Picked) (b d : Scene) (c : List Term) → IsSceneAlike (p
 suits_alike (picks.All g) b d c alike u = gen_suits g.value b d c alike u
 suits_alike (picks.First f) b d c alike u = gen_suits f.value.inner b d c alike u
 suits_alike (picks.Sorted x) b d c alike u = either_alike x.value.inner x.value.heard b d c alike u
+suits_alike (picks.Once o) b d c alike u = tt
 
 -- ---- behind a fault
 
@@ -110,9 +110,14 @@ heard_first : (ended : Bool) (xs : List Event)
 heard_first true xs = refl
 heard_first false xs = first_twice xs
 
+heard_once : (given : Bool) (b : Bindings) → heard (cond given [] (Sat b ∷ [])) ≡ cond given [] (Sat b ∷ [])
+heard_once true b = refl
+heard_once false b = refl
+
 -- no event is left behind a fault
 pub rest_heard : (s : Picked) (b : Scene) (c : List Term) (e : Slotted)
     → heard (picked_rest s b c e) ≡ picked_rest s b c e
 rest_heard (picks.All g) b c e = twice (left (setting_of b c) e (view g.value.suspended))
 rest_heard (picks.First f) b c e = heard_first f.value.ended (left (setting_of b c) e (view f.value.inner.suspended))
 rest_heard (picks.Sorted x) b c e = heard_in_order (key_of x.value.key) (rest_of x.value.inner b c e) c x.value.heard
+rest_heard (picks.Once o) b c e = heard_once o.is_given (bindings_of c (undone o.mark e))

@@ -1,3 +1,4 @@
 pub mod PreconditionNodes
+pub mod OnceLaws
 pub mod Picks
 pub mod PickedLaws

@@ -1,5 +1,5 @@
 -- Laws of the satisfiers that a precondition takes.
-use Rattle.std.specs.Prelude.{◌≡◌, ℕ, ◌≤◌, List, length, take}
+use Rattle.std.specs.Prelude.{◌≡◌, ◌≤◌, List, length, take}
 use Rattle.std.specs.List.{All}
 use Rattle.hp_syntax.specs.Terms.{Term}
 use Rattle.hp_syntax.specs.Events.{EventExtends}
@@ -8,6 +8,7 @@ use Rattle.hp_eval.specs.Slotted.{Slotted, AreBelow, bindings_of, undone}
 use Rattle.hp_gen.specs.GenLaws.{FitsSlots, Suits, rest_of, fits_hold_of, same_base_of, same_cells_of, sats_extend_of}
 use Rattle.hp_pick.specs.SortedLaws.{either_hold, either_suits, either_same, either_extend}
 use Rattle.hp_pick.specs.UpToSat.{first_same, first_extend}
+use Rattle.hp_precondition.specs.OnceLaws.{once_same, once_extends}
 use Rattle.hp_precondition.specs.declared.picked.Picked.{Picked}
 use Rattle.hp_precondition.specs.declared.picked.Picked.TheVariants as picks
 use Rattle.hp_precondition.specs.Picks.{picked_rest, PickedSuits, PickedFits, picked_start, picked_kept}
@@ -21,6 +22,7 @@ picked_hold (picks.First f) e h = fits_hold_of f.value.inner e h
 picked_hold (picks.Sorted x) e h =
     either_hold (FitsSlots x.value.inner e) x.value.inner.mark x.value.mark x.value.inner.kept x.value.heard e
     (fits_hold_of x.value.inner e) h
+picked_hold (picks.Once o) e h = h
 
 -- a scene suits over any cells that agree below the kept number
 pub picked_same_base : (s : Picked) (b : Scene) (c d : List Term) → PickedSuits s b c
@@ -30,6 +32,7 @@ picked_same_base (picks.First f) b c d u k = same_base_of f.value.inner b c d u 
 picked_same_base (picks.Sorted x) b c d u k =
     either_suits (Suits x.value.inner b c) (Suits x.value.inner b d) x.value.inner.kept x.value.heard c d
     (same_base_of x.value.inner b c d) u k
+picked_same_base (picks.Once o) b c d u k = tt
 
 -- the events that are left are the same over any cells that agree below the kept number
 pub picked_same_cells : (s : Picked) (b : Scene) (c d : List Term) (e : Slotted) → PickedSuits s b c → PickedFits s e
@@ -40,6 +43,7 @@ picked_same_cells (picks.Sorted x) b c d e u h k =
     either_same (key_of x.value.key) (Suits x.value.inner b c) (FitsSlots x.value.inner e) x.value.inner.mark
     x.value.mark x.value.inner.kept x.value.heard e c d
     (rest_of x.value.inner b c e) (rest_of x.value.inner b d e) (same_cells_of x.value.inner b c d e) u h k
+picked_same_cells (picks.Once o) b c d e u h k = once_same o c d e h k
 
 -- each Sat that is left extends the bindings of the start
 pub picked_extend : (s : Picked) (b : Scene) (c : List Term) (e : Slotted) → PickedSuits s b c → PickedFits s e
@@ -53,3 +57,4 @@ picked_extend (picks.Sorted x) b c e u h =
     either_extend (key_of x.value.key) (Suits x.value.inner b c) (FitsSlots x.value.inner e) x.value.inner.mark
     x.value.mark x.value.heard e c
     (rest_of x.value.inner b c e) (sats_extend_of x.value.inner b c e) u h
+picked_extend (picks.Once o) b c e u h = once_extends o c e

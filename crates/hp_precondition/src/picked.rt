@@ -5,18 +5,20 @@ ghost use Rattle.hp_eval.specs.Growth.{Grows};
 ghost use Rattle.hp_eval.specs.Slotted.{AreBelow, Binds, bindings_of, undone};
 ghost use Rattle.hp_precondition.specs.Picks.{picked_rest, PickedSuits, PickedFits, picked_start, picked_kept, picked_live, picked_open};
 
+use crate::once::Once;
 use hp_cells::Cells;
 use hp_eval::{Event, Sats, Slots};
 use hp_gen::{Gen, Scene};
 use hp_pick::{First, Sorted};
 use std::alloc::AllocError;
 
-/// All satisfiers of an expression, the first alone, or all in the order of a variable. They stay where they are while
-/// what holds them is moved.
+/// All satisfiers of an expression, the first alone, or all in the order of a variable, which stay where they are while
+/// what holds them is moved; or the bindings of the start, where nothing is asked for.
 pub enum Picked {
     All(Box<Gen>),
     First(Box<First<Gen>>),
     Sorted(Box<Sorted<Gen>>),
+    Once(Once),
 }
 
 impl Drop for Picked {
@@ -25,6 +27,7 @@ impl Drop for Picked {
             Picked::All(inner) => drop(inner),
             Picked::First(first) => drop(first),
             Picked::Sorted(sorted) => drop(sorted),
+            Picked::Once(_) => {}
         }
     }
 }
@@ -78,6 +81,7 @@ impl<'a> Sats<Scene<'a>> for Picked {
             Picked::All(inner) => inner.next(base, cells, slots),
             Picked::First(first) => first.next(base, cells, slots),
             Picked::Sorted(sorted) => sorted.next(base, cells, slots),
+            Picked::Once(once) => once.next(base, cells, slots),
         }
     }
 
@@ -92,6 +96,7 @@ impl<'a> Sats<Scene<'a>> for Picked {
             Picked::All(inner) => inner.close(slots),
             Picked::First(first) => first.close(slots),
             Picked::Sorted(sorted) => sorted.close(slots),
+            Picked::Once(once) => once.close(slots),
         }
     }
 
@@ -102,6 +107,7 @@ impl<'a> Sats<Scene<'a>> for Picked {
             Picked::All(inner) => inner.live(),
             Picked::First(first) => first.live(),
             Picked::Sorted(sorted) => sorted.live(),
+            Picked::Once(once) => once.live(),
         }
     }
 

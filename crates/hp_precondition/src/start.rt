@@ -4,11 +4,14 @@ ghost use Rattle.hp_syntax.specs.Preconditions.{precondition_events};
 ghost use Rattle.hp_syntax.specs.Syntax.{Precondition};
 ghost use Rattle.hp_eval.specs.Slotted.{bindings_of};
 ghost use Rattle.hp_nodes.specs.NodeViews.{laid_of};
+ghost use Rattle.hp_suspended.specs.Fitting.{IsExpressionAt};
+ghost use Rattle.hp_suspended.specs.Nodes.{expression_at};
 ghost use Rattle.hp_suspended.specs.SceneViews.{IsReady, code_in, setting_of};
 ghost use Rattle.hp_suspended.specs.Settings.{axioms_in, state_in};
 ghost use Rattle.hp_precondition.specs.Picks.{picked_rest, PickedSuits, PickedFits, picked_start, picked_kept, picked_live, picked_open};
-ghost use Rattle.hp_precondition.specs.PreconditionNodes.{IsPreconditionAt, precondition_at};
+ghost use Rattle.hp_precondition.specs.PreconditionNodes.{IsPreconditionAt, asks_nothing, precondition_at};
 
+use crate::once::Once;
 use crate::picked::Picked;
 use hp_cells::Cells;
 use hp_code::{CodeNode, Op};
@@ -26,6 +29,18 @@ fn node_at<'s>(node: usize, scene: &'s Scene<'_>) -> &'s CodeNode
     let nodes = scene.code.nodes();
     let _ = nodes.len();
     &nodes[node]
+}
+
+// Whether the expression of a node is the conjunction of nothing.
+fn asks_nothing(node: usize, scene: &Scene<'_>) -> bool
+    requires { IsExpressionAt (code_in scene.now) node }
+    ensures { result ≡ asks_nothing (expression_at (code_in scene.now) node) }
+{
+    let here = node_at(node, scene);
+    match &here.op {
+        Op::And => here.to == node + 1,
+        _ => false,
+    }
 }
 
 /// The satisfiers of a precondition, by its node, under the bindings of the slots, with so many axiom levels: at most
@@ -55,6 +70,9 @@ pub fn satisfiers<'a>(
     let below = node + 1;
     match op {
         Op::Plain => {
+            if asks_nothing(below, scene) {
+                return Ok(Picked::Once(Once::start(cells, slots)));
+            }
             let inner = Gen::start(alloc, scene, cells, below, nest, slots)?;
             let inner = Box::new(alloc, inner)?;
             Ok(Picked::All(inner))

@@ -1,4 +1,4 @@
-use Rattle.std.proofs.Common.{List, [], cond, sym, subst, ap, ◌∙◌}
+use Rattle.std.proofs.Common.{◌+◌, List, [], cond, sym, subst, ap, ◌∙◌}
 use Rattle.hp_syntax.specs.Events.{Event}
 use Rattle.hp_syntax.specs.Preconditions.{keyed, sorted_events, up_to_sat}
 use Rattle.hp_syntax.specs.Syntax as syntax
@@ -10,16 +10,37 @@ use Rattle.hp_pick.specs.Heard.{SuitsEither, rest_in_order}
 use Rattle.hp_pick.specs.declared.first.First.{First}
 use Rattle.hp_pick.specs.declared.sorted.Sorted.{Sorted}
 use Rattle.hp_nodes.specs.NodeViews.{laid_of, operation_of}
+use Rattle.hp_suspended.specs.Nodes.{expression_at}
 use Rattle.hp_suspended.specs.SceneViews.{code_in, setting_of}
 use Rattle.hp_suspended.specs.Settings.{axioms_in, state_in}
+use Rattle.hp_precondition.proofs.NothingLemmas.{nothing_met}
 use Rattle.hp_precondition.proofs.PreconditionLemmas.{within, is_read, made_by, no_other, has_expression, taken, plain_events, first_events, sorted_by}
 use Rattle.hp_precondition.proofs.start.satisfiers.Goals as goal
 
 pub node_at-requires : goal.node_at-requires
 node_at-requires c = within (code_in c.args.scene.now) c.args.node c.requires.node
 
-pub start-requires-clause-node : goal.start-requires-clause-node
-start-requires-clause-node c =
+pub asks_nothing-requires : goal.asks_nothing-requires
+asks_nothing-requires c =
+    let s = c.args.scene.now in
+    (has_expression (code_in s) c.args.node s.code.now.kept c.requires.node (laid_of c.node_at.result.now)
+    c.node_at.ensures.is syntax.Plain (ap (λ o. made_by (operation_of o)) c.in-Plain.is)).expression
+
+pub returns-then-asks_nothing-clause-rest : goal.returns-then-asks_nothing-clause-rest
+returns-then-asks_nothing-clause-rest c = λ p there.
+    let s = c.args.scene.now in
+    let w = setting_of s c.args.cells.now in
+    let e = bindings_of c.args.cells.now c.args.slots.now in
+    c.start.ensures.rest
+    ∙ taken (axioms_in w) c.args.nest (state_in w) e (code_in s) c.args.node syntax.Plain (λ xs. xs)
+    (plain_events (axioms_in w) c.args.nest (state_in w) e)
+    (has_expression (code_in s) c.args.node s.code.now.kept c.requires.node (laid_of c.node_at.result.now)
+    c.node_at.ensures.is syntax.Plain (ap (λ o. made_by (operation_of o)) c.in-Plain.is))
+    _ (nothing_met (axioms_in w) c.args.nest (state_in w) e (expression_at (code_in s) (c.args.node + 1))
+    (sym c.asks_nothing.ensures ∙ c.if-asks_nothing.true)) p there
+
+pub start-requires-in-Plain-clause-node : goal.start-requires-in-Plain-clause-node
+start-requires-in-Plain-clause-node c =
     let s = c.args.scene.now in
     (has_expression (code_in s) c.args.node s.code.now.kept c.requires.node (laid_of c.node_at.result.now)
     c.node_at.ensures.is syntax.Plain (ap (λ o. made_by (operation_of o)) c.in-Plain.is)).expression
