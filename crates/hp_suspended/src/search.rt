@@ -164,23 +164,19 @@ impl Suspended {
             (view self.old) (view self.new))) }
         ensures moves { Moves (base_of (view self.old)) cells.old cells.new slots.old slots.new }
     {
-        let Some(start) = self.unbegun() else {
-            return self.scan(alloc, scene, cells, slots);
-        };
-        match once(
-            start.mark, start.nest, start.node, alloc, scene, cells, slots,
-        )? {
-            Some(event) => {
+        if let Some(start) = self.unbegun() {
+            let event = once(
+                start.mark, start.nest, start.node, alloc, scene, cells, slots,
+            )?;
+            if event.is_some() {
                 self.end(start.mark);
-                Ok(Some(event))
+                return Ok(event);
             }
-            None => {
-                *self = begun(
-                    start.mark, start.nest, start.node, alloc, scene, cells, slots,
-                )?;
-                self.scan(alloc, scene, cells, slots)
-            }
+            *self = begun(
+                start.mark, start.nest, start.node, alloc, scene, cells, slots,
+            )?;
         }
+        self.scan(alloc, scene, cells, slots)
     }
 
     // The next event of what was begun.

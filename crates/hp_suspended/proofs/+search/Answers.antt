@@ -16,6 +16,7 @@ use Rattle.hp_suspended.proofs.RangeLemmas.{range_ascends, clauses_ascend}
 use Rattle.hp_suspended.proofs.Stacks.{views_popped}
 use Rattle.hp_suspended.proofs.TurnCounts.{turns_fall}
 use Rattle.hp_suspended.proofs.+search.Goals as goal
+use Rattle.hp_suspended.proofs.+search.Goals.{suspended::Suspended::begin-in-Some+in_ok-event+else-is_some+in_ok-self, suspended::Suspended::begin-in_default}
 use Rattle.hp_eval.specs.GoalViews.{goal_of}
 use Rattle.hp_eval.specs.Slotted.{bindings_of}
 use Rattle.hp_eval.proofs.GrowthLemmas.{below_grows, grows_length, grows_on, grows_self}
@@ -1128,14 +1129,19 @@ suspended::Suspended::step-returns-in_ok-event-in-Disj-clause-moves t c =
     a.scene.now c.in_ok-event-in-Disj.event c.disj_next.new.cells a.slots.now
     c.disj_next.new.slots c.disj_next.new.next i.here a.cells.now c.in_ok-event-in-Disj.ensures.moves
 
-pub suspended::Suspended::begin-scan-requires-in-None-clause-ready :
-    goal.suspended::Suspended::begin-scan-requires-in-None-clause-ready
-suspended::Suspended::begin-scan-requires-in-None-clause-ready t c =
+pub suspended::Suspended::begin-scan-requires-clause-ready :
+    goal.suspended::Suspended::begin-scan-requires-clause-ready
+suspended::Suspended::begin-scan-requires-clause-ready t c =
     let a = c.args in
-    let n = c.once.new in
-    ready_grows a.scene.now n.cells c.begun.new.cells c.begun.ensures.cells n.slots n.slots
-    (ready_moved a.scene.now _ a.cells.now n.cells a.slots.now n.slots c.requires.ready c.once.ensures.moves)
-    (below_grows n.cells c.begun.new.cells c.begun.ensures.cells n.slots c.once.ensures.moves.below)
+    elim c.match-unbegun.branch [
+      | suspended::Suspended::begin-in-Some+in_ok-event+else-is_some+in_ok-self w ↦
+          let n = w.once.new in
+          rw (w.cells-is, w.slots-is)
+          (ready_grows a.scene.now n.cells w.begun.new.cells w.begun.ensures.cells n.slots n.slots
+          (ready_moved a.scene.now _ a.cells.now n.cells a.slots.now n.slots c.requires.ready w.once.ensures.moves)
+          (below_grows n.cells w.begun.new.cells w.begun.ensures.cells n.slots w.once.ensures.moves.below))
+      | suspended::Suspended::begin-in_default w ↦ rw (w.cells-is, w.slots-is) c.requires.ready
+    ]
 
 pub suspended::Suspended::begin-begun-requires-clause-ready :
     goal.suspended::Suspended::begin-begun-requires-clause-ready
