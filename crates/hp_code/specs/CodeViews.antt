@@ -1,5 +1,5 @@
 -- The value of a compiled code, and what makes one.
-use Rattle.std.specs.Prelude.{◌≡◌, ℕ, ◌==◌, true, cond, List, [], ◌∷◌, map, Option, Some, None, is_some}
+use Rattle.std.specs.Prelude.{◌≡◌, ℕ, ◌==◌, Bool, true, false, not, cond, List, [], ◌∷◌, length, map, Option, Some, None, is_some}
 use Rattle.std.specs.List.{All, flat_map}
 use Rattle.hp_syntax.specs.Syntax.{Rule}
 use Rattle.hp_syntax.specs.Numbered.{IsNumberedRule}
@@ -7,7 +7,7 @@ use Rattle.hp_syntax.specs.Checks.{first_of, rule_faults}
 use Rattle.hp_tables.specs.declared.Kind.TheVariants.{Task, Axiom}
 use Rattle.hp_tables.specs.Tables.{places_of}
 use Rattle.hp_nodes.specs.Compiled.{rule_trees, vars_of}
-use Rattle.hp_nodes.specs.Trees.{Laid, all_laid, roots, trees}
+use Rattle.hp_nodes.specs.Trees.{Holds, Laid, Operation, all_laid, roots, trees}
 use Rattle.hp_code.specs.Sources.{rules_read}
 
 -- the nodes of all rules, the names of each rule's variables, and by each name the nodes of the rules for its tasks and
@@ -43,6 +43,15 @@ beside i (n ∷ ns) (x ∷ xs) = cond (n == i) (Some x) (beside i ns xs)
 -- the names of the variables of the rule of a node; none for a node that is no rule's
 abbrev pub vars_at : CodeView → ℕ → List (List ℕ)
 vars_at c i = or_empty (beside i (rule_nodes c) c.vars)
+
+-- a node is an atom's, and an axiom concludes its name
+abbrev pub concludes : (List ℕ → List ℕ) → Operation → Bool
+concludes axiom_rules (Holds a) = not (length (axiom_rules a.name) == 0)
+concludes axiom_rules _ = false
+
+-- of which nodes that is so
+abbrev pub concluded_in : (List ℕ → List ℕ) → List Laid → List Bool
+concluded_in axiom_rules nodes = map (λ n. concludes axiom_rules n.op) nodes
 
 -- what rules are compiled to
 abbrev pub compiled : List Rule → CodeView

@@ -1,9 +1,10 @@
 //! What a code holds, the rules of a name, and what its goals ask for.
-ghost use Rattle.std.specs.Prelude.{◌≡◌, IfOk, map};
+ghost use Rattle.std.specs.Prelude.{◌≡◌, ◌<◌, IfOk, Some, length, map, slice_get};
 ghost use Rattle.hp_nodes.specs.Asked.{asked_parts};
 ghost use Rattle.hp_nodes.specs.NodeViews.{laid_of};
+ghost use Rattle.hp_nodes.specs.Trees.{Laid};
 ghost use Rattle.hp_code.specs.Codes.{code_of};
-ghost use Rattle.hp_code.specs.CodeViews.{vars_at};
+ghost use Rattle.hp_code.specs.CodeViews.{concludes, vars_at};
 
 use crate::code::Code;
 use hp_nodes::{CodeNode, asked_by_nodes};
@@ -43,6 +44,15 @@ impl Code {
         ensures { result.now ≡ (code_of self.now).axiom_rules name.now }
     {
         self.axiom_rules.get(name)
+    }
+
+    /// Whether a node is an atom's whose name axioms conclude. No name is looked up.
+    pub fn is_concluded(&self, node: usize) -> bool
+        requires { node < length (code_of self.now).nodes }
+        ensures { (l : Laid) → slice_get (code_of self.now).nodes node ≡ Some l
+            → result ≡ concludes (code_of self.now).axiom_rules l.op }
+    {
+        self.concluded[node]
     }
 }
 

@@ -5,11 +5,12 @@ ghost use Rattle.hp_syntax.specs.Numbered.{IsNumberedDomain};
 ghost use Rattle.hp_syntax.specs.Views.{domain_of, rule_of};
 ghost use Rattle.hp_tables.specs.Tables.{places_in, places_of};
 ghost use Rattle.hp_nodes.specs.Compiled.{vars_of};
+ghost use Rattle.hp_nodes.specs.NodeViews.{laid_of};
 ghost use Rattle.hp_code.specs.Codes.{code_of};
-ghost use Rattle.hp_code.specs.CodeViews.{IsCodeOf};
+ghost use Rattle.hp_code.specs.CodeViews.{IsCodeOf, concluded_in, concludes};
 
 use crate::code::Code;
-use hp_nodes::{LaidRules, lay_rules};
+use hp_nodes::{CodeNode, LaidRules, Op, lay_rules};
 use hp_syntax::{Domain, Name, Rule};
 use hp_tables::{Kind, Table};
 use std::alloc::{AllocError, Global};
@@ -59,6 +60,31 @@ fn table_of(alloc: Global, kind: Kind, rules: &[Rule], nodes: &[usize]) -> Resul
     Ok(table)
 }
 
+// Whether a node is an atom's whose name axioms conclude.
+fn concludes(node: &CodeNode, axiom_rules: &Table) -> bool
+    ensures { result ≡ concludes (places_in axiom_rules.now) (laid_of node.now).op }
+{
+    match &node.op {
+        Op::Atom(atom) => !axiom_rules.get(&atom.name).is_empty(),
+        _ => false,
+    }
+}
+
+// Of which nodes that is so.
+fn concluded_in(
+    alloc: Global,
+    axiom_rules: &Table,
+    nodes: &[CodeNode],
+) -> Result<Vec<bool>, AllocError>
+    ensures { IfOk result (λ all. all.items ≡ concluded_in (places_in axiom_rules.now) (map laid_of nodes.now)) }
+{
+    let mut all = Vec::with_capacity(alloc, nodes.len())?;
+    for node in nodes {
+        all.push(concludes(node, axiom_rules))?;
+    }
+    Ok(all)
+}
+
 /// Compiles the rules of a domain in which the checks find nothing.
 pub fn lower(alloc: Global, domain: &Domain) -> Result<Code, AllocError>
     requires numbered { IsNumberedDomain (domain_of domain.now) }
@@ -70,11 +96,13 @@ pub fn lower(alloc: Global, domain: &Domain) -> Result<Code, AllocError>
     let vars = all_names(alloc, rules)?;
     let task_rules = table_of(alloc, Kind::Task, rules, places.as_slice())?;
     let axiom_rules = table_of(alloc, Kind::Axiom, rules, places.as_slice())?;
+    let concluded = concluded_in(alloc, &axiom_rules, nodes.as_slice())?;
     Ok(Code {
         nodes,
         rules: places,
         vars,
         task_rules,
         axiom_rules,
+        concluded,
     })
 }

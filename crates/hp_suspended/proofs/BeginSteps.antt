@@ -1,5 +1,6 @@
 -- What leaves meet over terms that are added behind a call, and the head of an axiom's node.
 use Rattle.std.proofs.Common.{◌≡◌, inl, inr, suc, ℕ, ◌<◌, Bool, true, false, List, [], ◌∷◌, length, slice_get, Option, Some, None, is_some, Result, Ok, Err, option_and_then, arith, refl, sym, ◌∙◌, ap, ap₂, subst}
+use Rattle.std.specs.Prelude.{◌==◌, not}
 use Rattle.std.proofs.lemmas.List.{drop_all}
 use Rattle.std.proofs.lemmas.Option.{slice_get_cases, slice_get_within}
 use Rattle.hp_syntax.specs.declared.fault.RunFault.{RunFault}
@@ -13,9 +14,9 @@ use Rattle.hp_syntax.specs.Events.{Event, Fault, Sat, assigned, concluded, sat_i
 use Rattle.hp_cells.specs.declared.keys.View.{View}
 use Rattle.hp_cells.specs.declared.keys.View.TheVariants.{Nil, Sym, Num, Cons}
 use Rattle.hp_cells.specs.Shows.{Shows}
-use Rattle.hp_code.specs.CodeViews.{CodeView}
+use Rattle.hp_code.specs.CodeViews.{CodeView, concludes}
 use Rattle.hp_nodes.specs.NodeViews.{operation_of}
-use Rattle.hp_nodes.specs.Trees.{AxiomOf, Holds, Laid, Node, Trees, first_tree, trees, trees_between}
+use Rattle.hp_nodes.specs.Trees.{AxiomOf, Holds, Laid, Node, Operation, Trees, first_tree, trees, trees_between}
 use Rattle.hp_nodes.specs.declared.node.Op.{Op}
 use Rattle.hp_nodes.specs.declared.node.Op.TheVariants as ops
 use Rattle.hp_code.proofs.NodeLemmas.{node_there}
@@ -86,6 +87,24 @@ pub atom_found : (c : CodeView) (i : ℕ) (l : Laid) → slice_get c.nodes i ≡
     → atom_at c i ≡ Some a
 unfolding atom_at
 atom_found c i l there a is = ap (option_and_then (λ (k : Laid). atom_done k.op)) there ∙ ap atom_done is
+
+-- what is told of a node by what it does is told of its atom
+pub atom_concluded : (c : CodeView) (i : ℕ) (told : Bool)
+    → ((l : Laid) → slice_get c.nodes i ≡ Some l → told ≡ concludes c.axiom_rules l.op) → (a : Atom)
+    → atom_at c i ≡ Some a → told ≡ not (length (c.axiom_rules a.name) == 0)
+unfolding atom_at
+atom_concluded c i told tells a at = by (slice_get c.nodes i) refl at
+  where
+    by_op : (op : Operation) → atom_done op ≡ Some a
+        → concludes c.axiom_rules op ≡ not (length (c.axiom_rules a.name) == 0)
+    by_op (Holds own) h =
+        let e : own ≡ a = cc in ap (λ (x : Atom). not (length (c.axiom_rules x.name) == 0)) e
+    by_op _ h = absurd cc
+
+    by : (o : Option Laid) → slice_get c.nodes i ≡ o → option_and_then (λ (l : Laid). atom_done l.op) o ≡ Some a
+        → told ≡ not (length (c.axiom_rules a.name) == 0)
+    by None e h = absurd cc
+    by (Some l) e h = tells l e ∙ by_op l.op h
 
 -- a node of another operation has none
 pub no_atom : (c : CodeView) (i : ℕ) (l : Laid) → slice_get c.nodes i ≡ Some l → (op : Op) → l.op ≡ operation_of op

@@ -1,6 +1,6 @@
 -- What is begun of an atom behind the places.
 use Rattle.std.proofs.Common.{◌≡◌, ℕ, ◌≤◌, ◌++◌, Bool, true, false, List, [], ◌∷◌, length, Option, Some, None, Result, Ok, Err, arith, refl, sym, ap, subst, ◌∙◌}
-use Rattle.std.specs.Prelude.{◌==◌}
+use Rattle.std.specs.Prelude.{◌==◌, not}
 use Rattle.std.proofs.lemmas.Bool.Decides.{nat_tests}
 use Rattle.hp_syntax.specs.declared.fault.RunFault.{RunFault}
 use Rattle.hp_syntax.specs.Syntax.{Atom}
@@ -65,13 +65,12 @@ some_fault [] x h = absurd (h refl)
 some_fault (i ∷ is) x h = refl
 
 module _ (s : Scene) (m n : ℕ) (a : Atom) (new : List Term) (e : Slotted) (long : length e.trail ≡ m)
-    (rules : List ℕ) (of_name : rules ≡ (code_in s).axiom_rules a.name) (empty : Bool)
-    (tells : empty ≡ (length rules == 0)) where
+    (concluded : Bool) (tells : concluded ≡ not (length ((code_in s).axiom_rules a.name) == 0)) where
   -- ---- where no axiom has the name
 
-  module _ (code : IsCode (code_in s)) (none : empty ≡ true) where
+  module _ (code : IsCode (code_in s)) (none : concluded ≡ false) where
     no_rules : length ((code_in s).axiom_rules a.name) ≡ 0
-    no_rules = ap length (sym of_name) ∙ grind (arith, nat_tests)
+    no_rules = grind (arith, nat_tests)
 
     nothing_by : (terms : List Term) (r : Result plain.Goal RunFault) → fill_goal a (bindings_of terms e) ≡ r
         → by_axioms (setting_of s terms) n a r (bindings_of terms e) ≡ []
@@ -94,12 +93,10 @@ module _ (s : Scene) (m n : ℕ) (a : Atom) (new : List Term) (e : Slotted) (lon
 
   -- ---- where one has
 
-  module _ (some : empty ≡ false) (old : List Term) (g : Grows old new) (below : AreBelow (length old) e) (from : ℕ)
+  module _ (some : concluded ≡ true) (old : List Term) (g : Grows old new) (below : AreBelow (length old) e) (from : ℕ)
       (over : length s.world.now.places ≤ from) where
     some_rules : length ((code_in s).axiom_rules a.name) ≡ 0 → ⊥
-    some_rules h =
-        let none : length rules ≡ 0 = ap length of_name ∙ h in
-        absurd (grind (arith, nat_tests))
+    some_rules h = absurd (grind (arith, nat_tests))
 
     -- the bindings at the mark are those that there are
     stood_here : (terms : List Term) → stood (setting_of s terms) e m ≡ bindings_of terms e

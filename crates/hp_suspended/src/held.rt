@@ -1,15 +1,16 @@
 //! Atoms whose parts all stand for terms: they are looked for by their cells, and no goal is made.
-ghost use Rattle.std.specs.Prelude.{◌≡◌, ◌<◌, ◌==◌, ℕ, not, IfSome, Some, length, slice_get};
+ghost use Rattle.std.specs.Prelude.{◌≡◌, ◌<◌, ℕ, IfSome, Some, length, slice_get};
 ghost use Rattle.hp_cells.specs.Cells.{LooksUp, NamesList};
 ghost use Rattle.hp_syntax.specs.Terms.{Term, Terms, Symbol, Listed, More};
 ghost use Rattle.hp_syntax.specs.Views.{atom_of, pattern_of, patterns_of};
 ghost use Rattle.hp_eval.specs.Slotted.{AreBelow, bindings_of};
 ghost use Rattle.hp_suspended.specs.Beginning.{GivesTerms};
 ghost use Rattle.hp_suspended.specs.HeldAtoms.{IsHeld, IsListOf, IsShallowCellOf};
+ghost use Rattle.hp_suspended.specs.Nodes.{atom_at};
 ghost use Rattle.hp_suspended.specs.SceneViews.{IsReady, code_in, setting_of};
 ghost use Rattle.hp_suspended.specs.Settings.{atoms_at, axioms_in, state_in};
 
-use crate::scene::Scene;
+use crate::scene::{Scene, is_concluded};
 use crate::simple::{cell_of, has_free};
 use hp_cells::{Cell, Cells};
 use hp_eval::{Event, Slots};
@@ -86,29 +87,24 @@ fn is_held(name: &Name, list: Option<Cell>, world: &World, cells: &Cells) -> boo
     }
 }
 
-// Whether any axiom concludes atoms of a name.
-fn has_axioms(name: &Name, scene: &Scene<'_>) -> bool
-    ensures { result ≡ not (length ((code_in scene.now).axiom_rules name.now) == 0) }
-{
-    !scene.code.axiom_rules(name).is_empty()
-}
-
-/// The event of an atom whose parts all stand for terms and whose name no axiom concludes, or its end: the world holds
-/// it or doesn't. There is none for another atom, and for one of a part that has no cell or that nests too deep. No cell
-/// is made, and no memory is taken.
+/// The event of a node's atom whose parts all stand for terms and whose name no axiom concludes, or its end: the world
+/// holds it or doesn't. There is none for another atom, and for one of a part that has no cell or that nests too deep. No
+/// cell is made, and no memory is taken.
 pub(crate) fn held_event(
+    node: usize,
     atom: &AtomPat,
     scene: &Scene<'_>,
     cells: &Cells,
     slots: &Slots,
 ) -> Option<Event>
     requires ready { IsReady scene.now cells.now slots.now }
+    requires atom { atom_at (code_in scene.now) node ≡ Some (atom_of atom.now) }
     ensures { IfSome result (λ x. (n : ℕ) → GivesTerms cells.now slots.now x (λ terms.
         let w = setting_of scene.now terms in
         atoms_at (axioms_in w) n (state_in w) (atom_of atom.now) (bindings_of terms slots.now))) }
 {
     let args = atom.args.as_slice();
-    if atom.tail.is_some() || has_free(args, slots) || has_axioms(&atom.name, scene) {
+    if atom.tail.is_some() || has_free(args, slots) || is_concluded(node, scene) {
         return None;
     }
     let list = find_list(args, cells, slots)?;

@@ -769,7 +769,7 @@ fn once(
             let event = tested(call, alloc, cells, slots)?;
             Ok(Some(event))
         }
-        Op::Atom(atom) => Ok(held_event(atom, scene, cells, slots)),
+        Op::Atom(atom) => Ok(held_event(node, atom, scene, cells, slots)),
         _ => Ok(None),
     }
 }

@@ -23,7 +23,7 @@ ghost use Rattle.hp_suspended.specs.Views.{view};
 
 use crate::begins::begun_atom;
 use crate::places::{AtomFilter, KnownPart};
-use crate::scene::{Scene, node_at};
+use crate::scene::{Scene, is_concluded, node_at};
 use crate::suspended::{SimpleAtom, Suspended};
 use hp_cells::{Cell, Cells};
 use hp_code::Op;
@@ -251,6 +251,7 @@ fn pattern_at<'s>(node: usize, scene: &'s Scene<'_>) -> &'s AtomPat
 fn behind_places(
     mark: usize,
     nest: u32,
+    node: usize,
     atom: &AtomPat,
     alloc: Global,
     scene: &Scene<'_>,
@@ -259,18 +260,19 @@ fn behind_places(
 ) -> Result<Suspended, AllocError>
     requires slots { AreBelow (length cells.old) slots.now }
     requires mark { length slots.now.trail ≡ mark }
+    requires atom { atom_at (code_in scene.now) node ≡ Some (atom_of atom.now) }
     ensures behind { IfOk result (λ s. IsBehindPlaces scene.now cells.new slots.now mark nest (atom_of atom.now)
         (view s)) }
     ensures cells { Grows cells.old cells.new }
 {
-    if scene.code.axiom_rules(&atom.name).is_empty() {
-        return Ok(Suspended::One {
-            mark,
-            event: Event::End,
-        });
+    if is_concluded(node, scene) {
+        let end = scene.world.places();
+        return begun_atom(mark, nest, end, atom, alloc, cells, slots);
     }
-    let end = scene.world.places();
-    begun_atom(mark, nest, end, atom, alloc, cells, slots)
+    Ok(Suspended::One {
+        mark,
+        event: Event::End,
+    })
 }
 
 impl Suspended {
@@ -309,7 +311,16 @@ impl Suspended {
                 Ok(Some(event))
             }
             None => {
-                *self = behind_places(simple.mark, simple.nest, atom, alloc, scene, cells, slots)?;
+                *self = behind_places(
+                    simple.mark,
+                    simple.nest,
+                    simple.node,
+                    atom,
+                    alloc,
+                    scene,
+                    cells,
+                    slots,
+                )?;
                 Ok(None)
             }
         }

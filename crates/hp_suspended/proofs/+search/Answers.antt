@@ -33,6 +33,7 @@ use Rattle.hp_syntax.specs.Views.{atom_of, pattern_of}
 use Rattle.hp_syntax.specs.Events.{finding}
 use Rattle.hp_suspended.proofs.Negations.{denied_fault, found_cut, found_same, further_weighs_less, keeps_more, moves_above, moves_back, moves_further, moves_nothing, opens, shorter, shorter_cut}
 use Rattle.hp_suspended.proofs.NodeReadings.{expression_within, forall_met, forall_part, not_part}
+use Rattle.hp_suspended.proofs.BeginSteps.{atom_found}
 use Rattle.hp_suspended.proofs.OnceSteps.{assign_gives, forall_gives, holds_gives, not_gives, test_gives}
 use Rattle.hp_suspended.proofs.+search.Goals as goal
 
@@ -878,6 +879,11 @@ search::once-returns-in_ok-event-in-Call-clause-gives t c =
     test_gives a.scene.now c.tested.new.cells a.nest a.node a.slots.now c.tested.new.slots c.in_ok-event-in-Call.event
     a.scene.now.code.now.kept c.requires.node (laid_of c.node_at.result.now) c.node_at.ensures.is
     (pattern_of c.in-Call.call) (ap operation_of c.in-Call.is) c.in_ok-event-in-Call.ensures.gives
+
+pub search::once-held_event-requires-clause-atom : goal.search::once-held_event-requires-clause-atom
+search::once-held_event-requires-clause-atom t c =
+    atom_found (code_in c.args.scene.now) c.args.node (laid_of c.node_at.result.now) c.node_at.ensures.is
+    (atom_of c.in-Atom.atom) (ap operation_of c.in-Atom.is)
 
 pub search::once-returns-in-Atom-clause-gives : goal.search::once-returns-in-Atom-clause-gives
 search::once-returns-in-Atom-clause-gives t c =

@@ -3,11 +3,12 @@ use Rattle.std.proofs.lemmas.List.{length-map}
 use Rattle.hp_syntax.specs.Checks.{domain_faults}
 use Rattle.hp_syntax.specs.Views.{domain_of, rule_of}
 use Rattle.hp_tables.specs.declared.Kind.TheVariants.{Task, Axiom}
-use Rattle.hp_tables.specs.Tables.{places_of}
+use Rattle.hp_tables.specs.Tables.{places_in, places_of}
 use Rattle.hp_nodes.specs.Compiled.{rule_trees, vars_of}
+use Rattle.hp_nodes.specs.NodeViews.{laid_of}
 use Rattle.hp_nodes.specs.Trees.{all_laid, roots}
 use Rattle.hp_code.specs.CodeValues.{value_of}
-use Rattle.hp_code.specs.CodeViews.{IsCodeOf}
+use Rattle.hp_code.specs.CodeViews.{IsCodeOf, concluded_in}
 use Rattle.hp_code.proofs.CodeLemmas.{code_keeps, code_trees, length-rule_nodes}
 use Rattle.hp_code.proofs.lowering.lower.Goals as goal
 
@@ -48,4 +49,8 @@ invariant_of-result c =
     record {
       kept = code_keeps rules code of c.requires.numbered c.requires.checked;
       rules_are = roots_are ∙ ap (roots 0) (sym (code_trees rules code of));
+      concluded_are =
+          c.in_ok-concluded.ensures
+          ∙ ap (λ ns. concluded_in (places_in c.in_ok-axiom_rules.axiom_rules) (map laid_of ns))
+          c.as_slice-3.ensures.value;
     }
