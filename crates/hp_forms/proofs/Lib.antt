@@ -2,3 +2,4 @@ pub mod FileSteps
 pub mod NumberedForms
 pub mod PairSteps
 pub mod PlanSteps
+pub mod StepwiseSteps

@@ -5,17 +5,21 @@
 //! parts of a list there are loops.
 #![tactic(auto)]
 
-ghost use Rattle.std.specs.Prelude.{IfOk, map};
+ghost use Rattle.std.specs.Prelude.{IfErr, IfOk, map};
 ghost use Rattle.hp_syntax.specs.Grammar as grammar;
 ghost use Rattle.hp_syntax.specs.GroundViews.{ground_of};
 ghost use Rattle.hp_syntax.specs.Numbered.{IsNumberedDomain, IsNumberedProblem};
+ghost use Rattle.hp_syntax.specs.TextForms.{IsRead};
 ghost use Rattle.hp_syntax.specs.Views.{domain_of, problem_of};
 ghost use Rattle.hp_text.specs.Nodes.{forest_of};
 ghost use Rattle.hp_terms.specs.FormReads.{Gives};
+ghost use Rattle.hp_forms.specs.Files.{RefusesFile};
 ghost use Rattle.hp_forms.specs.PlanForms.{plan_form};
 
 mod files;
 mod plans;
+mod stepwise;
+mod texts;
 
 pub use hp_syntax::What;
 use hp_syntax::laws::forms_are_numbered;
@@ -23,6 +27,7 @@ use hp_syntax::{Domain, Ground, Problem};
 pub use hp_terms::FormRefusal;
 use hp_text::Forest;
 use std::alloc::Global;
+pub use texts::FileRefusal;
 
 /// The domain that a forest is the form of. The forest is copied, which `into_domain` spares.
 pub fn domain(alloc: Global, forest: &Forest) -> Result<Domain, FormRefusal>
@@ -59,6 +64,28 @@ pub fn into_problem(alloc: Global, forest: Forest) -> Result<Problem, FormRefusa
 {
     forms_are_numbered();
     files::problem(alloc, forest)
+}
+
+/// The domain that a text is. The nodes of a rule are let go before those of the next are read, so that the nodes of the
+/// whole text are never there at once. Only what is refused, or has `nil` in place of its rules, is read as a whole.
+pub fn read_domain(alloc: Global, bytes: &[u8]) -> Result<Domain, FileRefusal>
+    ensures domain { IfOk result (λ d. IsRead grammar.domain_form bytes.now (domain_of d)) }
+    ensures numbered { IfOk result (λ d. IsNumberedDomain (domain_of d)) }
+    ensures refused { IfErr result (RefusesFile grammar.domain_form bytes.now) }
+{
+    forms_are_numbered();
+    texts::domain(alloc, bytes)
+}
+
+/// The problem that a text is. The nodes of an atom of a state are let go before those of the next are read. Only what
+/// is refused, or has `nil` in place of a state, is read as a whole.
+pub fn read_problem(alloc: Global, bytes: &[u8]) -> Result<Problem, FileRefusal>
+    ensures problem { IfOk result (λ p. IsRead grammar.problem_form bytes.now (problem_of p)) }
+    ensures numbered { IfOk result (λ p. IsNumberedProblem (problem_of p)) }
+    ensures refused { IfErr result (RefusesFile grammar.problem_form bytes.now) }
+{
+    forms_are_numbered();
+    texts::problem(alloc, bytes)
 }
 
 /// The steps of the plan that a forest is the form of, in order: each node is an atom without variables, and its step

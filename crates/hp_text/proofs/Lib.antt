@@ -5,3 +5,4 @@ pub mod ScanSteps
 pub mod Clear
 pub mod ReadSteps
 pub mod NodeLemmas
+pub mod Stepped

@@ -4,3 +4,4 @@ pub mod Spellings
 pub mod Refusals
 pub mod Scan
 pub mod Places
+pub mod Stepping

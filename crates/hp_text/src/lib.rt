@@ -9,7 +9,9 @@ mod gap;
 mod reader;
 mod scan;
 mod spelling;
+mod stepping;
 
 pub use forest::{Forest, Node, NodeKind, TextRefusal};
 pub use hp_syntax::TextKind;
 pub use reader::read;
+pub use stepping::NodeReader;

@@ -81,7 +81,7 @@ fn nodes(
 
 // The node that begins at a place.
 #[cycle(read)]
-fn node(
+pub fn node(
     alloc: Global,
     bytes: &[u8],
     from: usize,

@@ -3,6 +3,9 @@ use Rattle.std.proofs.Common.{◌≡◌, inl, inr, ℕ, ◌+◌, ◌≤◌, List
 use Rattle.std.proofs.lemmas.List.{take_all}
 use Rattle.hp_io.specs.declared.folder.Input.{Input}
 use Rattle.hp_io.specs.Rules.{Rose}
+use Rattle.hp_forms.specs.Files.{RefusesFile}
+use Rattle.hp_forms.specs.declared.texts.FileRefusal.{FileRefusal}
+use Rattle.hp_forms.specs.declared.texts.FileRefusal.TheVariants as files
 use Rattle.hp_terms.specs.declared.refusal.FormRefusal.{FormRefusal}
 use Rattle.hp_terms.specs.declared.refusal.FormRefusal.TheVariants as forms
 use Rattle.hp_terms.specs.FormReads.{Refuses}
@@ -19,7 +22,7 @@ use Rattle.hp_top.specs.declared.loading.LoadError.{LoadError}
 use Rattle.hp_top.specs.Outcome as outcome
 use Rattle.hp_top.specs.Outcome.{Why, InText, InForm, IsUnreadable}
 use Rattle.hp_top.specs.Loading as loading
-use Rattle.hp_top.specs.Loading.{ToldFile, ReadsFile, Holds, Reads, IsUnread, IsRefusedFor, StopsAt, LoadsBoth, folder_run, of_text, of_form}
+use Rattle.hp_top.specs.Loading.{ToldFile, ReadsFile, Holds, Reads, IsUnread, IsRefusedFor, StopsAt, LoadsBoth, folder_run, of_file, of_form, of_text}
 
 module _ {A : Type 0} (which : Input) (form : Form A) where
   -- bytes whose text is refused are read as nothing for that reason
@@ -35,6 +38,12 @@ module _ {A : Type 0} (which : Input) (form : Form A) where
   form_refused bytes f (forms.Expected what span) s r =
       loading.IsRefusedFor.Unreadable (InForm (steps.Expected what span)) refl (outcome.ByForm f _ s r refl)
   form_refused bytes f forms.NoMemory s r = loading.IsRefusedFor.WithoutMemory refl
+
+  -- bytes of which either is refused are read as nothing for that reason
+  pub file_refused : (bytes : List ℕ) (e : FileRefusal) → RefusesFile form bytes e
+      → IsRefusedFor which form bytes (of_file which e)
+  file_refused bytes (files.Text refusal) r = text_refused bytes refusal r
+  file_refused bytes (files.Form refusal) r = form_refused bytes r.0 refusal r.1 r.2
 
 module _ (refused_whole : (text : List ℕ) (r : Refusal) → IsRefused (take (LARGEST_TEXT + 1) text) r → IsRefused text r)
     (spelled_whole : (text : List ℕ) (f : Forest) → IsForest (take (LARGEST_TEXT + 1) text) f → IsForest text f)

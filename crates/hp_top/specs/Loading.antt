@@ -3,6 +3,8 @@ use Rattle.std.specs.Prelude.{◌≡◌, ◌⊎◌, ℕ, ◌+◌, List, Option, 
 use Rattle.hp_io.specs.declared.folder.Input.{Input}
 use Rattle.hp_io.specs.declared.folder.Input.TheVariants as inputs
 use Rattle.hp_io.specs.Rules.{Rose}
+use Rattle.hp_forms.specs.declared.texts.FileRefusal.{FileRefusal}
+use Rattle.hp_forms.specs.declared.texts.FileRefusal.TheVariants as files
 use Rattle.hp_terms.specs.declared.refusal.FormRefusal.{FormRefusal}
 use Rattle.hp_terms.specs.declared.refusal.FormRefusal.TheVariants as forms
 use Rattle.hp_text.specs.declared.forest.TextRefusal.{TextRefusal}
@@ -74,6 +76,11 @@ of_text which texts.NoMemory = causes.NoMemory
 abbrev pub of_form : Input → FormRefusal → LoadError
 of_form which (forms.Expected what span) = causes.Refused (refusals.Form which what span)
 of_form which forms.NoMemory = causes.NoMemory
+
+-- the cause of either
+abbrev pub of_file : Input → FileRefusal → LoadError
+of_file which (files.Text refusal) = of_text which refusal
+of_file which (files.Form refusal) = of_form which refusal
 
 -- bytes are read as nothing for this cause, or there is too little memory to know
 pub data IsRefusedFor {A : Type 0} (which : Input) (form : Form A) (bytes : List ℕ) (cause : LoadError) : Type 0 where

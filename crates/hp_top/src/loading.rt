@@ -15,13 +15,13 @@ ghost use Rattle.hp_terms.specs.FormReads.{Refuses};
 ghost use Rattle.hp_terms.specs.declared.refusal.FormRefusal.{FormRefusal};
 ghost use Rattle.hp_text.specs.Nodes.{forest_of};
 ghost use Rattle.hp_text.specs.Refusals.{RefusesText};
-ghost use Rattle.hp_top.specs.Loading.{ReadsFile, Reads, HasText, IsUnread, IsRefusedFor, StopsAt, LoadsBoth, LoadsThree, folder_run, plain_of, plain_with_plan, of_text, of_form};
+ghost use Rattle.hp_top.specs.Loading.{ReadsFile, Reads, HasText, IsUnread, IsRefusedFor, StopsAt, LoadsBoth, LoadsThree, folder_run, plain_of, plain_with_plan, of_file, of_form, of_text};
 ghost use Rattle.hp_top.specs.Outcome.{steps_form};
 ghost use Rattle.hp_top.specs.Touching.{Touches, TouchesBy, IsUntouched, input_run};
 ghost use Rattle.hp_words.specs.Words.{verification_of};
 
 use crate::reading::{ReadError, read_rest};
-use hp_forms::FormRefusal;
+use hp_forms::{FileRefusal, FormRefusal};
 use hp_io::{BeginError, Folder, Input};
 use hp_out::Refusal;
 use hp_syntax::laws::{limits_are_kept, refusals_are_decided_by_the_prefix};
@@ -88,6 +88,16 @@ fn of_form(which: Input, refusal: FormRefusal) -> LoadError
     }
 }
 
+/// Why a text isn't read that is refused, or of which the forest has no form.
+fn of_file(which: Input, refusal: FileRefusal) -> LoadError
+    ensures { result ≡ of_file which refusal }
+{
+    match refusal {
+        FileRefusal::Text(refusal) => of_text(which, refusal),
+        FileRefusal::Form(refusal) => of_form(which, refusal),
+    }
+}
+
 /// The forest of a text. The text is gone when this returns.
 fn forest_in(alloc: Global, bytes: Vec<u8>) -> Result<Forest, TextRefusal>
     ensures forest { IfOk result (λ f. IsForest bytes.items (forest_of f)) }
@@ -103,12 +113,9 @@ pub fn domain_in(alloc: Global, bytes: Vec<u8>) -> Result<Domain, LoadError>
     ensures numbered { IfOk result (λ d. IsNumberedDomain (domain_of d)) }
     ensures refused { IfErr result (IsRefusedFor inputs.Domain domain_form bytes.items) }
 {
-    match forest_in(alloc, bytes) {
-        Ok(forest) => match hp_forms::into_domain(alloc, forest) {
-            Ok(domain) => Ok(domain),
-            Err(refusal) => Err(of_form(Input::Domain, refusal)),
-        },
-        Err(refusal) => Err(of_text(Input::Domain, refusal)),
+    match hp_forms::read_domain(alloc, bytes.as_slice()) {
+        Ok(domain) => Ok(domain),
+        Err(refusal) => Err(of_file(Input::Domain, refusal)),
     }
 }
 
@@ -117,12 +124,9 @@ pub fn problem_in(alloc: Global, bytes: Vec<u8>) -> Result<Problem, LoadError>
     ensures problem { IfOk result (λ p. IsRead problem_form bytes.items (problem_of p)) }
     ensures refused { IfErr result (IsRefusedFor inputs.Problem problem_form bytes.items) }
 {
-    match forest_in(alloc, bytes) {
-        Ok(forest) => match hp_forms::into_problem(alloc, forest) {
-            Ok(problem) => Ok(problem),
-            Err(refusal) => Err(of_form(Input::Problem, refusal)),
-        },
-        Err(refusal) => Err(of_text(Input::Problem, refusal)),
+    match hp_forms::read_problem(alloc, bytes.as_slice()) {
+        Ok(problem) => Ok(problem),
+        Err(refusal) => Err(of_file(Input::Problem, refusal)),
     }
 }
 

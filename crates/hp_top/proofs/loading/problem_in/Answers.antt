@@ -1,15 +1,9 @@
 use Rattle.hp_io.specs.declared.folder.Input.TheVariants as inputs
 use Rattle.hp_syntax.specs.Grammar.{problem_form}
-use Rattle.hp_text.specs.Nodes.{forest_of}
-use Rattle.hp_top.proofs.LoadingSteps.{text_refused, form_refused}
+use Rattle.hp_top.proofs.LoadingSteps.{file_refused}
 use Rattle.hp_top.proofs.loading.problem_in.Goals as goal
 
-pub returns-in-Err-into_problem-clause-refused : goal.returns-in-Err-into_problem-clause-refused
-returns-in-Err-into_problem-clause-refused c =
-    rw c.of_form.ensures
-    (form_refused inputs.Problem problem_form _ (forest_of c.in-Ok.forest) c.in-Err-into_problem.refusal
-    c.in-Ok.ensures.forest (rw (← c.in-Ok.ensures.length) c.in-Err-into_problem.ensures.form))
-
-pub returns-in-Err-clause-refused : goal.returns-in-Err-clause-refused
-returns-in-Err-clause-refused c =
-    rw c.of_text.ensures (text_refused inputs.Problem problem_form _ c.in-Err.refusal c.in-Err.ensures.refused)
+pub returns-clause-refused : goal.returns-clause-refused
+returns-clause-refused c =
+    rw (c.of_file.ensures, ← c.as_slice.ensures.value)
+    (file_refused inputs.Problem problem_form _ c.in-Err.refusal c.in-Err.ensures.refused)
