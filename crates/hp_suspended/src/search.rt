@@ -68,7 +68,7 @@ fn pop_part(last: Part, next: &mut usize, here: &mut Suspended)
 {
     let (node, part) = last.into_pair();
     *next = node;
-    *here = part;
+    here.put(part);
 }
 
 // Looks at the next part of a conjunction or of a disjunction.
@@ -78,7 +78,7 @@ fn next_part(mark: usize, nest: u32, next: &mut usize, here: &mut Suspended, sce
     ensures next { (l : Laid) → slice_get (code_in scene.now).nodes next.old ≡ Some l → next.new ≡ l.to }
 {
     let node = *next;
-    *here = Suspended::Fresh { mark, nest, node };
+    here.put(Suspended::Fresh { mark, nest, node });
     *next = node_at(node, scene).to;
 }
 
@@ -92,11 +92,11 @@ fn next_branch(nest: u32, run: &mut Running, scene: &Scene<'_>)
 {
     let node = run.next;
     let to = node_at(node, scene).to;
-    run.here = Suspended::Fresh {
+    run.here.put(Suspended::Fresh {
         mark: run.start,
         nest: nest - 1,
         node: node + 1,
-    };
+    });
     run.next = to;
 }
 
@@ -172,9 +172,10 @@ impl Suspended {
                 self.end(start.mark);
                 return Ok(event);
             }
-            *self = begun(
+            let begun = begun(
                 start.mark, start.nest, start.node, alloc, scene, cells, slots,
             )?;
+            self.put(begun);
         }
         self.scan(alloc, scene, cells, slots)
     }

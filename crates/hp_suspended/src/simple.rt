@@ -307,11 +307,11 @@ impl Suspended {
         let mut from = simple.from;
         match next_match(atom, &simple.filter, &mut from, scene, cells, slots) {
             Some(event) => {
-                *self = Suspended::Simple(SimpleAtom { from, ..simple });
+                self.put(Suspended::Simple(SimpleAtom { from, ..simple }));
                 Ok(Some(event))
             }
             None => {
-                *self = behind_places(
+                let behind = behind_places(
                     simple.mark,
                     simple.nest,
                     simple.node,
@@ -321,6 +321,7 @@ impl Suspended {
                     cells,
                     slots,
                 )?;
+                self.put(behind);
                 Ok(None)
             }
         }

@@ -11,6 +11,7 @@ use crate::places::AtomFilter;
 use crate::scene::Scene;
 use hp_eval::{Event, Goal, Slots};
 use std::alloc::{AllocError, Global};
+use std::mem;
 
 /// The events of an expression that are still to come.
 #[cycle(events)]
@@ -143,10 +144,67 @@ impl Suspended {
     pub fn end(&mut self, mark: usize)
         ensures { view self.new ≡ names.One mark events.End }
     {
-        *self = Suspended::One {
+        self.put(Suspended::One {
             mark,
             event: Event::End,
-        };
+        });
+    }
+
+    // Whether no memory is held.
+    fn is_flat(&self) -> bool {
+        match self {
+            Suspended::One { mark: _, event: _ } => true,
+            Suspended::Fresh {
+                mark: _,
+                nest: _,
+                node: _,
+            } => true,
+            Suspended::Simple(_) => true,
+            Suspended::Search {
+                mark: _,
+                nest: _,
+                goal: _,
+                at: _,
+                rule: _,
+                running: _,
+            } => false,
+            Suspended::Conj {
+                mark: _,
+                nest: _,
+                next: _,
+                end: _,
+                outer: _,
+                here: _,
+            } => false,
+            Suspended::Disj {
+                mark: _,
+                nest: _,
+                next: _,
+                end: _,
+                here: _,
+            } => false,
+        }
+    }
+
+    /// Puts another in its place. One that holds no memory is written over as it stands: to drop it would take a copy and
+    /// a call, for nothing.
+    #[inline(always)]
+    pub(crate) fn put(&mut self, other: Suspended)
+        ensures { self.new ≡ other }
+    {
+        if self.is_flat() {
+            mem::forget(mem::replace(self, other));
+        } else {
+            self.replace(other);
+        }
+    }
+
+    // Puts another in its place, and drops what stood there.
+    #[inline(never)]
+    fn replace(&mut self, other: Suspended)
+        ensures { self.new ≡ other }
+    {
+        *self = other;
     }
 
     /// What an expression begins with that wasn't looked at.

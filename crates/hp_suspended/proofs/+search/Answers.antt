@@ -16,7 +16,7 @@ use Rattle.hp_suspended.proofs.RangeLemmas.{range_ascends, clauses_ascend}
 use Rattle.hp_suspended.proofs.Stacks.{views_popped}
 use Rattle.hp_suspended.proofs.TurnCounts.{turns_fall}
 use Rattle.hp_suspended.proofs.+search.Goals as goal
-use Rattle.hp_suspended.proofs.+search.Goals.{suspended::Suspended::begin-in-Some+in_ok-event+else-is_some+in_ok-self, suspended::Suspended::begin-in_default}
+use Rattle.hp_suspended.proofs.+search.Goals.{suspended::Suspended::begin-in-Some+in_ok-event+else-is_some+in_ok-begun, suspended::Suspended::begin-in_default}
 use Rattle.hp_eval.specs.GoalViews.{goal_of}
 use Rattle.hp_eval.specs.Slotted.{bindings_of}
 use Rattle.hp_eval.proofs.GrowthLemmas.{below_grows, grows_length, grows_on, grows_self}
@@ -1140,7 +1140,7 @@ pub suspended::Suspended::begin-scan-requires-clause-ready :
 suspended::Suspended::begin-scan-requires-clause-ready t c =
     let a = c.args in
     elim c.match-unbegun.branch [
-      | suspended::Suspended::begin-in-Some+in_ok-event+else-is_some+in_ok-self w ↦
+      | suspended::Suspended::begin-in-Some+in_ok-event+else-is_some+in_ok-begun w ↦
           let n = w.once.new in
           rw (w.cells-is, w.slots-is)
           (ready_grows a.scene.now n.cells w.begun.new.cells w.begun.ensures.cells n.slots n.slots

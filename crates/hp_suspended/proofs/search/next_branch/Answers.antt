@@ -1,6 +1,7 @@
-use Rattle.std.proofs.Common.{refl, ◌-◌, ◌+◌}
+use Rattle.std.proofs.Common.{refl, ap, ◌∙◌, ◌-◌, ◌+◌}
 use Rattle.hp_nodes.specs.NodeViews.{laid_of}
 use Rattle.hp_suspended.specs.SceneViews.{code_in}
+use Rattle.hp_suspended.specs.Views.{view}
 use Rattle.hp_suspended.proofs.StandingNodes.{one_there}
 use Rattle.hp_suspended.proofs.Shapes.{view_fresh}
 use Rattle.hp_suspended.proofs.search.next_branch.Goals as goal
@@ -11,7 +12,7 @@ returns-clause-same c = record {
   own = refl;
   start = refl;
   end = refl;
-  here = view_fresh c.args.run.now.start (c.args.nest - 1) (c.args.run.now.next + 1);
+  here = ap view c.put.ensures ∙ view_fresh c.args.run.now.start (c.args.nest - 1) (c.args.run.now.next + 1);
 }
 
 pub returns-clause-next : goal.returns-clause-next

@@ -1,6 +1,5 @@
-use Rattle.std.proofs.Common.{None, length, sym, subst, ◌∙◌}
+use Rattle.std.proofs.Common.{None, ap, length, sym, subst, ◌∙◌}
 use Rattle.hp_syntax.specs.Views.{atom_of}
-use Rattle.hp_suspended.specs.declared.suspended.Suspended.TheVariants as variants
 use Rattle.hp_suspended.specs.Answering.{GivesOver, Keeps}
 use Rattle.hp_suspended.specs.Beginning.{IsBegunAs}
 use Rattle.hp_suspended.specs.Fitting.{Fits}
@@ -33,12 +32,13 @@ returns-in-Some-next_match-clause-gives c =
     let fits = subst (Fits (code_in s) (length c.args.cells.now) (length e.trail)) c.in-Some.ensures.some c.requires.fits
     in
     let sat = subst (λ r. Bound r u f) is h.bound in
-    let made = variants.Simple (moved_to x from) in
+    let made = c.put.new.self in
+    let is_made = ap view c.put.ensures ∙ view_simple (moved_to x from) in
     subst (λ z. GivesOver s c.args.cells.now f c.in-Some-next_match.event (λ w. left w e z) (λ w. left w f (view made)))
     (sym c.in-Some.ensures.some)
     (scan_gives s x (atom_of c.pattern_at-atom.result.now) c.pattern_at-atom.ensures c.args.cells.now e u fits
     c.undo_to.ensures f c.next_match.result h.bound h.below from h.left c.in-Some-next_match.event is sat.0 (view made)
-    (view_simple (moved_to x from)))
+    is_made)
 
 pub returns-in-Some-next_match-clause-keeps : goal.returns-in-Some-next_match-clause-keeps
 returns-in-Some-next_match-clause-keeps c =
@@ -51,13 +51,14 @@ returns-in-Some-next_match-clause-keeps c =
     let from = c.next_match.new.from in
     let fits = subst (Fits (code_in s) (length c.args.cells.now) (length e.trail)) c.in-Some.ensures.some c.requires.fits
     in
-    let made = variants.Simple (moved_to x from) in
+    let made = c.put.new.self in
+    let is_made = ap view c.put.ensures ∙ view_simple (moved_to x from) in
     subst (λ z. Keeps (code_in s) (length c.args.cells.now) f z (view made)) (sym c.in-Some.ensures.some)
     (scan_keeps s x (atom_of c.pattern_at-atom.result.now) c.pattern_at-atom.ensures c.args.cells.now e u fits
-    c.undo_to.ensures f c.next_match.result h.bound h.below from h.left (view made) (view_simple (moved_to x from)))
+    c.undo_to.ensures f c.next_match.result h.bound h.below from h.left (view made) is_made)
 
-pub returns-in_ok-self-in-None-clause-begun : goal.returns-in_ok-self-in-None-clause-begun
-returns-in_ok-self-in-None-clause-begun c =
+pub returns-in_ok-behind-in-None-clause-begun : goal.returns-in_ok-behind-in-None-clause-begun
+returns-in_ok-behind-in-None-clause-begun c =
     let s = c.args.scene.now in
     let x = c.in-Some.simple in
     let a = atom_of c.pattern_at-atom.result.now in
@@ -69,11 +70,12 @@ returns-in_ok-self-in-None-clause-begun c =
     let fits = subst (Fits (code_in s) (length c.args.cells.now) (length e.trail)) c.in-Some.ensures.some c.requires.fits
     in
     let same = subst (λ r. Bound r u f) c.in-None.is h.bound in
-    let behind = view c.in_ok-self-in-None.field-0 in
-    subst (λ z. IsBegunAs s c.behind_places.new.cells e f z behind) (sym c.in-Some.ensures.some)
+    let behind = view c.in_ok-behind-in-None.behind in
+    subst (λ z. IsBegunAs s c.behind_places.new.cells e f (view c.args.self.now) (view z)) (sym c.put-in-None.ensures)
+    (subst (λ z. IsBegunAs s c.behind_places.new.cells e f z behind) (sym c.in-Some.ensures.some)
     (scan_begins s x a c.pattern_at-atom.ensures c.args.cells.now e f fits (same ∙ c.undo_to.ensures) from
     (λ terms grows.
     subst (λ z. TurnsPassing None (setting_of s terms) a x.filter x.from from z f) (sym same)
     (subst (λ r. TurnsPassing r (setting_of s terms) a x.filter x.from from u f) c.in-None.is (h.left terms grows)))
     c.in-None.ensures.over c.behind_places.new.cells c.behind_places.ensures.cells behind
-    c.in_ok-self-in-None.ensures.behind)
+    c.in_ok-behind-in-None.ensures.behind))
