@@ -1,5 +1,5 @@
 -- Nodes of expressions that give one event at most: what they meet is what the call meets that decides them.
-use Rattle.std.proofs.Common.{◌≡◌, ℕ, ◌+◌, List, [], slice_get, Some, sym, ◌∙◌, subst}
+use Rattle.std.proofs.Common.{◌≡◌, ℕ, ◌+◌, List, [], slice_get, Some, ap, sym, ◌∙◌, subst}
 use Rattle.hp_syntax.specs.Syntax.{Atom, Pattern}
 use Rattle.hp_syntax.specs.Terms.{Term}
 use Rattle.hp_syntax.specs.Values.{Bindings, value}
@@ -95,3 +95,22 @@ module _ (s : Scene) (cells : List Term) (n i : ℕ) (e f : Slotted) (x : public
         by_terms
         (λ terms. atoms_at (axioms_in (setting_of s terms)) n (state_in (setting_of s terms)) a (bindings_of terms e))
         (λ terms. holds_filled (setting_of s terms) n i code is l there a h (bindings_of terms e)) gives
+
+    -- where the world holds an atom its negation gives nothing, and where it doesn't a Sat
+    pub held_denied : (a : Atom) → l.op ≡ Holds a
+        → GivesTerms cells e events.Sat
+        (λ terms. atoms_at (axioms_in (setting_of s terms)) n (state_in (setting_of s terms)) a (bindings_of terms e))
+        → GivesOver s cells e events.End
+        (λ w. negated (finding (node_events w n i (bindings_of w.terms e))) (bindings_of w.terms e)) (λ w. [])
+    held_denied a h gives =
+        λ terms g. ap (λ xs. negated (finding xs) (bindings_of terms e))
+        (holds_filled (setting_of s terms) n i code is l there a h (bindings_of terms e) ∙ gives terms g)
+
+    pub missed_denied : (a : Atom) → l.op ≡ Holds a
+        → GivesTerms cells e events.End
+        (λ terms. atoms_at (axioms_in (setting_of s terms)) n (state_in (setting_of s terms)) a (bindings_of terms e))
+        → GivesOver s cells e events.Sat
+        (λ w. negated (finding (node_events w n i (bindings_of w.terms e))) (bindings_of w.terms e)) (λ w. [])
+    missed_denied a h gives =
+        λ terms g. ap (λ xs. negated (finding xs) (bindings_of terms e))
+        (holds_filled (setting_of s terms) n i code is l there a h (bindings_of terms e) ∙ gives terms g)

@@ -2,7 +2,7 @@
 //!
 //! Calls recur by the nesting of expressions and by axiom levels alone; parts, branches, axioms and atoms are gone
 //! through by loops, one turn a function.
-ghost use Rattle.std.specs.Prelude.{◌≡◌, ◌<◌, ◌≤◌, ◌-◌, [], Some, IfOk, IfSome, IfNone, OnOk, length, slice_get};
+ghost use Rattle.std.specs.Prelude.{◌≡◌, ℕ, ◌<◌, ◌≤◌, ◌-◌, [], Some, IfOk, IfSome, IfNone, OnOk, length, slice_get};
 ghost use Rattle.hp_nodes.specs.Trees.{Laid};
 ghost use Rattle.hp_eval.specs.declared.event.Event.TheVariants as events;
 ghost use Rattle.hp_eval.specs.Growth.{Grows};
@@ -610,6 +610,25 @@ fn search_next(
     }
 }
 
+// The event of the negation of a node's atom, or its end, where the world alone tells it. There is none for another node
+// and for an atom of which `held_event` tells nothing. Nothing is suspended.
+fn denied_atom(node: usize, scene: &Scene<'_>, cells: &Cells, slots: &Slots) -> Option<Event>
+    requires ready { IsReady scene.now cells.now slots.now }
+    requires node { IsExpressionAt (code_in scene.now) node }
+    ensures { IfSome result (λ x. (n : ℕ) → GivesOver scene.now cells.now slots.now x
+        (λ w. negated (finding (node_events w n node (bindings_of w.terms slots.now))) (bindings_of w.terms slots.now))
+        (λ w. [])) }
+{
+    match &node_at(node, scene).op {
+        Op::Atom(atom) => match held_event(node, atom, scene, cells, slots)? {
+            Event::Sat => Some(Event::End),
+            Event::End => Some(Event::Sat),
+            Event::Cut | Event::Fault(_) => None,
+        },
+        _ => None,
+    }
+}
+
 // The event of a negation, or its end.
 #[cycle(search)]
 fn denied(
@@ -631,6 +650,9 @@ fn denied(
     ensures ends { OnOk result (slots.new ≡ slots.old) }
     ensures moves { Moves mark cells.old cells.new slots.old slots.new }
 {
+    if let Some(event) = denied_atom(node, scene, cells, slots) {
+        return Ok(event);
+    }
     let mut inner = Suspended::Fresh { mark, nest, node };
     let mut cut = false;
     loop {

@@ -641,6 +641,13 @@ search::counter_turn-returns-in_ok-event-in-Sat-clause-keeps t c =
     n.slots c.denied.new.slots (grows_length n.cells c.denied.new.cells c.denied.ensures.moves.grows)
     c.in_ok-event-in-Sat.ensures.ends c.in_ok-event.ensures.keeps
 
+pub search::denied-returns-in-Some-clause-moves : goal.search::denied-returns-in-Some-clause-moves
+search::denied-returns-in-Some-clause-moves t c =
+    let a = c.args in moves_nothing a.mark a.cells.now a.slots.now c.requires.mark c.requires.ready.bindings
+
+pub search::denied-returns-in-Some-clause-gives : goal.search::denied-returns-in-Some-clause-gives
+search::denied-returns-in-Some-clause-gives t c = c.in-Some.ensures c.args.nest
+
 pub search::denied-loop-inner-init : goal.search::denied-loop-inner-init
 search::denied-loop-inner-init t c =
     let a = c.args in
