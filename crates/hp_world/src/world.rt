@@ -17,6 +17,10 @@ use hp_cells::{Cell, Cells};
 use std::alloc::{AllocError, Global};
 use std::marker::Model;
 
+// So many atoms with an argument are looked at before one with the name is: an argument's chain is mostly short, and each
+// step along the other one reads memory that was not read lately.
+const LEAD: usize = 8;
+
 /// Atoms in order of place, each once, and protections, with the trail of their changes. It may keep indexes of the
 /// places by parts of their atoms: the name is part 0, and the arguments are those behind it.
 pub struct World {
@@ -211,7 +215,7 @@ impl World {
     }
 
     // As `next_with`, with the index by that part. Both positions follow a place of their chain, so each look-up but
-    // the first is one step.
+    // the first is one step. The chain of the argument has a lead, since most arguments are those of few atoms.
     fn next_by_turns(
         &self,
         cells: &Cells,
@@ -232,12 +236,17 @@ impl World {
         let end = self.places();
         let mut parted = from;
         let mut named = from;
+        let mut lead = 0;
         while parted < end {
             let likely = self.next_parted(cells, index, name, part, argument, parted)?;
             if self.is_at(cells, name, part, argument, likely) {
                 return Some(likely);
             }
             parted = likely + 1;
+            if lead < LEAD {
+                lead += 1;
+                continue;
+            }
             let other = self.next_named(cells, name, named)?;
             if self.is_at(cells, name, part, argument, other) {
                 return Some(other);

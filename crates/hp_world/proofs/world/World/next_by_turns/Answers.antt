@@ -78,3 +78,17 @@ returns c =
     turns_past Holds (length places) c.args.from c.loop-parted.parted c.loop-parted.invariant.none_parted
     (omega (arith, c.loop-parted-test.false, c.places-end.ensures))
     (λ i k. slice_get_within places i (Some k.named.atom) k.named.stands)
+
+pub loop-parted-preserved-then-lead-lt-LEAD : goal.loop-parted-preserved-then-lead-lt-LEAD
+loop-parted-preserved-then-lead-lt-LEAD c =
+    let places = c.args.self.now.now.places in
+    let Holds : ℕ → Type 0 = IsNamedWithAt c.args.cells.now c.args.name c.args.part c.args.argument places in
+    let likely = c.in_ok-likely.ensures in
+    record {
+      on_parted = omega (arith, c.loop-parted.invariant.on_parted, likely.0);
+      on_named = c.loop-parted.invariant.on_named;
+      none_parted =
+          turns_on Holds (length places) c.args.from c.loop-parted.parted c.loop-parted.invariant.none_parted
+          c.in_ok-likely.likely likely (λ k. false≢true (sym c.if-is_at.false ∙ c.is_at.ensures.1 k));
+      none_named = c.loop-parted.invariant.none_named;
+    }
