@@ -1,11 +1,12 @@
 -- One turn of a conjunction.
-use Rattle.std.proofs.Common.{◌≡◌, ℕ, ◌+◌, ◌<◌, ◌≤◌, Bool, true, false, cond, List, ◌++◌, length, slice_get, Some, arith, refl, ap, ap₂, sym, ◌∙◌, subst, append_assoc}
+use Rattle.std.proofs.Common.{◌≡◌, ℕ, ◌+◌, ◌<◌, ◌≤◌, Bool, true, false, cond, List, [], ◌∷◌, ◌++◌, length, slice_get, Option, Some, None, IfSome, arith, refl, ap, ap₂, sym, ◌∙◌, subst, append_assoc}
 use Rattle.std.proofs.lemmas.Bool.Decides.{nat_tests}
 use Rattle.hp_syntax.specs.declared.fault.RunFault.{RunFault}
-use Rattle.hp_syntax.specs.Events.{through}
+use Rattle.hp_syntax.specs.Events.{Sat, through}
 use Rattle.hp_syntax.specs.Terms.{Term}
 use Rattle.hp_code.specs.CodeViews.{CodeView, IsCode}
 use Rattle.hp_nodes.specs.Trees.{Laid}
+use Rattle.hp_eval.specs.declared.event.Event as public_event
 use Rattle.hp_eval.specs.declared.event.Event.TheVariants as events
 use Rattle.hp_eval.specs.Events.{PlainEvent}
 use Rattle.hp_eval.specs.Growth.{Grows}
@@ -13,7 +14,7 @@ use Rattle.hp_eval.specs.Slotted.{Slotted, bindings_of}
 use Rattle.hp_eval.proofs.GrowthLemmas.{grows_length, grows_on}
 use Rattle.hp_eval.proofs.SlotLemmas.{undone_none}
 use Rattle.hp_suspended.specs.declared.scene.Scene.{Scene}
-use Rattle.hp_suspended.specs.Answering.{GivesOver, GoesOnOver, Keeps, KeepsPair, Moves, PairFits, SameOver, is_over, pair_left, put_upon}
+use Rattle.hp_suspended.specs.Answering.{GivesOver, GoesOnOver, Keeps, KeepsPair, Moves, PairFits, SameOver, is_over, pair_left, put_upon, told_view}
 use Rattle.hp_suspended.specs.Fitting.{Fits, TowerFits, base_of}
 use Rattle.hp_suspended.specs.Left.{left, tower, tower_left}
 use Rattle.hp_suspended.specs.SceneViews.{code_in, setting_of}
@@ -243,6 +244,85 @@ module _ (s : Scene) (m k end : ℕ) (outer : Views) (here : View) (old new : Li
               let over = over_is (length f.trail) here' tells in
               rw (next at'.0 at'.1, is, is_here)
               (dropped_left at'.0 at'.1 less over terms g, dropped_turns at'.0 at'.1 less over terms g)
+
+      -- where the part behind gives nothing the same is left without it, and fewer turns
+      pub ended_next : k < end
+          → ((terms : List Term) → Grows new terms
+          → node_events (setting_of s terms) n k (bindings_of terms f) ≡ [])
+          → GoesOnTo k outer here'
+      ended_next less none terms g =
+          let at' = node_in (code_in s).nodes k end fits.0.within less in
+          let w = setting_of s terms in
+          let b = bindings_of terms f in
+          let own = turns_between w n k end in
+          let behind = turns_over (left w f here') own in
+          let below = tower_turns w n end (tower w f outer) in
+          let empty : all_between w n k end b ≡ [] =
+          (first_expression w n k end code fits.0 less at'.0 at'.1).all b
+          ∙ ap (λ xs. through xs (all_between w n at'.0.to end)) (none terms g) in
+          let before : pair_turns w n k end e outer here ≡ 1 + (1 + own b + behind) + below =
+          ap₂ (λ xs t. 1 + turns_over xs own + tower_turns w n end t) (given terms g) (outer_same w) in (
+            sym
+                (opened terms g
+                ∙ ap
+                (λ xs. (xs ++ through (left w f here') (all_between w n k end)) ++ tower_left w n end (tower w f outer))
+                empty),
+            subst (λ j. 1 + behind + below < j) (sym before) (omega arith),
+          )
+
+      -- a Sat that was told is what the part behind gives
+      pub told_same : (k' : ℕ) (vs : Views) (o : Option public_event.Event)
+          → IfSome o (λ x. (i : ℕ)
+          → GivesOver s new f x (λ w. node_events w i k (bindings_of w.terms f)) (λ w. []))
+          → GoesOnTo k' vs (Fresh (length f.trail) n k)
+          → GoesOnTo k' vs (told_view (length f.trail) o (Fresh (length f.trail) n k))
+      told_same k' vs None told on = on
+      told_same k' vs (Some events.Cut) told on = on
+      told_same k' vs (Some (events.Fault x)) told on = on
+      told_same k' vs (Some events.End) told on = on
+      told_same k' vs (Some events.Sat) told on = λ terms g.
+          let w = setting_of s terms in
+          let m = length f.trail in
+          let stands = ap (bindings_of terms) (undone_none f) in
+          let same : left w f (Fresh m n k) ≡ left w f (One m events.Sat) =
+          subst (λ b. node_events w n k b ≡ Sat b ∷ []) (sym stands) (told n terms g) in
+          subst
+          (λ xs. (through xs (all_between w n k' end) ++ tower_left w n end (tower w f vs)
+          ≡ pair_left w n k end e outer here)
+          × (1 + turns_over xs (turns_between w n k' end) + tower_turns w n end (tower w f vs)
+          < pair_turns w n k end e outer here)) same (on terms g)
+
+      -- so it is at the values that the code holds
+      pub told_on : (k' : ℕ) (vs : Views) (o : Option public_event.Event)
+          → IfSome o (λ x. (i : ℕ)
+          → GivesOver s new f x (λ w. node_events w i k (bindings_of w.terms f)) (λ w. []))
+          → (u : View) → u ≡ Fresh (length f.trail) n k → GoesOnTo k' vs u → (mark : ℕ) → mark ≡ length f.trail
+          → (v : View) → v ≡ told_view mark o u → GoesOnTo k' vs v
+      told_on k' vs o told u fresh on mark here_is v is =
+          rw (is, here_is, fresh) (told_same k' vs o told (subst (GoesOnTo k' vs) fresh on))
+
+    -- it fits where the part would, and weighs no more
+    pub told_keeps : (k' : ℕ) (vs : Views) (o : Option public_event.Event)
+        → KeepsPair (code_in s) (length new) n m end f k k' outer vs here (Fresh (length f.trail) n k)
+        → KeepsPair (code_in s) (length new) n m end f k k' outer vs here
+        (told_view (length f.trail) o (Fresh (length f.trail) n k))
+    told_keeps k' vs None kept = kept
+    told_keeps k' vs (Some events.Cut) kept = kept
+    told_keeps k' vs (Some (events.Fault x)) kept = kept
+    told_keeps k' vs (Some events.End) kept = kept
+    told_keeps k' vs (Some events.Sat) kept = record {
+      fits = (kept.fits.0, kept.fits.1, omega arith);
+      lighter = let x = kept.lighter in omega arith;
+    }
+
+    pub told_keeps_on : (k' : ℕ) (vs : Views) (o : Option public_event.Event) (u : View)
+        → u ≡ Fresh (length f.trail) n k
+        → KeepsPair (code_in s) (length new) n m end f k k' outer vs here u → (mark : ℕ) → mark ≡ length f.trail
+        → (v : View) → v ≡ told_view mark o u
+        → KeepsPair (code_in s) (length new) n m end f k k' outer vs here v
+    told_keeps_on k' vs o u fresh kept mark here_is v is =
+        rw (is, here_is, fresh)
+        (told_keeps k' vs o (subst (KeepsPair (code_in s) (length new) n m end f k k' outer vs here) fresh kept))
 
     -- a part that is put upon the others fits there, and weighs no more
     pushed_keeps_at : IsCode (code_in s) → Keeps (code_in s) (length new) f here here' → k < end → (l : Laid)

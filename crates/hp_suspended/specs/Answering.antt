@@ -116,6 +116,11 @@ is_over m _ = false
 abbrev pub put_upon : ℕ → Views → ℕ → View → Views
 put_upon m lower k v = cond (is_over m v) lower (views.Above lower k v)
 
+-- where a Sat was told, it is all that is left
+abbrev pub told_view : ℕ → Option Event → View → View
+told_view m (Some events.Sat) v = views.One m events.Sat
+told_view m _ v = v
+
 -- it was begun: no places are left that are gone along without a goal
 abbrev pub IsBegun : View → Type 0
 IsBegun (views.Fresh m n i) = ⊥

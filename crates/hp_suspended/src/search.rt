@@ -251,7 +251,23 @@ impl Suspended {
     }
 }
 
-// One turn of a conjunction; `None` where another turn is to follow.
+// The event of a node, or its end, where the world alone tells it: that of an atom, or of the negation of one. Nothing is
+// suspended.
+fn told_of(node: usize, scene: &Scene<'_>, cells: &Cells, slots: &Slots) -> Option<Event>
+    requires ready { IsReady scene.now cells.now slots.now }
+    requires node { IsExpressionAt (code_in scene.now) node }
+    ensures { IfSome result (λ x. (n : ℕ) → GivesOver scene.now cells.now slots.now x
+        (λ w. node_events w n node (bindings_of w.terms slots.now)) (λ w. [])) }
+{
+    match &node_at(node, scene).op {
+        Op::Atom(atom) => held_event(node, atom, scene, cells, slots),
+        Op::Not => denied_atom(node + 1, scene, cells, slots),
+        _ => None,
+    }
+}
+
+// One turn of a conjunction; `None` where another turn is to follow. A part behind a Sat that the world tells is not
+// suspended, and where it gives nothing the parts stay as they are.
 #[cycle(search)]
 fn conj_turn(
     mark: usize,
@@ -286,7 +302,13 @@ fn conj_turn(
             if *next == end {
                 return Ok(Some(Event::Sat));
             }
+            let told = told_of(*next, scene, cells, slots);
+            if let Some(Event::End) = told {
+                return Ok(None);
+            }
+            let mark = slots.mark();
             push_part(nest, next, outer, here, scene, slots)?;
+            here.tell(mark, told);
             Ok(None)
         }
         Event::Cut => Ok(Some(Event::Cut)),

@@ -1,7 +1,7 @@
 //! Satisfiers that are suspended.
 ghost use Rattle.std.specs.Prelude.{◌≡◌, ◌≤◌, IfSome, IfNone, length};
 ghost use Rattle.hp_eval.specs.declared.event.Event.TheVariants as events;
-ghost use Rattle.hp_suspended.specs.Answering.{IsBegun, IsLookedAt, is_over};
+ghost use Rattle.hp_suspended.specs.Answering.{IsBegun, IsLookedAt, is_over, told_view};
 ghost use Rattle.hp_suspended.specs.Branching.{Settles};
 ghost use Rattle.hp_suspended.specs.Fitting.{base_of};
 ghost use Rattle.hp_suspended.specs.Views as names;
@@ -205,6 +205,22 @@ impl Suspended {
         ensures { self.new ≡ other }
     {
         *self = other;
+    }
+
+    /// Only a Sat is left, where that was told.
+    pub(crate) fn tell(&mut self, mark: usize, told: Option<Event>)
+        ensures { view self.new ≡ told_view mark told (view self.old) }
+    {
+        match told {
+            Some(Event::Sat) => self.put(Suspended::One {
+                mark,
+                event: Event::Sat,
+            }),
+            Some(Event::Cut) => {}
+            Some(Event::Fault(_)) => {}
+            Some(Event::End) => {}
+            None => {}
+        }
     }
 
     /// What an expression begins with that wasn't looked at.

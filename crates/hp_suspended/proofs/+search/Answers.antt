@@ -1,4 +1,4 @@
-use Rattle.std.proofs.Common.{ap, sym, ◌∙◌, arith, length, ◌+◌, ◌<◌, ℕ, ◌-◌, refl, subst}
+use Rattle.std.proofs.Common.{◌≡◌, ap, sym, ◌∙◌, arith, length, [], ◌+◌, ◌<◌, ℕ, ◌-◌, refl, subst}
 use Rattle.std.proofs.lemmas.Option.{IfSome_then}
 use Rattle.hp_eval.specs.declared.event.Event.TheVariants.{End}
 use Rattle.hp_suspended.specs.SceneViews.{code_in, setting_of}
@@ -9,10 +9,11 @@ use Rattle.hp_suspended.proofs.NextSteps.{both_move, start_within, settled_ends,
 use Rattle.hp_suspended.proofs.Shapes.{view_fresh, view_simple, level_is}
 use Rattle.hp_suspended.proofs.OneSteps.{one_within, one_gives, one_keeps, one_start, one_moves}
 use Rattle.hp_suspended.proofs.VariantSteps.{conj_was, conj_weighs, conj_gives, conj_keeps, conj_start, conj_call_moves, disj_was, disj_weighs, disj_gives, disj_keeps, disj_start, disj_call_moves, search_was, search_weighs, search_gives, search_keeps, search_start, search_call_moves}
-use Rattle.hp_suspended.proofs.ConjTurns.{conj_moves, cut_gives, fault_gives, here_keeps, keeps_pair_on, pair_rises, popped_keeps, popped_same, pushed_keeps, pushed_same, pair_goes_on, sat_gives}
+use Rattle.hp_suspended.proofs.ConjTurns.{conj_moves, cut_gives, ended_next, fault_gives, here_keeps, keeps_pair_on, pair_rises, popped_keeps, popped_same, pushed_keeps, pushed_same, pair_goes_on, sat_gives, told_keeps_on, told_on}
 use Rattle.hp_suspended.proofs.DisjTurns.{disj_goes_on, disj_moves, keeps_on, last_gives, next_keeps, next_same, part_gives, part_keeps}
 use Rattle.hp_suspended.proofs.Fitted.{rises}
-use Rattle.hp_suspended.proofs.RangeLemmas.{range_ascends, clauses_ascend}
+use Rattle.hp_suspended.proofs.RangeLemmas.{range_ascends, clauses_ascend, first_expression}
+use Rattle.hp_suspended.proofs.NodeRanges.{node_in}
 use Rattle.hp_suspended.proofs.Stacks.{views_popped}
 use Rattle.hp_suspended.proofs.TurnCounts.{turns_fall}
 use Rattle.hp_suspended.proofs.+search.Goals as goal
@@ -23,6 +24,8 @@ use Rattle.hp_eval.proofs.GrowthLemmas.{below_grows, grows_length, grows_on, gro
 use Rattle.hp_suspended.specs.Branching.{axiom_left, branch_left, search_turns, search_weight, under, counters}
 use Rattle.hp_suspended.specs.Fitting.{RunningFits}
 use Rattle.hp_suspended.specs.Left.{left}
+use Rattle.hp_suspended.specs.Answering.{GivesOver}
+use Rattle.hp_eval.specs.declared.event.Event.TheVariants as events
 use Rattle.hp_suspended.specs.Settings.{Setting, node_events}
 use Rattle.hp_suspended.proofs.AxiomTurns.{axiom_kept_may, axiom_kept_on, branch_over, concluded_gives, gives_before, passed_gives, same_more, same_on}
 use Rattle.hp_suspended.proofs.BranchTurns.{branch_follows, branch_gives, branch_keeps, branches_end, branch_next_keeps}
@@ -126,29 +129,87 @@ search::conj_turn-returns-in_err-push_part-in-Sat-clause-moves t c =
     conj_moves a.scene.now a.mark a.next.now a.end (views a.outer.now.items) (view a.here.now) a.cells.now
     c.next.new.cells a.slots.now c.next.new.slots c.requires.fits c.next.ensures.moves
 
+pub search::conj_turn-told_of-told-requires-clause-ready : goal.search::conj_turn-told_of-told-requires-clause-ready
+search::conj_turn-told_of-told-requires-clause-ready t c =
+    let a = c.args in
+    let n = c.next.new in
+    ready_moved a.scene.now _ a.cells.now n.cells a.slots.now n.slots c.requires.ready c.next.ensures.moves
+
+pub search::conj_turn-told_of-told-requires-clause-node : goal.search::conj_turn-told_of-told-requires-clause-node
+search::conj_turn-told_of-told-requires-clause-node t c =
+    let a = c.args in
+    let less : a.next.now < a.end =
+    omega (arith, range_ascends (code_in a.scene.now) a.next.now a.end c.requires.fits.0) in
+    let there = node_in (code_in a.scene.now).nodes a.next.now a.end c.requires.fits.0.within less in
+    (first_expression (setting_of a.scene.now a.cells.now) a.nest a.next.now a.end a.scene.now.code.now.kept
+    c.requires.fits.0 less there.0 there.1).first
+
+pub search::conj_turn-returns-in-Some-End-clause-more : goal.search::conj_turn-returns-in-Some-End-clause-more
+search::conj_turn-returns-in-Some-End-clause-more t c =
+    let a = c.args in
+    let less : a.next.now < a.end =
+    omega (arith, range_ascends (code_in a.scene.now) a.next.now a.end c.requires.fits.0) in
+    let is : c.in-Some-End.field-0 ≡ events.End = rw c.in-Some-End.is at c.in-Some-End.field-0-is in
+    let some = rw c.in-Some-End.is at c.told_of-told.ensures in
+    let n = c.next.new in
+    let none =
+    subst (λ x. (i : ℕ)
+    → GivesOver a.scene.now n.cells n.slots x (λ w. node_events w i a.next.now (bindings_of w.terms n.slots))
+    (λ w. [])) is some in
+    ended_next a.scene.now a.mark a.next.now a.end (views a.outer.now.items) (view a.here.now) a.cells.now
+    c.next.new.cells a.slots.now c.next.new.slots c.requires.fits c.next.ensures.moves a.nest (view c.next.new.self)
+    a.scene.now.code.now.kept (rw c.in-Sat.is at c.in_ok-next.ensures.gives) less
+    (none a.nest)
+
+pub search::conj_turn-returns-in-Some-End-clause-keeps : goal.search::conj_turn-returns-in-Some-End-clause-keeps
+search::conj_turn-returns-in-Some-End-clause-keeps t c =
+    let a = c.args in
+    here_keeps a.scene.now a.mark a.next.now a.end (views a.outer.now.items) (view a.here.now) a.cells.now
+    c.next.new.cells a.slots.now c.next.new.slots c.requires.fits c.next.ensures.moves a.nest (view c.next.new.self)
+    c.in_ok-next.ensures.keeps
+
+pub search::conj_turn-returns-in-Some-End-clause-moves : goal.search::conj_turn-returns-in-Some-End-clause-moves
+search::conj_turn-returns-in-Some-End-clause-moves t c =
+    let a = c.args in
+    conj_moves a.scene.now a.mark a.next.now a.end (views a.outer.now.items) (view a.here.now) a.cells.now
+    c.next.new.cells a.slots.now c.next.new.slots c.requires.fits c.next.ensures.moves
+
 pub search::conj_turn-returns-in_ok-push_part-in-Sat-clause-more :
     goal.search::conj_turn-returns-in_ok-push_part-in-Sat-clause-more
 search::conj_turn-returns-in_ok-push_part-in-Sat-clause-more t c =
     let a = c.args in
+    let h = c.in_ok-push_part-in-Sat.ensures in
+    let vs = views c.push_part.new.outer.items in
+    let u = view c.push_part.new.here in
+    let gives = rw c.in-Sat.is at c.in_ok-next.ensures.gives in
     let less : a.next.now < a.end =
     omega (arith, range_ascends (code_in a.scene.now) a.next.now a.end c.requires.fits.0) in
+    let pushed =
     pushed_same a.scene.now a.mark a.next.now a.end (views a.outer.now.items) (view a.here.now) a.cells.now
     c.next.new.cells a.slots.now c.next.new.slots c.requires.fits c.next.ensures.moves a.nest (view c.next.new.self)
-    a.scene.now.code.now.kept (rw c.in-Sat.is at c.in_ok-next.ensures.gives) less c.push_part.new.next
-    (views c.push_part.new.outer.items) (view c.push_part.new.here) c.in_ok-push_part-in-Sat.ensures.next
-    c.in_ok-push_part-in-Sat.ensures.outer c.in_ok-push_part-in-Sat.ensures.here
+    a.scene.now.code.now.kept gives less c.push_part.new.next vs u h.next h.outer h.here in
+    told_on a.scene.now a.mark a.next.now a.end (views a.outer.now.items) (view a.here.now) a.cells.now
+    c.next.new.cells a.slots.now c.next.new.slots c.requires.fits c.next.ensures.moves a.nest (view c.next.new.self)
+    a.scene.now.code.now.kept gives c.push_part.new.next vs c.told_of-told.result c.told_of-told.ensures u h.here pushed
+    c.mark-mark.result c.mark-mark.ensures (view c.tell.new.self) c.tell.ensures
 
 pub search::conj_turn-returns-in_ok-push_part-in-Sat-clause-keeps :
     goal.search::conj_turn-returns-in_ok-push_part-in-Sat-clause-keeps
 search::conj_turn-returns-in_ok-push_part-in-Sat-clause-keeps t c =
     let a = c.args in
+    let h = c.in_ok-push_part-in-Sat.ensures in
+    let vs = views c.push_part.new.outer.items in
+    let u = view c.push_part.new.here in
     let less : a.next.now < a.end =
     omega (arith, range_ascends (code_in a.scene.now) a.next.now a.end c.requires.fits.0) in
+    let pushed =
     pushed_keeps a.scene.now a.mark a.next.now a.end (views a.outer.now.items) (view a.here.now) a.cells.now
     c.next.new.cells a.slots.now c.next.new.slots c.requires.fits c.next.ensures.moves a.nest (view c.next.new.self)
-    a.scene.now.code.now.kept c.in_ok-next.ensures.keeps less c.push_part.new.next (views c.push_part.new.outer.items)
-    (view c.push_part.new.here) c.in_ok-push_part-in-Sat.ensures.next c.in_ok-push_part-in-Sat.ensures.outer
-    c.in_ok-push_part-in-Sat.ensures.here
+    a.scene.now.code.now.kept c.in_ok-next.ensures.keeps less c.push_part.new.next vs u h.next h.outer h.here in
+    told_keeps_on a.scene.now a.mark a.next.now a.end (views a.outer.now.items) (view a.here.now) a.cells.now
+    c.next.new.cells a.slots.now c.next.new.slots c.requires.fits c.next.ensures.moves a.nest (view c.next.new.self)
+    c.push_part.new.next vs c.told_of-told.result u h.here pushed c.mark-mark.result c.mark-mark.ensures
+    (view c.tell.new.self) c.tell.ensures
 
 pub search::conj_turn-returns-in_ok-push_part-in-Sat-clause-moves :
     goal.search::conj_turn-returns-in_ok-push_part-in-Sat-clause-moves
