@@ -1,18 +1,22 @@
 //! Atoms whose parts all stand for terms: they are looked for by their cells, and no goal is made.
-ghost use Rattle.std.specs.Prelude.{◌≡◌, ◌<◌, ℕ, IfSome, Some, length, slice_get};
+ghost use Rattle.std.specs.Prelude.{◌≡◌, ◌<◌, ℕ, [], IfSome, Some, length, slice_get};
 ghost use Rattle.hp_cells.specs.Cells.{LooksUp, NamesList};
+ghost use Rattle.hp_syntax.specs.Events.{finding, negated};
 ghost use Rattle.hp_syntax.specs.Terms.{Term, Terms, Symbol, Listed, More};
 ghost use Rattle.hp_syntax.specs.Views.{atom_of, pattern_of, patterns_of};
 ghost use Rattle.hp_eval.specs.Slotted.{AreBelow, bindings_of};
+ghost use Rattle.hp_suspended.specs.Answering.{GivesOver};
 ghost use Rattle.hp_suspended.specs.Beginning.{GivesTerms};
+ghost use Rattle.hp_suspended.specs.Fitting.{IsExpressionAt};
 ghost use Rattle.hp_suspended.specs.HeldAtoms.{IsHeld, IsListOf, IsShallowCellOf};
 ghost use Rattle.hp_suspended.specs.Nodes.{atom_at};
 ghost use Rattle.hp_suspended.specs.SceneViews.{IsReady, code_in, setting_of};
-ghost use Rattle.hp_suspended.specs.Settings.{atoms_at, axioms_in, state_in};
+ghost use Rattle.hp_suspended.specs.Settings.{atoms_at, axioms_in, node_events, state_in};
 
-use crate::scene::{Scene, is_concluded};
+use crate::scene::{Scene, is_concluded, node_at};
 use crate::simple::{cell_of, has_free};
 use hp_cells::{Cell, Cells};
+use hp_code::Op;
 use hp_eval::{Event, Slots};
 use hp_syntax::limits::DEEPEST_TERM;
 use hp_syntax::{AtomPat, Name, Pat};
@@ -112,5 +116,44 @@ pub(crate) fn held_event(
         Some(Event::Sat)
     } else {
         Some(Event::End)
+    }
+}
+
+/// The event of the negation of a node's atom, or its end, where the world alone tells it. There is none for another node
+/// and for an atom of which `held_event` tells nothing. Nothing is suspended.
+pub(crate) fn denied_atom(
+    node: usize,
+    scene: &Scene<'_>,
+    cells: &Cells,
+    slots: &Slots,
+) -> Option<Event>
+    requires ready { IsReady scene.now cells.now slots.now }
+    requires node { IsExpressionAt (code_in scene.now) node }
+    ensures { IfSome result (λ x. (n : ℕ) → GivesOver scene.now cells.now slots.now x
+        (λ w. negated (finding (node_events w n node (bindings_of w.terms slots.now))) (bindings_of w.terms slots.now))
+        (λ w. [])) }
+{
+    match &node_at(node, scene).op {
+        Op::Atom(atom) => match held_event(node, atom, scene, cells, slots)? {
+            Event::Sat => Some(Event::End),
+            Event::End => Some(Event::Sat),
+            Event::Cut | Event::Fault(_) => None,
+        },
+        _ => None,
+    }
+}
+
+/// The event of a node, or its end, where the world alone tells it: that of an atom, or of the negation of one. Nothing is
+/// suspended.
+pub(crate) fn told_of(node: usize, scene: &Scene<'_>, cells: &Cells, slots: &Slots) -> Option<Event>
+    requires ready { IsReady scene.now cells.now slots.now }
+    requires node { IsExpressionAt (code_in scene.now) node }
+    ensures { IfSome result (λ x. (n : ℕ) → GivesOver scene.now cells.now slots.now x
+        (λ w. node_events w n node (bindings_of w.terms slots.now)) (λ w. [])) }
+{
+    match &node_at(node, scene).op {
+        Op::Atom(atom) => held_event(node, atom, scene, cells, slots),
+        Op::Not => denied_atom(node + 1, scene, cells, slots),
+        _ => None,
     }
 }

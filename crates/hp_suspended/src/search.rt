@@ -2,7 +2,7 @@
 //!
 //! Calls recur by the nesting of expressions and by axiom levels alone; parts, branches, axioms and atoms are gone
 //! through by loops, one turn a function.
-ghost use Rattle.std.specs.Prelude.{◌≡◌, ℕ, ◌<◌, ◌≤◌, ◌-◌, [], Some, IfOk, IfSome, IfNone, OnOk, length, slice_get};
+ghost use Rattle.std.specs.Prelude.{◌≡◌, ◌<◌, ◌≤◌, ◌-◌, [], Some, IfOk, IfSome, IfNone, OnOk, length, slice_get};
 ghost use Rattle.hp_nodes.specs.Trees.{Laid};
 ghost use Rattle.hp_eval.specs.declared.event.Event.TheVariants as events;
 ghost use Rattle.hp_eval.specs.Growth.{Grows};
@@ -23,7 +23,7 @@ ghost use Rattle.hp_world.specs.Recorded.{Knows};
 ghost use Rattle.hp_world.specs.Stages.{AllBelow, live_atoms};
 
 use crate::begins::{assigned, begun, conclusion, rule_turn, tested};
-use crate::held::held_event;
+use crate::held::{denied_atom, held_event, told_of};
 use crate::places::turn_at_places;
 use crate::scene::{Scene, node_at};
 use crate::suspended::{Part, Running, Suspended};
@@ -248,21 +248,6 @@ impl Suspended {
                 Ok(event)
             }
         }
-    }
-}
-
-// The event of a node, or its end, where the world alone tells it: that of an atom, or of the negation of one. Nothing is
-// suspended.
-fn told_of(node: usize, scene: &Scene<'_>, cells: &Cells, slots: &Slots) -> Option<Event>
-    requires ready { IsReady scene.now cells.now slots.now }
-    requires node { IsExpressionAt (code_in scene.now) node }
-    ensures { IfSome result (λ x. (n : ℕ) → GivesOver scene.now cells.now slots.now x
-        (λ w. node_events w n node (bindings_of w.terms slots.now)) (λ w. [])) }
-{
-    match &node_at(node, scene).op {
-        Op::Atom(atom) => held_event(node, atom, scene, cells, slots),
-        Op::Not => denied_atom(node + 1, scene, cells, slots),
-        _ => None,
     }
 }
 
@@ -629,25 +614,6 @@ fn search_next(
         if let Some(event) = turn {
             return Ok(event);
         }
-    }
-}
-
-// The event of the negation of a node's atom, or its end, where the world alone tells it. There is none for another node
-// and for an atom of which `held_event` tells nothing. Nothing is suspended.
-fn denied_atom(node: usize, scene: &Scene<'_>, cells: &Cells, slots: &Slots) -> Option<Event>
-    requires ready { IsReady scene.now cells.now slots.now }
-    requires node { IsExpressionAt (code_in scene.now) node }
-    ensures { IfSome result (λ x. (n : ℕ) → GivesOver scene.now cells.now slots.now x
-        (λ w. negated (finding (node_events w n node (bindings_of w.terms slots.now))) (bindings_of w.terms slots.now))
-        (λ w. [])) }
-{
-    match &node_at(node, scene).op {
-        Op::Atom(atom) => match held_event(node, atom, scene, cells, slots)? {
-            Event::Sat => Some(Event::End),
-            Event::End => Some(Event::Sat),
-            Event::Cut | Event::Fault(_) => None,
-        },
-        _ => None,
     }
 }
 

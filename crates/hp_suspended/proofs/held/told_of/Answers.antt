@@ -6,7 +6,7 @@ use Rattle.hp_suspended.specs.SceneViews.{code_in, setting_of}
 use Rattle.hp_suspended.proofs.NodeReadings.{expression_within, not_part}
 use Rattle.hp_suspended.proofs.BeginSteps.{atom_found}
 use Rattle.hp_suspended.proofs.OnceSteps.{holds_gives, not_gives}
-use Rattle.hp_suspended.proofs.search.told_of.Goals as goal
+use Rattle.hp_suspended.proofs.held.told_of.Goals as goal
 
 pub node_at-requires : goal.node_at-requires
 node_at-requires c = expression_within (code_in c.args.scene.now) c.args.node c.requires.node

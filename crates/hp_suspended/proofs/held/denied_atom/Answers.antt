@@ -6,7 +6,7 @@ use Rattle.hp_suspended.specs.SceneViews.{code_in}
 use Rattle.hp_suspended.proofs.NodeReadings.{expression_within}
 use Rattle.hp_suspended.proofs.BeginSteps.{atom_found}
 use Rattle.hp_suspended.proofs.OnceSteps.{held_denied, missed_denied}
-use Rattle.hp_suspended.proofs.search.denied_atom.Goals as goal
+use Rattle.hp_suspended.proofs.held.denied_atom.Goals as goal
 
 pub node_at-requires : goal.node_at-requires
 node_at-requires c = expression_within (code_in c.args.scene.now) c.args.node c.requires.node
