@@ -9,11 +9,16 @@ ghost use Rattle.hp_links.specs.Planted.{HasRoots, KeepsFirst, Planting, linked,
 use crate::entry::{Entry, Order};
 use crate::links::{Links, Part};
 use crate::walk::push_reversed;
-use std::alloc::{AllocError, Global};
+use std::alloc::AllocError;
 
 impl Links {
-    /// Plants networks in reading order behind the other parts, which stay, also where memory is wanting.
-    pub(crate) fn plant(&mut self, alloc: Global, entries: &[Entry]) -> Result<(), AllocError>
+    /// Plants networks in reading order behind the other parts, which stay, also where memory is wanting. Roots are kept
+    /// in a list that is handed over, whatever stands there.
+    pub(crate) fn plant(
+        &mut self,
+        entries: &[Entry],
+        roots: &mut Vec<usize>,
+    ) -> Result<(), AllocError>
         requires closed { AreClosed entries.now }
         requires owners { length self.old.owners.items ≡ length self.old.parts.items }
         ensures keeps { KeepsFirst (frame_in self.old) (frame_in self.new) }
@@ -25,11 +30,11 @@ impl Links {
     {
         let base = self.parts.len();
         self.push_entries(entries)?;
-        let mut roots = Vec::new(alloc);
+        roots.clear();
         let mut at = entries.len();
         while at > 0 {
             at -= 1;
-            self.link(base + at, entries[at], &mut roots)?;
+            self.link(base + at, entries[at], roots)?;
         }
         Ok(())
     }

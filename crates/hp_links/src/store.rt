@@ -23,13 +23,16 @@ use hp_cells::Cell;
 use hp_eval::TaskTree;
 use std::alloc::{AllocError, Global};
 
-/// A network in place with its focus, and the trail of its changes.
+/// A network in place with its focus, and the trail of its changes. What a tree is laid out in before it is planted, its
+/// entries and the roots among them, is kept for the next one.
 pub struct Store {
     links: Links,
     root: Option<usize>,
     focus: Option<usize>,
     front: Option<usize>,
     trail: Vec<Change>,
+    entries: Vec<Entry>,
+    roots: Vec<usize>,
     alloc: Global,
 }
 
@@ -41,10 +44,14 @@ impl Drop for Store {
             focus: _,
             front: _,
             trail,
+            entries,
+            roots,
             alloc: _,
         } = self;
         drop(links);
         drop(trail);
+        drop(entries);
+        drop(roots);
     }
 }
 
@@ -73,7 +80,8 @@ impl Store {
             → All (PartBelow k) (stage_of s).parts) }
     {
         let mut links = Links::new(alloc);
-        links.plant(alloc, entries)?;
+        let mut roots = Vec::new(alloc);
+        links.plant(entries, &mut roots)?;
         let root = first_number(entries);
         let front = links.front_of(root);
         Ok(Store {
@@ -82,6 +90,8 @@ impl Store {
             focus: None,
             front,
             trail: Vec::new(alloc),
+            entries: Vec::new(alloc),
+            roots,
             alloc,
         })
     }
@@ -99,6 +109,8 @@ impl Store {
             focus: self.focus,
             front: self.front,
             trail,
+            entries: Vec::new(self.alloc),
+            roots: Vec::new(self.alloc),
             alloc: self.alloc,
         })
     }
@@ -198,31 +210,32 @@ impl Store {
             → All (PartBelow k) (stage_of self.new).parts }
         ensures err { OnErr result (history_of self.new ≡ history_of self.old) }
     {
-        let mut entries = Vec::new(self.alloc);
-        let many = push_tree(&mut entries, tree)?;
+        self.entries.clear();
+        let many = push_tree(&mut self.entries, tree)?;
         if many == 0 {
             return self.finish(id);
         }
         self.trail.reserve(1)?;
-        let change = self.graft(id.number(), entries.as_slice())?;
+        let change = self.graft(id.number())?;
         self.note(change);
         Ok(())
     }
 
-    // Plants entries that are one network, and puts it in the place of a task.
-    fn graft(&mut self, id: usize, entries: &[Entry]) -> Result<Change, AllocError>
+    // Plants the entries, which are one network, and puts it in the place of a task.
+    fn graft(&mut self, id: usize) -> Result<Change, AllocError>
         requires stage { IsStage (stage_of self.old) }
         requires names { NamesTask (stage_of self.old) id }
-        requires closed { AreClosed entries.now }
-        requires one { length (forest [] entries.now) ≡ 1 }
-        ensures grafts { IfOk result (λ t. Grafts entries.now id t (stage_of self.old) (stage_of self.new)) }
-        ensures below { (k : ℕ) → All (PartBelow k) (stage_of self.old).parts → All (EntryBelow k) entries.now
-            → All (PartBelow k) (stage_of self.new).parts }
+        requires closed { AreClosed self.old.entries.items }
+        requires one { length (forest [] self.old.entries.items) ≡ 1 }
+        ensures grafts { IfOk result (λ t. Grafts self.old.entries.items id t (stage_of self.old)
+            (stage_of self.new)) }
+        ensures below { (k : ℕ) → All (PartBelow k) (stage_of self.old).parts
+            → All (EntryBelow k) self.old.entries.items → All (PartBelow k) (stage_of self.new).parts }
         ensures trail { self.new.trail ≡ self.old.trail }
         ensures err { OnErr result (stage_of self.new ≡ stage_of self.old) }
     {
         let mut change = self.saved();
-        match self.links.plant(self.alloc, entries) {
+        match self.links.plant(self.entries.as_slice(), &mut self.roots) {
             Err(error) => {
                 self.links.cut(change.parts, change.rows);
                 Err(error)

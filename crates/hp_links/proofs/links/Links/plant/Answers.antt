@@ -11,8 +11,8 @@ pub loop-at-init : goal.loop-at-init
 loop-at-init c = record {
   within = omega arith;
   planting =
-      planting_first c.args.entries.now c.new-roots.result.items (frame_in c.args.self.now)
-      (frame_in c.push_entries.new.self) c.new-roots.ensures.items c.push_entries.ensures.keeps
+      planting_first c.args.entries.now c.clear.new.self.items (frame_in c.args.self.now)
+      (frame_in c.push_entries.new.self) c.clear.ensures.items c.push_entries.ensures.keeps
       c.in_ok-push_entries.ensures.parts c.in_ok-push_entries.ensures.owners c.requires.owners;
   below = λ k h g.
       subst (All (PartBelow k)) (sym c.in_ok-push_entries.ensures.parts)

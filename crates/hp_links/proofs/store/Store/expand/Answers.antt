@@ -3,11 +3,10 @@ use Rattle.std.specs.List.{All}
 use Rattle.std.proofs.lemmas.List.Elements.{All-nil}
 use Rattle.std.proofs.lemmas.Result.{on_ok_weaker}
 use Rattle.hp_links.specs.declared.undo.Change.{Change}
-use Rattle.hp_links.specs.Entries.{forest, AreClosed, EntryBelow}
+use Rattle.hp_links.specs.Entries.{EntryBelow}
 use Rattle.hp_links.specs.Labelled.{Gone}
 use Rattle.hp_links.specs.Linked.{Linked, PartBelow}
 use Rattle.hp_links.specs.Placed.{Expands}
-use Rattle.hp_links.specs.Planted.{trees_at}
 use Rattle.hp_links.specs.Pushed.{kept, Adds}
 use Rattle.hp_links.specs.Undoing.{stage_of}
 use Rattle.hp_links.proofs.EntryLemmas.{kept_closed, kept_many, kept_none, kept_one}
@@ -20,7 +19,7 @@ pub returns-then-many-eq0-clause-net : goal.returns-then-many-eq0-clause-net
 returns-then-many-eq0-clause-net c =
     let a : Adds (kept c.args.tree.now) c.in_ok-many.many [] c.push_tree.new.entries.items =
     subst (λ old. Adds (kept c.args.tree.now) c.in_ok-many.many old c.push_tree.new.entries.items)
-    c.new-entries.ensures.items c.in_ok-many.ensures.adds in
+    c.clear.ensures.items c.in_ok-many.ensures.adds in
     on_ok_weaker c.finish.result
     (λ f. record {
       subtasks = Gone;
@@ -43,21 +42,20 @@ pub graft-requires-clause-closed : goal.graft-requires-clause-closed
 graft-requires-clause-closed c =
     let es = c.push_tree.new.entries.items in
     let a : Adds (kept c.args.tree.now) c.in_ok-many.many [] es =
-    subst (λ old. Adds (kept c.args.tree.now) c.in_ok-many.many old es) c.new-entries.ensures.items
+    subst (λ old. Adds (kept c.args.tree.now) c.in_ok-many.many old es) c.clear.ensures.items
     c.in_ok-many.ensures.adds in
-    subst AreClosed (sym c.as_slice.ensures.value) (kept_closed c.args.tree.now c.in_ok-many.many es a)
+    kept_closed c.args.tree.now c.in_ok-many.many es a
 
 pub graft-requires-clause-one : goal.graft-requires-clause-one
 graft-requires-clause-one c =
     let es = c.push_tree.new.entries.items in
     let a : Adds (kept c.args.tree.now) c.in_ok-many.many [] es =
-    subst (λ old. Adds (kept c.args.tree.now) c.in_ok-many.many old es) c.new-entries.ensures.items
+    subst (λ old. Adds (kept c.args.tree.now) c.in_ok-many.many old es) c.clear.ensures.items
     c.in_ok-many.ensures.adds in
     let most = one_or_none c.args.tree.now c.in_ok-many.many [] es a in
     let some = c.if-many-eq0.false in
     let one : c.in_ok-many.many ≡ 1 = one_of c.in_ok-many.many most some in
-    ap (λ xs. length (forest [] xs)) c.as_slice.ensures.value
-    ∙ kept_many c.args.tree.now c.in_ok-many.many es a [] ∙ one
+    kept_many c.args.tree.now c.in_ok-many.many es a [] ∙ one
   where
     one_of : (m : ℕ) → m ≤ 1 → (m ≡ 0 → ⊥) → m ≡ 1
     one_of zero l n = absurd (n refl)
@@ -85,7 +83,7 @@ returns-clause-net c =
     let s = stage_of c.args.self.now in
     let es = c.push_tree.new.entries.items in
     let a : Adds (kept c.args.tree.now) c.in_ok-many.many [] es =
-    subst (λ old. Adds (kept c.args.tree.now) c.in_ok-many.many old es) c.new-entries.ensures.items
+    subst (λ old. Adds (kept c.args.tree.now) c.in_ok-many.many old es) c.clear.ensures.items
     c.in_ok-many.ensures.adds in
     let trail = c.note.ensures.trail
     ∙ ap (λ v. v.items ++ c.in_ok-change.change ∷ []) c.in_ok-change.ensures.trail
@@ -93,12 +91,10 @@ returns-clause-net c =
     let g = c.in_ok-change.ensures.grafts in
     let step = noted_step c.args.self.now c.note.new.self (stage_of c.graft.new.self) c.in_ok-change.change _ _
     c.requires.sound trail g.steps c.note.ensures.stage in
-    let is : trees_at (length s.parts) es ≡ g.tree ∷ [] =
-    ap (trees_at (length s.parts)) (sym c.as_slice.ensures.value) ∙ g.is in
     subst (λ (i : ℕ). Expands s (stage_of c.note.new.self) i c.args.tree.now) c.number.ensures
     (record {
       subtasks = g.tree;
-      network = λ terms. kept_one c.args.tree.now c.in_ok-many.many es a (length s.parts) g.tree is terms;
+      network = λ terms. kept_one c.args.tree.now c.in_ok-many.many es a (length s.parts) g.tree g.is terms;
       normal = g.normal;
       fresh = g.fresh;
       gone = λ e. (let no : Some (length s.parts) ≡ None = sym g.number ∙ e in absurd cc);
@@ -109,6 +105,6 @@ pub returns-clause-below : goal.returns-clause-below
 returns-clause-below c = λ k h b.
     let es : All (EntryBelow k) c.push_tree.new.entries.items =
     c.in_ok-many.ensures.below k b
-    (subst (All (EntryBelow k)) (sym c.new-entries.ensures.items) (All-nil (EntryBelow k))) in
+    (subst (All (EntryBelow k)) (sym c.clear.ensures.items) (All-nil (EntryBelow k))) in
     subst (λ (q : Linked). All (PartBelow k) q.parts) (sym c.note.ensures.stage)
-    (c.graft.ensures.below k h (subst (All (EntryBelow k)) (sym c.as_slice.ensures.value) es))
+    (c.graft.ensures.below k h es)
