@@ -13,7 +13,7 @@ ghost use Rattle.hp_agenda.specs.Queues.{IsQueue, MaybeOpen, queue_children, wor
 
 use crate::queue::Queue;
 use hp_cells::Cells;
-use hp_choice::{Choice, Given};
+use hp_choice::{Choice, Given, Rooms};
 use hp_site::Site;
 use std::alloc::{AllocError, Global};
 
@@ -69,7 +69,7 @@ impl<'a> Agenda<'a> {
     // Opens the choice of the next rule for the first candidate.
     fn advance(
         &mut self,
-        alloc: Global,
+        rooms: &mut Rooms,
         nest: u32,
         site: &Site<'a>,
         cells: &mut Cells,
@@ -89,7 +89,8 @@ impl<'a> Agenda<'a> {
             < work_left (code_in site.now.scene) site.now.net.now self.old.queue) }
         ensures cells { Grows cells.old cells.new }
     {
-        self.open = self.queue.advance(alloc, nest, site, cells)?;
+        rooms.leave(self.open.take());
+        self.open = self.queue.advance(rooms, nest, site, cells)?;
         Ok(())
     }
 
@@ -97,7 +98,7 @@ impl<'a> Agenda<'a> {
     /// it stays.
     pub fn next(
         &mut self,
-        alloc: Global,
+        rooms: &mut Rooms,
         nest: u32,
         base: usize,
         site: &mut Site<'a>,
@@ -122,15 +123,22 @@ impl<'a> Agenda<'a> {
         ensures cells { Grows cells.old cells.new }
     {
         loop {
-            let given = self.next_of_open(alloc, nest, base, site, cells)?;
+            let given = self.next_of_open(rooms.alloc, nest, base, site, cells)?;
             if given.is_some() {
                 return Ok(given);
             }
             if self.queue.at >= self.queue.candidates.len() {
                 return Ok(None);
             }
-            self.advance(alloc, nest, site, cells)?;
+            self.advance(rooms, nest, site, cells)?;
         }
+    }
+
+    /// Lets all go, and keeps the memory that can be used again.
+    pub fn leave(self, rooms: &mut Rooms) {
+        let Agenda { open, queue } = self;
+        rooms.leave(open);
+        queue.leave(rooms);
     }
 
     /// Lets all children go that are left.

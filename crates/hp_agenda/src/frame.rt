@@ -13,7 +13,7 @@ ghost use Rattle.hp_agenda.specs.Frames.{FloorStands, Opens, StaysAt, TakesSucce
 use crate::agenda::Agenda;
 use crate::queue::Queue;
 use hp_cells::Cells;
-use hp_choice::Given;
+use hp_choice::{Given, Rooms};
 use hp_site::{Mark, Site};
 use std::alloc::{AllocError, Global};
 
@@ -96,17 +96,17 @@ impl<'a> Frame<'a> {
 
     /// The node that is reached, with all its successors: its plan where nothing is left to do, else a Cut where no
     /// decomposition may follow, else its children.
-    pub fn new(alloc: Global, site: &Site<'a>, cells: &Cells) -> Result<Frame<'a>, AllocError>
+    pub fn new(rooms: &mut Rooms, site: &Site<'a>, cells: &Cells) -> Result<Frame<'a>, AllocError>
         requires { IsSite cells.now site.now }
         ensures { IfOk result (λ f. (nest : ℕ) → Opens site.now nest cells.now f) }
     {
         if site.net.is_empty() {
-            return Ok(Frame::ended(alloc, End::Plan, site, cells));
+            return Ok(Frame::ended(rooms.alloc, End::Plan, site, cells));
         }
         if site.depth == 0 {
-            return Ok(Frame::ended(alloc, End::Cut, site, cells));
+            return Ok(Frame::ended(rooms.alloc, End::Cut, site, cells));
         }
-        let queue = Queue::new(alloc, site, cells)?;
+        let queue = Queue::new(rooms, site, cells)?;
         Ok(Frame::at(None, queue, site, cells))
     }
 
@@ -114,7 +114,7 @@ impl<'a> Frame<'a> {
     /// else it stays.
     pub fn next(
         &mut self,
-        alloc: Global,
+        rooms: &mut Rooms,
         nest: u32,
         site: &mut Site<'a>,
         cells: &mut Cells,
@@ -152,11 +152,24 @@ impl<'a> Frame<'a> {
                 self.end = None;
                 Ok(Some(Successor::Child(Given::Cut)))
             }
-            None => match self.agenda.next(alloc, nest, self.base, site, cells)? {
+            None => match self.agenda.next(rooms, nest, self.base, site, cells)? {
                 Some(given) => Ok(Some(Successor::Child(given))),
                 None => Ok(None),
             },
         }
+    }
+
+    /// Lets all go, and keeps the memory that can be used again.
+    pub fn leave(self, rooms: &mut Rooms) {
+        let Frame {
+            mark: _,
+            base: _,
+            floor: _,
+            dids: _,
+            end: _,
+            agenda,
+        } = self;
+        agenda.leave(rooms);
     }
 
     /// Lets all successors go that are left.

@@ -15,12 +15,13 @@ ghost use Rattle.hp_agenda.specs.Begun.{AreFirst, LastGiven};
 ghost use Rattle.hp_agenda.specs.Queues.{IsQueue, IsRuleIn, MaybeOpen, by_queue, candidates_left, if_open, queue_children, work_left};
 
 use hp_cells::{Cell, Cells, View};
-use hp_choice::{Choice, open};
+use hp_choice::{Choice, Rooms, open};
 use hp_code::Code;
 use hp_net::TaskId;
 use hp_site::Site;
 use hp_syntax::Name;
 use std::alloc::{AllocError, Global};
+use std::mem;
 
 // As many candidates of a node are listed at first. Of most nodes on a long way none but the first is looked at.
 const FEW: usize = 4;
@@ -102,7 +103,7 @@ fn rules_at<'a>(candidates: &[TaskId], at: usize, site: &Site<'a>, cells: &Cells
 
 impl<'a> Queue<'a> {
     /// All candidates of the node that is reached.
-    pub fn new(alloc: Global, site: &Site<'a>, cells: &Cells) -> Result<Queue<'a>, AllocError>
+    pub fn new(rooms: &mut Rooms, site: &Site<'a>, cells: &Cells) -> Result<Queue<'a>, AllocError>
         requires site { IsSite cells.now site.now }
         requires deep { 0 < site.now.depth }
         ensures left { IfOk result (λ q. (nest : ℕ) → queue_children (code_in site.now.scene) nest
@@ -111,7 +112,8 @@ impl<'a> Queue<'a> {
         ensures queue { IfOk result (λ q. IsQueue (code_in site.now.scene) (held_now site.now) q) }
         ensures first { IfOk result (λ q. AreFirst site.now.net.now q.candidates.items) }
     {
-        let candidates = site.net.first_candidates(alloc, FEW)?;
+        let room = rooms.list()?;
+        let candidates = site.net.first_candidates(rooms.alloc, FEW, room)?;
         let more = candidates.len() == FEW;
         let rules = rules_at(&candidates, 0, site, cells);
         Ok(Queue {
@@ -125,7 +127,7 @@ impl<'a> Queue<'a> {
     /// The choice of the next rule for the first candidate, if one is left; else the candidate is left.
     pub fn advance(
         &mut self,
-        alloc: Global,
+        rooms: &mut Rooms,
         nest: u32,
         site: &Site<'a>,
         cells: &mut Cells,
@@ -154,15 +156,26 @@ impl<'a> Queue<'a> {
             Some((rule, others)) => {
                 let id = self.candidates[self.at];
                 let task = site.net.task(id);
-                let choice = open(alloc, &site.scene, nest, *rule, id, task, cells)?;
+                let choice = open(rooms, &site.scene, nest, *rule, id, task, cells)?;
                 self.rules = others;
                 Ok(choice)
             }
             None => {
-                self.leave_candidate(alloc, site, cells)?;
+                self.leave_candidate(rooms.alloc, site, cells)?;
                 Ok(None)
             }
         }
+    }
+
+    /// Lets all go, and keeps the memory of the candidates.
+    pub fn leave(self, rooms: &mut Rooms) {
+        let Queue {
+            rules: _,
+            candidates,
+            at: _,
+            more: _,
+        } = self;
+        rooms.leave_list(candidates);
     }
 
     // The first candidate is left.
@@ -208,7 +221,8 @@ impl<'a> Queue<'a> {
             return Ok(());
         }
         let limit = self.candidates.len() * 2;
-        self.candidates = site.net.first_candidates(alloc, limit)?;
+        let room = mem::replace(&mut self.candidates, Vec::new(alloc));
+        self.candidates = site.net.first_candidates(alloc, limit, room)?;
         self.more = self.candidates.len() == limit;
         Ok(())
     }

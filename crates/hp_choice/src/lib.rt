@@ -3,6 +3,8 @@
 
 mod choice;
 mod opening;
+mod rooms;
 
 pub use choice::{Choice, Deed, Given};
 pub use opening::open;
+pub use rooms::Rooms;

@@ -23,6 +23,7 @@ ghost use Rattle.hp_choice.specs.Choices.{IsChoice, choice_children, children_if
 ghost use Rattle.hp_choice.specs.Served.{ServesBy};
 
 use crate::choice::{Choice, Deed};
+use crate::rooms::Rooms;
 use hp_cells::{Cell, Cells};
 use hp_code::{CodeNode, Op};
 use hp_eval::{Slots, match_atom};
@@ -82,6 +83,7 @@ impl Opening<'_, '_> {
         &self,
         rule: usize,
         slots: Slots,
+        rooms: &mut Rooms,
         cells: &Cells,
     ) -> Result<Box<Choice>, AllocError>
         requires rule { let c = code_in self.now.scene.now in
@@ -117,7 +119,8 @@ impl Opening<'_, '_> {
             sats,
             first: None,
         };
-        Ok(Box::new(self.alloc, choice)?)
+        let open = rooms.boxed(choice)?;
+        Ok(open)
     }
 
     // The choice of a method under the bindings with which its head matches: that of its first branch whose
@@ -126,6 +129,7 @@ impl Opening<'_, '_> {
         &self,
         rule: usize,
         slots: Slots,
+        rooms: &mut Rooms,
         cells: &mut Cells,
     ) -> Result<Option<Box<Choice>>, AllocError>
         requires rule { let c = code_in self.now.scene.now in
@@ -179,7 +183,8 @@ impl Opening<'_, '_> {
                     sats,
                     first: Some(first),
                 };
-                Ok(Some(Box::new(self.alloc, choice)?))
+                let open = rooms.boxed(choice)?;
+                Ok(Some(open))
             }
             None => Ok(None),
         }
@@ -190,7 +195,7 @@ impl Opening<'_, '_> {
 /// head doesn't match, or where no branch of a method has any events. It stays where it is while what holds it is
 /// moved.
 pub fn open<'a>(
-    alloc: Global,
+    rooms: &mut Rooms,
     scene: &Scene<'a>,
     nest: u32,
     rule: usize,
@@ -219,6 +224,7 @@ pub fn open<'a>(
     ensures kept { IfOk result (λ o. IfSome o (λ c. length cells.old ≤ picked_kept c.value.sats)) }
     ensures cells { Grows cells.old cells.new }
 {
+    let alloc = rooms.alloc;
     let opening = Opening {
         alloc,
         scene,
@@ -229,11 +235,11 @@ pub fn open<'a>(
     let vars = scene.code.vars(rule).len();
     match &node_at(rule, scene).op {
         Op::Operator(head) => match matched(alloc, head, vars, task, cells)? {
-            Some(slots) => Ok(Some(opening.by_operator(rule, slots, cells)?)),
+            Some(slots) => Ok(Some(opening.by_operator(rule, slots, rooms, cells)?)),
             None => Ok(None),
         },
         Op::Method(head) => match matched(alloc, head, vars, task, cells)? {
-            Some(slots) => opening.by_method(rule, slots, cells),
+            Some(slots) => opening.by_method(rule, slots, rooms, cells),
             None => Ok(None),
         },
         _ => Ok(None),

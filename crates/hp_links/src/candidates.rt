@@ -60,21 +60,25 @@ fn push_within(found: &mut Vec<TaskId>, limit: usize, id: TaskId) -> Result<(), 
 
 impl Links {
     /// Of the first tasks of the tree of a number, or of the immediate ones where one of them is, the first ones from
-    /// left to right, so many at most. Beside these it keeps one stretch of numbers for each list that the walk is in.
+    /// left to right, so many at most, in the memory of a list, whatever stands there. Beside these it keeps one
+    /// stretch of numbers for each list that the walk is in.
     pub(crate) fn first_candidates(
         &self,
         alloc: Global,
         start: usize,
         limit: usize,
+        room: Vec<TaskId>,
     ) -> Result<Vec<TaskId>, AllocError>
         requires { IsHeld (frame_in self.now) start }
         ensures { IfOk result (λ v. v.items
             ≡ take limit (immediate_first self.now.parts.items (leads (tree_at (frame_in self.now) start)))) }
     {
+        let mut found = room;
+        found.clear();
         let mut gathered = Gathered {
             limit,
             immediate: false,
-            found: Vec::new(alloc),
+            found,
         };
         let mut rest = Vec::new(alloc);
         let mut next = Some(start);

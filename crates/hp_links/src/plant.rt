@@ -12,8 +12,8 @@ use crate::walk::push_reversed;
 use std::alloc::AllocError;
 
 impl Links {
-    /// Plants networks in reading order behind the other parts, which stay, also where memory is wanting. Roots are kept
-    /// in a list that is handed over, whatever stands there.
+    /// Plants networks in reading order behind the other parts, which stay, also where memory is wanting. Roots are
+    /// kept in a list that is handed over, whatever stands there.
     pub(crate) fn plant(
         &mut self,
         entries: &[Entry],

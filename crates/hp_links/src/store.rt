@@ -23,8 +23,8 @@ use hp_cells::Cell;
 use hp_eval::TaskTree;
 use std::alloc::{AllocError, Global};
 
-/// A network in place with its focus, and the trail of its changes. What a tree is laid out in before it is planted, its
-/// entries and the roots among them, is kept for the next one.
+/// A network in place with its focus, and the trail of its changes. What a tree is laid out in before it is planted,
+/// its entries and the roots among them, is kept for the next one.
 pub struct Store {
     links: Links,
     root: Option<usize>,
@@ -149,14 +149,20 @@ impl Store {
     }
 
     /// The first ones of the candidates, so many at most. It takes memory for no more than these, and for one stretch
-    /// of numbers for each list without order around the task that is looked at.
-    pub fn first_candidates(&self, alloc: Global, limit: usize) -> Result<Vec<TaskId>, AllocError>
+    /// of numbers for each list without order around the task that is looked at. They are put into the memory of a
+    /// list, whatever stands there.
+    pub fn first_candidates(
+        &self,
+        alloc: Global,
+        limit: usize,
+        room: Vec<TaskId>,
+    ) -> Result<Vec<TaskId>, AllocError>
         requires { IsSound self.now }
         ensures { IfOk result (λ v. v.items ≡ take limit (candidates_in (stage_of self.now))) }
     {
         match self.scope() {
             None => Ok(Vec::new(alloc)),
-            Some(start) => self.links.first_candidates(alloc, start, limit),
+            Some(start) => self.links.first_candidates(alloc, start, limit, room),
         }
     }
 

@@ -73,14 +73,20 @@ impl Net {
     }
 
     /// The first ones of the candidates, so many at most. It takes memory for no more than these, and for one stretch
-    /// of numbers for each list without order around the task that is looked at.
-    pub fn first_candidates(&self, alloc: Global, limit: usize) -> Result<Vec<TaskId>, AllocError>
+    /// of numbers for each list without order around the task that is looked at. They are put into the memory of a
+    /// list, whatever stands there.
+    pub fn first_candidates(
+        &self,
+        alloc: Global,
+        limit: usize,
+        room: Vec<TaskId>,
+    ) -> Result<Vec<TaskId>, AllocError>
         ensures first { IfOk result (λ v. v.items ≡ take limit (candidates_in self.now.now)) }
         ensures tasks { All (NamesTask self.now.now) (candidates_in self.now.now) }
         ensures places { (terms : List Term) → map (place_of self.now.now) (candidates_in self.now.now)
             ≡ map Some (plain.candidates (focused terms self.now.now).0 (focused terms self.now.now).1) }
     {
-        self.store.first_candidates(alloc, limit)
+        self.store.first_candidates(alloc, limit, room)
     }
 
     /// The task that an id names.

@@ -2,6 +2,7 @@
 use crate::decomposition::Decomposition;
 use crate::search::Search;
 use hp_cells::{Cell, Cells};
+use hp_choice::Rooms;
 use hp_code::{Code, asked_parts};
 use hp_gen::Scene;
 use hp_net::{Net, Step, Walk};
@@ -18,6 +19,7 @@ use std::marker::Model;
 #[derive(Drop)]
 pub struct Planner<'a> {
     search: Search<'a>,
+    rooms: Rooms,
     live: bool,
 }
 
@@ -86,8 +88,13 @@ impl<'a> Planner<'a> {
             cost: 0,
             depth,
         };
-        let search = Search::new(alloc, nest, site, cells)?;
-        Ok(Planner { search, live: true })
+        let mut rooms = Rooms::new(alloc);
+        let search = Search::new(alloc, &mut rooms, nest, site, cells)?;
+        Ok(Planner {
+            search,
+            rooms,
+            live: true,
+        })
     }
 
     /// Walks the tree of the same root once more, where so many decompositions may follow from it, over the memory that
@@ -106,7 +113,7 @@ impl<'a> Planner<'a> {
         ensures dead { OnErr result (self.new.live ≡ false) }
     {
         self.live = false;
-        self.search.begin_again(depth)?;
+        self.search.begin_again(&mut self.rooms, depth)?;
         self.live = true;
         Ok(())
     }
@@ -160,8 +167,10 @@ impl<'a> Planner<'a> {
     {
         let Planner {
             mut search,
+            rooms,
             live: _,
         } = self;
+        drop(rooms);
         let world = search.take_world_at(level);
         (world, search.into_cells())
     }
@@ -198,7 +207,7 @@ impl Walk for Planner<'_> {
         ensures cells { IfOk result (λ s. StepCells self.old s self.new) }
     {
         self.live = false;
-        let step = self.search.step()?;
+        let step = self.search.step(&mut self.rooms)?;
         self.live = true;
         Ok(step)
     }
@@ -214,7 +223,7 @@ impl Walk for Planner<'_> {
         ensures live { self.new.live ≡ true }
         ensures cells { DropsFloor self.old self.new }
     {
-        self.search.back();
+        self.search.back(&mut self.rooms);
     }
 
     fn prune(&mut self) {

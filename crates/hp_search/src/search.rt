@@ -11,7 +11,7 @@ ghost use Rattle.hp_search.specs.Searches.{Moves, base_in, rules_in_search, stan
 
 use hp_agenda::{Frame, Successor};
 use hp_cells::Cells;
-use hp_choice::Given;
+use hp_choice::{Given, Rooms};
 use hp_net::Step;
 use hp_site::Site;
 use std::alloc::{AllocError, Global};
@@ -56,6 +56,7 @@ impl<'a> Search<'a> {
     /// A search at the root of a tree.
     pub(crate) fn new(
         alloc: Global,
+        rooms: &mut Rooms,
         nest: u32,
         site: Site<'a>,
         cells: Cells,
@@ -65,7 +66,7 @@ impl<'a> Search<'a> {
         ensures { IfOk result (λ s. BeginsAt (rules_at site.entry) nest (node_of cells (held_now site.entry)) s) }
     {
         prove!(cells.len() > 0);
-        let top = Frame::new(alloc, &site, &cells)?;
+        let top = Frame::new(rooms, &site, &cells)?;
         Ok(Search {
             alloc,
             nest,
@@ -81,7 +82,7 @@ impl<'a> Search<'a> {
 
     /// Begins again at the root, where it stands, so that so many decompositions may follow there. After an error the
     /// search is lost, but for its cells.
-    pub(crate) fn begin_again(&mut self, depth: u32) -> Result<(), AllocError>
+    pub(crate) fn begin_again(&mut self, rooms: &mut Rooms, depth: u32) -> Result<(), AllocError>
         requires search { IsSearch self.old }
         requires root { (stands_in self.old).path ≡ [] }
         requires cost { (tree_in self.old).root.cost ≡ pos 0 }
@@ -91,7 +92,7 @@ impl<'a> Search<'a> {
         ensures cells { self.new.cells ≡ self.old.cells }
     {
         self.site.depth = depth;
-        self.top = Frame::new(self.alloc, &self.site, &self.cells)?;
+        self.top = Frame::new(rooms, &self.site, &self.cells)?;
         self.at_did = false;
         self.over = false;
         Ok(())
@@ -109,13 +110,13 @@ impl<'a> Search<'a> {
     }
 
     // Goes down to a child, in whose place the search node is.
-    fn enter(&mut self, floor: usize) -> Result<(), AllocError>
+    fn enter(&mut self, rooms: &mut Rooms, floor: usize) -> Result<(), AllocError>
         requires site { IsSite self.old.cells self.old.site }
         ensures entered { OnOk result (IsEntered self.old floor self.new) }
         ensures tree { OnErr result (tree_in self.new ≡ tree_in self.old) }
         ensures base { OnErr result (base_in self.new ≡ base_in self.old) }
     {
-        let child = Frame::new(self.alloc, &self.site, &self.cells)?;
+        let child = Frame::new(rooms, &self.site, &self.cells)?;
         self.above.reserve(1)?;
         let number = self.top.dids;
         self.path.push(number)?;
@@ -127,7 +128,11 @@ impl<'a> Search<'a> {
     }
 
     // Takes the next successor of the node reached, if there is one.
-    fn take(&mut self, next: Option<Successor>) -> Result<Option<Step>, AllocError>
+    fn take(
+        &mut self,
+        rooms: &mut Rooms,
+        next: Option<Successor>,
+    ) -> Result<Option<Step>, AllocError>
         requires some { 0 < self.old.top.base }
         requires within { self.old.top.base ≤ length self.old.cells }
         requires site { IsSite self.old.cells self.old.site }
@@ -148,14 +153,14 @@ impl<'a> Search<'a> {
                 Ok(Some(Step::Fault(fault)))
             }
             Some(Successor::Child(Given::Did(floor))) => {
-                self.enter(floor)?;
+                self.enter(rooms, floor)?;
                 Ok(Some(Step::Did))
             }
         }
     }
 
     /// The next visit at or below the node reached.
-    pub(crate) fn step(&mut self) -> Result<Option<Step>, AllocError>
+    pub(crate) fn step(&mut self, rooms: &mut Rooms) -> Result<Option<Step>, AllocError>
         requires search { IsSearch self.old }
         ensures moves { IfOk result (λ o. Moves self.old o self.new) }
         ensures given_back { IfOk result (λ o. GivesBack self.old o self.new) }
@@ -169,12 +174,12 @@ impl<'a> Search<'a> {
         }
         let next = self
             .top
-            .next(self.alloc, self.nest, &mut self.site, &mut self.cells)?;
-        self.take(next)
+            .next(rooms, self.nest, &mut self.site, &mut self.cells)?;
+        self.take(rooms, next)
     }
 
     // Stands at a node above again, whose number is told no more.
-    fn rise(&mut self, frame: Frame<'a>)
+    fn rise(&mut self, rooms: &mut Rooms, frame: Frame<'a>)
         requires mark { IsMark self.old.site frame.mark }
         requires some { 0 < frame.floor }
         requires within { frame.floor ≤ length self.old.cells }
@@ -182,13 +187,13 @@ impl<'a> Search<'a> {
     {
         self.site.undo_to(frame.mark);
         self.cells.give_back(frame.floor);
-        self.top = frame;
+        mem::replace(&mut self.top, frame).leave(rooms);
         let _ = self.path.pop();
         self.at_did = false;
     }
 
     /// Goes to the parent, where no visit is left at the node reached or below it.
-    pub(crate) fn back(&mut self)
+    pub(crate) fn back(&mut self, rooms: &mut Rooms)
         requires search { IsSearch self.old }
         requires below { (stands_in self.old).path ≢ [] }
         requires done { next_below (stands_in self.old).path (stands_in self.old).rest ≡ None }
@@ -196,7 +201,7 @@ impl<'a> Search<'a> {
         ensures cells { DropsFloor (planned self.old true) (planned self.new true) }
     {
         match self.above.pop() {
-            Some(frame) => self.rise(frame),
+            Some(frame) => self.rise(rooms, frame),
             None => self.at_did = false,
         }
     }

@@ -27,8 +27,8 @@ chosen_branch-requires-clause-branches c =
     (rule_node (code_in s) s.code.now.kept c.args.rule (laid_of c.node_at.result.now) c.node_at.ensures.is
     (Refines c.requires.rule.0) c.requires.rule.1).nodes
 
-pub returns-in_ok-new-in-Some-clause-children : goal.returns-in_ok-new-in-Some-clause-children
-returns-in_ok-new-in-Some-clause-children c = λ m n p found state.
+pub returns-in_ok-open-in-Some-clause-children : goal.returns-in_ok-open-in-Some-clause-children
+returns-in_ok-open-in-Some-clause-children c = λ m n p found state.
     let me = c.args.self.now in
     let s = me.scene.now in
     let new = c.chosen_branch.new.cells in
@@ -41,12 +41,12 @@ returns-in_ok-new-in-Some-clause-children c = λ m n p found state.
     let here = state_in (setting_of s c.args.cells.now) in
     let h = subst (λ o. Chooses s new slots o (whole here)) c.in-Some.is
     (c.in_ok-chosen.ensures.chooses m.branches nodes.branches) in
-    ap (choice_children s me.nest new s.world.now n p) c.in_ok-new-in-Some.ensures.ok
+    ap (choice_children s me.nest new s.world.now n p) c.in_ok-open-in-Some.ensures
     ∙ method_left s me.nest new me.id me.task c.args.rule x.number slots x.sats x.tasks x.first n p (whole here) h
     ∙ ap (λ w. branch_children n p (whole w)) (sym state)
 
-pub returns-in_ok-new-in-Some-clause-choice : goal.returns-in_ok-new-in-Some-clause-choice
-returns-in_ok-new-in-Some-clause-choice c =
+pub returns-in_ok-open-in-Some-clause-choice : goal.returns-in_ok-open-in-Some-clause-choice
+returns-in_ok-open-in-Some-clause-choice c =
     let me = c.args.self.now in
     let s = me.scene.now in
     let new = c.chosen_branch.new.cells in
@@ -63,12 +63,12 @@ returns-in_ok-new-in-Some-clause-choice c =
     let fits = subst (λ o. IfSome o (ChosenFits s new slots)) c.in-Some.is c.in_ok-chosen.ensures.fits in
     let more = grows_length c.args.cells.now new c.in_ok-chosen.ensures.cells in
     let below = c.requires.task in
-    subst (IsChoice s new (length new) s.world.now) (sym c.in_ok-new-in-Some.ensures.ok)
+    subst (IsChoice s new (length new) s.world.now) (sym c.in_ok-open-in-Some.ensures)
     (method_choice s me.nest new me.id me.task c.args.rule x.number slots x.sats x.tasks x.first
     (omega (arith, below, more)) (ap is_some h.tasks) fits)
 
-pub returns-in_ok-new-in-Some-clause-branch : goal.returns-in_ok-new-in-Some-clause-branch
-returns-in_ok-new-in-Some-clause-branch c = λ m n found state.
+pub returns-in_ok-open-in-Some-clause-branch : goal.returns-in_ok-open-in-Some-clause-branch
+returns-in_ok-open-in-Some-clause-branch c = λ m n found state.
     let me = c.args.self.now in
     let s = me.scene.now in
     let code = code_in s in
@@ -80,7 +80,7 @@ returns-in_ok-new-in-Some-clause-branch c = λ m n found state.
     → IsChosenAt (rules_in code) me.nest (state_in (setting_of s c.args.cells.now)) e bs x.number)) c.in-Some.is
     c.in_ok-chosen.ensures.number in
     subst (λ (x : Choice). IsChosenAt (rules_in code) me.nest n.state e m.branches x.branch)
-    (sym c.in_ok-new-in-Some.ensures.ok)
+    (sym c.in_ok-open-in-Some.ensures)
     (subst (λ w. IsChosenAt (rules_in code) me.nest w e m.branches c.in-Some.field-0.number) (sym state)
     (told m.branches nodes.branches))
 

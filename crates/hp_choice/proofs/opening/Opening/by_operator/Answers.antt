@@ -45,7 +45,7 @@ returns-clause-children c = λ o n p found state.
     let end = c.node_at.result.now.to in
     let same = same_Some nodes.node (laid_of c.node_at-2.result.now) (sym nodes.there ∙ c.node_at-2.ensures.is) in
     let is = subst (λ (l : Laid). body_at (code_in s) l.to end ≡ Some nodes.body) same nodes.is in
-    ap (choice_children s me.nest terms s.world.now n p) c.in_ok-new.ensures.ok
+    ap (choice_children s me.nest terms s.world.now n p) c.in_ok-open.ensures
     ∙ operator_left s me.nest terms me.id me.task c.args.rule 0 slots c.in_ok-sats.sats start end o nodes.body is
     (λ axioms w e. c.operators_come_to_what_their_bodies_do.ensures axioms me.nest w o nodes.body e nodes.dels
     nodes.adds nodes.cost)
@@ -65,6 +65,6 @@ returns-clause-choice c =
     let same = same_Some nodes.node (laid_of c.node_at-2.result.now) (sym nodes.there ∙ c.node_at-2.ensures.is) in
     let body = subst (λ (l : Laid). IsBodyIn (code_in s) l.to end) same nodes.nodes in
     let sats = c.in_ok-sats.ensures in
-    subst (IsChoice s c.args.cells.now (length c.args.cells.now) s.world.now) (sym c.in_ok-new.ensures.ok)
+    subst (IsChoice s c.args.cells.now (length c.args.cells.now) s.world.now) (sym c.in_ok-open.ensures)
     (operator_choice s me.nest c.args.cells.now me.id me.task c.args.rule 0 c.args.slots c.in_ok-sats.sats start end
     c.requires.task body sats.suits sats.fits sats.kept sats.live sats.open)
