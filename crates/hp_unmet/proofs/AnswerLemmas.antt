@@ -1,7 +1,8 @@
 -- The answer, by what is found with all parts and with some.
-use Rattle.std.proofs.Common.{◌≡◌, ◌≢◌, ℕ, zero, suc, ◌+◌, ◌<◌, ◌≤◌, Bool, true, false, cond, List, length, Option, Some, None, refl, sym, ap, ◌∙◌, arith, ⊎_elim}
-use Rattle.std.specs.Prelude.{nat_lt}
-use Rattle.std.proofs.lemmas.Bool.{cases_lt, cond-true, cond-false, le-ltb, lt-ltb}
+use Rattle.std.proofs.Common.{◌≡◌, ◌≢◌, ℕ, zero, suc, ◌+◌, ◌-◌, ◌<◌, ◌≤◌, Bool, true, false, cond, List, length, Option, Some, None, refl, sym, ap, ◌∙◌, arith, ⊎_elim}
+use Rattle.std.specs.Prelude.{◌==◌, nat_lt}
+use Rattle.std.proofs.lemmas.Bool.Decides.{nat_tests}
+use Rattle.std.proofs.lemmas.Bool.{cases_lt, cond-true, cond-false, le-ltb, lt-ltb, ne_eqb}
 use Rattle.hp_shallow.specs.declared.walking.ShallowEnd.TheVariants as ends
 use Rattle.hp_syntax.specs.declared.fault.RunFault.{RunFault}
 use Rattle.hp_syntax.specs.Events.{Finding, Satisfied, Faulty, Undecided, Nothing, State}
@@ -10,8 +11,10 @@ use Rattle.hp_syntax.specs.Syntax as syntax
 use Rattle.hp_syntax.specs.Terms.{Term, Symbol, Number, Listed, NoTerm, More}
 use Rattle.hp_syntax.specs.Values.{Bindings, unbound}
 use Rattle.hp_unmet.specs.Begun.{is_atom}
-use Rattle.hp_unmet.specs.Conjunctions.{Conjunction, answer_by, answer_from, answer_if, answer_of, answer_where, found, matched}
-use Rattle.hp_unmet.specs.Trials.{IsFirstMissing, end_found, is_satisfied}
+use Rattle.hp_unmet.specs.Conjunctions.{Conjunction, answer_by, answer_from, answer_if, answer_of, answer_where, found, has_several, matched}
+use Rattle.hp_unmet.specs.Halving.{down_from, part_missing}
+use Rattle.hp_unmet.specs.Trials.{AreNothing, IsDoubtful, IsFirstMet, IsFirstMissing, end_found, is_in_doubt, is_satisfied}
+use Rattle.hp_unmet.proofs.DownSteps.{doubt_down, missing_down, none_down, place_down}
 use Rattle.hp_unmet.specs.declared.unmet.Unmet.{Unmet}
 use Rattle.hp_unmet.specs.declared.unmet.Unmet.TheVariants as unmets
 use Rattle.hp_unmet.proofs.FoundLemmas.{found_where, is_matched, is_unmatched, keeps, none_where}
@@ -30,18 +33,24 @@ at_end (Faulty f) e = let never : ends.End ≡ ends.Fault f = e in absurd (cc)
 at_end Undecided e = let never : ends.End ≡ ends.Cut = e in absurd (cc)
 at_end Nothing e = refl
 
-pub at_cut : (x : Finding) → ends.Cut ≡ end_found x → x ≡ Undecided
+pub at_cut : (x : Finding) → ends.Cut ≡ end_found x → is_in_doubt x ≡ true
 at_cut Satisfied e = let never : ends.Cut ≡ ends.Plan = e in absurd (cc)
-at_cut (Faulty f) e = let never : ends.Cut ≡ ends.Fault f = e in absurd (cc)
+at_cut (Faulty f) e = refl
 at_cut Undecided e = refl
 at_cut Nothing e = let never : ends.Cut ≡ ends.End = e in absurd (cc)
 
-pub at_fault : (f : RunFault) (x : Finding) → ends.Fault f ≡ end_found x → x ≡ Faulty f
+pub at_fault : (f : RunFault) (x : Finding) → ends.Fault f ≡ end_found x → is_in_doubt x ≡ true
 at_fault f Satisfied e = let never : ends.Fault f ≡ ends.Plan = e in absurd (cc)
-at_fault f (Faulty g) e =
-    let same : ends.Fault f ≡ ends.Fault g = e in let own : g ≡ f = cc in ap (λ x. Faulty x) own
-at_fault f Undecided e = let never : ends.Fault f ≡ ends.Cut = e in absurd (cc)
+at_fault f (Faulty g) e = refl
+at_fault f Undecided e = refl
 at_fault f Nothing e = let never : ends.Fault f ≡ ends.End = e in absurd (cc)
+
+-- what is in doubt isn't satisfied
+pub in_doubt : (x : Finding) → is_in_doubt x ≡ true → false ≡ is_satisfied x
+in_doubt Satisfied h = h
+in_doubt (Faulty f) h = refl
+in_doubt Undecided h = refl
+in_doubt Nothing h = refl
 
 pub is_met : (x : Finding) → true ≡ is_satisfied x → x ≡ Satisfied
 is_met Satisfied e = refl
@@ -54,13 +63,6 @@ not_met Satisfied e = λ h. let never : false ≡ true = e in cc
 not_met (Faulty f) e = λ h. cc
 not_met Undecided e = λ h. cc
 not_met Nothing e = λ h. cc
-
--- a limit or a fault is met before any satisfier
-abbrev pub is_in_doubt : Finding → Bool
-is_in_doubt Satisfied = false
-is_in_doubt (Faulty f) = true
-is_in_doubt Undecided = true
-is_in_doubt Nothing = false
 
 -- ---- the answer
 
@@ -192,9 +194,50 @@ module _ (rules : List syntax.Rule) (nest : ℕ) (state : State) (c : Conjunctio
           ap (λ o. found_where rules nest state c o 0) is ∙ none_where rules nest state c b in
           answered_by b unmets.Unknown is (doubt_told own own_keeps count first doubt)
 
+  -- a limit or a fault is met with fewer
+  pub doubt_unmet : (k : ℕ) → k ≤ count → is_in_doubt (own k) ≡ true → unmets.Unknown ≡ answered (matched c task)
+  doubt_unmet k l doubt =
+      unknown_unmet
+      (ap is_in_doubt
+      (own_keeps k count l (λ h. let never : false ≡ true = sym (ap is_in_doubt h) ∙ doubt in cc)) ∙ doubt)
+
   -- where the head doesn't match nothing is asked
   pub unmatched_unmet : own 0 ≢ Satisfied → unmets.None ≡ answered (matched c task)
   unmatched_unmet unmet = sym (ap answered (is_unmatched rules nest state c task (matched c task) refl unmet))
+
+  -- so many numbers of parts are tried in vain
+  pub few_met : (place : ℕ) → IsFirstMet own (down_from count) place
+      → part_missing place count ≡ answered (matched c task)
+  few_met zero h =
+      let l = place_down count zero h.number h.there in
+      let here : h.number ≡ count = omega arith in
+      none_unmet (ap own (sym here) ∙ h.met)
+  few_met (suc place) h =
+      let l = place_down count (suc place) h.number h.there in
+      let here : count - suc place ≡ h.number = omega arith in
+      let some : (suc place == 0) ≡ false = ne_eqb (suc place) 0 (λ e. omega arith) in
+      cond-false (suc place == 0) unmets.None (unmets.Part (count - suc place)) some
+      ∙ ap (λ n. unmets.Part n) here
+      ∙ part_unmet h.number (met_before own own_keeps 0 h.number (omega arith) h.met)
+      (record {
+        within = omega arith;
+        met = h.met;
+        missing = missing_down own count place h.number h.there h.before;
+      })
+
+  -- there are at most as many as all
+  pub few_within : (place : ℕ) → IsFirstMet own (down_from count) place → place ≤ count
+  few_within place h = let l = place_down count place h.number h.there in omega arith
+
+  -- with no number of them anything is found
+  pub few_nothing : AreNothing own (down_from count) → unmets.None ≡ answered (matched c task)
+  few_nothing h =
+      unmatched_unmet
+      (λ e. let never : Satisfied ≡ Nothing = sym e ∙ none_down own count h in cc)
+
+  -- a limit or a fault is met with a number of them
+  pub few_doubtful : IsDoubtful own (down_from count) → unmets.Unknown ≡ answered (matched c task)
+  few_doubtful h = let some = doubt_down own count h in doubt_unmet some.0 some.1 some.2
 
 -- ---- a task that is no atom
 
@@ -217,3 +260,13 @@ module _ (rules : List syntax.Rule) (nest : ℕ) (state : State) (task : Term) (
   pub no_task : (o : Option Conjunction) → unmets.None ≡ answer_if rules nest state task o
   no_task None = refl
   no_task (Some c) = sym (by_count c (nat_lt (length c.parts) 2))
+
+-- ---- fewer than two parts
+
+module _ (rules : List syntax.Rule) (nest : ℕ) (state : State) (task : Term) where
+  -- where parts aren't told apart, none is told
+  pub not_apart : (o : Option Conjunction) → has_several o ≡ false → unmets.None ≡ answer_if rules nest state task o
+  not_apart None h = refl
+  not_apart (Some c) h =
+      few_parts rules nest state c task (length c.parts) refl
+      (grind (arith, nat_tests))

@@ -4,8 +4,11 @@ pub mod LookUps
 pub mod PartLemmas
 pub mod FindingLemmas
 pub mod FoundLemmas
+pub mod DownSteps
 pub mod AnswerLemmas
 pub mod HalvingSteps
 pub mod TrialRules
 pub mod TrialWalks
+pub mod TrialSteps
+pub mod ChosenTrials
 pub mod LawSteps

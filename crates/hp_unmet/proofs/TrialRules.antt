@@ -60,63 +60,69 @@ branch_with body ts = record { name = None; pre = syntax.Plain body; tasks = ts 
 abbrev pub method_with : Span → List (List ℕ) → syntax.Atom → List syntax.Branch → syntax.Method
 method_with s vs head bs = record { span = s; vars = vs; head = head; branches = bs }
 
--- the branch of a trial, by its parts
+-- a branch of a trial, by its parts
 pub branch_is : (c : Conjunction) (n : ℕ) (body : syntax.Expression) (ts : syntax.Tasks)
     → body ≡ syntax.And c.span (as_expressions (take n c.parts)) → ts ≡ syntax.Ordered syntax.NoTasks
     → branch_with body ts ≡ trial_branch c n
 branch_is c n body ts e f = ap₂ branch_with e f
 
 -- the method of a trial, by its parts
-pub method_is : (c : Conjunction) (n : ℕ) (vs : List (List ℕ)) (head : syntax.Atom) (bs : List syntax.Branch)
-    → vs ≡ c.vars → head ≡ c.head → bs ≡ trial_branch c n ∷ [] → method_with c.span vs head bs ≡ trial_method c n
-method_is c n vs head bs e f g =
+pub method_is : (c : Conjunction) (ns : List ℕ) (vs : List (List ℕ)) (head : syntax.Atom) (bs : List syntax.Branch)
+    → vs ≡ c.vars → head ≡ c.head → bs ≡ map (trial_branch c) ns → method_with c.span vs head bs ≡ trial_method c ns
+method_is c ns vs head bs e f g =
     ap₂ (λ v h. method_with c.span v h bs) e f ∙ ap (method_with c.span c.vars c.head) g
 
 -- the rules of a trial, by their parts
-pub rules_are : (rules : List syntax.Rule) (c : Conjunction) (n : ℕ) (old new : List public_rule.Rule)
-    (m : syntax.Method) → map rule_of old ≡ syntax.Refines m ∷ [] → m ≡ trial_method c n
-    → map rule_of new ≡ map rule_of old ++ axiom_rules rules → map rule_of new ≡ trial_rules rules c n
-rules_are rules c n old new m e f g =
+pub rules_are : (rules : List syntax.Rule) (c : Conjunction) (ns : List ℕ) (old new : List public_rule.Rule)
+    (m : syntax.Method) → map rule_of old ≡ syntax.Refines m ∷ [] → m ≡ trial_method c ns
+    → map rule_of new ≡ map rule_of old ++ axiom_rules rules → map rule_of new ≡ trial_rules rules c ns
+rules_are rules c ns old new m e f g =
     g ∙ ap (λ rs. rs ++ axiom_rules rules) (e ∙ ap (λ x. syntax.Refines x ∷ []) f)
 
 -- ---- the rules of a trial
 
-module _ (rules : List syntax.Rule) (c : Conjunction) (n : ℕ) (can : CanBeAsked rules c) where
-  branch_below : BranchBelow (length c.vars) (trial_branch c n)
-  branch_below = (first_below (length c.vars) c.parts n can.parts_below, tt)
+module _ (rules : List syntax.Rule) (c : Conjunction) (can : CanBeAsked rules c) where
+  branches_below : (ns : List ℕ) → All (BranchBelow (length c.vars)) (map (trial_branch c) ns)
+  branches_below [] = All-nil (BranchBelow (length c.vars))
+  branches_below (n ∷ ns) =
+      All-cons (BranchBelow (length c.vars)) (trial_branch c n) (map (trial_branch c) ns)
+      (first_below (length c.vars) c.parts n can.parts_below, tt) (branches_below ns)
 
-  numbered : All IsNumberedRule (trial_rules rules c n)
-  numbered =
-      All-cons IsNumberedRule (syntax.Refines (trial_method c n)) (axiom_rules rules)
-      (record {
-        head = can.head_below;
-        branches =
-            All-cons (BranchBelow (length c.vars)) (trial_branch c n) [] branch_below
-            (All-nil (BranchBelow (length c.vars)));
-      })
+  numbered : (ns : List ℕ) → All IsNumberedRule (trial_rules rules c ns)
+  numbered ns =
+      All-cons IsNumberedRule (syntax.Refines (trial_method c ns)) (axiom_rules rules)
+      (record { head = can.head_below; branches = branches_below ns })
       (axioms_numbered rules can.numbered)
 
-  first_faultless : precondition_faults (first_parts c n) ≡ []
+  first_faultless : (n : ℕ) → precondition_faults (first_parts c n) ≡ []
   unfolding expression_faults expressions_faults
-  first_faultless = first_clean c.parts n can.parts_faultless
+  first_faultless n = first_clean c.parts n can.parts_faultless
 
-  branch_faultless : branch_faults (trial_branch c n) ≡ []
+  branch_faultless : (n : ℕ) → branch_faults (trial_branch c n) ≡ []
   unfolding tasks_faults task_list_faults
-  branch_faultless = together (precondition_faults (first_parts c n)) [] first_faultless refl
+  branch_faultless n = together (precondition_faults (first_parts c n)) [] (first_faultless n) refl
 
-  faultless : flat_map rule_faults (trial_rules rules c n) ≡ []
-  faultless =
-      together (rule_faults (syntax.Refines (trial_method c n))) (flat_map rule_faults (axiom_rules rules))
-      (together (vars_faults c.vars c.span ++ atom_faults InHead c.head) (branch_faults (trial_branch c n) ++ [])
+  branches_faultless : (ns : List ℕ) → flat_map branch_faults (map (trial_branch c) ns) ≡ []
+  branches_faultless [] = refl
+  branches_faultless (n ∷ ns) =
+      together (branch_faults (trial_branch c n)) (flat_map branch_faults (map (trial_branch c) ns))
+      (branch_faultless n) (branches_faultless ns)
+
+  faultless : (ns : List ℕ) → flat_map rule_faults (trial_rules rules c ns) ≡ []
+  faultless ns =
+      together (rule_faults (syntax.Refines (trial_method c ns))) (flat_map rule_faults (axiom_rules rules))
+      (together (vars_faults c.vars c.span ++ atom_faults InHead c.head)
+      (flat_map branch_faults (map (trial_branch c) ns))
       (together (vars_faults c.vars c.span) (atom_faults InHead c.head) can.few can.head_faultless)
-      (together (branch_faults (trial_branch c n)) [] branch_faultless refl))
+      (branches_faultless ns))
       (axioms_clean rules can.faultless)
 
   -- a domain of these rules is numbered
-  pub trial_numbered : (d : syntax.Domain) → d.rules ≡ trial_rules rules c n → IsNumberedDomain d
-  trial_numbered d e = subst (All IsNumberedRule) (sym e) numbered
+  pub trial_numbered : (ns : List ℕ) (d : syntax.Domain) → d.rules ≡ trial_rules rules c ns → IsNumberedDomain d
+  trial_numbered ns d e = subst (All IsNumberedRule) (sym e) (numbered ns)
 
   -- and the checks find nothing in it
-  pub trial_checked : (d : syntax.Domain) → d.rules ≡ trial_rules rules c n → first_of (domain_faults d) ≡ None
+  pub trial_checked : (ns : List ℕ) (d : syntax.Domain) → d.rules ≡ trial_rules rules c ns
+      → first_of (domain_faults d) ≡ None
   unfolding domain_faults
-  trial_checked d e = ap first_of (ap (flat_map rule_faults) e ∙ faultless)
+  trial_checked ns d e = ap first_of (ap (flat_map rule_faults) e ∙ faultless ns)

@@ -1,13 +1,14 @@
 -- The walk of a trial comes to a plan where the first parts are satisfied, and ends as looking for them does.
-use Rattle.std.proofs.Common.{◌≡◌, ℕ, suc, ◌+◌, Bool, true, false, nat_le, List, [], ◌∷◌, ◌++◌, map, Option, Some, None, refl, sym, ap, ◌∙◌, arith}
+use Rattle.std.proofs.Common.{◌≡◌, ℕ, suc, ◌+◌, ◌<◌, Bool, true, false, nat_le, List, [], ◌∷◌, ◌++◌, length, map, Option, Some, None, refl, sym, ap, ◌∙◌, arith, subst}
 use Rattle.std.specs.Prelude.{flat_map, pos}
 use Rattle.std.proofs.lemmas.List.{append-nil}
 use Rattle.std.proofs.lemmas.Bool.{cond-true}
 use Rattle.std.proofs.lemmas.Bool.Decides.{nat_tests}
 use Rattle.hp_code.specs.CodeViews.{CodeView, or_empty, rules_in, rules_of}
 use Rattle.hp_shallow.specs.declared.walking.ShallowEnd.{ShallowEnd}
-use Rattle.hp_shallow.specs.LeastDepth.{first_end, shallow_end, visits_at}
-use Rattle.hp_syntax.specs.Events.{Event, Sat, Cut, Fault, Finding, Satisfied, Faulty, Undecided, Nothing, State, axioms_of, chosen_or, finding, finding_with}
+use Rattle.hp_net.specs.Standings.{Standing, Tree}
+use Rattle.hp_shallow.specs.LeastDepth.{StandsAtPlan, first_end, first_plan, shallow_end, visits_at}
+use Rattle.hp_syntax.specs.Events.{Event, Sat, Cut, Fault, Finding, Satisfied, Faulty, Undecided, Nothing, State, axioms_of, chosen, chosen_or, finding, finding_with}
 use Rattle.hp_syntax.specs.GroundPatterns.{atom_said, network_said}
 use Rattle.hp_syntax.specs.Networks.{Empty, Task, candidates, expand, finish, firsts, normal, normal_parts, part_at, task_list_value, tasks_value, with_part}
 use Rattle.hp_syntax.specs.Preconditions.{precondition_events}
@@ -17,7 +18,7 @@ use Rattle.hp_syntax.specs.Terms.{Term}
 use Rattle.hp_syntax.specs.Values.{Bindings}
 use Rattle.hp_syntax.specs.Walk.{Child, DidChild, Node, Visit, branch_children, child_of, child_visits, children, method_children, numbered_children, root, rule_children, visits, visits_within}
 use Rattle.hp_unmet.specs.Begun.{first_state, task_of}
-use Rattle.hp_unmet.specs.Conjunctions.{Conjunction, first_events, first_parts, found, matched}
+use Rattle.hp_unmet.specs.Conjunctions.{Conjunction, first_events, first_parts, matched}
 use Rattle.hp_unmet.specs.Trials.{end_found, trial_branch, trial_method, trial_rules}
 use Rattle.hp_unmet.proofs.TrialRules.{axioms_back}
 
@@ -43,7 +44,7 @@ one_asked n = grind (arith, nat_tests)
 -- ---- the nodes of a trial
 
 -- its root, with one task
-abbrev at_root : State → Term → Node
+abbrev pub at_root : State → Term → Node
 at_root s t = record {
   state = s;
   guards = [];
@@ -66,7 +67,7 @@ at_end s = record {
   depth = 0;
 }
 
-root_is : (p : syntax.Pair) (a : syntax.Atom) → p.tasks ≡ syntax.Task a false
+pub root_is : (p : syntax.Pair) (a : syntax.Atom) → p.tasks ≡ syntax.Task a false
     → root p 1 ≡ at_root (first_state p) (atom_said a)
 unfolding root normal network_said
 root_is p a e = ap (λ ts. record {
@@ -102,30 +103,69 @@ module _ (s : State) (t : Term) where
     ends_by (Cut ∷ xs) i seen = ends_by xs i (with_cut seen) ∙ after_cut (finding xs) seen.is_cut
     ends_by (Fault f ∷ xs) i seen = refl
 
+    -- the first plan among these visits isn't at the root
+    plan_below : (xs : List Event) (i : ℕ) (v : Visit) → first_plan (visits_by i (children_by xs)) ≡ Some v
+        → 0 < length v.path
+    unfolding visits_within
+    plan_below [] i v h = absurd (cc)
+    plan_below (Sat b ∷ xs) i v h =
+        let there : i ∷ [] ≡ v.path = cc in omega (arith, ap length there)
+    plan_below (Cut ∷ xs) i v h = plan_below xs i v h
+    plan_below (Fault f ∷ xs) i v h = absurd (cc)
+
 -- ---- the children of the root
 
-module _ (rules : List syntax.Rule) (nest : ℕ) (s : State) (t : Term) (c : Conjunction) (n : ℕ) where
-  abbrev own_rules : List syntax.Rule
-  own_rules = trial_rules rules c n
+-- these events, or others where there are none
+abbrev pub or_else : List Event → List Event → List Event
+or_else [] ys = ys
+or_else (x ∷ xs) ys = x ∷ xs
 
-  -- of the one branch
-  by_events : (xs : List Event)
-      → branch_children (at_root s t) [] (chosen_or (trial_branch c n) xs None) ≡ children_by s t xs
+-- the events of the first of some numbers that has any
+abbrev pub first_heard : (ℕ → List Event) → List ℕ → List Event
+first_heard heard [] = []
+first_heard heard (n ∷ ns) = or_else (heard n) (first_heard heard ns)
+
+module _ (rules : List syntax.Rule) (nest : ℕ) (s : State) (t : Term) (c : Conjunction) (ns : List ℕ) where
+  abbrev own_rules : List syntax.Rule
+  own_rules = trial_rules rules c ns
+
+  -- what looking for so many of the parts meets, under the bindings of the head
+  abbrev heard_by : Option Bindings → ℕ → List Event
+  heard_by o n = first_events rules nest s c o n
+
+  -- of one branch more
+  by_events : (n : ℕ) (xs ys : List Event) (o : Option (syntax.Branch × List Event))
+      → branch_children (at_root s t) [] o ≡ children_by s t ys
+      → branch_children (at_root s t) [] (chosen_or (trial_branch c n) xs o) ≡ children_by s t (or_else xs ys)
   unfolding tasks_value task_list_value normal normal_parts expand finish with_part
-  by_events [] = refl
-  by_events (x ∷ xs) = refl
+  by_events n [] ys o h = h
+  by_events n (x ∷ xs) ys o h = refl
 
   axioms_same : axioms_of own_rules ≡ axioms_of rules
   axioms_same = axioms_back (axioms_of rules)
 
+  -- of the branches
+  by_branches : (e : Bindings) (ms : List ℕ)
+      → branch_children (at_root s t) []
+      (chosen (λ b. precondition_events (axioms_of own_rules) nest s b.pre e) (map (trial_branch c) ms))
+      ≡ children_by s t (first_heard (heard_by (Some e)) ms)
+  by_branches e [] = refl
+  by_branches e (m ∷ ms) =
+      let rest = chosen (λ b. precondition_events (axioms_of own_rules) nest s b.pre e) (map (trial_branch c) ms) in
+      ap (λ as'. branch_children (at_root s t) []
+      (chosen_or (trial_branch c m) (precondition_events as' nest s (first_parts c m) e) rest)) axioms_same
+      ∙ by_events m (heard_by (Some e) m) (first_heard (heard_by (Some e)) ms) rest (by_branches e ms)
+
+  none_heard : (ms : List ℕ) → first_heard (heard_by None) ms ≡ []
+  none_heard [] = refl
+  none_heard (m ∷ ms) = none_heard ms
+
   -- of the method
   by_method : (o : Option Bindings)
-      → method_children own_rules nest (at_root s t) [] (trial_method c n) o
-      ≡ children_by s t (first_events rules nest s c o n)
-  by_method None = refl
-  by_method (Some e) =
-      by_events (precondition_events (axioms_of own_rules) nest s (first_parts c n) e)
-      ∙ ap (λ as'. children_by s t (precondition_events as' nest s (first_parts c n) e)) axioms_same
+      → method_children own_rules nest (at_root s t) [] (trial_method c ns) o
+      ≡ children_by s t (first_heard (heard_by o) ns)
+  by_method None = ap (children_by s t) (sym (none_heard ns))
+  by_method (Some e) = by_branches e ns
 
   -- axioms have none
   by_axioms : (xs : List syntax.Axiom)
@@ -133,22 +173,32 @@ module _ (rules : List syntax.Rule) (nest : ℕ) (s : State) (t : Term) (c : Con
   by_axioms [] = refl
   by_axioms (x ∷ xs) = by_axioms xs
 
-  children_are : children own_rules nest (at_root s t) ≡ children_by s t (first_events rules nest s c (matched c t) n)
+  abbrev all_heard : List Event
+  all_heard = first_heard (heard_by (matched c t)) ns
+
+  children_are : children own_rules nest (at_root s t) ≡ children_by s t all_heard
   unfolding children candidates firsts part_at
   children_are =
       append-nil (flat_map (rule_children own_rules nest (at_root s t) [] t) own_rules)
-      ∙ (ap (λ cs. method_children own_rules nest (at_root s t) [] (trial_method c n) (matched c t) ++ cs)
+      ∙ (ap (λ cs. method_children own_rules nest (at_root s t) [] (trial_method c ns) (matched c t) ++ cs)
       (by_axioms (axioms_of rules))
-      ∙ (append-nil (method_children own_rules nest (at_root s t) [] (trial_method c n) (matched c t))
+      ∙ (append-nil (method_children own_rules nest (at_root s t) [] (trial_method c ns) (matched c t))
       ∙ by_method (matched c t)))
 
   -- the walk from the root
   walk_ends : (end_of 1 nothing_seen (visits own_rules nest (at_root s t) [])).ending
-      ≡ ending_by false (found rules nest s c t n)
+      ≡ ending_by false (finding all_heard)
   unfolding visits visits_within
   walk_ends =
       ap (λ cs. (end_of 1 nothing_seen (visits_by s t own_rules nest 0 cs)).ending) children_are
-      ∙ ends_by s t own_rules nest (first_events rules nest s c (matched c t) n) 0 nothing_seen
+      ∙ ends_by s t own_rules nest all_heard 0 nothing_seen
+
+  -- its first plan is below the root
+  plan_there : (v : Visit) → first_plan (visits own_rules nest (at_root s t) []) ≡ Some v → 0 < length v.path
+  unfolding visits visits_within
+  plan_there v h =
+      plan_below s t own_rules nest all_heard 0 v
+      (sym (ap (λ cs. first_plan (visits_by s t own_rules nest 0 cs)) children_are) ∙ h)
 
 -- ---- the walk of a trial
 
@@ -158,18 +208,40 @@ told_by (Faulty f) = refl
 told_by Undecided = refl
 told_by Nothing = refl
 
+-- what is heard of some numbers of parts in the state of a pair, for its task
+abbrev pub heard_of : List syntax.Rule → ℕ → syntax.Pair → Conjunction → ℕ → List Event
+heard_of rules nest p c n = first_events rules nest (first_state p) c (matched c (task_of p.tasks)) n
+
 -- the walk of a pair by the code of a trial's rules, up to its first plan
 pub trial_told : (rules lowered : List syntax.Rule) (nest : ℕ) (p : syntax.Pair) (a : syntax.Atom) (c : Conjunction)
-    (n : ℕ) (code : CodeView) (end : ShallowEnd) → p.tasks ≡ syntax.Task a false → rules_of code ≡ Some lowered
-    → visits lowered nest (root p 1) [] ≡ visits (trial_rules rules c n) nest (root p 1) []
+    (ns : List ℕ) (code : CodeView) (end : ShallowEnd) → p.tasks ≡ syntax.Task a false
+    → rules_of code ≡ Some lowered
+    → visits lowered nest (root p 1) [] ≡ visits (trial_rules rules c ns) nest (root p 1) []
     → end ≡ shallow_end (first_end (visits_at (rules_in code) nest p 1)).ending
-    → end ≡ end_found (found rules nest (first_state p) c (task_of p.tasks) n)
-trial_told rules lowered nest p a c n code end one reads same told =
+    → end ≡ end_found (finding (first_heard (heard_of rules nest p c) ns))
+trial_told rules lowered nest p a c ns code end one reads same told =
     let read : rules_in code ≡ lowered = ap or_empty reads in
     told
     ∙ (ap (λ rs. shallow_end (first_end (visits rs nest (root p 1) [])).ending) read
     ∙ (ap (λ vs. shallow_end (first_end vs).ending) same
-    ∙ (ap (λ m. shallow_end (first_end (visits (trial_rules rules c n) nest m [])).ending) (root_is p a one)
-    ∙ (ap shallow_end (walk_ends rules nest (first_state p) (atom_said a) c n)
-    ∙ (told_by (found rules nest (first_state p) c (atom_said a) n)
-    ∙ ap (λ ts. end_found (found rules nest (first_state p) c (task_of ts) n)) (sym one))))))
+    ∙ (ap (λ m. shallow_end (first_end (visits (trial_rules rules c ns) nest m [])).ending) (root_is p a one)
+    ∙ (ap shallow_end (walk_ends rules nest (first_state p) (atom_said a) c ns)
+    ∙ (told_by (finding (all_heard rules nest (first_state p) (atom_said a) c ns))
+    ∙ ap (λ ts. end_found (finding
+    (first_heard (first_events rules nest (first_state p) c (matched c (task_of ts))) ns))) (sym one))))))
+
+-- and where it stands at its first plan it is below the root
+pub trial_below : (rules lowered : List syntax.Rule) (nest : ℕ) (p : syntax.Pair) (a : syntax.Atom) (c : Conjunction)
+    (ns : List ℕ) (code : CodeView) (t : Tree) (x : Standing) → p.tasks ≡ syntax.Task a false
+    → rules_of code ≡ Some lowered
+    → visits lowered nest (root p 1) [] ≡ visits (trial_rules rules c ns) nest (root p 1) []
+    → StandsAtPlan t x (visits_at (rules_in code) nest p 1) → 0 < length x.path
+trial_below rules lowered nest p a c ns code t x one reads same stands =
+    let read : rules_in code ≡ lowered = ap or_empty reads in
+    let seen : visits_at (rules_in code) nest p 1 ≡ visits (trial_rules rules c ns) nest (at_root (first_state p)
+    (atom_said a)) [] =
+    ap (λ rs. visits rs nest (root p 1) []) read
+    ∙ (same ∙ ap (λ n. visits (trial_rules rules c ns) nest n []) (root_is p a one)) in
+    subst (λ q. 0 < length q) (sym stands.path)
+    (plan_there rules nest (first_state p) (atom_said a) c ns stands.plan
+    (sym (ap first_plan seen) ∙ stands.first))

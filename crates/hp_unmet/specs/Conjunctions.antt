@@ -1,5 +1,5 @@
 -- The first part of a conjunction that nothing satisfies together with those before it.
-use Rattle.std.specs.Prelude.{ℕ, ◌+◌, zero, suc, cond, nat_lt, List, [], length, take, slice_get, Option, None, Some, option_map}
+use Rattle.std.specs.Prelude.{ℕ, ◌+◌, zero, suc, Bool, false, cond, nat_le, nat_lt, List, [], length, take, slice_get, Option, None, Some, option_map}
 use Rattle.std.specs.Option.{option_and_then}
 use Rattle.hp_syntax.specs.declared.pattern.Span.{Span}
 use Rattle.hp_syntax.specs.Events.{Event, Finding, Satisfied, Faulty, Undecided, Nothing, State, axioms_of, finding}
@@ -49,6 +49,14 @@ asked_by branch (syntax.Concludes x) = None
 -- that of the rule of a number
 abbrev pub asked_in : List syntax.Rule → ℕ → ℕ → Option Conjunction
 asked_in rules rule branch = option_and_then (asked_by branch) (slice_get rules rule)
+
+-- of two parts and more one may be told
+abbrev pub has_several : Option Conjunction → Bool
+has_several None = false
+has_several (Some c) = nat_le 2 (length c.parts)
+
+abbrev pub is_told_apart : List syntax.Rule → ℕ → ℕ → Bool
+is_told_apart rules rule branch = has_several (asked_in rules rule branch)
 
 -- the part at a place among them
 abbrev pub part_at : List syntax.Rule → ℕ → ℕ → ℕ → Option syntax.Expression

@@ -1,6 +1,6 @@
--- Trials: the first parts of a conjunction as the precondition of a method, by which a task is done where they are
--- satisfied.
-use Rattle.std.specs.Prelude.{◌≡◌, ◌+◌, ◌<◌, ◌≤◌, ℕ, Bool, true, false, List, [], ◌∷◌, length, map, None}
+-- Trials: some numbers of first parts of a conjunction as the preconditions of the branches of a method, by which a
+-- task is done where they are satisfied.
+use Rattle.std.specs.Prelude.{◌≡◌, ◌+◌, ◌<◌, ◌≤◌, ℕ, Bool, true, false, List, [], ◌∷◌, length, map, slice_get, take, None, Some}
 use Rattle.std.specs.List.{All, flat_map}
 use Rattle.hp_shallow.specs.declared.walking.ShallowEnd.{ShallowEnd}
 use Rattle.hp_shallow.specs.declared.walking.ShallowEnd.TheVariants as ends
@@ -15,6 +15,8 @@ use Rattle.hp_unmet.specs.Begun.{HasOneTask, first_state, task_of}
 use Rattle.hp_unmet.specs.Conjunctions.{Conjunction, answer_of, answer_where, first_parts, found, matched}
 use Rattle.hp_unmet.specs.declared.parts.Parts.{Parts}
 use Rattle.hp_unmet.specs.declared.trial.Trial.{Trial}
+use Rattle.hp_unmet.specs.declared.trial.Tried.{Tried}
+use Rattle.hp_unmet.specs.declared.trial.Tried.TheVariants as tries
 use Rattle.hp_unmet.specs.declared.unmet.Unmet.{Unmet}
 
 -- ---- the rules of a trial
@@ -23,13 +25,18 @@ use Rattle.hp_unmet.specs.declared.unmet.Unmet.{Unmet}
 abbrev pub trial_branch : Conjunction → ℕ → syntax.Branch
 trial_branch c n = record { name = None; pre = first_parts c n; tasks = syntax.Ordered syntax.NoTasks }
 
-abbrev pub trial_method : Conjunction → ℕ → syntax.Method
-trial_method c n =
-    record { span = c.span; vars = c.vars; head = c.head; branches = trial_branch c n ∷ [] }
+-- a branch for each of some numbers of them
+abbrev pub trial_method : Conjunction → List ℕ → syntax.Method
+trial_method c ns =
+    record { span = c.span; vars = c.vars; head = c.head; branches = map (trial_branch c) ns }
 
 -- this method, and the axioms of the rules
-abbrev pub trial_rules : List syntax.Rule → Conjunction → ℕ → List syntax.Rule
-trial_rules rules c n = syntax.Refines (trial_method c n) ∷ map syntax.Concludes (axioms_of rules)
+abbrev pub trial_rules : List syntax.Rule → Conjunction → List ℕ → List syntax.Rule
+trial_rules rules c ns = syntax.Refines (trial_method c ns) ∷ map syntax.Concludes (axioms_of rules)
+
+-- all these numbers of parts are at most as many as there are
+abbrev pub AreWithin : ℕ → List ℕ → Type 0
+AreWithin count ns = All (λ n. n ≤ count) ns
 
 -- the rules are numbered and without faults, and so is a method with this head and these parts
 pub record CanBeAsked (rules : List syntax.Rule) (c : Conjunction) : Type 0 where
@@ -90,6 +97,36 @@ is_satisfied Satisfied = true
 is_satisfied (Faulty f) = false
 is_satisfied Undecided = false
 is_satisfied Nothing = false
+
+-- a limit or a fault is met before any satisfier
+abbrev pub is_in_doubt : Finding → Bool
+is_in_doubt Satisfied = false
+is_in_doubt (Faulty f) = true
+is_in_doubt Undecided = true
+is_in_doubt Nothing = false
+
+abbrev pub AreNothing : (ℕ → Finding) → List ℕ → Type 0
+AreNothing found ns = All (λ n. found n ≡ Nothing) ns
+
+-- as many parts are satisfied as the number at a place says, and with those before it nothing is found
+pub record IsFirstMet (found : ℕ → Finding) (ns : List ℕ) (place : ℕ) : Type 0 where
+  pub number : ℕ
+  pub there : slice_get ns place ≡ Some number
+  pub met : found number ≡ Satisfied
+  pub before : AreNothing found (take place ns)
+
+-- with one of the numbers a limit or a fault is met
+pub record IsDoubtful (found : ℕ → Finding) (ns : List ℕ) : Type 0 where
+  pub some : ℕ
+  pub place : ℕ
+  pub there : slice_get ns place ≡ Some some
+  pub doubt : is_in_doubt (found some) ≡ true
+
+-- what is told of some numbers of parts
+abbrev pub IsTried : (ℕ → Finding) → List ℕ → Tried → Type 0
+IsTried found ns (tries.Met n) = IsFirstMet found ns n
+IsTried found ns tries.Nothing = AreNothing found ns
+IsTried found ns tries.Doubt = IsDoubtful found ns
 
 -- so many of the first parts are satisfied, and with the next one there is no event at all
 pub record IsFirstMissing (found : ℕ → Finding) (count place : ℕ) : Type 0 where

@@ -8,4 +8,4 @@ mod trial;
 mod unmet;
 
 pub use parts::part_at;
-pub use unmet::{Unmet, first_unmet};
+pub use unmet::{Unmet, first_unmet, is_told_apart};

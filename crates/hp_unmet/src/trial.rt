@@ -1,12 +1,13 @@
 //! Walks that tell whether the first parts of a conjunction are satisfied.
 ghost use Rattle.std.specs.Prelude.{◌≡◌, ◌≤◌, ◌++◌, ◌∷◌, [], IfOk, OnOk, length, map};
+ghost use Rattle.std.specs.List.{All};
 ghost use Rattle.hp_code.specs.CodeViews.{IsCodeOf};
 ghost use Rattle.hp_code.specs.Codes.{code_of};
 ghost use Rattle.hp_syntax.specs.Events.{axioms_of};
 ghost use Rattle.hp_syntax.specs.Syntax.{Concludes};
 ghost use Rattle.hp_syntax.specs.Views.{branch_of, domain_of, method_of, rule_of};
 ghost use Rattle.hp_unmet.specs.Trials as plain;
-ghost use Rattle.hp_unmet.specs.Trials.{CanBeAsked, CanBeTried, conjunction_of, end_found, rules_tried, tried};
+ghost use Rattle.hp_unmet.specs.Trials.{AreWithin, CanBeAsked, CanBeTried, IsTried, conjunction_of, tried};
 
 use crate::parts::Parts;
 use hp_code::laws::{compiled_rules_are_a_code, lowered_rules_have_the_tree};
@@ -39,12 +40,25 @@ fn trial_branch(alloc: Global, asked: Parts, count: usize) -> Result<Branch, All
     })
 }
 
-fn trial_method(alloc: Global, asked: Parts, count: usize) -> Result<Method, AllocError>
-    requires { count ≤ length asked.parts.now }
-    ensures { IfOk result (λ m. method_of m ≡ plain.trial_method (conjunction_of asked.entry) count) }
+/// A branch for each of these numbers of first parts, in their order.
+fn trial_branches(alloc: Global, asked: Parts, counts: &[usize]) -> Result<Vec<Branch>, AllocError>
+    requires { AreWithin (length asked.parts.now) counts.now }
+    ensures { IfOk result (λ bs. map branch_of bs.items
+        ≡ map (plain.trial_branch (conjunction_of asked.entry)) counts.now) }
 {
-    let branch = trial_branch(alloc, asked, count)?;
-    let branches = vec![in alloc; branch]?;
+    let mut branches = Vec::with_capacity(alloc, counts.len())?;
+    for count in counts {
+        let branch = trial_branch(alloc, asked, *count)?;
+        branches.push(branch)?;
+    }
+    Ok(branches)
+}
+
+fn trial_method(alloc: Global, asked: Parts, counts: &[usize]) -> Result<Method, AllocError>
+    requires { AreWithin (length asked.parts.now) counts.now }
+    ensures { IfOk result (λ m. method_of m ≡ plain.trial_method (conjunction_of asked.entry) counts.now) }
+{
+    let branches = trial_branches(alloc, asked, counts)?;
     Ok(Method {
         span: asked.span,
         vars: copy_names(alloc, asked.vars)?,
@@ -83,13 +97,13 @@ fn trial_rules(
     alloc: Global,
     domain: &Domain,
     asked: Parts,
-    count: usize,
+    counts: &[usize],
 ) -> Result<Vec<Rule>, AllocError>
-    requires { count ≤ length asked.parts.now }
+    requires { AreWithin (length asked.parts.now) counts.now }
     ensures { IfOk result (λ rules. map rule_of rules.items
-        ≡ plain.trial_rules (domain_of domain.now).rules (conjunction_of asked.entry) count) }
+        ≡ plain.trial_rules (domain_of domain.now).rules (conjunction_of asked.entry) counts.now) }
 {
-    let method = trial_method(alloc, asked, count)?;
+    let method = trial_method(alloc, asked, counts)?;
     let mut rules = vec![in alloc; Rule::Method(method)]?;
     add_axioms(alloc, &mut rules, domain.rules.as_slice())?;
     Ok(rules)
@@ -99,13 +113,13 @@ fn trial_domain(
     alloc: Global,
     domain: &Domain,
     asked: Parts,
-    count: usize,
+    counts: &[usize],
 ) -> Result<Domain, AllocError>
-    requires { count ≤ length asked.parts.now }
+    requires { AreWithin (length asked.parts.now) counts.now }
     ensures { IfOk result (λ trial. (domain_of trial).rules
-        ≡ plain.trial_rules (domain_of domain.now).rules (conjunction_of asked.entry) count) }
+        ≡ plain.trial_rules (domain_of domain.now).rules (conjunction_of asked.entry) counts.now) }
 {
-    let rules = trial_rules(alloc, domain, asked, count)?;
+    let rules = trial_rules(alloc, domain, asked, counts)?;
     let name = domain.name.copy(alloc)?;
     Ok(Domain { name, rules })
 }
@@ -114,30 +128,46 @@ fn trial_code(
     alloc: Global,
     domain: &Domain,
     asked: Parts,
-    count: usize,
+    counts: &[usize],
 ) -> Result<Code, AllocError>
     requires asked { CanBeAsked (domain_of domain.now).rules (conjunction_of asked) }
-    requires within { count ≤ length asked.parts.now }
+    requires within { AreWithin (length asked.parts.now) counts.now }
     ensures { IfOk result (λ code. IsCodeOf
-        (plain.trial_rules (domain_of domain.now).rules (conjunction_of asked.entry) count) (code_of code)) }
+        (plain.trial_rules (domain_of domain.now).rules (conjunction_of asked.entry) counts.now) (code_of code)) }
 {
-    let trial = trial_domain(alloc, domain, asked, count)?;
+    let trial = trial_domain(alloc, domain, asked, counts)?;
     lower(alloc, &trial)
 }
 
+/// What a trial of some numbers of first parts finds.
+#[derive(Clone, Copy)]
+pub enum Tried {
+    /// The place of the first number with which anything is found: so many parts are satisfied.
+    Met(usize),
+    /// With none of the numbers anything is found.
+    Nothing,
+    /// With the first number with which anything is found, that is a limit or a fault before any satisfier.
+    Doubt,
+}
+
 impl Trial<'_> {
-    /// How the walk of a trial ends that asks for so many of the first parts: at a plan where they are satisfied, whole
-    /// where looking for them meets nothing at all.
-    pub fn ending(&self, alloc: Global, count: usize) -> Result<ShallowEnd, AllocError>
+    /// Looks for so many of the first parts, one number after another, until anything is found, in a walk that begins
+    /// with the whole state.
+    pub fn found(&self, alloc: Global, counts: &[usize]) -> Result<Tried, AllocError>
         requires can { CanBeTried self.now }
-        requires within { count ≤ length self.now.asked.parts.now }
-        ensures { IfOk result (λ end. end ≡ end_found (tried self.now count)) }
+        requires within { AreWithin (length self.now.asked.parts.now) counts.now }
+        ensures { IfOk result (IsTried (tried self.now) counts.now) }
     {
         // Nothing runs here: the laws make known that the tree by a code is the tree by its rules.
         compiled_rules_are_a_code();
         lowered_rules_have_the_tree();
-        let code = trial_code(alloc, self.domain, self.asked, count)?;
+        let code = trial_code(alloc, self.domain, self.asked, counts)?;
         let walked = walk_at(alloc, &code, self.pair, 1, self.nest, 0)?;
-        Ok(walked.answer)
+        match walked.answer {
+            ShallowEnd::Plan => Ok(Tried::Met(walked.walk.decomposition_at(0).branch)),
+            ShallowEnd::End => Ok(Tried::Nothing),
+            ShallowEnd::Cut => Ok(Tried::Doubt),
+            ShallowEnd::Fault(_) => Ok(Tried::Doubt),
+        }
     }
 }

@@ -7,19 +7,21 @@ ghost use Rattle.hp_syntax.specs.GroundViews.{ground_of};
 ghost use Rattle.hp_syntax.specs.Numbered.{IsNumberedDomain};
 ghost use Rattle.hp_syntax.specs.Views.{domain_of, pair_of};
 ghost use Rattle.hp_unmet.specs.Begun.{HasOneTask, first_state, task_of};
-ghost use Rattle.hp_unmet.specs.Conjunctions.{answer_if, asked_in, first_unmet};
-ghost use Rattle.hp_unmet.specs.Halving.{IsBetween};
+ghost use Rattle.hp_unmet.specs.Conjunctions.{answer_if, asked_in, first_unmet, is_told_apart};
+ghost use Rattle.hp_unmet.specs.Halving.{IsBetween, down_from, part_missing};
 ghost use Rattle.hp_unmet.specs.Trials.{CanBeTried, IsFirstMissing, answer_matched, answer_tried, is_satisfied, tried};
 
 use crate::begun::begun;
 use crate::parts::asked_in;
-use crate::trial::Trial;
-use hp_shallow::ShallowEnd;
+use crate::trial::{Trial, Tried};
 use hp_syntax::{Domain, Ground, Pair};
 use std::alloc::{AllocError, Global};
 
-// A conjunction has at least so many parts.
+// Where there are fewer parts, none is told apart.
 const FEWEST_PARTS: usize = 2;
+
+// So many parts are tried in one walk, whose text grows by the square of their number.
+const MOST_AT_ONCE: usize = 8;
 
 /// What of a precondition is satisfied in a state, by the parts of its conjunction from the first on.
 #[derive(Clone, Copy, Debug, PartialEq, Eq)]
@@ -42,6 +44,18 @@ struct Between {
     unmet: usize,
 }
 
+/// The part with which nothing is found, where so many numbers of parts are tried in vain, from all on down.
+fn part_missing(tried: usize, count: usize) -> Unmet
+    requires { tried ≤ count }
+    ensures { result ≡ part_missing tried count }
+{
+    if tried == 0 {
+        Unmet::None
+    } else {
+        Unmet::Part(count - tried)
+    }
+}
+
 fn middle_of(low: usize, high: usize) -> usize
     requires { low + 1 < high }
     ensures above { low < result }
@@ -50,17 +64,29 @@ fn middle_of(low: usize, high: usize) -> usize
     low + (high - low) / 2
 }
 
+/// A number, and those below it from the greatest on.
+fn counts_down(alloc: Global, count: usize) -> Result<Vec<usize>, AllocError>
+    ensures { IfOk result (λ v. v.items ≡ down_from count) }
+{
+    let mut counts = vec![in alloc; count]?;
+    let mut left = count;
+    while 0 < left {
+        left -= 1;
+        counts.push(left)?;
+    }
+    Ok(counts)
+}
+
 impl Trial<'_> {
     fn is_met(&self, alloc: Global, count: usize) -> Result<bool, AllocError>
         requires can { CanBeTried self.now }
         requires within { count ≤ length self.now.asked.parts.now }
         ensures { IfOk result (λ b. b ≡ is_satisfied (tried self.now count)) }
     {
-        match self.ending(alloc, count)? {
-            ShallowEnd::Plan => Ok(true),
-            ShallowEnd::End => Ok(false),
-            ShallowEnd::Cut => Ok(false),
-            ShallowEnd::Fault(_) => Ok(false),
+        match self.found(alloc, &[count])? {
+            Tried::Met(_) => Ok(true),
+            Tried::Nothing => Ok(false),
+            Tried::Doubt => Ok(false),
         }
     }
 
@@ -121,20 +147,63 @@ impl Trial<'_> {
         }
     }
 
+    /// The answer by a walk for all parts, and some more.
+    fn answer_of_many(&self, alloc: Global) -> Result<Unmet, AllocError>
+        requires can { CanBeTried self.now }
+        ensures { IfOk result (λ u. u ≡ answer_matched self.now) }
+    {
+        match self.found(alloc, &[self.asked.parts.len()])? {
+            Tried::Met(_) => Ok(Unmet::None),
+            Tried::Nothing => self.missing(alloc),
+            Tried::Doubt => Ok(Unmet::Unknown),
+        }
+    }
+
+    /// The answer by one walk, for all parts, and for fewer and fewer where nothing satisfies these.
+    fn answer_of_few(&self, alloc: Global) -> Result<Unmet, AllocError>
+        requires can { CanBeTried self.now }
+        ensures { IfOk result (λ u. u ≡ answer_matched self.now) }
+    {
+        let count = self.asked.parts.len();
+        let counts = counts_down(alloc, count)?;
+        match self.found(alloc, counts.as_slice())? {
+            Tried::Met(place) => Ok(part_missing(place, count)),
+            Tried::Nothing => Ok(Unmet::None),
+            Tried::Doubt => Ok(Unmet::Unknown),
+        }
+    }
+
+    /// The answer where two parts and more are asked for.
+    fn answer_of_parts(&self, alloc: Global) -> Result<Unmet, AllocError>
+        requires can { CanBeTried self.now }
+        ensures { IfOk result (λ u. u ≡ answer_matched self.now) }
+    {
+        if self.asked.parts.len() <= MOST_AT_ONCE {
+            self.answer_of_few(alloc)
+        } else {
+            self.answer_of_many(alloc)
+        }
+    }
+
     fn answer(&self, alloc: Global) -> Result<Unmet, AllocError>
         requires can { CanBeTried self.now }
         ensures { IfOk result (λ u. u ≡ answer_tried self.now) }
     {
-        let count = self.asked.parts.len();
-        if count < FEWEST_PARTS {
-            return Ok(Unmet::None);
+        if self.asked.parts.len() < FEWEST_PARTS {
+            Ok(Unmet::None)
+        } else {
+            self.answer_of_parts(alloc)
         }
-        match self.ending(alloc, count)? {
-            ShallowEnd::Plan => Ok(Unmet::None),
-            ShallowEnd::End => self.missing(alloc),
-            ShallowEnd::Cut => Ok(Unmet::Unknown),
-            ShallowEnd::Fault(_) => Ok(Unmet::Unknown),
-        }
+    }
+}
+
+/// Whether parts of a precondition are told apart: two of them and more.
+pub fn is_told_apart(domain: &Domain, rule: usize, branch: usize) -> bool
+    ensures { result ≡ is_told_apart (domain_of domain.now).rules rule branch }
+{
+    match asked_in(domain, rule, branch) {
+        Some(asked) => FEWEST_PARTS <= asked.parts.len(),
+        None => false,
     }
 }
 
@@ -171,8 +240,9 @@ fn unmet_in(
 /// a task: the rule and the branch are told by their places in the domain, the state by its atoms, of which each counts
 /// once and what is no atom doesn't count. Axioms may call one another so deep.
 ///
-/// A walk is made for all parts, and where nothing satisfies these some more by halving their number, about as many as
-/// the number has binary digits. Each begins with the whole state.
+/// Where parts are told apart, one walk is made, for all of them, and, where nothing satisfies these, for fewer and
+/// fewer. Of more than eight parts one is made for all, and then some more by halving their number, about as many as the
+/// number has binary digits. Each begins with the whole state.
 pub fn first_unmet(
     alloc: Global,
     domain: &Domain,
@@ -188,8 +258,10 @@ pub fn first_unmet(
     ensures { IfOk result (λ u. u ≡ first_unmet (domain_of domain.now).rules nest (map ground_of state.now)
         (ground_of task.now) rule branch) }
 {
-    let found = begun(alloc, state, task)?;
-    match found {
+    if !is_told_apart(domain, rule, branch) {
+        return Ok(Unmet::None);
+    }
+    match begun(alloc, state, task)? {
         Some(pair) => unmet_in(alloc, domain, rule, branch, &pair, nest),
         None => Ok(Unmet::None),
     }

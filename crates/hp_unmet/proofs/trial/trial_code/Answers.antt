@@ -9,12 +9,12 @@ use Rattle.hp_unmet.proofs.trial.trial_code.Goals as goal
 
 pub lower-requires-clause-numbered : goal.lower-requires-clause-numbered
 lower-requires-clause-numbered c =
-    trial_numbered (domain_of c.args.domain.now).rules (conjunction_of c.args.asked) c.args.count c.requires.asked
+    trial_numbered (domain_of c.args.domain.now).rules (conjunction_of c.args.asked) c.requires.asked c.args.counts.now
     (domain_of c.in_ok-trial.trial) c.in_ok-trial.ensures
 
 pub lower-requires-clause-checked : goal.lower-requires-clause-checked
 lower-requires-clause-checked c =
-    trial_checked (domain_of c.args.domain.now).rules (conjunction_of c.args.asked) c.args.count c.requires.asked
+    trial_checked (domain_of c.args.domain.now).rules (conjunction_of c.args.asked) c.requires.asked c.args.counts.now
     (domain_of c.in_ok-trial.trial) c.in_ok-trial.ensures
 
 pub returns : goal.returns

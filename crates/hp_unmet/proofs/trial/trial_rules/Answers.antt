@@ -6,7 +6,7 @@ use Rattle.hp_unmet.proofs.trial.trial_rules.Goals as goal
 
 pub returns : goal.returns
 returns c =
-    rules_are (domain_of c.args.domain.now).rules (conjunction_of c.args.asked) c.args.count
+    rules_are (domain_of c.args.domain.now).rules (conjunction_of c.args.asked) c.args.counts.now
     c.in_ok-rules.rules.items c.add_axioms.new.rules.items (method_of c.in_ok-method.method)
     (ap (map rule_of) c.in_ok-rules.ensures.items) c.in_ok-method.ensures
     (c.in_ok-add_axioms.ensures

@@ -1,24 +1,23 @@
-use Rattle.std.proofs.Common.{◌≡◌, sym, ap, subst}
-use Rattle.hp_unmet.specs.Trials.{end_found, is_satisfied, tried}
-use Rattle.hp_unmet.proofs.AnswerLemmas.{at_cut, at_end, at_fault, at_plan}
+use Rattle.std.proofs.Common.{[], ◌∷◌, sym, ap, subst}
+use Rattle.hp_unmet.specs.Trials.{IsTried, is_satisfied, tried}
+use Rattle.hp_unmet.proofs.AnswerLemmas.{in_doubt}
+use Rattle.hp_unmet.proofs.DownSteps.{doubt_one, met_one, none_one}
 use Rattle.hp_unmet.proofs.trial.Trial.is_met.Goals as goal
 
-pub returns-in-Plan : goal.returns-in-Plan
-returns-in-Plan c =
-    let x = tried c.args.self.now c.args.count in
-    sym (ap is_satisfied (at_plan x (subst (λ y. y ≡ end_found x) c.in-Plan.is c.in_ok-ending.ensures)))
+pub returns-in-Met : goal.returns-in-Met
+returns-in-Met c =
+    let s = c.args.self.now in
+    sym (ap is_satisfied (met_one (tried s) c.args.count c.in-Met.field-0
+    (subst (IsTried (tried s) (c.args.count ∷ [])) c.in-Met.is c.in_ok-found.ensures)))
 
-pub returns-in-End : goal.returns-in-End
-returns-in-End c =
-    let x = tried c.args.self.now c.args.count in
-    sym (ap is_satisfied (at_end x (subst (λ y. y ≡ end_found x) c.in-End.is c.in_ok-ending.ensures)))
+pub returns-in-Nothing : goal.returns-in-Nothing
+returns-in-Nothing c =
+    let s = c.args.self.now in
+    sym (ap is_satisfied (none_one (tried s) c.args.count
+    (subst (IsTried (tried s) (c.args.count ∷ [])) c.in-Nothing.is c.in_ok-found.ensures)))
 
-pub returns-in-Cut : goal.returns-in-Cut
-returns-in-Cut c =
-    let x = tried c.args.self.now c.args.count in
-    sym (ap is_satisfied (at_cut x (subst (λ y. y ≡ end_found x) c.in-Cut.is c.in_ok-ending.ensures)))
-
-pub returns-in-Fault : goal.returns-in-Fault
-returns-in-Fault c =
-    let x = tried c.args.self.now c.args.count in
-    sym (ap is_satisfied (at_fault _ x (subst (λ y. y ≡ end_found x) c.in-Fault.is c.in_ok-ending.ensures)))
+pub returns-in-Doubt : goal.returns-in-Doubt
+returns-in-Doubt c =
+    let s = c.args.self.now in
+    in_doubt (tried s c.args.count) (doubt_one (tried s) c.args.count
+    (subst (IsTried (tried s) (c.args.count ∷ [])) c.in-Doubt.is c.in_ok-found.ensures))
