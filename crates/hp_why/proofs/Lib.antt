@@ -9,5 +9,6 @@ pub mod QuietLemmas
 pub mod CutSteps
 pub mod ReasonSteps
 pub mod StateSteps
+pub mod AlongSteps
 pub mod JudgedSteps
 pub mod VerdictLemmas

@@ -10,6 +10,7 @@ ghost use Rattle.hp_syntax.specs.Numbered.{IsNumberedDomain};
 ghost use Rattle.hp_syntax.specs.Views.{domain_of, pair_of, problem_of};
 ghost use Rattle.hp_why.specs.Whys.{IsUnplanned, IsWhy, asked};
 
+mod along;
 mod judging;
 mod left;
 mod own;

@@ -1,16 +1,19 @@
 //! What deeds give up, and what of that is satisfied where they are done.
-ghost use Rattle.std.specs.Prelude.{◌≡◌, ◌≤◌, IfOk, Some, length, zip};
+ghost use Rattle.std.specs.Prelude.{◌≡◌, ◌≤◌, true, IfOk, OnOk, Some, length, zip};
 ghost use Rattle.std.specs.List.{filter_map};
+ghost use Rattle.hp_search.specs.Planned.{tree_planned};
 ghost use Rattle.hp_syntax.specs.GroundViews.{ground_of};
 ghost use Rattle.hp_why.specs.Twin as plain;
-ghost use Rattle.hp_why.specs.Twin.{CanSearch, ComesTo, unmets_from};
+ghost use Rattle.hp_why.specs.Twin.{CanSearch, ComesTo, tree_of, unmets_from};
 
+use crate::along::state_along;
 use crate::twin::Twin;
 use crate::verdict::Reason;
 use hp_relaxed::Origin;
+use hp_search::Planner;
 use hp_syntax::Ground;
-use hp_unmet::{Unmet, first_unmet};
-use hp_way::{Deed, state_on_the_way};
+use hp_unmet::{Unmet, first_unmet, is_told_apart};
+use hp_way::Deed;
 use std::alloc::{AllocError, Global};
 
 /// Where the precondition comes from that a rule gives up, behind so many that give up nothing.
@@ -27,6 +30,7 @@ fn origin_at(rule: usize, own: usize, origins: &[Origin]) -> Option<Origin>
 fn unmet_at(
     alloc: Global,
     twin: &Twin,
+    walk: &mut Planner,
     path: &[u64],
     count: usize,
     origin: Origin,
@@ -35,30 +39,33 @@ fn unmet_at(
     requires search { CanSearch twin.now }
     requires comes { ComesTo twin.now path.now }
     requires within { count ≤ length path.now }
-    ensures { IfOk result (λ u. u ≡ plain.unmet_at twin.now path.now count (Some origin) (ground_of task.now)) }
+    requires live { walk.old.live ≡ true }
+    requires tree { tree_planned walk.old ≡ tree_of twin.now }
+    ensures unmet { IfOk result (λ u. u
+        ≡ plain.unmet_at twin.now path.now count (Some origin) (ground_of task.now)) }
+    ensures tree { tree_planned walk.new ≡ tree_of twin.now }
+    ensures live { OnOk result (walk.new.live ≡ true) }
 {
-    let found = state_on_the_way(
-        alloc, twin.code, twin.pair, twin.depth, twin.nest, path, count,
-    )?;
-    match found {
-        Some(state) => first_unmet(
-            alloc,
-            twin.domain,
-            origin.rule,
-            origin.branch,
-            state.as_slice(),
-            task,
-            twin.nest,
-        ),
-        // The walk to the path comes to a plan.
-        None => unreachable!(),
+    if !is_told_apart(twin.domain, origin.rule, origin.branch) {
+        return Ok(Unmet::None);
     }
+    let state = state_along(alloc, twin, walk, path, count)?;
+    first_unmet(
+        alloc,
+        twin.domain,
+        origin.rule,
+        origin.branch,
+        state.as_slice(),
+        task,
+        twin.nest,
+    )
 }
 
 /// What of the precondition is satisfied that a deed gives up there; where it gives up none, nothing is asked.
 fn unmet_in(
     alloc: Global,
     twin: &Twin,
+    walk: &mut Planner,
     path: &[u64],
     count: usize,
     deed: &Deed,
@@ -66,15 +73,19 @@ fn unmet_in(
     requires search { CanSearch twin.now }
     requires comes { ComesTo twin.now path.now }
     requires within { count ≤ length path.now }
-    ensures { IfOk result (λ u. u ≡ plain.unmet_in twin.now path.now count deed.now) }
+    requires live { walk.old.live ≡ true }
+    requires tree { tree_planned walk.old ≡ tree_of twin.now }
+    ensures unmet { IfOk result (λ u. u ≡ plain.unmet_in twin.now path.now count deed.now) }
+    ensures tree { tree_planned walk.new ≡ tree_of twin.now }
+    ensures live { OnOk result (walk.new.live ≡ true) }
 {
     match origin_at(deed.rule, twin.own, twin.origins) {
-        Some(origin) => unmet_at(alloc, twin, path, count, origin, &deed.task),
+        Some(origin) => unmet_at(alloc, twin, walk, path, count, origin, &deed.task),
         None => Ok(Unmet::None),
     }
 }
 
-/// The same of each deed on the way to a plan, in their order. Each that gives something up takes a walk to the path.
+/// The same of each deed on the way to a plan, in their order, by one walk along it.
 fn unmets(
     alloc: Global,
     twin: &Twin,
@@ -86,9 +97,10 @@ fn unmets(
     requires along { length deeds.now ≤ length path.now }
     ensures { IfOk result (λ v. v.items ≡ unmets_from twin.now path.now 0 deeds.now) }
 {
+    let mut walk = Planner::new(alloc, twin.code, twin.pair, twin.depth, twin.nest)?;
     let mut unmets = Vec::with_capacity(alloc, deeds.len())?;
     for (count, deed) in deeds.iter().enumerate() {
-        let unmet = unmet_in(alloc, twin, path, count, deed)?;
+        let unmet = unmet_in(alloc, twin, &mut walk, path, count, deed)?;
         unmets.push(unmet)?;
     }
     Ok(unmets)
