@@ -4,13 +4,16 @@ ghost use Rattle.hp_out.specs.Writing.{Wrote, sink_run};
 ghost use Rattle.hp_syntax.specs.Views.{pair_of};
 ghost use Rattle.hp_syntax.specs.declared.limits.TheConstants.{GREATEST_DEPTH, MOST_LEVELS};
 ghost use Rattle.hp_doctor.specs.Texts.{texts_of};
-ghost use Rattle.hp_doctor_why.specs.Queries.{IsReady, StopsQuery, TellsQuery, asked_of, files_of, read_problem};
+ghost use Rattle.hp_why.specs.Coded.{AreCodesOf};
+ghost use Rattle.hp_doctor_why.specs.Queries.{IsReady, StopsQuery, TellsQuery, asked_of, files_of};
+ghost use Rattle.hp_doctor_why.specs.Queries.{read_domain, read_problem};
 ghost use Rattle.hp_doctor_why.specs.Told.{StopsAt, TellsPair, TellsWhy};
 
 use crate::saying::{push_header, push_verdict};
 use hp_doctor::{Accepted, Halt, Stop, Texts, accept, refuse, status_told, write};
 use hp_io::Sink;
 use hp_syntax::{Pair, Status};
+use hp_why::{Codes, codes_of, why_with};
 use std::alloc::{AllocError, Global};
 
 /// The files and what is read in them, the depth, and how deep axioms may call one another.
@@ -26,19 +29,23 @@ struct Query<'a> {
 fn pair_text(
     alloc: Global,
     query: &Query,
+    codes: &mut Codes,
     pair: &Pair,
     number: usize,
     count: usize,
 ) -> Result<Vec<u8>, AllocError>
     requires ready { IsReady query.now }
     requires at { (k : ℕ) × (slice_get (read_problem query.now).pairs k ≡ Some (pair_of pair.now)) }
-    ensures { IfOk result (λ v. TellsPair (files_of query.now) (asked_of query.now (pair_of pair.now)) number count
-        v.items) }
+    requires known { AreCodesOf (read_domain query.now) (read_problem query.now) codes.old }
+    ensures tells { IfOk result (λ v. TellsPair (files_of query.now) (asked_of query.now (pair_of pair.now)) number
+        count v.items) }
+    ensures known { OnOk result (AreCodesOf (read_domain query.now) (read_problem query.now) codes.new) }
 {
-    let verdict = hp_why::why(
+    let verdict = why_with(
         alloc,
         &query.read.domain,
         &query.read.problem,
+        codes,
         pair,
         query.depth,
         query.nest,
@@ -53,6 +60,7 @@ fn pair_text(
 fn tell_pair<K: Sink>(
     alloc: Global,
     query: &Query,
+    codes: &mut Codes,
     pair: &Pair,
     number: usize,
     count: usize,
@@ -60,22 +68,30 @@ fn tell_pair<K: Sink>(
 ) -> Result<(), Halt>
     requires ready { IsReady query.now }
     requires at { (k : ℕ) × (slice_get (read_problem query.now).pairs k ≡ Some (pair_of pair.now)) }
+    requires known { AreCodesOf (read_domain query.now) (read_problem query.now) codes.old }
     ensures ok { OnOk result ((text : List ℕ)
         × TellsPair (files_of query.now) (asked_of query.now (pair_of pair.now)) number count text
         × Wrote text (K.bytes out.old) (K.bytes out.new)) }
     ensures err { IfErr result (StopsAt (files_of query.now) (asked_of query.now (pair_of pair.now)) number count
         (sink_run (K.faults out.old) (K.faults out.new) (K.bytes out.old) (K.bytes out.new))) }
     ensures later { K.faults out.old ≤ K.faults out.new }
+    ensures known { OnOk result (AreCodesOf (read_domain query.now) (read_problem query.now) codes.new) }
 {
-    match pair_text(alloc, query, pair, number, count) {
+    match pair_text(alloc, query, codes, pair, number, count) {
         Ok(text) => write(out, text.as_slice()),
         Err(_) => Err(Halt::NoMemory),
     }
 }
 
 /// Writes what is told of each pair, in order.
-fn tell_pairs<K: Sink>(alloc: Global, query: &Query, out: &mut K) -> Result<(), Halt>
-    requires { IsReady query.now }
+fn tell_pairs<K: Sink>(
+    alloc: Global,
+    query: &Query,
+    codes: &mut Codes,
+    out: &mut K,
+) -> Result<(), Halt>
+    requires ready { IsReady query.now }
+    requires known { AreCodesOf (read_domain query.now) (read_problem query.now) codes.old }
     ensures ok { OnOk result (TellsQuery query.now
         (sink_run (K.faults out.old) (K.faults out.new) (K.bytes out.old) (K.bytes out.new))) }
     ensures err { IfErr result (StopsQuery query.now
@@ -85,7 +101,7 @@ fn tell_pairs<K: Sink>(alloc: Global, query: &Query, out: &mut K) -> Result<(), 
     let pairs = query.read.problem.pairs.as_slice();
     let count = pairs.len();
     for (number, pair) in pairs.iter().enumerate() {
-        if let Err(halt) = tell_pair(alloc, query, pair, number + 1, count, out) {
+        if let Err(halt) = tell_pair(alloc, query, codes, pair, number + 1, count, out) {
             return Err(halt);
         }
     }
@@ -98,8 +114,13 @@ fn tell_read<K: Sink>(alloc: Global, query: &Query, out: &mut K) -> Status
         (sink_run (K.faults out.old) (K.faults out.new) (K.bytes out.old) (K.bytes out.new)) }
     ensures later { K.faults out.old ≤ K.faults out.new }
 {
-    let told = tell_pairs(alloc, query, out);
-    status_told(told, Status::Done)
+    match codes_of(alloc, &query.read.domain, &query.read.problem) {
+        Ok(mut known) => {
+            let told = tell_pairs(alloc, query, &mut known, out);
+            status_told(told, Status::Done)
+        }
+        Err(_) => Status::NoMemory,
+    }
 }
 
 /// Reads and checks a domain and a problem as the planner does, and writes of each pair why it has no plan within a

@@ -1,4 +1,5 @@
 //! What is made.
+ghost use Rattle.std.specs.Prelude.{◌≡◌};
 
 use hp_syntax::Domain;
 
@@ -22,5 +23,16 @@ impl Drop for Relaxed {
         let Relaxed { domain, origins } = self;
         drop(domain);
         drop(origins);
+    }
+}
+
+impl Relaxed {
+    /// Where the rules come from that give something up, alone.
+    pub fn into_origins(self) -> Vec<Origin>
+        ensures { result ≡ self.origins }
+    {
+        let Relaxed { domain, origins } = self;
+        drop(domain);
+        origins
     }
 }

@@ -1,2 +1,3 @@
 pub mod Whys
 pub mod Twin
+pub mod Coded

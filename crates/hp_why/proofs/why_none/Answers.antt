@@ -1,60 +1,10 @@
-use Rattle.std.proofs.Common.{ap, refl, sym, subst, ◌∙◌}
-use Rattle.std.specs.List.{All}
-use Rattle.hp_best.specs.Bounded.{is_priced}
-use Rattle.hp_code.specs.Codes.{code_of}
-use Rattle.hp_code.specs.CodeViews.{IsCodeOf}
-use Rattle.hp_relaxed.specs.Giving.{relaxed_rules}
-use Rattle.hp_syntax.specs.Numbered.{IsNumberedRule}
-use Rattle.hp_syntax.specs.Views.{domain_of, pair_of, problem_of}
-use Rattle.hp_syntax.specs.Walk.{root}
-use Rattle.hp_laws.proofs.FaultLemmas.{accepted_is_checked}
-use Rattle.hp_why.specs.Whys.{asked}
-use Rattle.hp_why.proofs.JudgedSteps.{ok_weaker, own_rules}
-use Rattle.hp_why.proofs.NumberedTwins.{relaxed_checked, relaxed_numbered}
-use Rattle.hp_why.proofs.VerdictLemmas.{code_never_falls, search_right}
+use Rattle.std.proofs.Common.{◌≡◌, true, subst}
+use Rattle.std.specs.Prelude.{is_some}
+use Rattle.hp_syntax.specs.Views.{domain_of, problem_of}
+use Rattle.hp_why.specs.Coded.{IsTwinIf}
 use Rattle.hp_why.proofs.why_none.Goals as goal
 
-pub lower-requires-clause-numbered : goal.lower-requires-clause-numbered
-lower-requires-clause-numbered c =
-    subst (All IsNumberedRule) (sym c.in_ok-twin.ensures.rules)
-    (relaxed_numbered (domain_of c.args.domain.now) (problem_of c.args.problem.now) c.requires.numbered)
-
-pub lower-requires-clause-checked : goal.lower-requires-clause-checked
-lower-requires-clause-checked c =
-    relaxed_checked (domain_of c.args.domain.now) (domain_of c.in_ok-twin.twin.domain)
-    (problem_of c.args.problem.now) c.in_ok-twin.ensures.rules c.requires.checked
-
-pub search-requires-clause-search : goal.search-requires-clause-search
-search-requires-clause-search c = record {
-  numbered = c.requires.numbered;
-  checked =
-      accepted_is_checked (domain_of c.args.domain.now) (problem_of c.args.problem.now) c.requires.checked;
-  pair = c.requires.pair;
-  depth = c.requires.depth;
-  nest = c.requires.nest;
-}
-
-pub search-requires-clause-falls : goal.search-requires-clause-falls
-search-requires-clause-falls c = λ e.
-    let d = domain_of c.args.domain.now in
-    let rules = relaxed_rules d (problem_of c.args.problem.now) in
-    code_never_falls rules (code_of c.in_ok-code.code) c.args.nest (root (pair_of c.args.pair.now) c.args.depth)
-    (subst (λ rs. IsCodeOf rs (code_of c.in_ok-code.code)) c.in_ok-twin.ensures.rules c.in_ok-code.ensures)
-    (sym (c.priced.ensures ∙ ap is_priced c.in_ok-twin.ensures.rules) ∙ e)
-
-pub returns : goal.returns
-returns c =
-    let d = domain_of c.args.domain.now in
-    let p = problem_of c.args.problem.now in
-    let a = asked d p (pair_of c.args.pair.now) c.args.depth c.args.nest in
-    ok_weaker _ _ c.search.result c.search.ensures (λ v h. search_right h a c.requires.contained c.requires.unplanned
-    (record {
-      domain = refl;
-      code = subst (λ rs. IsCodeOf rs (code_of c.in_ok-code.code)) c.in_ok-twin.ensures.rules c.in_ok-code.ensures;
-      origins = c.as_slice.ensures.value ∙ c.in_ok-twin.ensures.origins;
-      own = own_rules c.args.domain.now c.len.result c.len.ensures;
-      pair = refl;
-      depth = refl;
-      nest = refl;
-    })
-    (c.priced.ensures ∙ ap is_priced c.in_ok-twin.ensures.rules))
+pub why_by-requires-clause-twin : goal.why_by-requires-clause-twin
+why_by-requires-clause-twin c =
+    subst (IsTwinIf (domain_of c.args.domain.now) (problem_of c.args.problem.now)) c.in-Some.is
+    c.in_ok-know_twin.ensures.known.twin

@@ -13,6 +13,7 @@ loop-number-init g c =
       told =
           none_told (files_of q) (read_domain q) (read_problem q) q.depth q.nest (g.K.Sink.bytes c.args.out.now);
       later = omega arith;
+      known = c.requires.known;
     }
 
 pub tell_pair-requires-clause-at : goal.tell_pair-requires-clause-at
@@ -44,6 +45,7 @@ loop-number-preserved g c =
           (count_is c.as_slice-pairs.result.now q.read.now.problem.pairs.items (length c.as_slice-pairs.result.now) refl
           c.as_slice-pairs.ensures.value) c.in_default.ensures.ok);
       later = omega arith;
+      known = c.in_default.ensures.known;
     }
 
 -- or the telling stopped there

@@ -2,11 +2,16 @@ use Rattle.std.proofs.Common.{subst, sym}
 use Rattle.hp_out.specs.Writing.{sink_run}
 use Rattle.hp_doctor_why.specs.Queries.{files_of, read_domain, read_problem}
 use Rattle.hp_doctor_why.specs.Told.{TellsWhy}
-use Rattle.hp_doctor_why.proofs.PairSteps.{why_told}
+use Rattle.hp_doctor_why.proofs.PairSteps.{accepted_numbered, why_told}
 use Rattle.hp_doctor_why.proofs.telling.tell_read.Goals as goal
 
-pub returns-clause-tells : goal.returns-clause-tells
-returns-clause-tells g c =
+pub codes_of-requires-clause-numbered : goal.codes_of-requires-clause-numbered
+codes_of-requires-clause-numbered g c =
+    let q = c.args.query.now in
+    accepted_numbered (files_of q) (read_domain q) (read_problem q) c.requires.accepted
+
+pub returns-in-Ok-clause-tells : goal.returns-in-Ok-clause-tells
+returns-in-Ok-clause-tells g c =
     let q = c.args.query.now in
     let told = c.tell_pairs-told in
     subst

@@ -10,5 +10,5 @@ pub returns : goal.returns
 returns c =
     c.in_ok-walked.ensures.answer
     ∙ ap (λ vs. shallow_end (first_end vs).ending)
-    (code_visits (domain_of c.args.domain.now).rules (code_of c.in_ok-code.code) c.args.nest
-    (root (pair_of c.args.pair.now) c.args.depth) c.in_ok-code.ensures)
+    (code_visits (domain_of c.args.domain.now).rules (code_of c.args.code.now) c.args.nest
+    (root (pair_of c.args.pair.now) c.args.depth) c.requires.code)
