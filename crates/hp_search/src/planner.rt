@@ -118,6 +118,24 @@ impl<'a> Planner<'a> {
         Ok(())
     }
 
+    /// Walks the tree of the same root once more, as `begin_again` does, from wherever the walk stands. Terms that the
+    /// root's successors asked for may stay.
+    pub fn restart(&mut self, depth: u32) -> Result<(), AllocError>
+        requires live { self.old.live ≡ true }
+        requires cost { (tree_planned self.old).root.cost ≡ pos 0 }
+        requires depth { depth ≤ GREATEST_DEPTH }
+        ensures tree { OnOk result (tree_planned self.new ≡ with_depth depth (tree_planned self.old)) }
+        ensures stands { OnOk result (stands_planned self.new
+            ≡ standing [] (tree_visits (with_depth depth (tree_planned self.old))) false) }
+        ensures live { OnOk result (self.new.live ≡ true) }
+        ensures dead { OnErr result (self.new.live ≡ false) }
+    {
+        self.live = false;
+        self.search.restart(&mut self.rooms, depth)?;
+        self.live = true;
+        Ok(())
+    }
+
     /// The network of the node reached, with its focus. Its pasts at the moments of the path are the networks of the
     /// nodes on the path, as those of the world are their states and protections.
     pub fn net(&self) -> &Net

@@ -98,6 +98,30 @@ impl<'a> Search<'a> {
         Ok(())
     }
 
+    // Goes back to the root, whatever is left at the nodes on the way.
+    fn rise_to_root(&mut self, rooms: &mut Rooms)
+        requires search { IsSearch self.old }
+        ensures search { IsSearch self.new }
+        ensures tree { tree_in self.new ≡ tree_in self.old }
+        ensures root { (stands_in self.new).path ≡ [] }
+    {
+        while let Some(frame) = self.above.pop() {
+            self.rise(rooms, frame);
+        }
+    }
+
+    /// Begins again at the root, as `begin_again` does, from wherever it stands.
+    pub(crate) fn restart(&mut self, rooms: &mut Rooms, depth: u32) -> Result<(), AllocError>
+        requires search { IsSearch self.old }
+        requires cost { (tree_in self.old).root.cost ≡ pos 0 }
+        requires depth { depth ≤ GREATEST_DEPTH }
+        ensures begins { OnOk result (BeginsAt (rules_in_search self.old) self.old.nest
+            (record (tree_in self.old).root { depth = depth }) self.new) }
+    {
+        self.rise_to_root(rooms);
+        self.begin_again(rooms, depth)
+    }
+
     // Nothing more comes at the node reached: what was made for its successors is given back.
     fn rest(&mut self)
         requires some { 0 < self.old.top.base }
