@@ -156,6 +156,7 @@ fn go_on<W: Walk>(
     ensures turned { IfOk result (λ end. (known : Known) → Knows best.old counts.old known
         → Turned priced end best.new counts.new known (W.stands walk.old).rest (W.stands walk.new).rest) }
     ensures at { OnOk result (All (IsAtItsNode (W.tree walk.new)) (W.stands walk.new).rest) }
+    ensures tree { W.tree walk.new ≡ W.tree walk.old }
     ensures live { OnOk result (W.is_live walk.new ≡ true) }
 {
     match walk.next()? {
@@ -189,6 +190,8 @@ pub fn best<W: Walk>(alloc: Global, walk: &mut W, priced: bool) -> Result<Found,
     ensures found { IfOk result (λ f. IsFound priced f (tree_visits (W.tree walk.old))) }
     ensures cheapest { IfOk result (λ f. All (λ v. IsFaultless v.sight) (tree_visits (W.tree walk.old))
         → IsCheapestOf f.best (tree_visits (W.tree walk.old))) }
+    ensures tree { W.tree walk.new ≡ W.tree walk.old }
+    ensures live { OnOk result (W.is_live walk.new ≡ true) }
 {
     let mut best = None;
     let mut counts = Counts {

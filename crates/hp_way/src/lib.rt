@@ -5,4 +5,4 @@ mod states;
 mod ways;
 
 pub use states::state_on_the_way;
-pub use ways::{Deed, Way, way_to};
+pub use ways::{Deed, Way, way_by, way_to};

@@ -1,5 +1,5 @@
 //! The decompositions on the way to a plan.
-ghost use Rattle.std.specs.Prelude.{◌≡◌, ◌+◌, ◌-◌, ◌<◌, ◌≤◌, ◌^◌, true, IfOk, length, map};
+ghost use Rattle.std.specs.Prelude.{◌≡◌, ◌+◌, ◌-◌, ◌<◌, ◌≤◌, ◌^◌, true, IfOk, OnOk, length, map};
 ghost use Rattle.std.specs.List.{All};
 ghost use Rattle.hp_code.specs.CodeViews.{rules_in};
 ghost use Rattle.hp_code.specs.Codes.{code_of};
@@ -105,13 +105,16 @@ fn deeds_of(alloc: Global, planner: &Planner<'_>) -> Result<Vec<Deed>, AllocErro
     Ok(deeds)
 }
 
-/// What stands at a path of the tree of a new walk.
-fn way_of(alloc: Global, planner: &mut Planner<'_>, path: &[u64]) -> Result<Way, AllocError>
+/// What stands at a path of the tree of a walk that has all its visits left, as a new one has. After an error the walk
+/// may be used no more.
+pub fn way_by(alloc: Global, planner: &mut Planner<'_>, path: &[u64]) -> Result<Way, AllocError>
     requires live { planner.old.live ≡ true }
     requires new { (stands_planned planner.old).rest ≡ tree_visits (tree_planned planner.old) }
     requires small { All (λ i. i < 2 ^ 64 - 1) path.now }
-    ensures { IfOk result (λ w. IsWay (tree_planned planner.old).rules (tree_planned planner.old).nest
+    ensures way { IfOk result (λ w. IsWay (tree_planned planner.old).rules (tree_planned planner.old).nest
         (tree_planned planner.old).root path.now w) }
+    ensures tree { tree_planned planner.new ≡ tree_planned planner.old }
+    ensures live { OnOk result (planner.new.live ≡ true) }
 {
     let arrival = reach(planner, path)?;
     match arrival.answer {
@@ -141,5 +144,5 @@ pub fn way_to(
     ensures { IfOk result (λ w. IsWay (rules_in (code_of code.now)) nest (root (pair_of pair.now) depth) path.now w) }
 {
     let mut planner = Planner::new(alloc, code, pair, depth, nest)?;
-    way_of(alloc, &mut planner, path)
+    way_by(alloc, &mut planner, path)
 }

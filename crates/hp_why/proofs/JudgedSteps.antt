@@ -1,13 +1,13 @@
 -- What is answered, step by step.
-use Rattle.std.proofs.Common.{◌≡◌, ℕ, ◌<◌, Bool, true, false, ◌&&◌, List, [], ◌∷◌, length, map, Option, Some, None, Result, Ok, Err, IfOk, MatchOption, refl, sym, ◌∙◌, ap}
-use Rattle.std.specs.Prelude.{nat_lt, zip}
+use Rattle.std.proofs.Common.{◌≡◌, ℕ, ◌<◌, Bool, true, false, ◌&&◌, List, [], ◌∷◌, length, map, Option, Some, None, Result, Ok, Err, IfOk, MatchOption, refl, sym, subst, ◌∙◌, ap}
+use Rattle.std.specs.Prelude.{nat_lt, pos, zip}
 use Rattle.std.specs.List.{All, list_all, filter_map}
 use Rattle.std.proofs.lemmas.Bool.Decides.{nat_tests}
 use Rattle.std.proofs.lemmas.List.Elements.{All-nil, All-cons, All-head, All-tail}
 use Rattle.std.proofs.Common.{arith}
 use Rattle.hp_net.specs.Standings.{Tree, Standing, standing, tree_visits}
 use Rattle.hp_syntax.specs.Syntax.{Rule}
-use Rattle.hp_syntax.specs.Walk.{Node}
+use Rattle.hp_syntax.specs.Walk.{Node, root}
 use Rattle.hp_after.specs.declared.reaching.Reached.TheVariants as reached
 use Rattle.hp_after.specs.Reach.{reaching}
 use Rattle.hp_syntax.specs.Views.{domain_of}
@@ -15,9 +15,11 @@ use Rattle.hp_syntax.specs.declared.domain.Domain.{Domain}
 use Rattle.std.proofs.Common.{vec_len}
 use Rattle.std.proofs.lemmas.Grind.{common_steps}
 use Rattle.hp_syntax.specs.declared.fault.RunFault.{RunFault}
+use Rattle.hp_search.specs.Planned.{with_depth}
 use Rattle.hp_way.specs.declared.ways.Deed as held
+use Rattle.hp_way.specs.declared.ways.Way.{Way}
 use Rattle.std.proofs.lemmas.List.{length-map}
-use Rattle.hp_way.specs.Ways.{Deed, LeadAlong, Here, Through, LeadToPlan, deed_of}
+use Rattle.hp_way.specs.Ways.{Deed, IsWay, LeadAlong, Here, Through, LeadToPlan, deed_of}
 use Rattle.hp_why.specs.declared.twin.Twin.{Twin}
 use Rattle.hp_why.specs.declared.verdict.Reason as code
 use Rattle.hp_why.specs.Twin.{IsExact, IsMissed, OnWay, reason_in, tree_of, unmets_from, visits_of}
@@ -98,6 +100,23 @@ ok_weaker P Q (Err e) p f = tt
 pub all_left_at : (t : Twin) (u : Tree) (s : Standing) → u ≡ tree_of t → s ≡ standing [] (visits_of t) false
     → s.rest ≡ tree_visits u
 all_left_at t u s tree stands = ap (λ (z : Standing). z.rest) stands ∙ sym (ap tree_visits tree)
+
+-- at its root nothing has cost anything
+pub free_root : (t : Twin) → (tree_of t).root.cost ≡ pos 0
+unfolding root
+free_root t = refl
+
+-- at the depth of a twin its tree is itself
+pub own_depth : (t : Twin) (u : Tree) → u ≡ tree_of t → with_depth t.depth u ≡ tree_of t
+unfolding root
+own_depth t u e = ap (with_depth t.depth) e
+
+-- what stands at a path of a tree that is a twin's
+pub way_on : (t : Twin) (u : Tree) (p : List ℕ) (v w : Way) → v ≡ w → u ≡ tree_of t
+    → IsWay u.rules u.nest u.root p v → IsWay (tree_of t).rules t.nest (tree_of t).root p w
+way_on t u p v w is same h =
+    subst (IsWay (tree_of t).rules t.nest (tree_of t).root p) is
+    (subst (λ (z : Tree). IsWay z.rules z.nest z.root p v) same h)
 
 pub match_weaker : {A : Type 0} (o : Option A) (P Q : A → Type 0) → MatchOption o ⊥ P → ((x : A) → P x → Q x)
     → MatchOption o ⊥ Q

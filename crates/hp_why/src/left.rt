@@ -7,11 +7,11 @@ ghost use Rattle.hp_search.specs.Planned.{stands_planned, tree_planned};
 ghost use Rattle.hp_syntax.specs.GroundViews.{ground_of};
 ghost use Rattle.hp_syntax.specs.Terms.{Term};
 ghost use Rattle.hp_world.specs.Stages.{AllBelow, terms_at};
-ghost use Rattle.hp_why.specs.Twin.{CanSearch, Looked, visits_of};
+ghost use Rattle.hp_why.specs.Twin.{CanSearch, Looked, tree_of, visits_of};
 ghost use Rattle.hp_why.specs.Whys as plain;
 ghost use Rattle.hp_why.specs.Whys.{first_cut, tasks_next, terms_of};
 
-use crate::twin::Twin;
+use crate::twin::{Twin, restart};
 use hp_best::to_grounds;
 use hp_cells::Cell;
 use hp_net::laws::tasks_have_places;
@@ -81,13 +81,19 @@ fn tasks_there(alloc: Global, walk: &Planner) -> Result<Vec<Ground>, AllocError>
 
 /// The tasks that could have been done next at the first cut of a twin's tree, where it has one and no fault stands
 /// before it.
-pub fn first_left(alloc: Global, twin: &Twin) -> Result<Option<Vec<Ground>>, AllocError>
-    requires { CanSearch twin.now }
+pub fn first_left(
+    alloc: Global,
+    twin: &Twin,
+    walk: &mut Planner,
+) -> Result<Option<Vec<Ground>>, AllocError>
+    requires search { CanSearch twin.now }
+    requires live { walk.old.live ≡ true }
+    requires tree { tree_planned walk.old ≡ tree_of twin.now }
     ensures { IfOk result (λ left. terms_of left ≡ option_map plain.next_tasks (first_cut (visits_of twin.now))) }
 {
-    let mut walk = Planner::new(alloc, twin.code, twin.pair, twin.depth, twin.nest)?;
-    if to_first_cut(&mut walk)? {
-        let tasks = tasks_there(alloc, &walk)?;
+    restart(twin, walk)?;
+    if to_first_cut(walk)? {
+        let tasks = tasks_there(alloc, walk)?;
         Ok(Some(tasks))
     } else {
         Ok(None)

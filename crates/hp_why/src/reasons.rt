@@ -7,7 +7,7 @@ ghost use Rattle.hp_why.specs.Twin as plain;
 ghost use Rattle.hp_why.specs.Twin.{CanSearch, ComesTo, tree_of, unmets_from};
 
 use crate::along::state_along;
-use crate::twin::Twin;
+use crate::twin::{Twin, restart};
 use crate::verdict::Reason;
 use hp_relaxed::Origin;
 use hp_search::Planner;
@@ -85,22 +85,25 @@ fn unmet_in(
     }
 }
 
-/// The same of each deed on the way to a plan, in their order, by one walk along it.
+/// The same of each deed on the way to a plan, in their order, by one walk along it from the root on.
 fn unmets(
     alloc: Global,
     twin: &Twin,
+    walk: &mut Planner,
     path: &[u64],
     deeds: &[Deed],
 ) -> Result<Vec<Unmet>, AllocError>
     requires search { CanSearch twin.now }
     requires comes { ComesTo twin.now path.now }
     requires along { length deeds.now ≤ length path.now }
+    requires live { walk.old.live ≡ true }
+    requires tree { tree_planned walk.old ≡ tree_of twin.now }
     ensures { IfOk result (λ v. v.items ≡ unmets_from twin.now path.now 0 deeds.now) }
 {
-    let mut walk = Planner::new(alloc, twin.code, twin.pair, twin.depth, twin.nest)?;
+    restart(twin, walk)?;
     let mut unmets = Vec::with_capacity(alloc, deeds.len())?;
     for (count, deed) in deeds.iter().enumerate() {
-        let unmet = unmet_in(alloc, twin, &mut walk, path, count, deed)?;
+        let unmet = unmet_in(alloc, twin, walk, path, count, deed)?;
         unmets.push(unmet)?;
     }
     Ok(unmets)
@@ -144,15 +147,18 @@ fn reasons_with(
 pub fn reasons(
     alloc: Global,
     twin: &Twin,
+    walk: &mut Planner,
     path: &[u64],
     deeds: Vec<Deed>,
 ) -> Result<Vec<Reason>, AllocError>
     requires search { CanSearch twin.now }
     requires comes { ComesTo twin.now path.now }
     requires along { length deeds.items ≤ length path.now }
+    requires live { walk.old.live ≡ true }
+    requires tree { tree_planned walk.old ≡ tree_of twin.now }
     ensures { IfOk result (λ v. v.items ≡ filter_map (plain.reason_in twin.now.own twin.now.origins.now)
         (zip deeds.items (unmets_from twin.now path.now 0 deeds.items))) }
 {
-    let unmets = unmets(alloc, twin, path, deeds.as_slice())?;
+    let unmets = unmets(alloc, twin, walk, path, deeds.as_slice())?;
     reasons_with(alloc, deeds, unmets, twin.own, twin.origins)
 }

@@ -1,5 +1,4 @@
-use Rattle.std.proofs.Common.{◌≡◌, true, subst}
-use Rattle.std.specs.Prelude.{is_some}
+use Rattle.std.proofs.Common.{subst}
 use Rattle.hp_syntax.specs.Views.{domain_of, problem_of}
 use Rattle.hp_why.specs.Coded.{IsTwinIf}
 use Rattle.hp_why.proofs.why_none.Goals as goal

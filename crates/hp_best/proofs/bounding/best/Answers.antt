@@ -1,4 +1,4 @@
-use Rattle.std.proofs.Common.{refl, subst}
+use Rattle.std.proofs.Common.{◌∙◌, refl, subst}
 use Rattle.hp_net.specs.Standings.{tree_visits}
 use Rattle.hp_best.proofs.Cheapest.{at_nodes, found_cheapest, search_found, searched_from, searched_on}
 use Rattle.hp_best.specs.Searching.{Known, Knows, Turned}
@@ -10,6 +10,7 @@ loop-best-init g c =
     record {
       searched = searched_from c.args.priced _ t _ c.requires.new
           (record { plans = refl; expansions = refl; is_cut = refl });
+      tree = refl;
       live = c.requires.live;
       at = at_nodes t (g.W.Walk.stands c.args.walk.now).rest c.requires.new;
     }
@@ -25,6 +26,7 @@ loop-best-preserved g c =
           (subst (λ o. (k : Known) → Knows c.loop-best.best c.loop-best.counts k
           → Turned c.args.priced o c.go_on.new.best c.go_on.new.counts k s.rest t.rest) c.in_default.is
           c.in_ok-ending.ensures.turned);
+      tree = c.go_on.ensures.tree ∙ c.loop-best.invariant.tree;
       live = c.in_ok-ending.ensures.live;
       at = c.in_ok-ending.ensures.at;
     }

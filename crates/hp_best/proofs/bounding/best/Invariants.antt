@@ -8,6 +8,7 @@ abbrev pub invariant-loop-best : goal.invariant-loop-best
 invariant-loop-best g l = record {
   searched :
       Searched l.fn.priced l.best l.counts (tree_visits (g.W.Walk.tree l.fn.walk)) (g.W.Walk.stands l.walk).rest;
+  tree : g.W.Walk.tree l.walk ≡ g.W.Walk.tree l.fn.walk;
   live : g.W.Walk.is_live l.walk ≡ true;
   at : All (IsAtItsNode (g.W.Walk.tree l.walk)) (g.W.Walk.stands l.walk).rest;
 }
