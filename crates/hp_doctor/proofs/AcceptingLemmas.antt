@@ -8,6 +8,9 @@ use Rattle.hp_syntax.specs.Forest.{Forest, IsForest}
 use Rattle.hp_syntax.specs.Grammar.{domain_form, problem_form}
 use Rattle.hp_syntax.specs.Syntax.{Domain, Problem}
 use Rattle.hp_syntax.specs.TextForms.{Form}
+use Rattle.hp_forms.specs.Files.{RefusesFile}
+use Rattle.hp_forms.specs.declared.texts.FileRefusal.{FileRefusal}
+use Rattle.hp_forms.specs.declared.texts.FileRefusal.TheVariants as files
 use Rattle.hp_terms.specs.FormReads.{Refuses}
 use Rattle.hp_terms.specs.declared.refusal.FormRefusal.{FormRefusal}
 use Rattle.hp_terms.specs.declared.refusal.FormRefusal.TheVariants as forms
@@ -16,7 +19,7 @@ use Rattle.hp_text.specs.declared.forest.TextRefusal.{TextRefusal}
 use Rattle.hp_text.specs.declared.forest.TextRefusal.TheVariants as reads
 use Rattle.hp_doctor.specs.declared.accepting.Stop.{Stop}
 use Rattle.hp_doctor.specs.declared.accepting.Stop.TheVariants as stops
-use Rattle.hp_doctor.specs.Accepting.{ByText, ByForm, Has, OfChecks, OfProblem, StopBoth, Stops, StopsAtCheck, faults, of_text, of_form}
+use Rattle.hp_doctor.specs.Accepting.{ByText, ByForm, Has, OfChecks, OfProblem, StopBoth, Stops, StopsAtCheck, faults, of_file, of_text, of_form}
 use Rattle.hp_doctor.specs.Texts.{Texts}
 
 module _ {A : Type 0} (which : Input) (form : Form A) where
@@ -31,6 +34,12 @@ module _ {A : Type 0} (which : Input) (form : Form A) where
       → Refuses e (form (length text) f) → Stops which form (Some text) (of_form which e)
   form_stops text f (forms.Expected what span) s r = ByForm f what span s r refl
   form_stops text f forms.NoMemory s r = tt
+
+  -- and so does either
+  pub file_stops : (text : List ℕ) (e : FileRefusal) → RefusesFile form text e
+      → Stops which form (Some text) (of_file which e)
+  file_stops text (files.Text refusal) r = text_stops text refusal r
+  file_stops text (files.Form refusal) r = form_stops text r.0 refusal r.1 r.2
 
 module _ (t : Texts) (d : Domain) (read : Has domain_form t.domain.text d) where
   -- a problem that isn't read behind its domain stops both

@@ -18,6 +18,8 @@ use Rattle.hp_syntax.specs.Refusal.{IsRefused}
 use Rattle.hp_syntax.specs.Steps.{Expected}
 use Rattle.hp_syntax.specs.Syntax.{Domain, Problem}
 use Rattle.hp_syntax.specs.TextForms.{Form, IsRead}
+use Rattle.hp_forms.specs.declared.texts.FileRefusal.{FileRefusal}
+use Rattle.hp_forms.specs.declared.texts.FileRefusal.TheVariants as files
 use Rattle.hp_terms.specs.declared.refusal.FormRefusal.{FormRefusal}
 use Rattle.hp_terms.specs.declared.refusal.FormRefusal.TheVariants as forms
 use Rattle.hp_text.specs.declared.forest.TextRefusal.{TextRefusal}
@@ -92,6 +94,11 @@ of_text which reads.NoMemory = stops.NoMemory
 abbrev pub of_form : Input → FormRefusal → Stop
 of_form which (forms.Expected what span) = stops.Refused (refusals.Form which what span)
 of_form which forms.NoMemory = stops.NoMemory
+
+-- why a text is neither, by either
+abbrev pub of_file : Input → FileRefusal → Stop
+of_file which (files.Text refusal) = of_text which refusal
+of_file which (files.Form refusal) = of_form which refusal
 
 -- a file isn't read for this reason; without memory nothing is known
 abbrev pub Stops : {A : Type 0} → Input → Form A → Option (List ℕ) → Stop → Type 0

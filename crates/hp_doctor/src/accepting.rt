@@ -2,7 +2,7 @@
 
 ghost use Rattle.std.specs.Prelude.{◌≡◌, ℕ, IfErr, IfOk, List, None, Some, map};
 ghost use Rattle.hp_io.specs.declared.folder.Input.TheVariants as inputs;
-ghost use Rattle.hp_doctor.specs.Accepting.{Has, IsAccepted, StopBoth, Stops, StopsAtCheck, faults, of_form, of_text};
+ghost use Rattle.hp_doctor.specs.Accepting.{Has, IsAccepted, StopBoth, Stops, StopsAtCheck, faults, of_file, of_form, of_text};
 ghost use Rattle.hp_doctor.specs.Accepting.{refused_status, refusal_status};
 ghost use Rattle.hp_doctor.specs.Mending.{steps_form};
 ghost use Rattle.hp_doctor.specs.Texts.{file_of, texts_of};
@@ -16,7 +16,7 @@ ghost use Rattle.hp_text.specs.Nodes.{forest_of};
 
 use crate::texts::{Text, Texts};
 use hp_check::first_fault;
-use hp_forms::{FormRefusal, into_domain, into_problem, plan_steps};
+use hp_forms::{FileRefusal, FormRefusal, plan_steps, read_domain, read_problem};
 use hp_io::Input;
 use hp_out::{Refusal, text_of};
 use hp_syntax::{Domain, Ground, Problem, Status};
@@ -89,17 +89,24 @@ fn of_form(which: Input, refusal: FormRefusal) -> Stop
     }
 }
 
+/// Why a text isn't read that is refused, or of which the forest has no form.
+fn of_file(which: Input, refusal: FileRefusal) -> Stop
+    ensures { result ≡ of_file which refusal }
+{
+    match refusal {
+        FileRefusal::Text(refusal) => of_text(which, refusal),
+        FileRefusal::Form(refusal) => of_form(which, refusal),
+    }
+}
+
 /// The domain that a text is.
 pub fn domain_in(alloc: Global, text: &[u8]) -> Result<Domain, Stop>
     ensures domain { IfOk result (λ d. IsRead domain_form text.now (domain_of d)) }
     ensures stops { IfErr result (Stops inputs.Domain domain_form (Some text.now)) }
 {
-    match read(alloc, text) {
-        Ok(forest) => match into_domain(alloc, forest) {
-            Ok(domain) => Ok(domain),
-            Err(refusal) => Err(of_form(Input::Domain, refusal)),
-        },
-        Err(refusal) => Err(of_text(Input::Domain, refusal)),
+    match read_domain(alloc, text) {
+        Ok(domain) => Ok(domain),
+        Err(refusal) => Err(of_file(Input::Domain, refusal)),
     }
 }
 
@@ -108,12 +115,9 @@ pub fn problem_in(alloc: Global, text: &[u8]) -> Result<Problem, Stop>
     ensures problem { IfOk result (λ p. IsRead problem_form text.now (problem_of p)) }
     ensures stops { IfErr result (Stops inputs.Problem problem_form (Some text.now)) }
 {
-    match read(alloc, text) {
-        Ok(forest) => match into_problem(alloc, forest) {
-            Ok(problem) => Ok(problem),
-            Err(refusal) => Err(of_form(Input::Problem, refusal)),
-        },
-        Err(refusal) => Err(of_text(Input::Problem, refusal)),
+    match read_problem(alloc, text) {
+        Ok(problem) => Ok(problem),
+        Err(refusal) => Err(of_file(Input::Problem, refusal)),
     }
 }
 
