@@ -35,7 +35,7 @@ module _ {A : Type 0} (which : Input) (form : Form A) where
   form_stops text f (forms.Expected what span) s r = ByForm f what span s r refl
   form_stops text f forms.NoMemory s r = tt
 
-  -- and so does either
+  -- and so does a refusal of either kind
   pub file_stops : (text : List ℕ) (e : FileRefusal) → RefusesFile form text e
       → Stops which form (Some text) (of_file which e)
   file_stops text (files.Text refusal) r = text_stops text refusal r

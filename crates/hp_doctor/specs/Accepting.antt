@@ -95,7 +95,7 @@ abbrev pub of_form : Input → FormRefusal → Stop
 of_form which (forms.Expected what span) = stops.Refused (refusals.Form which what span)
 of_form which forms.NoMemory = stops.NoMemory
 
--- why a text is neither, by either
+-- why a text isn't read that is refused, or of which the forest has no form
 abbrev pub of_file : Input → FileRefusal → Stop
 of_file which (files.Text refusal) = of_text which refusal
 of_file which (files.Form refusal) = of_form which refusal
