@@ -10,3 +10,10 @@ pub mod ConcludedLemmas
 pub mod GivenLemmas
 pub mod GivingLemmas
 pub mod CheckedLemmas
+pub mod KeptChildren
+pub mod KeptVisits
+pub mod PlaceLemmas
+pub mod KeptPlaces
+pub mod OmittedLemmas
+pub mod OwedNodes
+pub mod QuietParts

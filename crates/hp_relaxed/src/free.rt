@@ -1,11 +1,14 @@
 //! Rules by which nothing is paid.
-ghost use Rattle.std.specs.Prelude.{◌≡◌, IfOk, map, pos};
+ghost use Rattle.std.specs.Prelude.{◌≡◌, ◌∷◌, ◌++◌, [], IfOk, OnOk, map, pos};
 ghost use Rattle.hp_syntax.specs.Syntax as syntax;
 ghost use Rattle.hp_syntax.specs.Views.{pattern_of, operator_of, rule_of};
 ghost use Rattle.hp_relaxed.specs.GivingViews.{free_operator, times_nothing};
+ghost use Rattle.hp_relaxed.specs.Keeping.{kept};
+ghost use Rattle.hp_relaxed.specs.KeepingViews.{omits};
 ghost use Rattle.hp_relaxed.specs.Twins.{free_cost, free_rule};
 
 use crate::copies::{copy_axiom, copy_method, copy_operator_with, copy_precondition};
+use crate::omitted::Omitted;
 use hp_syntax::{Name, Operator, Pat, PatKind, Rule, Span};
 use std::alloc::{AllocError, Global};
 
@@ -62,13 +65,30 @@ fn free_rule(alloc: Global, rule: &Rule) -> Result<Rule, AllocError>
     })
 }
 
-/// The rules by which nothing is paid.
-pub fn free_rules(alloc: Global, rules: &[Rule]) -> Result<Vec<Rule>, AllocError>
-    ensures { IfOk result (λ free. map rule_of free.items ≡ map free_rule (map rule_of rules.now)) }
+/// Adds a rule for nothing, where it is kept.
+fn push_free(
+    free: &mut Vec<Rule>,
+    alloc: Global,
+    omitted: &Omitted,
+    rule: &Rule,
+) -> Result<(), AllocError>
+    ensures { OnOk result (map rule_of free.new.items ≡ map rule_of free.old.items
+        ++ map free_rule (kept (omits omitted.now) (rule_of rule.now ∷ []))) }
 {
-    let mut free = Vec::with_capacity(alloc, rules.len())?;
-    for rule in rules {
+    if omitted.keeps(rule) {
         free.push(free_rule(alloc, rule)?)?;
+    }
+    Ok(())
+}
+
+/// The rules that are kept, by which nothing is paid.
+pub fn free_rules(alloc: Global, omitted: &Omitted, rules: &[Rule]) -> Result<Vec<Rule>, AllocError>
+    ensures { IfOk result (λ free. map rule_of free.items
+        ≡ map free_rule (kept (omits omitted.now) (map rule_of rules.now))) }
+{
+    let mut free = Vec::new(alloc);
+    for rule in rules {
+        push_free(&mut free, alloc, omitted, rule)?;
     }
     Ok(free)
 }

@@ -12,15 +12,20 @@ pub struct Origin {
 }
 
 /// A twin of a domain: the domain's rules for nothing, the rules that give up a precondition for a price, and the one
-/// by which methods pay it. `origins` tells of the rules in the middle where they come from.
+/// by which methods pay it. Of the first there are `own`, and `origins` tells of the second where they come from.
 pub struct Relaxed {
     pub domain: Domain,
+    pub own: usize,
     pub origins: Vec<Origin>,
 }
 
 impl Drop for Relaxed {
     fn drop(self) {
-        let Relaxed { domain, origins } = self;
+        let Relaxed {
+            domain,
+            own: _,
+            origins,
+        } = self;
         drop(domain);
         drop(origins);
     }
@@ -31,7 +36,11 @@ impl Relaxed {
     pub fn into_origins(self) -> Vec<Origin>
         ensures { result ≡ self.origins }
     {
-        let Relaxed { domain, origins } = self;
+        let Relaxed {
+            domain,
+            own: _,
+            origins,
+        } = self;
         drop(domain);
         origins
     }

@@ -6,10 +6,13 @@ ghost use Rattle.hp_lint.specs.LintViews.{Counted};
 ghost use Rattle.hp_lint.specs.declared.uses.Use.{Use};
 ghost use Rattle.hp_relaxed.specs.Giving as plain;
 ghost use Rattle.hp_relaxed.specs.GivingViews.{lent_expressions, rules_of, Gives};
+ghost use Rattle.hp_relaxed.specs.Keeping.{all_kept_giving_up, kept_giving_up, kept_origins, kept_rule_origins};
+ghost use Rattle.hp_relaxed.specs.KeepingViews.{omits};
 
 use crate::concluded::Concluded;
 use crate::copies::{copy_label, copy_names, copy_operator_with};
 use crate::given::{Origin, Relaxed};
+use crate::omitted::Omitted;
 use crate::staying::{body_of, needed_by, parts_of, staying, with_parts};
 use crate::toll::{price_at, toll_task};
 use hp_lint::{Counts, Use, Uses, bound_by_head};
@@ -172,15 +175,17 @@ fn method_with(
 }
 
 impl Given {
-    /// A domain of these rules.
-    pub fn named(self, name: Name) -> Relaxed
+    /// A domain of these rules, of which so many give up nothing.
+    pub fn named(self, name: Name, own: usize) -> Relaxed
         ensures name { result.domain.name ≡ name }
         ensures rules { result.domain.rules ≡ self.rules }
+        ensures own { result.own ≡ own }
         ensures origins { result.origins ≡ self.origins }
     {
         let Given { rules, origins } = self;
         Relaxed {
             domain: Domain { name, rules },
+            own,
             origins,
         }
     }
@@ -285,7 +290,8 @@ impl Given {
         ensures { OnOk result (Gives
             (flat_map (plain.branch_giving_up (rules_of concluded.now) toll.now (method_of method.now))
             (map branch_of branches.now))
-            (plain.branch_origins (rules_of concluded.now) rule (atom_of method.now.head) 0 (map branch_of branches.now))
+            (plain.branch_origins (rules_of concluded.now) rule (atom_of method.now.head) 0
+            (map branch_of branches.now))
             self.old self.new) }
     {
         for (place, branch) in branches.iter().enumerate() {
@@ -325,22 +331,55 @@ impl Given {
         }
     }
 
-    fn rules(&mut self, alloc: Global, concluded: &Concluded, toll: &Name) -> Result<(), AllocError>
-        ensures { OnOk result (Gives (plain.all_giving_up toll.now (rules_of concluded.now))
-            (plain.origins (rules_of concluded.now)) self.old self.new) }
+    fn rule_if_kept(
+        &mut self,
+        alloc: Global,
+        concluded: &Concluded,
+        omitted: &Omitted,
+        toll: &Name,
+        rule: &Rule,
+        place: usize,
+    ) -> Result<(), AllocError>
+        ensures { OnOk result (Gives
+            (kept_giving_up (omits omitted.now) (rules_of concluded.now) toll.now (rule_of rule.now))
+            (kept_rule_origins (omits omitted.now) (rules_of concluded.now) place (rule_of rule.now))
+            self.old self.new) }
+    {
+        if omitted.keeps(rule) {
+            self.rule(alloc, concluded, toll, rule, place)
+        } else {
+            Ok(())
+        }
+    }
+
+    fn rules(
+        &mut self,
+        alloc: Global,
+        concluded: &Concluded,
+        omitted: &Omitted,
+        toll: &Name,
+    ) -> Result<(), AllocError>
+        ensures { OnOk result (Gives (all_kept_giving_up (omits omitted.now) toll.now (rules_of concluded.now))
+            (kept_origins (omits omitted.now) (rules_of concluded.now)) self.old self.new) }
     {
         for (place, rule) in concluded.rules.iter().enumerate() {
-            self.rule(alloc, concluded, toll, rule, place)?;
+            self.rule_if_kept(alloc, concluded, omitted, toll, rule, place)?;
         }
         Ok(())
     }
 
-    /// Adds the rules that give up a precondition of these, and where they come from.
-    pub fn all(&mut self, alloc: Global, toll: &Name, rules: &[Rule]) -> Result<(), AllocError>
-        ensures { OnOk result (Gives (plain.all_giving_up toll.now (map rule_of rules.now))
-            (plain.origins (map rule_of rules.now)) self.old self.new) }
+    /// Adds the rules that give up a precondition of these, as far as they are kept, and where they come from.
+    pub fn all(
+        &mut self,
+        alloc: Global,
+        omitted: &Omitted,
+        toll: &Name,
+        rules: &[Rule],
+    ) -> Result<(), AllocError>
+        ensures { OnOk result (Gives (all_kept_giving_up (omits omitted.now) toll.now (map rule_of rules.now))
+            (kept_origins (omits omitted.now) (map rule_of rules.now)) self.old self.new) }
     {
         let concluded = Concluded::by(alloc, rules)?;
-        self.rules(alloc, &concluded, toll)
+        self.rules(alloc, &concluded, omitted, toll)
     }
 }

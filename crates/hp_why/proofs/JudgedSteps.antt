@@ -10,10 +10,6 @@ use Rattle.hp_syntax.specs.Syntax.{Rule}
 use Rattle.hp_syntax.specs.Walk.{Node, root}
 use Rattle.hp_after.specs.declared.reaching.Reached.TheVariants as reached
 use Rattle.hp_after.specs.Reach.{reaching}
-use Rattle.hp_syntax.specs.Views.{domain_of}
-use Rattle.hp_syntax.specs.declared.domain.Domain.{Domain}
-use Rattle.std.proofs.Common.{vec_len}
-use Rattle.std.proofs.lemmas.Grind.{common_steps}
 use Rattle.hp_syntax.specs.declared.fault.RunFault.{RunFault}
 use Rattle.hp_search.specs.Planned.{with_depth}
 use Rattle.hp_way.specs.declared.ways.Deed as held
@@ -122,9 +118,3 @@ pub match_weaker : {A : Type 0} (o : Option A) (P Q : A → Type 0) → MatchOpt
     → MatchOption o ⊥ Q
 match_weaker None P Q h f = h
 match_weaker (Some x) P Q h f = f x h
-
--- ---- rules
-
--- a domain has as many rules plainly as in memory
-pub own_rules : (d : Domain) (n : ℕ) → n ≡ vec_len d.rules → n ≡ length (domain_of d).rules
-own_rules d n e = grind (arith, common_steps)

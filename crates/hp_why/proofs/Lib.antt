@@ -1,8 +1,10 @@
 pub mod LoweredSteps
+pub mod KeptSteps
 pub mod WaySteps
 pub mod FinishedPlans
 pub mod OriginLemmas
 pub mod NumberedTwins
+pub mod PricedTwins
 pub mod PlanLemmas
 pub mod OwnEnds
 pub mod QuietLemmas
@@ -11,4 +13,6 @@ pub mod ReasonSteps
 pub mod StateSteps
 pub mod AlongSteps
 pub mod JudgedSteps
+pub mod QuietSteps
+pub mod QuietTwins
 pub mod VerdictLemmas

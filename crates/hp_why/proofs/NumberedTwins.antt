@@ -1,16 +1,18 @@
--- The twin of a numbered domain is numbered.
-use Rattle.std.proofs.Common.{◌≡◌, ℕ, Bool, true, false, cond, List, [], ◌∷◌, ◌++◌, length, map, Option, Some, None, ◌∙◌, ap}
+-- The rules that are kept of the twin of a numbered domain are numbered, and the checks find nothing in them.
+use Rattle.std.proofs.Common.{◌≡◌, ℕ, Bool, true, false, cond, List, [], ◌∷◌, ◌++◌, length, map, Option, Some, None, refl, ◌∙◌, ap, ap₂}
 use Rattle.std.specs.Prelude.{nat_lt, flat_map}
 use Rattle.std.specs.List.{All}
-use Rattle.std.proofs.lemmas.List.Elements.{All-nil, All-cons, All-append, All-map, All-weaker}
+use Rattle.std.proofs.lemmas.List.Elements.{All-nil, All-cons, All-append, All-filter, All-map, All-weaker}
 use Rattle.hp_syntax.specs.Numbered.{EffectBelow, ExpressionBelow, ExpressionsBelow, PatternBelow, PreconditionBelow, BranchBelow, IsNumberedOperator, IsNumberedRule}
 use Rattle.hp_syntax.specs.Syntax as syntax
 use Rattle.hp_syntax.specs.Syntax.{Atom, Branch, Domain, Expression, Expressions, NoExpression, Also, Method, Operator, Pattern, Precondition, Problem, Rule, Does, Refines, Concludes}
 use Rattle.hp_syntax.specs.Views.{as_expressions}
-use Rattle.hp_laws.proofs.FaultLemmas.{accepted_is_checked}
+use Rattle.hp_laws.proofs.FaultLemmas.{accepted_is_checked, both_empty}
 use Rattle.hp_laws.proofs.JoinLemmas.{all_join}
 use Rattle.hp_syntax.specs.Checks.{domain_faults, first_of, problem_faults, rule_faults}
+use Rattle.hp_syntax.proofs.CheckLemmas.{none_found}
 use Rattle.hp_relaxed.proofs.CheckedLemmas.{twin_checked}
+use Rattle.hp_relaxed.specs.Keeping.{is_kept, kept, kept_twin}
 use Rattle.hp_lint.specs.declared.uses.Use.{Use}
 use Rattle.hp_lint.specs.Branches.{expression_span}
 use Rattle.hp_relaxed.specs.Giving.{all_giving_up, body_of, branch_given, branch_giving_up, giving_up, if_fewer, left_of, left_of_branch, left_of_operator, listed, needed_by, operator_given, operator_with, parts_of, payer, price_at, relaxed_rules, staying, stays, surely_bound, toll_of, with_body, with_parts}
@@ -152,14 +154,30 @@ module _ (toll : List ℕ) where
       (All-weaker IsNumberedRule (λ r. All IsNumberedRule (giving_up rules toll r)) (giving_numbered rules) rules h))
       (All-cons IsNumberedRule (payer toll) [] payer_numbered (All-nil IsNumberedRule)))
 
--- each rule of the twin of a numbered domain is numbered
-pub relaxed_numbered : (d : Domain) (p : Problem) → All IsNumberedRule d.rules → All IsNumberedRule (relaxed_rules d p)
-relaxed_numbered d p h = twin_numbered (toll_of d p) d.rules h
+-- each rule that is kept of the twin of a numbered domain is numbered
+pub relaxed_numbered : (omits : List ℕ → Bool) (d : Domain) (p : Problem) → All IsNumberedRule d.rules
+    → All IsNumberedRule (kept_twin omits d p)
+relaxed_numbered omits d p h =
+    All-filter (is_kept omits) IsNumberedRule (relaxed_rules d p) (twin_numbered (toll_of d p) d.rules h)
 
--- and the checks find nothing in it where they find nothing in the domain and the problem
-pub relaxed_checked : (d x : Domain) (p : Problem) → x.rules ≡ relaxed_rules d p
+-- where rules have no faults, those of them that are kept have none
+kept_clean : (omits : List ℕ → Bool) (rs : List Rule) → flat_map rule_faults rs ≡ []
+    → flat_map rule_faults (kept omits rs) ≡ []
+kept_clean omits [] h = refl
+kept_clean omits (r ∷ rs) h =
+    let both = both_empty (rule_faults r) (flat_map rule_faults rs) h in
+    by (is_kept omits r) both.0 (kept_clean omits rs both.1)
+  where
+    by : (b : Bool) → rule_faults r ≡ [] → flat_map rule_faults (kept omits rs) ≡ []
+        → flat_map rule_faults (cond b (r ∷ kept omits rs) (kept omits rs)) ≡ []
+    by true own others = ap₂ (λ xs ys. xs ++ ys) own others
+    by false own others = others
+
+-- and the checks find nothing in them where they find nothing in the domain and the problem
+pub relaxed_checked : (omits : List ℕ → Bool) (d x : Domain) (p : Problem) → x.rules ≡ kept_twin omits d p
     → first_of (domain_faults d ++ problem_faults d p) ≡ None → first_of (domain_faults x) ≡ None
 unfolding domain_faults
-relaxed_checked d x p e h =
+relaxed_checked omits d x p e h =
     ap (λ rs. first_of (flat_map rule_faults rs)) e
-    ∙ accepted_is_checked (record d { rules = relaxed_rules d p }) p (twin_checked d p h)
+    ∙ ap first_of (kept_clean omits (relaxed_rules d p)
+    (none_found _ (accepted_is_checked (record d { rules = relaxed_rules d p }) p (twin_checked d p h))))

@@ -36,7 +36,7 @@ told_state t p count v h = h.state ∙ sym (ap state_in h.there)
 
 module _ (rules : List Rule) (nest : ℕ) where
   -- the empty path stays at the node
-  stays : (n m : Node) → node_at rules nest n [] ≡ Some m → n ≡ m
+  pub stays : (n m : Node) → node_at rules nest n [] ≡ Some m → n ≡ m
   unfolding node_at
   stays n m e = let k : Some n ≡ Some m = e in cc
 

@@ -14,7 +14,7 @@ use Rattle.hp_syntax.specs.Report.{nothing_seen, quiet_ending}
 use Rattle.hp_syntax.specs.Syntax.{Domain, Rule}
 use Rattle.hp_syntax.specs.Terms.{Term}
 use Rattle.hp_syntax.specs.Views.{pair_of}
-use Rattle.hp_syntax.specs.Walk.{Node, Plan, Visit, is_plan, node_at, root, told, visit, visits}
+use Rattle.hp_syntax.specs.Walk.{Node, Plan, Visit, is_plan, node_at, root, told, visit}
 use Rattle.hp_after.proofs.PlanLemmas.{comes_to_plan}
 use Rattle.hp_after.specs.declared.reaching.Reached.TheVariants as reached
 use Rattle.hp_after.specs.Reach.{reaching}
@@ -25,13 +25,15 @@ use Rattle.hp_best.specs.declared.bounding.Found.{Found}
 use Rattle.hp_best.specs.Bounded.{IsAt, IsCheapest, IsCheapestOf, IsFound, NeverFalls, end_told, is_priced}
 use Rattle.hp_best.proofs.CostLemmas.{never_falls}
 use Rattle.hp_code.specs.Codes.{code_of}
-use Rattle.hp_code.specs.CodeViews.{CodeView, IsCodeOf, rules_in}
 use Rattle.hp_code.specs.Lowered.{lowered_rules}
 use Rattle.hp_code.proofs.RuleLemmas.{visits_same}
-use Rattle.hp_relaxed.specs.Giving.{origins, payer, toll_of}
+use Rattle.hp_relaxed.specs.declared.given.Origin.{Origin}
+use Rattle.hp_relaxed.specs.Giving.{payer, toll_of}
+use Rattle.hp_relaxed.specs.Keeping.{kept, kept_origins, kept_twin}
 use Rattle.hp_relaxed.specs.Twins.{for_nothing, free_plans, given_up, plans_among, price}
 use Rattle.hp_relaxed.proofs.FreePlans.{free_plans_are}
 use Rattle.hp_relaxed.proofs.GivingLemmas.{pair_free, twins_made}
+use Rattle.hp_relaxed.proofs.KeptVisits.{kept_twin_visits}
 use Rattle.hp_relaxed.proofs.PaidLemmas.{plan_costs}
 use Rattle.hp_way.specs.Ways.{HoldsPlanOf, LeadAlong}
 use Rattle.hp_net.specs.Standings.{Tree, tree_visits}
@@ -41,8 +43,9 @@ use Rattle.hp_why.specs.declared.verdict.Verdict.TheVariants as verdicts
 use Rattle.hp_why.specs.Twin.{Answers, IsExact, IsMissed, IsTwinOf, Judged, JudgedBest, JudgedNone, JudgedPath, OnWay, given_along, reasons_by, tree_of, visits_of}
 use Rattle.hp_why.specs.Whys.{Asked, IsLeast, IsLost, IsGivenUp, IsUnplanned, HelpsNothing, IsSound, IsWhy, Reason, Shows, ShowsCheapest, first_cut, giving, next_tasks, own_visits, reason_of, terms_of, twin_ending, twin_rules, twin_visits}
 use Rattle.hp_why.proofs.FinishedPlans.{plan_finished}
+use Rattle.hp_why.proofs.KeptSteps.{leads_by_whole}
 use Rattle.hp_why.proofs.OriginLemmas.{as_many_origins, counted}
-use Rattle.hp_why.proofs.OwnEnds.{code_lowered, code_visits}
+use Rattle.hp_why.proofs.OwnEnds.{code_lowered}
 use Rattle.hp_why.proofs.PlanLemmas.{cheapest_among, exact_or_great, found_among, gives_no_more, gives_nothing, no_cheaper, none_chosen, own_dear, plan_sight, told_exact, IsDear, IsGreat}
 use Rattle.hp_why.proofs.QuietLemmas.{quiet}
 use Rattle.hp_why.proofs.StateSteps.{tree_at}
@@ -108,38 +111,60 @@ module _ (a : Asked) (contained : Contains a.problem.pairs a.pair) where
       (at_path (visit c.path.items n Plan) (holds_visit n c.path.items holds)) in
       same_Some n v.node (sym there ∙ at_path v among)
 
-  module _ (t : Twin) (is : IsTwinOf a t) (reads : rules_in (code_of t.code.now) ≡ lowered_rules (twin_rules a)) where
+  module _ (t : Twin) (is : IsTwinOf a t) where
     -- ---- the twin in memory
 
-    same_tree : tree_of t ≡ tree_at (lowered_rules (twin_rules a)) a.nest (root a.pair a.depth)
+    -- the rules of the twin that are kept
+    abbrev some : List Rule
+    some = kept_twin is.omits a.domain a.problem
+
+    -- how many of them give nothing up
+    abbrev size : ℕ
+    size = length (kept is.omits a.domain.rules)
+
+    -- where those behind these come from
+    abbrev from : List Origin
+    from = kept_origins is.omits a.domain.rules
+
+    -- the tree in memory is that of the kept rules, lowered
+    same_tree : tree_of t ≡ tree_at (lowered_rules some) a.nest (root a.pair a.depth)
     same_tree =
-        let rules = lowered_rules (twin_rules a) in
-        ap (λ rs. tree_at rs t.nest (root (pair_of t.pair.now) t.depth)) reads
+        let rules = lowered_rules some in
+        ap (λ rs. tree_at rs t.nest (root (pair_of t.pair.now) t.depth))
+        (code_lowered some (code_of t.code.now) is.code)
         ∙ (ap (λ k. tree_at rules k (root (pair_of t.pair.now) t.depth)) is.nest
         ∙ (ap (λ p. tree_at rules a.nest (root p t.depth)) is.pair
         ∙ ap (λ d. tree_at rules a.nest (root a.pair d)) is.depth))
 
+    -- its visits are those of the whole twin
     pub same_visits : visits_of t ≡ twin_visits a
-    same_visits = ap tree_visits same_tree ∙ visits_same (twin_rules a) a.nest (root a.pair a.depth) []
+    same_visits =
+        ap tree_visits same_tree
+        ∙ (visits_same some a.nest (root a.pair a.depth) []
+        ∙ kept_twin_visits is.omits a.domain a.problem a.nest a.pair a.depth is.enough contained)
 
     module _ (p : List ℕ) (reasons : List Reason) (w : OnWay t p reasons) where
-      along : LeadAlong (lowered_rules (twin_rules a)) a.nest w.deeds p (root a.pair a.depth) w.node
+      -- the deeds lead along the path by the kept rules, lowered
+      along : LeadAlong (lowered_rules some) a.nest w.deeds p (root a.pair a.depth) w.node
       along = subst (λ (u : Tree). LeadAlong u.rules u.nest w.deeds p u.root w.node) same_tree w.along
 
+      -- the visits of the whole twin hold the plan at the path
       holds_there : HoldsPlanOf w.node p (twin_visits a)
       holds_there = subst (HoldsPlanOf w.node p) same_visits w.holds
 
+      -- what the deeds give up by the twin in memory is what they do by the kept rules
       same_reasons : reasons_by t p w.deeds
-          ≡ given a.domain.rules (twin_rules a) a.nest (root a.pair a.depth) p w.deeds
+          ≡ given a.domain.rules some a.nest size from (root a.pair a.depth) p w.deeds
       same_reasons =
           ap (λ (d : Domain). given_along d.rules t.own t.origins.now (tree_of t) p 0 w.deeds) is.domain
           ∙ (ap₂ (λ n os. given_along a.domain.rules n os (tree_of t) p 0 w.deeds) is.own is.origins
-          ∙ ap (λ u. given_along a.domain.rules (length a.domain.rules) (origins a.domain.rules) u p 0 w.deeds)
-          same_tree)
+          ∙ ap (λ u. given_along a.domain.rules size from u p 0 w.deeds) same_tree)
 
+      -- choices by the whole twin lead to the plan's node, and give these up
       shows : Shows a w.node reasons
       shows =
-          let d = derived_from_root a.domain.rules (twin_rules a) a.nest a.pair a.depth w.deeds p w.node along in
+          let d = derived_from_root a.domain.rules some a.nest size from (twin_rules a)
+          (leads_by_whole is.omits a.domain a.problem is.enough.toll a.nest) a.pair a.depth w.deeds p w.node along in
           record {
             choices = d.0;
             derives = d.1;
@@ -282,11 +307,11 @@ module _ (a : Asked) (contained : Contains a.problem.pairs a.pair) where
 -- what a search of the twin answers is right, where the domain has no plan
 pub search_right : {t : Twin} {priced : Bool} {v : Verdict} → Answers t priced v → (a : Asked)
     → Contains a.problem.pairs a.pair → IsUnplanned a → IsTwinOf a t → priced ≡ is_priced (twin_rules a) → IsWhy a v
-search_right {t} {priced} {v} h a contained unplanned is e =
-    answer_right a contained t is (code_lowered (twin_rules a) (code_of t.code.now) is.code) unplanned priced v e h
+search_right {t} {priced} {v} h a contained unplanned is e = answer_right a contained t is unplanned priced v e h
 
--- by priced rules costs never fall in the tree of their code
-pub code_never_falls : (rules : List Rule) (c : CodeView) (nest : ℕ) (n : Node) → IsCodeOf rules c
-    → is_priced rules ≡ true → NeverFalls (visits (rules_in c) nest n [])
-code_never_falls rules c nest n is e =
-    subst NeverFalls (sym (code_visits rules c nest n is)) (never_falls rules nest e n)
+-- where the whole twin is priced, costs never fall in the tree of a twin in memory
+pub twin_never_falls : (a : Asked) (t : Twin) → Contains a.problem.pairs a.pair → IsTwinOf a t
+    → is_priced (twin_rules a) ≡ true → NeverFalls (visits_of t)
+twin_never_falls a t contained is e =
+    subst NeverFalls (sym (same_visits a contained t is))
+    (never_falls (twin_rules a) a.nest e (root a.pair a.depth))

@@ -1,24 +1,29 @@
 -- What is made once for all pairs of a problem.
-use Rattle.std.specs.Prelude.{◌≡◌, Option, Some, None}
+use Rattle.std.specs.Prelude.{◌≡◌, ℕ, Bool, List, length, Option, Some, None}
 use Rattle.hp_best.specs.Bounded.{is_priced}
+use Rattle.hp_code.specs.declared.code.Code.{Code}
 use Rattle.hp_code.specs.CodeViews.{IsCodeOf}
 use Rattle.hp_code.specs.Codes.{code_of}
-use Rattle.hp_relaxed.specs.Giving.{origins, relaxed_rules}
+use Rattle.hp_relaxed.specs.Giving.{relaxed_rules}
+use Rattle.hp_relaxed.specs.Keeping.{AreEnough, kept, kept_origins, kept_twin}
 use Rattle.hp_syntax.specs.Syntax.{Domain, Problem}
 use Rattle.hp_why.specs.declared.codes.Codes.{Codes}
 use Rattle.hp_why.specs.declared.codes.TwinCode.{TwinCode}
 
--- the code of the twin of a domain and a problem
+-- the code of the twin of a domain and a problem, without some rules that no task of the problem comes to
 pub record IsTwinCodeOf (d : Domain) (p : Problem) (t : TwinCode) : Type 0 where
-  pub code : IsCodeOf (relaxed_rules d p) (code_of t.code)
-  pub origins : t.origins.items ≡ origins d.rules
+  pub omits : List ℕ → Bool
+  pub enough : AreEnough omits d p
+  pub code : IsCodeOf (kept_twin omits d p) (code_of t.code)
+  pub own : t.own ≡ length (kept omits d.rules)
+  pub origins : t.origins.items ≡ kept_origins omits d.rules
   pub priced : t.is_priced ≡ is_priced (relaxed_rules d p)
 
-abbrev pub IsTwinIf : Domain → Problem → Option TwinCode → Type 0
-IsTwinIf d p None = Unit {0}
-IsTwinIf d p (Some t) = IsTwinCodeOf d p t
+abbrev pub IsOwnIf : Domain → Option Code → Type 0
+IsOwnIf d None = Unit {0}
+IsOwnIf d (Some c) = IsCodeOf d.rules (code_of c)
 
--- the code of a domain, and that of its twin, if it is made
+-- the code of the twin of a domain, and that of the domain, if it is made
 pub record AreCodesOf (d : Domain) (p : Problem) (c : Codes) : Type 0 where
-  pub own : IsCodeOf d.rules (code_of c.own)
-  pub twin : IsTwinIf d p c.twin
+  pub twin : IsTwinCodeOf d p c.twin
+  pub own : IsOwnIf d c.own

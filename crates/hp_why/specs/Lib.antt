@@ -1,3 +1,5 @@
 pub mod Whys
 pub mod Twin
+pub mod Quiet
+pub mod Priced
 pub mod Coded

@@ -23,7 +23,7 @@ use Rattle.hp_after.specs.Reach.{reaching}
 use Rattle.hp_code.specs.Codes.{code_of}
 use Rattle.hp_code.specs.CodeViews.{IsCodeOf, rules_in}
 use Rattle.hp_relaxed.specs.declared.given.Origin.{Origin}
-use Rattle.hp_relaxed.specs.Giving.{origins}
+use Rattle.hp_relaxed.specs.Keeping.{AreEnough, kept, kept_origins, kept_twin}
 use Rattle.hp_way.specs.declared.ways.Deed as held
 use Rattle.hp_way.specs.Ways.{Deed, HoldsPlanOf, LeadAlong}
 use Rattle.hp_unmet.specs.Conjunctions.{first_unmet}
@@ -33,7 +33,7 @@ use Rattle.hp_why.specs.declared.twin.Twin.{Twin}
 use Rattle.hp_why.specs.declared.verdict.Reason as code
 use Rattle.hp_why.specs.declared.verdict.Verdict.{Verdict}
 use Rattle.hp_why.specs.declared.verdict.Verdict.TheVariants as verdicts
-use Rattle.hp_why.specs.Whys.{Asked, Reason, first_cut, given_at, next_tasks, reason_of, terms_of, twin_rules}
+use Rattle.hp_why.specs.Whys.{Asked, Reason, first_cut, given_at, next_tasks, reason_of, terms_of}
 
 -- the rules that a twin's code reads back as, and their tree
 abbrev pub tree_of : Twin → Tree
@@ -54,12 +54,14 @@ pub record CanSearch (t : Twin) : Type 0 where
   pub depth : t.depth ≤ GREATEST_DEPTH
   pub nest : t.nest ≤ MOST_LEVELS
 
--- a twin is that of the domain of which is asked
+-- a twin is that of the domain of which is asked, without some rules that no task of the problem comes to
 pub record IsTwinOf (a : Asked) (t : Twin) : Type 0 where
+  pub omits : List ℕ → Bool
+  pub enough : AreEnough omits a.domain a.problem
   pub domain : domain_of t.domain.now ≡ a.domain
-  pub code : IsCodeOf (twin_rules a) (code_of t.code.now)
-  pub origins : t.origins.now ≡ origins a.domain.rules
-  pub own : t.own ≡ length a.domain.rules
+  pub code : IsCodeOf (kept_twin omits a.domain a.problem) (code_of t.code.now)
+  pub origins : t.origins.now ≡ kept_origins omits a.domain.rules
+  pub own : t.own ≡ length (kept omits a.domain.rules)
   pub pair : pair_of t.pair.now ≡ a.pair
   pub depth : t.depth ≡ a.depth
   pub nest : t.nest ≡ a.nest

@@ -216,3 +216,8 @@ IsWhy a (verdicts.GivenUp reasons is_cut) = IsUnplanned a × IsGivenUp a (map re
 IsWhy a (verdicts.Nothing left) = IsUnplanned a × HelpsNothing a (terms_of left)
 IsWhy a (verdicts.TwinFault f) = IsUnplanned a × (twin_ending a ≡ AtFault f)
 IsWhy a verdicts.Lost = IsUnplanned a × IsLost a
+
+-- so is one that may be given
+abbrev pub IsWhyIf : Asked → Option Verdict → Type 0
+IsWhyIf a None = Unit {0}
+IsWhyIf a (Some v) = IsWhy a v

@@ -5,15 +5,17 @@ ghost use Rattle.hp_syntax.specs.Numbered.{IsNumberedDomain};
 ghost use Rattle.hp_syntax.specs.Views.{domain_of, problem_of};
 ghost use Rattle.hp_why.specs.Coded.{AreCodesOf, IsTwinCodeOf};
 
-use hp_best::priced;
+use crate::pricing::costs_numbers;
 use hp_code::{Code, lower};
 use hp_relaxed::{Origin, relaxed};
 use hp_syntax::{Domain, Problem};
 use std::alloc::{AllocError, Global};
 
-/// The code of a domain's twin, where those of its rules come from that give something up, and whether it is priced.
+/// The code of a domain's twin, how many of its rules give nothing up, where those behind them come from, and whether
+/// it is priced.
 pub struct TwinCode {
     pub code: Code,
+    pub own: usize,
     pub origins: Vec<Origin>,
     pub is_priced: bool,
 }
@@ -22,6 +24,7 @@ impl Drop for TwinCode {
     fn drop(self) {
         let TwinCode {
             code,
+            own: _,
             origins,
             is_priced: _,
         } = self;
@@ -30,29 +33,18 @@ impl Drop for TwinCode {
     }
 }
 
-/// The code of a domain, and that of its twin as soon as a pair needs it.
+/// The code of a domain's twin, and that of the domain as soon as a pair needs it.
 pub struct Codes {
-    pub own: Code,
-    pub twin: Option<TwinCode>,
+    pub twin: TwinCode,
+    pub own: Option<Code>,
 }
 
 impl Drop for Codes {
     fn drop(self) {
-        let Codes { own, twin } = self;
-        drop(own);
+        let Codes { twin, own } = self;
         drop(twin);
+        drop(own);
     }
-}
-
-/// What is known of a domain and a problem before any pair is looked at.
-pub fn codes_of(alloc: Global, domain: &Domain, problem: &Problem) -> Result<Codes, AllocError>
-    requires numbered { IsNumberedDomain (domain_of domain.now) }
-    requires checked { first_of (domain_faults (domain_of domain.now)
-        ++ problem_faults (domain_of domain.now) (problem_of problem.now)) ≡ None }
-    ensures { IfOk result (AreCodesOf (domain_of domain.now) (problem_of problem.now)) }
-{
-    let own = lower(alloc, domain)?;
-    Ok(Codes { own, twin: None })
 }
 
 /// The code of a domain's twin.
@@ -64,16 +56,29 @@ fn twin_code(alloc: Global, domain: &Domain, problem: &Problem) -> Result<TwinCo
 {
     let twin = relaxed(alloc, domain, problem)?;
     let code = lower(alloc, &twin.domain)?;
-    let is_priced = priced(&twin.domain);
+    let own = twin.own;
+    let is_priced = costs_numbers(domain);
     Ok(TwinCode {
         code,
+        own,
         origins: twin.into_origins(),
         is_priced,
     })
 }
 
-/// Makes the code of the twin, where there is none yet.
-pub fn know_twin(
+/// What is known of a domain and a problem before any pair is looked at.
+pub fn codes_of(alloc: Global, domain: &Domain, problem: &Problem) -> Result<Codes, AllocError>
+    requires numbered { IsNumberedDomain (domain_of domain.now) }
+    requires checked { first_of (domain_faults (domain_of domain.now)
+        ++ problem_faults (domain_of domain.now) (problem_of problem.now)) ≡ None }
+    ensures { IfOk result (AreCodesOf (domain_of domain.now) (problem_of problem.now)) }
+{
+    let twin = twin_code(alloc, domain, problem)?;
+    Ok(Codes { twin, own: None })
+}
+
+/// Makes the code of the domain, where there is none yet.
+pub fn know_own(
     alloc: Global,
     domain: &Domain,
     problem: &Problem,
@@ -84,12 +89,12 @@ pub fn know_twin(
         ++ problem_faults (domain_of domain.now) (problem_of problem.now)) ≡ None }
     requires known { AreCodesOf (domain_of domain.now) (problem_of problem.now) codes.old }
     ensures known { OnOk result (AreCodesOf (domain_of domain.now) (problem_of problem.now) codes.new) }
-    ensures there { OnOk result (is_some codes.new.twin ≡ true) }
+    ensures there { OnOk result (is_some codes.new.own ≡ true) }
 {
-    if codes.twin.is_some() {
+    if codes.own.is_some() {
         return Ok(());
     }
-    let twin = twin_code(alloc, domain, problem)?;
-    codes.twin = Some(twin);
+    let own = lower(alloc, domain)?;
+    codes.own = Some(own);
     Ok(())
 }

@@ -5,9 +5,11 @@ ghost use Rattle.hp_best.specs.Bounded.{IsCheapestOf, IsFound, NeverFalls};
 ghost use Rattle.hp_laws.specs.TreeLaws.{IsFaultless};
 ghost use Rattle.hp_net.specs.Standings.{standing};
 ghost use Rattle.hp_search.specs.Planned.{stands_planned, tree_planned};
+ghost use Rattle.hp_why.specs.Quiet.{AnswersIfQuiet};
 ghost use Rattle.hp_why.specs.Twin.{Answers, CanSearch, Judged, JudgedBest, JudgedNone, JudgedPath, tree_of, visits_of};
 
 use crate::left::first_left;
+use crate::own_part::is_quiet;
 use crate::reasons::reasons;
 use crate::twin::{Twin, restart};
 use crate::verdict::Verdict;
@@ -127,13 +129,50 @@ fn judge(
     }
 }
 
-/// Looks for the cheapest plan of a twin, and says by it why there is none of the domain, all by one walk.
+/// Looks for the cheapest plan of a twin, and says by it why there is none of the domain, all by one walk, which has
+/// all visits left.
+fn search_by(
+    alloc: Global,
+    twin: &Twin,
+    walk: &mut Planner,
+    priced: bool,
+) -> Result<Verdict, AllocError>
+    requires search { CanSearch twin.now }
+    requires falls { priced ≡ true → NeverFalls (visits_of twin.now) }
+    requires live { walk.old.live ≡ true }
+    requires tree { tree_planned walk.old ≡ tree_of twin.now }
+    requires new { stands_planned walk.old ≡ standing [] (visits_of twin.now) false }
+    ensures { IfOk result (Answers twin.now priced) }
+{
+    let found = cheapest(alloc, twin, walk, priced)?;
+    judge(alloc, twin, walk, found.ending, &found.best)
+}
+
+/// Looks for the cheapest plan of a twin, and says by it why there is none of the domain.
 pub fn search(alloc: Global, twin: &Twin, priced: bool) -> Result<Verdict, AllocError>
     requires search { CanSearch twin.now }
     requires falls { priced ≡ true → NeverFalls (visits_of twin.now) }
     ensures { IfOk result (Answers twin.now priced) }
 {
     let mut walk = Planner::new(alloc, twin.code, twin.pair, twin.depth, twin.nest)?;
-    let found = cheapest(alloc, twin, &mut walk, priced)?;
-    judge(alloc, twin, &mut walk, found.ending, &found.best)
+    search_by(alloc, twin, &mut walk, priced)
+}
+
+/// The same, where the part of the twin's tree in which nothing is given up holds neither a plan nor a fault.
+pub fn search_if_quiet(
+    alloc: Global,
+    twin: &Twin,
+    priced: bool,
+) -> Result<Option<Verdict>, AllocError>
+    requires search { CanSearch twin.now }
+    requires falls { priced ≡ true → NeverFalls (visits_of twin.now) }
+    ensures { IfOk result (AnswersIfQuiet twin.now priced) }
+{
+    let mut walk = Planner::new(alloc, twin.code, twin.pair, twin.depth, twin.nest)?;
+    if !is_quiet(twin, &mut walk)? {
+        return Ok(None);
+    }
+    restart(twin, &mut walk)?;
+    let verdict = search_by(alloc, twin, &mut walk, priced)?;
+    Ok(Some(verdict))
 }

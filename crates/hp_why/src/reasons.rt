@@ -17,7 +17,7 @@ use hp_way::Deed;
 use std::alloc::{AllocError, Global};
 
 /// Where the precondition comes from that a rule gives up, behind so many that give up nothing.
-fn origin_at(rule: usize, own: usize, origins: &[Origin]) -> Option<Origin>
+pub fn origin_at(rule: usize, own: usize, origins: &[Origin]) -> Option<Origin>
     ensures { result ≡ plain.origin_at own origins.now rule }
 {
     if rule < own {

@@ -11,8 +11,8 @@ use hp_search::Planner;
 use hp_syntax::{Domain, Pair};
 use std::alloc::AllocError;
 
-/// The domain; the code of its twin, where the rules of that come from that give something up, and how many stand
-/// before them; the pair, the depth and how deep axioms may call one another.
+/// The domain; the code of its twin, how many of the twin's rules give nothing up, and where those behind them come
+/// from; the pair, the depth and how deep axioms may call one another.
 #[derive(Clone, Copy)]
 pub struct Twin<'a> {
     pub domain: &'a Domain,

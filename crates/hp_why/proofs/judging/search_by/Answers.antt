@@ -1,5 +1,5 @@
 use Rattle.std.proofs.lemmas.Result.{IfOk-weaker}
-use Rattle.hp_why.proofs.judging.search.Goals as goal
+use Rattle.hp_why.proofs.judging.search_by.Goals as goal
 
 pub returns : goal.returns
 returns c =
