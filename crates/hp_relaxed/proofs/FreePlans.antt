@@ -7,7 +7,7 @@ use Rattle.std.proofs.lemmas.Bool.Decides.{nat_tests}
 use Rattle.std.proofs.lemmas.Int.{ints}
 use Rattle.std.proofs.lemmas.List.{append-nil, map-append}
 use Rattle.std.proofs.lemmas.List.Concat.{flat_map-append}
-use Rattle.std.proofs.lemmas.List.Elements.{All-nil, All-cons, All-head, All-tail, All-append, All-weaker, filter-append}
+use Rattle.std.proofs.lemmas.List.Elements.{All-nil, All-head, All-tail, All-append, All-weaker, filter-append}
 use Rattle.hp_syntax.specs.Events.{axioms_of}
 use Rattle.hp_syntax.specs.GroundPatterns.{network_said}
 use Rattle.hp_syntax.specs.Matching.{match_atom}
@@ -22,7 +22,7 @@ use Rattle.hp_laws.proofs.JoinLemmas.{all_from, all_join, all_unmapped}
 use Rattle.hp_relaxed.specs.Twins.{AreTwins, Pays, for_nothing, free_plans, free_rule, plans_among, price, tolls, twin}
 use Rattle.hp_relaxed.proofs.FreeChildren.{free_child, rules_free, twin_axioms}
 use Rattle.hp_relaxed.proofs.OwedLemmas.{Adds, ChildOwes, Owes, done_tolls, no_tolls, rule_owes, toll_task}
-use Rattle.hp_relaxed.proofs.PaidLemmas.{all_free_add, all_giving_add, payer_adds}
+use Rattle.hp_relaxed.proofs.PaidLemmas.{AddsSome, all_add, all_free_add, all_giving_add}
 use Rattle.hp_relaxed.proofs.TollLemmas.{head_name}
 
 -- ---- plans by nodes
@@ -108,10 +108,6 @@ not_nothing c k e = ap (λ x. int_eq x (pos 0)) e ∙ of_suc k
     of_suc k = grind (arith, nat_tests)
 
 module _ (toll : List ℕ) (all : List Rule) (nest : ℕ) where
-  -- a rule adds some prices
-  abbrev AddsSome : Rule → Type 0
-  AddsSome r = (k : ℕ) × Adds toll k r
-
   -- a child is paid for, or owes something
   abbrev IsCostly : Child → Type 0
   IsCostly (DidChild m) = (j : ℕ) × Owes toll (suc j) m.cost m.network
@@ -123,7 +119,7 @@ module _ (toll : List ℕ) (all : List Rule) (nest : ℕ) where
   costly j CutChild h = tt
   costly j (FaultChild f) h = tt
 
-  module _ (adds : All AddsSome all) where
+  module _ (adds : All (AddsSome toll) all) where
     -- the children of a node that is paid for, or owes something, are and do
     task_costly : (n : Node) (j : ℕ) → Owes toll (suc j) n.cost n.network → (p : Place) (o : Option Network)
         → part_at n.network p ≡ o → All IsCostly (walk.task_children all nest n p o)
@@ -133,7 +129,7 @@ module _ (toll : List ℕ) (all : List Rule) (nest : ℕ) where
     task_costly n j h p (Some (networks.Unordered ns)) e = All-nil IsCostly
     task_costly n j h p (Some (networks.Task t i)) e =
         all_join (walk.rule_children all nest n p t) IsCostly all
-        (All-weaker AddsSome (λ r. All IsCostly (walk.rule_children all nest n p t r))
+        (All-weaker (AddsSome toll) (λ r. All IsCostly (walk.rule_children all nest n p t r))
         (λ r k. All-weaker (ChildOwes toll (suc j + k.0)) IsCostly (λ c g. costly (j + k.0) c (more c k.0 g))
         (walk.rule_children all nest n p t r) (rule_owes toll all nest (suc j) k.0 n p t i e h r k.1)) all adds)
       where
@@ -185,13 +181,15 @@ module _ (toll : List ℕ) (all : List Rule) (nest : ℕ) where
 -- ---- the plans of the domain
 
 -- a child owes nothing
-abbrev OwesNothing : List ℕ → Child → Type 0
+abbrev pub OwesNothing : List ℕ → Child → Type 0
 OwesNothing toll c = ChildOwes toll 0 (free_child c)
 
-nothing_left : (toll : List ℕ) (net : Network) → Owes toll 0 (pos 0) net → tolls toll net ≡ 0
+-- a network that owes nothing, where nothing was paid, has no tolls
+pub nothing_left : (toll : List ℕ) (net : Network) → Owes toll 0 (pos 0) net → tolls toll net ≡ 0
 nothing_left toll net h = omega (arith, ints)
 
-nothing_owed : (toll : List ℕ) (net : Network) → tolls toll net ≡ 0 → Owes toll 0 (pos 0) net
+-- a network without tolls owes nothing, where nothing was paid
+pub nothing_owed : (toll : List ℕ) (net : Network) → tolls toll net ≡ 0 → Owes toll 0 (pos 0) net
 nothing_owed toll net h = omega (arith, ints)
 
 -- two numbers that come to nothing are nothing
@@ -202,20 +200,12 @@ module _ (toll : List ℕ) (rules more : List Rule) (payer : Rule) (twins : AreT
   abbrev all : List Rule
   all = twin rules more payer
 
-  same_axioms : axioms_of all ≡ axioms_of rules
+  -- the twin has the axioms of the domain
+  pub same_axioms : axioms_of all ≡ axioms_of rules
   same_axioms = twin_axioms toll rules more payer twins.giving twins.paying
 
-  all_add : All (AddsSome toll all nest) all
-  all_add =
-      All-append (AddsSome toll all nest) (map free_rule rules) (more ++ payer ∷ [])
-      (All-weaker (Adds toll 0) (AddsSome toll all nest) (λ r h. (0, h)) (map free_rule rules)
-      (all_free_add toll rules twins.unused))
-      (All-append (AddsSome toll all nest) more (payer ∷ [])
-      (All-weaker (Adds toll 1) (AddsSome toll all nest) (λ r h. (1, h)) more (all_giving_add toll more twins.giving))
-      (All-cons (AddsSome toll all nest) payer [] (0, payer_adds toll payer twins.paying) (All-nil (AddsSome toll all nest))))
-
   -- where no toll is left, that of the toll does no task
-  no_payer : (n : Node) (p : Place) (t : Term) (i : Bool) (r : Rule) → Pays toll r
+  pub no_payer : (n : Node) (p : Place) (t : Term) (i : Bool) (r : Rule) → Pays toll r
       → part_at n.network p ≡ Some (networks.Task t i) → tolls toll n.network ≡ 0
       → walk.rule_children all nest n p t r ≡ []
   no_payer n p t i (Refines m) h e none = absurd h
@@ -229,6 +219,18 @@ module _ (toll : List ℕ) (rules more : List Rule) (payer : Rule) (twins : AreT
           let one = toll_task toll t o.head.name (head_name o.head t (unbound (length o.vars)) b q) h.0 in
           let done = done_tolls toll n.network p t i e in
           absurd (omega arith)
+
+  -- the children by the rules of the domain, of a node without tolls, owe nothing
+  pub own_owe : (n : Node) (p : Place) (t : Term) (i : Bool) → part_at n.network p ≡ Some (networks.Task t i)
+      → tolls toll n.network ≡ 0
+      → All (OwesNothing toll) (flat_map (walk.rule_children rules nest n p t) rules)
+  own_owe n p t i e h =
+      all_unmapped (ChildOwes toll 0) free_child (flat_map (walk.rule_children rules nest n p t) rules)
+      (subst (All (ChildOwes toll 0)) (rules_free n p rules all nest same_axioms t rules)
+      (all_join (walk.rule_children all nest (for_nothing n) p t) (ChildOwes toll 0) (map free_rule rules)
+      (All-weaker (Adds toll 0) (λ r. All (ChildOwes toll 0) (walk.rule_children all nest (for_nothing n) p t r))
+      (λ r k. rule_owes toll all nest 0 0 (for_nothing n) p t i e (nothing_owed toll n.network h) r k)
+      (map free_rule rules) (all_free_add toll rules twins.unused))))
 
   module _ (d : ℕ) (below : (m : Node) → tolls toll m.network ≡ 0
       → filter is_free (plan_nodes all nest d (for_nothing m)) ≡ map for_nothing (plan_nodes rules nest d m)) where
@@ -274,21 +276,9 @@ module _ (toll : List ℕ) (rules more : List Rule) (payer : Rule) (twins : AreT
         (All-nil (HasNoFree (plan_nodes all nest d))))))
       where
         gives : (c : Child) → ChildOwes toll 1 c → HasNoFree (plan_nodes all nest d) c
-        gives (DidChild m) k = no_free toll all nest all_add d m 0 k
+        gives (DidChild m) k = no_free toll all nest (all_add toll rules more payer twins) d m 0 k
         gives CutChild k = tt
         gives (FaultChild f) k = tt
-
-    -- below the children by the rules of the domain
-    own_owe : (n : Node) (p : Place) (t : Term) (i : Bool) → part_at n.network p ≡ Some (networks.Task t i)
-        → tolls toll n.network ≡ 0
-        → All (OwesNothing toll) (flat_map (walk.rule_children rules nest n p t) rules)
-    own_owe n p t i e h =
-        all_unmapped (ChildOwes toll 0) free_child (flat_map (walk.rule_children rules nest n p t) rules)
-        (subst (All (ChildOwes toll 0)) (rules_free n p rules all nest same_axioms t rules)
-        (all_join (walk.rule_children all nest (for_nothing n) p t) (ChildOwes toll 0) (map free_rule rules)
-        (All-weaker (Adds toll 0) (λ r. All (ChildOwes toll 0) (walk.rule_children all nest (for_nothing n) p t r))
-        (λ r k. rule_owes toll all nest 0 0 (for_nothing n) p t i e (nothing_owed toll n.network h) r k)
-        (map free_rule rules) (all_free_add toll rules twins.unused))))
 
     part_below : (n : Node) → tolls toll n.network ≡ 0 → (p : Place) (o : Option Network) → part_at n.network p ≡ o
         → filter is_free (flat_map (child_plans (plan_nodes all nest d))

@@ -16,4 +16,4 @@ pub mod PlaceLemmas
 pub mod KeptPlaces
 pub mod OmittedLemmas
 pub mod OwedNodes
-pub mod QuietParts
+pub mod OwnPartLemmas

@@ -1,10 +1,11 @@
 -- What the nodes of a twin's tree owe: as much as the node above them, and one price more where something is given up.
-use Rattle.std.proofs.Common.{◌≡◌, ℕ, zero, suc, ◌+◌, Bool, true, false, cond, List, [], ◌∷◌, ◌++◌, length, map, Option, Some, None, refl, sym, subst, arith}
-use Rattle.std.specs.Prelude.{◌+ℤ◌, ◌==◌}
+use Rattle.std.proofs.Common.{◌≡◌, ℕ, zero, suc, ◌+◌, ◌*◌, Bool, true, false, cond, List, [], ◌∷◌, length, Option, Some, None, refl, sym, subst, arith}
+use Rattle.std.specs.Prelude.{pos, ◌+ℤ◌, ◌==◌}
 use Rattle.std.specs.List.{All}
 use Rattle.std.specs.Option.{option_and_then}
+use Rattle.std.proofs.lemmas.Bool.Decides.{Decides-int_eq}
 use Rattle.std.proofs.lemmas.Int.{ints}
-use Rattle.std.proofs.lemmas.List.Elements.{All-nil, All-head, All-tail, All-append, All-contains, All-weaker}
+use Rattle.std.proofs.lemmas.List.Elements.{All-nil, All-head, All-tail, All-contains, All-weaker}
 use Rattle.hp_syntax.specs.Events.{axioms_of}
 use Rattle.hp_syntax.specs.GroundPatterns.{network_said}
 use Rattle.hp_syntax.specs.Networks as networks
@@ -15,20 +16,16 @@ use Rattle.hp_syntax.specs.Values.{unbound}
 use Rattle.hp_syntax.specs.Walk as walk
 use Rattle.hp_syntax.specs.Walk.{Node, Child, DidChild, CutChild, FaultChild, did_at, node_at, root}
 use Rattle.hp_laws.specs.Derivations.{Choosing, Situation, Leads, ByStep, BySubtasks}
-use Rattle.hp_laws.proofs.JoinLemmas.{all_from, all_join, all_one}
-use Rattle.hp_relaxed.specs.OwnParts.{GaveUpNothing}
-use Rattle.hp_relaxed.specs.Twins.{AreTwins, HasTolls, free_rule, is_given_up, tolls, twin}
+use Rattle.hp_laws.proofs.JoinLemmas.{all_from, all_join}
+use Rattle.hp_relaxed.specs.OwnParts.{gave_up_nothing}
+use Rattle.hp_relaxed.specs.Twins.{AreTwins, HasTolls, is_given_up, price, tolls, twin}
 use Rattle.hp_relaxed.proofs.FreeCosts.{cost_of_effects}
-use Rattle.hp_relaxed.proofs.OwedLemmas.{Adds, ChildOwes, Owes, chosen_of, rule_owes, split_owes, step_owes}
-use Rattle.hp_relaxed.proofs.PaidLemmas.{all_free_add, all_giving_add, payer_adds, twin_adds}
+use Rattle.hp_relaxed.proofs.OwedLemmas.{ChildOwes, Owes, chosen_of, rule_owes, split_owes, step_owes}
+use Rattle.hp_relaxed.proofs.PaidLemmas.{AddsSome, all_add, twin_adds}
 
 -- ---- nodes below others
 
 module _ (toll : List ℕ) (all : List Rule) (nest : ℕ) where
-  -- a rule adds some prices
-  abbrev AddsSome : Rule → Type 0
-  AddsSome r = (k : ℕ) × Adds toll k r
-
   -- a node owes at least so much
   abbrev NodeOwesFrom : ℕ → Node → Type 0
   NodeOwesFrom j m = (i : ℕ) × Owes toll (j + i) m.cost m.network
@@ -69,7 +66,7 @@ module _ (toll : List ℕ) (all : List Rule) (nest : ℕ) where
   through false false None q m h = absurd cc
   through false false (Some k) q m h = (k, refl, h)
 
-  module _ (adds : All AddsSome all) where
+  module _ (adds : All (AddsSome toll) all) where
     -- the children at a candidate owe at least what the node owes
     task_owes : (n : Node) (j : ℕ) → Owes toll j n.cost n.network → (p : Place) (o : Option Network)
         → part_at n.network p ≡ o → All (OwesFrom j) (walk.task_children all nest n p o)
@@ -79,7 +76,7 @@ module _ (toll : List ℕ) (all : List Rule) (nest : ℕ) where
     task_owes n j h p (Some (networks.Unordered ns)) e = All-nil (OwesFrom j)
     task_owes n j h p (Some (networks.Task t i)) e =
         all_join (walk.rule_children all nest n p t) (OwesFrom j) all
-        (All-weaker AddsSome (λ r. All (OwesFrom j) (walk.rule_children all nest n p t r))
+        (All-weaker (AddsSome toll) (λ r. All (OwesFrom j) (walk.rule_children all nest n p t r))
         (λ r k. All-weaker (ChildOwes toll (j + k.0)) (OwesFrom j) (λ c g. owes_from j k.0 c g)
         (walk.rule_children all nest n p t r) (rule_owes toll all nest j k.0 n p t i e h r k.1)) all adds)
 
@@ -112,22 +109,13 @@ module _ (toll : List ℕ) (rules more : List Rule) (payer : Rule) (twins : AreT
   abbrev all : List Rule
   all = twin rules more payer
 
-  -- each rule of a twin adds some prices
-  all_add : All (AddsSome toll all nest) all
-  all_add =
-      All-append (AddsSome toll all nest) (map free_rule rules) (more ++ payer ∷ [])
-      (All-weaker (Adds toll 0) (AddsSome toll all nest) (λ r h. (0, h)) (map free_rule rules)
-      (all_free_add toll rules twins.unused))
-      (All-append (AddsSome toll all nest) more (payer ∷ [])
-      (All-weaker (Adds toll 1) (AddsSome toll all nest) (λ r h. (1, h)) more (all_giving_add toll more twins.giving))
-      (all_one (AddsSome toll all nest) payer (0, payer_adds toll payer twins.paying)))
-
   -- what is paid for a node of a pair's tree and owed by its network comes to some number of prices
   pub node_owes : (pair : Pair) (depth : ℕ) → tolls toll (normal (network_said pair.tasks)) ≡ 0
       → (p : List ℕ) (n : Node) → node_at all nest (root pair depth) p ≡ Some n → (j : ℕ) × Owes toll j n.cost n.network
   unfolding root
   node_owes pair depth none p n e =
-      let h = path_owes toll all nest all_add p (root pair depth) n 0 (omega (arith, ints)) e in
+      let h =
+      path_owes toll all nest (all_add toll rules more payer twins) p (root pair depth) n 0 (omega (arith, ints)) e in
       (h.0, subst (λ k. Owes toll k n.cost n.network) (omega arith) h.1)
 
   -- a choice that gives something up leads to a node that owes one price more, and any other to one that owes as much
@@ -156,9 +144,20 @@ module _ (toll : List ℕ) (rules more : List Rule) (payer : Rule) (twins : AreT
   pub below_owes : (n m : Node) (q : List ℕ) (j : ℕ) → Owes toll (suc j) n.cost n.network
       → node_at all nest n q ≡ Some m → (i : ℕ) × Owes toll (suc i) m.cost m.network
   below_owes n m q j h e =
-      let r = path_owes toll all nest all_add q n m (suc j) h e in
+      let r = path_owes toll all nest (all_add toll rules more payer twins) q n m (suc j) h e in
       (j + r.0, subst (λ k. Owes toll k m.cost m.network) (omega arith) r.1)
 
-  -- at a node that owes some price something was given up
-  pub owing_is_not_own : (j : ℕ) (n : Node) → Owes toll (suc j) n.cost n.network → GaveUpNothing toll n → ⊥
-  owing_is_not_own j n h k = omega (arith, ints)
+  -- what was paid for a node that owes some price, and is owed by its network, isn't nothing
+  owing_is_some : (j : ℕ) (n : Node) → Owes toll (suc j) n.cost n.network
+      → n.cost +ℤ pos (price * tolls toll n.network) ≡ pos 0 → ⊥
+  owing_is_some j n h k = omega (arith, ints)
+
+  -- so at a node that owes some price something was given up
+  pub owing_gave_up : (j : ℕ) (n : Node) → Owes toll (suc j) n.cost n.network → gave_up_nothing toll n ≡ false
+  owing_gave_up j n h = of_bool (gave_up_nothing toll n) refl
+    where
+      of_bool : (b : Bool) → gave_up_nothing toll n ≡ b → b ≡ false
+      of_bool true e =
+          absurd (owing_is_some j n h
+          ((Decides-int_eq (n.cost +ℤ pos (price * tolls toll n.network)) (pos 0)).0 e))
+      of_bool false e = refl

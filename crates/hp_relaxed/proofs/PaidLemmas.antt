@@ -4,7 +4,7 @@ use Rattle.std.specs.Prelude.{pos, ◌&&◌, nat_le, nat_lt, filter, slice_get}
 use Rattle.std.specs.List.{All}
 use Rattle.std.proofs.lemmas.Bool.Decides.{nat_tests}
 use Rattle.std.proofs.lemmas.Int.{ints}
-use Rattle.std.proofs.lemmas.List.Elements.{All-nil, All-cons, All-head, All-tail, All-contains}
+use Rattle.std.proofs.lemmas.List.Elements.{All-nil, All-cons, All-head, All-tail, All-append, All-contains, All-weaker}
 use Rattle.hp_syntax.specs.declared.pattern.Span.{Span}
 use Rattle.hp_syntax.specs.Changes.{Going, Went, CutShort, Failed, cost_value}
 use Rattle.hp_syntax.specs.GroundPatterns.{network_said}
@@ -130,6 +130,23 @@ module _ (toll : List ℕ) where
       (λ f. subst (λ b. Adds toll (many b) r)
       (sym (beside (length rules) c.rule (length rules + length more) f.0)) f.1)
       (numbered_adds rules more payer h c.rule r e)
+
+-- ---- all rules
+
+-- a rule adds some prices
+abbrev pub AddsSome : List ℕ → Rule → Type 0
+AddsSome toll r = (k : ℕ) × Adds toll k r
+
+-- each rule of a twin adds some
+pub all_add : (toll : List ℕ) (rules more : List Rule) (payer : Rule) → AreTwins toll rules more payer
+    → All (AddsSome toll) (twin rules more payer)
+all_add toll rules more payer twins =
+    All-append (AddsSome toll) (map free_rule rules) (more ++ payer ∷ [])
+    (All-weaker (Adds toll 0) (AddsSome toll) (λ r h. (0, h)) (map free_rule rules)
+    (all_free_add toll rules twins.unused))
+    (All-append (AddsSome toll) more (payer ∷ [])
+    (All-weaker (Adds toll 1) (AddsSome toll) (λ r h. (1, h)) more (all_giving_add toll more twins.giving))
+    (All-cons (AddsSome toll) payer [] (0, payer_adds toll payer twins.paying) (All-nil (AddsSome toll))))
 
 -- ---- derivations
 

@@ -3,7 +3,6 @@
 //! Each function does nothing, and its contract is the law.
 
 ghost use Rattle.std.specs.Prelude.{◌≡◌, ℕ, ℤ, pos, ◌*◌, Bool, List, [], map, ◌++◌, None, Contains};
-ghost use Rattle.std.specs.List.{All};
 ghost use Rattle.hp_syntax.specs.Checks.{domain_faults, first_of, problem_faults};
 ghost use Rattle.hp_syntax.specs.GroundPatterns.{network_said};
 ghost use Rattle.hp_syntax.specs.Networks.{Empty, normal};
@@ -13,7 +12,7 @@ ghost use Rattle.hp_syntax.specs.Walk.{root, visits};
 ghost use Rattle.hp_laws.specs.Derivations.{Choosing, Situation, Derives, first_situation};
 ghost use Rattle.hp_relaxed.specs.Giving.{all_giving_up, relaxed_rules, toll_of};
 ghost use Rattle.hp_relaxed.specs.Keeping.{AreEnough, kept, kept_twin};
-ghost use Rattle.hp_relaxed.specs.OwnParts.{IsQuiet, IsQuietIfOwn};
+ghost use Rattle.hp_relaxed.specs.OwnParts.{ComeAlike, coming, own_part};
 ghost use Rattle.hp_relaxed.specs.Twins.{AreTwins, for_nothing, free_plans, given_up, plans_among, price, tolls, twin};
 
 /// The plans of a twin that cost nothing are the plans of the domain, in their order, each as often: with the same
@@ -69,11 +68,11 @@ pub fn what_is_never_come_to_may_be_left_out()
         ≡ visits (relaxed_rules d p) nest (root pair depth) [] }
 {}
 
-/// Where the part of a twin's tree in which nothing is given up holds neither a plan nor a fault, the tree by the
-/// domain's own rules holds neither.
-pub fn a_quiet_part_is_a_quiet_tree()
+/// Where the part of a twin's tree in which nothing is given up comes to a plan first, or to neither a plan nor a
+/// fault, so does the tree by the domain's own rules.
+pub fn own_parts_come_to_what_the_tree_does()
     ensures { (toll : List ℕ) (rules more : List Rule) (payer : Rule) (nest : ℕ) (pair : Pair) (depth : ℕ)
         → AreTwins toll rules more payer → tolls toll (normal (network_said pair.tasks)) ≡ 0
-        → All (IsQuietIfOwn toll) (visits (twin rules more payer) nest (root pair depth) [])
-        → All IsQuiet (visits rules nest (root pair depth) []) }
+        → ComeAlike (coming (own_part toll (visits (twin rules more payer) nest (root pair depth) [])))
+        (coming (visits rules nest (root pair depth) [])) }
 {}

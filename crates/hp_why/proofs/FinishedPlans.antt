@@ -46,7 +46,8 @@ module _ (rules : List Rule) (nest : ℕ) where
       (λ e. all_join each IsFinished cs (all_from (λ c. All IsFinished (each c))
       (child_finished (walk.visits_within rules nest d) (λ m q. finished_within d m q) n p) cs))
 
-  all_finished : (n : walk.Node) (p : List ℕ) → All IsFinished (walk.visits rules nest n p)
+  -- at each plan among the visits at and below a node nothing is left to do
+  pub all_finished : (n : walk.Node) (p : List ℕ) → All IsFinished (walk.visits rules nest n p)
   unfolding walk.visits
   all_finished n p = finished_within n.depth n p
 

@@ -13,6 +13,6 @@ pub mod ReasonSteps
 pub mod StateSteps
 pub mod AlongSteps
 pub mod JudgedSteps
-pub mod QuietSteps
-pub mod QuietTwins
+pub mod OwnPartSteps
+pub mod OwnPartTwins
 pub mod VerdictLemmas

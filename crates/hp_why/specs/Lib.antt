@@ -1,5 +1,5 @@
 pub mod Whys
 pub mod Twin
-pub mod Quiet
+pub mod OwnPart
 pub mod Priced
 pub mod Coded

@@ -5,11 +5,11 @@ ghost use Rattle.hp_best.specs.Bounded.{IsCheapestOf, IsFound, NeverFalls};
 ghost use Rattle.hp_laws.specs.TreeLaws.{IsFaultless};
 ghost use Rattle.hp_net.specs.Standings.{standing};
 ghost use Rattle.hp_search.specs.Planned.{stands_planned, tree_planned};
-ghost use Rattle.hp_why.specs.Quiet.{AnswersIfQuiet};
+ghost use Rattle.hp_why.specs.OwnPart.{AnswersByPart};
 ghost use Rattle.hp_why.specs.Twin.{Answers, CanSearch, Judged, JudgedBest, JudgedNone, JudgedPath, tree_of, visits_of};
 
 use crate::left::first_left;
-use crate::own_part::is_quiet;
+use crate::own_part::{PartEnd, part_end};
 use crate::reasons::reasons;
 use crate::twin::{Twin, restart};
 use crate::verdict::Verdict;
@@ -158,21 +158,25 @@ pub fn search(alloc: Global, twin: &Twin, priced: bool) -> Result<Verdict, Alloc
     search_by(alloc, twin, &mut walk, priced)
 }
 
-/// The same, where the part of the twin's tree in which nothing is given up holds neither a plan nor a fault.
-pub fn search_if_quiet(
+/// The same, where the part of the twin's tree in which nothing is given up holds neither a plan nor a fault; where it
+/// comes to a plan first, that there is one.
+pub fn search_by_part(
     alloc: Global,
     twin: &Twin,
     priced: bool,
 ) -> Result<Option<Verdict>, AllocError>
     requires search { CanSearch twin.now }
     requires falls { priced ≡ true → NeverFalls (visits_of twin.now) }
-    ensures { IfOk result (AnswersIfQuiet twin.now priced) }
+    ensures { IfOk result (AnswersByPart twin.now priced) }
 {
     let mut walk = Planner::new(alloc, twin.code, twin.pair, twin.depth, twin.nest)?;
-    if !is_quiet(twin, &mut walk)? {
-        return Ok(None);
+    match part_end(twin, &mut walk)? {
+        PartEnd::Neither => {
+            restart(twin, &mut walk)?;
+            let verdict = search_by(alloc, twin, &mut walk, priced)?;
+            Ok(Some(verdict))
+        }
+        PartEnd::Plan => Ok(Some(Verdict::Plan)),
+        PartEnd::Unknown => Ok(None),
     }
-    restart(twin, &mut walk)?;
-    let verdict = search_by(alloc, twin, &mut walk, priced)?;
-    Ok(Some(verdict))
 }

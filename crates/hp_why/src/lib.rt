@@ -27,7 +27,7 @@ mod verdict;
 
 use crate::codes::{TwinCode, know_own};
 pub use crate::codes::{Codes, codes_of};
-use crate::judging::{search, search_if_quiet};
+use crate::judging::{search, search_by_part};
 use crate::own::own_end;
 use crate::twin::Twin;
 pub use crate::verdict::{Reason, Verdict};
@@ -86,9 +86,9 @@ fn why_by(
     search(alloc, &searched, twin.is_priced)
 }
 
-/// The same, where the part of the twin's tree in which nothing is given up says that the domain's own tree holds
-/// neither a plan nor a fault.
-fn why_quiet(
+/// Whether a pair has a plan, and where it has none, why, as far as the part of the twin's tree in which nothing is
+/// given up tells it.
+fn why_by_part(
     alloc: Global,
     domain: &Domain,
     problem: &Problem,
@@ -109,7 +109,7 @@ fn why_quiet(
         (asked (domain_of domain.now) (problem_of problem.now) (pair_of pair.now) depth nest)) }
 {
     let searched = twin_of(domain, twin, pair, depth, nest);
-    search_if_quiet(alloc, &searched, twin.is_priced)
+    search_by_part(alloc, &searched, twin.is_priced)
 }
 
 /// How the walk of a pair by the domain's own rules ends, whose code is made if it isn't there.
@@ -201,7 +201,7 @@ pub fn why_with(
         (asked (domain_of domain.now) (problem_of problem.now) (pair_of pair.now) depth nest)) }
     ensures known { OnOk result (AreCodesOf (domain_of domain.now) (problem_of problem.now) codes.new) }
 {
-    match why_quiet(alloc, domain, problem, &codes.twin, pair, depth, nest)? {
+    match why_by_part(alloc, domain, problem, &codes.twin, pair, depth, nest)? {
         Some(verdict) => Ok(verdict),
         None => why_walked(alloc, domain, problem, codes, pair, depth, nest),
     }

@@ -1,9 +1,10 @@
 //! The part of a twin's tree in which nothing is given up: the tree of the domain itself, as the twin's holds it.
-ghost use Rattle.std.specs.Prelude.{◌≡◌, ◌<◌, ◌≤◌, [], true, false, IfOk, OnOk, length};
+ghost use Rattle.std.specs.Prelude.{◌≡◌, ◌≤◌, [], true, false, IfOk, OnOk, length};
 ghost use Rattle.std.specs.List.{All};
-ghost use Rattle.hp_net.specs.Standings.{IsAtItsNode, standing};
+ghost use Rattle.hp_net.specs.Standings.{standing};
+ghost use Rattle.hp_relaxed.specs.OwnParts.{coming, own_part};
 ghost use Rattle.hp_search.specs.Planned.{stands_planned, tree_planned};
-ghost use Rattle.hp_why.specs.Quiet.{Heard, IsQuietPart, LedByGiving};
+ghost use Rattle.hp_why.specs.OwnPart.{EndsSo, HasOwnPart, Heard, IsOfTree, LedByGiving};
 ghost use Rattle.hp_why.specs.Twin.{tree_of, visits_of};
 
 use crate::reasons::origin_at;
@@ -11,6 +12,17 @@ use crate::twin::Twin;
 use hp_net::{Step, Walk};
 use hp_search::Planner;
 use std::alloc::AllocError;
+
+/// What that part comes to first.
+#[derive(Clone, Copy)]
+pub enum PartEnd {
+    /// It holds neither a plan nor a fault.
+    Neither,
+    /// A plan, with no fault before it.
+    Plan,
+    /// A fault stands at a node of it, maybe one of a rule by which something is given up.
+    Unknown,
+}
 
 /// Whether the decomposition that led to the node reached gave something up.
 fn gave_up(twin: &Twin, walk: &Planner) -> bool
@@ -28,11 +40,11 @@ fn stay_within(twin: &Twin, walk: &mut Planner)
     requires live { walk.old.live ≡ true }
     requires did { (stands_planned walk.old).at_did ≡ true }
     requires tree { tree_planned walk.old ≡ tree_of twin.now }
-    requires at { All (IsAtItsNode (tree_planned walk.old)) (stands_planned walk.old).rest }
-    ensures quiet { IsQuietPart twin.now (stands_planned walk.new).rest
-        → IsQuietPart twin.now (stands_planned walk.old).rest }
+    requires at { All (IsOfTree (tree_planned walk.old)) (stands_planned walk.old).rest }
+    ensures same { (part : HasOwnPart twin.now) → coming (own_part part.toll (stands_planned walk.old).rest)
+        ≡ coming (own_part part.toll (stands_planned walk.new).rest) }
     ensures shorter { length (stands_planned walk.new).rest ≤ length (stands_planned walk.old).rest }
-    ensures at { All (IsAtItsNode (tree_planned walk.new)) (stands_planned walk.new).rest }
+    ensures at { All (IsOfTree (tree_planned walk.new)) (stands_planned walk.new).rest }
     ensures tree { tree_planned walk.new ≡ tree_planned walk.old }
     ensures live { walk.new.live ≡ true }
 {
@@ -41,13 +53,13 @@ fn stay_within(twin: &Twin, walk: &mut Planner)
     }
 }
 
-/// Makes the next visit of that part, and says whether it is quiet, where that is known.
-fn hear(twin: &Twin, walk: &mut Planner) -> Result<Option<bool>, AllocError>
+/// Makes the next visit, and says what that part comes to, where that is known.
+fn hear(twin: &Twin, walk: &mut Planner) -> Result<Option<PartEnd>, AllocError>
     requires live { walk.old.live ≡ true }
     requires tree { tree_planned walk.old ≡ tree_of twin.now }
-    requires at { All (IsAtItsNode (tree_planned walk.old)) (stands_planned walk.old).rest }
+    requires at { All (IsOfTree (tree_planned walk.old)) (stands_planned walk.old).rest }
     ensures heard { IfOk result (λ o. Heard o twin.now (stands_planned walk.old).rest (stands_planned walk.new).rest) }
-    ensures at { OnOk result (All (IsAtItsNode (tree_planned walk.new)) (stands_planned walk.new).rest) }
+    ensures at { OnOk result (All (IsOfTree (tree_planned walk.new)) (stands_planned walk.new).rest) }
     ensures tree { tree_planned walk.new ≡ tree_planned walk.old }
     ensures live { OnOk result (walk.new.live ≡ true) }
 {
@@ -56,25 +68,32 @@ fn hear(twin: &Twin, walk: &mut Planner) -> Result<Option<bool>, AllocError>
             stay_within(twin, walk);
             Ok(None)
         }
-        Step::Plan => Ok(Some(false)),
+        Step::Plan => {
+            // At a plan no toll is left, so what it cost tells whether anything was given up.
+            if walk.cost() == 0 {
+                Ok(Some(PartEnd::Plan))
+            } else {
+                Ok(None)
+            }
+        }
         Step::Cut => Ok(None),
-        Step::Fault(_) => Ok(Some(false)),
-        Step::End => Ok(Some(true)),
+        Step::Fault(_) => Ok(Some(PartEnd::Unknown)),
+        Step::End => Ok(Some(PartEnd::Neither)),
     }
 }
 
-/// Whether that part holds neither a plan nor a fault, by a walk of the whole tree that leaves out all else.
-pub fn is_quiet(twin: &Twin, walk: &mut Planner) -> Result<bool, AllocError>
+/// What that part comes to, by a walk of the whole tree that leaves out all else.
+pub fn part_end(twin: &Twin, walk: &mut Planner) -> Result<PartEnd, AllocError>
     requires live { walk.old.live ≡ true }
     requires tree { tree_planned walk.old ≡ tree_of twin.now }
     requires new { stands_planned walk.old ≡ standing [] (visits_of twin.now) false }
-    ensures quiet { IfOk result (λ b. b ≡ true → IsQuietPart twin.now (visits_of twin.now)) }
+    ensures end { IfOk result (λ e. EndsSo e twin.now (visits_of twin.now)) }
     ensures tree { tree_planned walk.new ≡ tree_planned walk.old }
     ensures live { OnOk result (walk.new.live ≡ true) }
 {
     loop {
-        if let Some(is_quiet) = hear(twin, walk)? {
-            return Ok(is_quiet);
+        if let Some(end) = hear(twin, walk)? {
+            return Ok(end);
         }
     }
 }
