@@ -6,3 +6,4 @@ pub mod SiteSteps
 pub mod DeedSteps
 pub mod ChoiceLemmas
 pub mod NextSteps
+pub mod FindingLemmas

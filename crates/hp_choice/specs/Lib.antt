@@ -1,3 +1,4 @@
 pub mod Deeds
 pub mod Choices
 pub mod Served
+pub mod Asking

@@ -1,10 +1,12 @@
 //! The choice of a rule at a task, whose children are made one after the other, in place.
 #![tactic(auto)]
 
+mod asking;
 mod choice;
 mod opening;
 mod rooms;
 
+pub use asking::{Finding, Found, ask};
 pub use choice::{Choice, Deed, Given};
 pub use opening::open;
 pub use rooms::Rooms;

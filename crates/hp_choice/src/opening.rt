@@ -36,7 +36,7 @@ use hp_syntax::AtomPat;
 use std::alloc::{AllocError, Global};
 
 // The node of an index.
-fn node_at<'s>(node: usize, scene: &'s Scene<'_>) -> &'s CodeNode
+pub(crate) fn node_at<'s>(node: usize, scene: &'s Scene<'_>) -> &'s CodeNode
     requires { node < length (code_in scene.now).nodes }
     ensures is { slice_get (code_in scene.now).nodes node ≡ Some (laid_of result.now) }
     ensures small { node + 1 < 2 ^ 64 }
@@ -47,7 +47,7 @@ fn node_at<'s>(node: usize, scene: &'s Scene<'_>) -> &'s CodeNode
 }
 
 // The bindings of a rule's variables under which its head matches a task.
-fn matched(
+pub(crate) fn matched(
     alloc: Global,
     head: &AtomPat,
     vars: usize,

@@ -1,4 +1,4 @@
--- The names of a rule's variables are found by a search among the rules' nodes.
+-- The place of a rule and the names of its variables are found by a search among the rules' nodes.
 use Rattle.std.proofs.Common.{◌≡◌, ◌≢◌, ◌⊎◌, inl, inr, ℕ, zero, suc, ◌<◌, ◌≤◌, cond, List, [], ◌∷◌, length, get_or, map, slice_get, Some, None, option_map, Err, refl, ap, sym, ◌∙◌, subst, arith}
 use Rattle.std.specs.Ordering.{nat_cmp, ordering_index}
 use Rattle.std.specs.declared.cmp.Ordering.TheVariants.{Equal}
@@ -9,7 +9,7 @@ use Rattle.std.proofs.lemmas.Cmp.{ranked}
 use Rattle.std.proofs.lemmas.List.Sorted.{IsNonDecreasingBy-from_default}
 use Rattle.std.proofs.lemmas.Option.{slice_get_past, slice_get-get_or, slice_get-map}
 use Rattle.hp_nodes.specs.Trees.{trees}
-use Rattle.hp_code.specs.CodeViews.{CodeView, beside, or_empty, rule_nodes, vars_at}
+use Rattle.hp_code.specs.CodeViews.{CodeView, IsPlaceOf, beside, or_empty, rule_nodes, rules_in, vars_at}
 use Rattle.hp_code.proofs.CodeLemmas.{AscendFrom, beside_later, roots_ascend}
 
 -- numbers that ascend from one are at least that
@@ -58,11 +58,44 @@ split (suc k) (suc m) = elim (split k m) [
   | inr w ↦ inr (omega (arith, w))
 ]
 
-module _ {V : Type 0} (f : V → List (List ℕ)) (c : CodeView) (i : ℕ) (ns : List ℕ) (vs us : List V)
-    (nodes : ns ≡ rule_nodes c) (vars : c.vars ≡ map f us) (same : vs ≡ us) where
+module _ (c : CodeView) (i : ℕ) (ns : List ℕ) (nodes : ns ≡ rule_nodes c) where
   ascend : AscendFrom 0 ns
   ascend = subst (AscendFrom 0) (sym nodes) (roots_ascend 0 (trees 0 c.nodes))
 
+  -- where the search finds an index, there is the rule of the node
+  pub place_found : (k : ℕ) → k < length ns → ((d : ℕ) → nat_cmp (get_or ns k d) i ≡ Equal) → IsPlaceOf c i (Some k)
+  place_found k inside found =
+      let same : get_or ns k i ≡ i = ranked _ i _ (sym (found i)) in (
+        ap (λ ms. slice_get ms k) (sym nodes) ∙ (slice_get-get_or ns k i inside ∙ ap Some same),
+        sym (ap (λ ms. beside i ms (rules_in c)) (sym nodes) ∙ beside_at 0 ns (rules_in c) k i ascend inside same),
+      )
+
+  module _ (at : ℕ) (parted : IsBinarySearchResult (λ y. nat_cmp y i) ns (Err at)) where
+    compared_rise : IsNonDecreasingBy (λ y. ordering_index (nat_cmp y i)) ns
+    compared_rise =
+        IsNonDecreasingBy-from_default (λ y. ordering_index (nat_cmp y i)) ns 0
+        (λ k m le l.
+        let up : get_or ns k 0 ≤ get_or ns m 0 = rise 0 ns ascend k m 0 le l in
+        grind (arith, nat_tests))
+
+    -- a number before the place is smaller, and one from it on greater
+    apart : (k : ℕ) → k < length ns → (k < at) ⊎ (at ≤ k) → get_or ns k i ≢ i
+    apart k l (inl before) e =
+        let less : get_or ns k i < i = ranked _ i _ (sym ((parted compared_rise).0 k i (omega arith) before)) in
+        absurd (omega (arith, less, e))
+    apart k l (inr behind) e =
+        let more : i < get_or ns k i = ranked _ i _ (sym ((parted compared_rise).1 k i behind l)) in
+        absurd (omega (arith, more, e))
+
+    -- where the search finds none, nothing stands beside the index
+    missing : {A : Type 0} (xs : List A) → beside i ns xs ≡ None
+    missing xs = beside_none ns xs i (λ k l. apart k l (split k at))
+
+    pub place_missing : IsPlaceOf c i None
+    place_missing = ap (λ ms. beside i ms (rules_in c)) (sym nodes) ∙ missing (rules_in c)
+
+module _ {V : Type 0} (f : V → List (List ℕ)) (c : CodeView) (i : ℕ) (ns : List ℕ) (vs us : List V)
+    (nodes : ns ≡ rule_nodes c) (vars : c.vars ≡ map f us) (same : vs ≡ us) where
   names_are : vars_at c i ≡ or_empty (beside i ns (map f vs))
   names_are =
       ap (λ ms. or_empty (beside i ms c.vars)) (sym nodes)
@@ -73,7 +106,7 @@ module _ {V : Type 0} (f : V → List (List ℕ)) (c : CodeView) (i : ℕ) (ns :
     names_at =
         names_are
         ∙ ap or_empty
-        (beside_at 0 ns (map f vs) k i ascend inside (ranked _ i _ (sym (found i))) ∙ slice_get-map f vs k)
+        (beside_at 0 ns (map f vs) k i (ascend c i ns nodes) inside (ranked _ i _ (sym (found i))) ∙ slice_get-map f vs k)
 
     -- the names beside a rule's node are those of the rule
     pub names_found : (v : V) → k < length vs → v ≡ get_or vs k v → f v ≡ vars_at c i
@@ -86,24 +119,4 @@ module _ {V : Type 0} (f : V → List (List ℕ)) (c : CodeView) (i : ℕ) (ns :
 
   -- a node that isn't among the rules' nodes has no names
   pub names_missing : (at : ℕ) → IsBinarySearchResult (λ y. nat_cmp y i) ns (Err at) → [] ≡ vars_at c i
-  names_missing at parted =
-      sym (names_are ∙ ap or_empty (beside_none ns (map f vs) i differs))
-    where
-      compared_rise : IsNonDecreasingBy (λ y. ordering_index (nat_cmp y i)) ns
-      compared_rise =
-          IsNonDecreasingBy-from_default (λ y. ordering_index (nat_cmp y i)) ns 0
-          (λ k m le l.
-          let up : get_or ns k 0 ≤ get_or ns m 0 = rise 0 ns ascend k m 0 le l in
-          grind (arith, nat_tests))
-
-      -- a number before the place is smaller, and one from it on greater
-      apart : (k : ℕ) → k < length ns → (k < at) ⊎ (at ≤ k) → get_or ns k i ≢ i
-      apart k l (inl before) e =
-          let less : get_or ns k i < i = ranked _ i _ (sym ((parted compared_rise).0 k i (omega arith) before)) in
-          absurd (omega (arith, less, e))
-      apart k l (inr behind) e =
-          let more : i < get_or ns k i = ranked _ i _ (sym ((parted compared_rise).1 k i behind l)) in
-          absurd (omega (arith, more, e))
-
-      differs : (k : ℕ) → k < length ns → get_or ns k i ≢ i
-      differs k l = apart k l (split k at)
+  names_missing at parted = sym (names_are ∙ ap or_empty (missing c i ns nodes at parted (map f vs)))

@@ -1,5 +1,5 @@
 -- The value of a compiled code, and what makes one.
-use Rattle.std.specs.Prelude.{◌≡◌, ℕ, ◌==◌, Bool, true, false, not, cond, List, [], ◌∷◌, length, map, Option, Some, None, is_some}
+use Rattle.std.specs.Prelude.{◌≡◌, ℕ, ◌==◌, Bool, true, false, not, cond, List, [], ◌∷◌, length, map, slice_get, Option, Some, None, is_some}
 use Rattle.std.specs.List.{All, flat_map}
 use Rattle.hp_syntax.specs.Syntax.{Rule}
 use Rattle.hp_syntax.specs.Numbered.{IsNumberedRule}
@@ -39,6 +39,12 @@ abbrev pub beside : {A : Type 0} → ℕ → List ℕ → List A → Option A
 beside i [] xs = None
 beside i (n ∷ ns) [] = None
 beside i (n ∷ ns) (x ∷ xs) = cond (n == i) (Some x) (beside i ns xs)
+
+-- the rule of a node is the one at a place, whose node has that index; or the node is no rule's
+abbrev pub IsPlaceOf : CodeView → ℕ → Option ℕ → Type 0
+IsPlaceOf c i None = beside i (rule_nodes c) (rules_in c) ≡ None
+IsPlaceOf c i (Some place) =
+    (slice_get (rule_nodes c) place ≡ Some i) × (slice_get (rules_in c) place ≡ beside i (rule_nodes c) (rules_in c))
 
 -- the names of the variables of the rule of a node; none for a node that is no rule's
 abbrev pub vars_at : CodeView → ℕ → List (List ℕ)

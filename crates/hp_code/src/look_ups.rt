@@ -4,7 +4,7 @@ ghost use Rattle.hp_nodes.specs.Asked.{asked_parts};
 ghost use Rattle.hp_nodes.specs.NodeViews.{laid_of};
 ghost use Rattle.hp_nodes.specs.Trees.{Laid};
 ghost use Rattle.hp_code.specs.Codes.{code_of};
-ghost use Rattle.hp_code.specs.CodeViews.{concludes, vars_at};
+ghost use Rattle.hp_code.specs.CodeViews.{IsPlaceOf, concludes, vars_at};
 
 use crate::code::Code;
 use hp_nodes::{CodeNode, asked_by_nodes};
@@ -29,6 +29,16 @@ impl Code {
                 None => &[],
             },
             Err(_) => &[],
+        }
+    }
+
+    /// The place of the rule whose node has an index, in the order of the domain; none for another node.
+    pub fn place_of(&self, rule: usize) -> Option<usize>
+        ensures { IsPlaceOf (code_of self.now) rule result }
+    {
+        match self.rules.as_slice().binary_search(&rule) {
+            Ok(place) => Some(place),
+            Err(_) => None,
         }
     }
 

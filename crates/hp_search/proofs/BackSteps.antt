@@ -3,7 +3,7 @@ use Rattle.std.proofs.Common.{◌≡◌, ℕ, ◌-◌, ◌^◌, ◌<◌, ◌≤�
 use Rattle.std.proofs.Common.{reverse, take, None, refl, sym, ◌∙◌, ap, ap₂, subst, arith}
 use Rattle.std.specs.Prelude.{Vec}
 use Rattle.std.specs.Global.{Global}
-use Rattle.std.proofs.lemmas.List.{length-append, map-append, reverse-append}
+use Rattle.std.proofs.lemmas.List.{length-append, length-map, length-reverse, map-append, reverse-append}
 use Rattle.std.proofs.Common.{inl, inr, length-take-le, take-take}
 use Rattle.std.proofs.lemmas.Bool.{cases_lt}
 use Rattle.std.proofs.Math.Seq.{take-append_seam}
@@ -33,12 +33,12 @@ use Rattle.hp_agenda.specs.declared.frame.Frame.{Frame}
 use Rattle.hp_agenda.specs.Begun.{AreFirst, HasLast}
 use Rattle.hp_agenda.specs.Frames.{CameTo, IsFrame, LeadTo, left_of, level_of, rules_at}
 use Rattle.hp_search.specs.declared.search.Search.{Search}
-use Rattle.hp_search.specs.Searches.{Goes, HasCell, IsCleared, IsSearch, IsRisen, levels_of, root_base, rules_in_search}
-use Rattle.hp_search.specs.Searches.{stack_of, stands_in, tree_in}
+use Rattle.hp_search.specs.Searches.{Goes, HasCell, HasLeft, IsCleared, IsSearch, IsRisen, StandsAbove, levels_of}
+use Rattle.hp_search.specs.Searches.{root_base, rules_in_search, stack_of, stands_in, tree_in}
 use Rattle.hp_agenda.proofs.AgreeSteps.{agenda_within}
 use Rattle.hp_agenda.proofs.BegunLemmas.{has_last_agrees, has_last_at, has_settled, none_open}
 use Rattle.hp_agenda.proofs.LevelLemmas.{came_kept, cleared_agenda, cleared_left, frame_kept, lead_kept}
-use Rattle.hp_search.proofs.FrameLevels.{level_by, stack_by, levels_push, root_node, base_alike, base_pushed}
+use Rattle.hp_search.proofs.FrameLevels.{level_by, stack_by, levels_push, path_length, root_node, base_alike, base_pushed}
 
 -- ---- where nothing more comes
 
@@ -377,8 +377,20 @@ module _ (s : Search) (h : IsSearch s) (f : Frame) (fs : List Frame) (above : Ve
       (back_to (rules_in_search s) s.nest (stack_of s).top own_level levels_above s.at_did s.over (stack_of s)
       (ap (λ ks. stack_by (stack_of s).top ks s.at_did s.over) levels_split) h.stack e)
 
-  -- whatever is left at the node reached, it is a search of the same tree
-  pub rises : IsSearch new × (tree_in new ≡ tree_in s)
+  -- the path to the frame above is that to the node reached without its last number
+  path_up : path_to (rules_in_search s) s.nest levels_above ≡ take (length fs) (stands_in s).path
+  path_up =
+      let rules = rules_in_search s in
+      let up = path_to rules s.nest levels_above in
+      let last = (given_at rules s.nest own_level - 1) ∷ [] in
+      let count : length up ≡ length fs =
+      path_length rules s.nest levels_above
+      ∙ (length-map (reverse fs) (level_of s.site s.nest s.cells) ∙ length-reverse fs) in
+      sym (ap (λ ls. take (length fs) (path_to rules s.nest ls)) levels_split
+      ∙ (ap (λ n. take n (up ++ last)) (sym count) ∙ take-append_seam up last))
+
+  -- whatever is left at the node reached, it is a search of the same tree, which stands there
+  rises : StandsAbove (length fs) s new
   rises =
       let rules = rules_in_search s in
       let whole = subst (IsStack rules s.nest) (ap (λ ks. stack_by (stack_of s).top ks s.at_did s.over) levels_split)
@@ -393,7 +405,23 @@ module _ (s : Search) (h : IsSearch s) (f : Frame) (fs : List Frame) (above : Ve
         };
         root = sym (ap (root_of (stack_of s).top) levels_split);
       }) in
-      (goes.search, goes.tree)
+      record {
+        search = goes.search;
+        tree = goes.tree;
+        path = ap (λ (x : Standing). x.path) goes.stands ∙ path_up;
+      }
+
+  -- with one frame less above it
+  pub left : HasLeft s new
+  left =
+      let above_is : new.above.items ≡ fs = ap (λ (x : Search). x.above.items) risen.same ∙ is in
+      let many = length-append fs (f ∷ []) in
+      let less = ap length pushed in
+      let few = ap length above_is in
+      record {
+        stands = subst (λ n. StandsAbove n s new) (sym few) rises;
+        fewer = omega (arith, many, less, few);
+      }
 
 -- at the root there is no frame above
 pub back_at_root : (s : Search) → s.above.items ≡ [] → (stands_in s).path ≡ []

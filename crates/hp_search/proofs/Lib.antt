@@ -4,7 +4,7 @@ pub mod CellSteps
 pub mod FrameLevels
 pub mod MarkSteps
 pub mod SearchSteps
-mod RulePlaces
 mod LedSteps
 mod PathFrames
 mod LedLemmas
+mod RisingSteps

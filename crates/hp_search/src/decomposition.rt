@@ -1,6 +1,5 @@
 //! The decompositions that led to the node reached.
-ghost use Rattle.std.specs.Prelude.{◌≡◌, ◌<◌, Bool, Some, is_some, length, slice_get, true};
-ghost use Rattle.hp_nodes.specs.NodeViews.{laid_of};
+ghost use Rattle.std.specs.Prelude.{◌≡◌, ◌<◌, Bool, is_some, length, slice_get, true};
 ghost use Rattle.hp_code.specs.Codes.{code_of};
 ghost use Rattle.hp_code.specs.CodeViews.{rules_in};
 ghost use Rattle.hp_agenda.specs.Queues.{rule_of};
@@ -11,7 +10,7 @@ ghost use Rattle.hp_search.specs.Searches.{IsSearch};
 use crate::search::Search;
 use hp_cells::Cell;
 use hp_choice::Choice;
-use hp_code::{Code, CodeNode};
+use hp_code::Code;
 
 /// The decomposition that led to the node reached: the place of its task among the candidates of the parent, the task,
 /// the place of the operator or method among the rules of the domain, and that of the branch among the branches of the
@@ -24,28 +23,16 @@ pub struct Decomposition {
     pub branch: usize,
 }
 
-// The node of an index.
-fn node_at(code: &Code, node: usize) -> &CodeNode
-    requires { node < length (code_of code.now).nodes }
-    ensures { slice_get (code_of code.now).nodes node ≡ Some (laid_of result.now) }
-{
-    let nodes = code.nodes();
-    let _ = nodes.len();
-    &nodes[node]
-}
-
 // The place among the rules of the one whose node has an index.
 fn place_of_rule(code: &Code, node: usize) -> usize
     requires { is_some (rule_of (code_of code.now) node) ≡ true }
     ensures { slice_get (rules_in (code_of code.now)) result ≡ rule_of (code_of code.now) node }
 {
-    let mut at = 0;
-    let mut place = 0;
-    while at < node {
-        at = node_at(code, at).to;
-        place += 1;
+    match code.place_of(node) {
+        Some(place) => place,
+        // The node is a rule's.
+        None => unreachable!(),
     }
-    place
 }
 
 impl Search<'_> {

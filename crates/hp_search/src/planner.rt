@@ -2,12 +2,12 @@
 use crate::decomposition::Decomposition;
 use crate::search::Search;
 use hp_cells::{Cell, Cells};
-use hp_choice::Rooms;
+use hp_choice::{Found, Rooms};
 use hp_code::{Code, asked_parts};
 use hp_gen::Scene;
 use hp_net::{Net, Step, Walk};
 use hp_site::Site;
-use hp_syntax::Pair;
+use hp_syntax::{AtomPat, Pair};
 use hp_tree::root::Root;
 use hp_world::World;
 use std::alloc::{AllocError, Global};
@@ -44,13 +44,15 @@ impl<'a> Model for Planner<'a> {
 }
 
 impl<'a> Planner<'a> {
-    ghost use Rattle.std.specs.Prelude.{◌≡◌, ◌≤◌, ◌<◌, [], true, false, pos, IfOk, MatchOption, OnErr, OnOk, length};
+    ghost use Rattle.std.specs.Prelude.{◌≡◌, ◌≤◌, ◌<◌, [], Some, true, false, pos, IfOk, MatchOption, OnErr, OnOk, is_some, length, take};
     ghost use Rattle.hp_syntax.specs.declared.limits.TheConstants.{GREATEST_DEPTH, MOST_LEVELS};
-    ghost use Rattle.hp_syntax.specs.GroundPatterns.{IsGroundPair};
-    ghost use Rattle.hp_syntax.specs.Views.{pair_of};
+    ghost use Rattle.hp_syntax.specs.GroundPatterns.{IsGroundAtom, IsGroundPair, atom_said};
+    ghost use Rattle.hp_syntax.specs.Syntax.{Method, Refines};
+    ghost use Rattle.hp_syntax.specs.Views.{atom_of, pair_of};
     ghost use Rattle.hp_syntax.specs.Walk.{root, visits};
     ghost use Rattle.hp_code.specs.Codes.{code_of};
-    ghost use Rattle.hp_code.specs.CodeViews.{rules_in};
+    ghost use Rattle.hp_choice.specs.Asking.{Finds};
+    ghost use Rattle.hp_code.specs.CodeViews.{beside, rule_nodes, rules_in};
     ghost use Rattle.hp_links.specs.Linked.{PartBelow, focused};
     ghost use Rattle.hp_net.specs.Standings.{node_reached, standing, tree_visits};
     ghost use Rattle.std.specs.List.{All};
@@ -134,6 +136,41 @@ impl<'a> Planner<'a> {
         self.search.restart(&mut self.rooms, depth)?;
         self.live = true;
         Ok(())
+    }
+
+    /// Goes back to the node which so many of the path's first numbers reach, whatever is left on the way. It takes no
+    /// memory. What is left there no clause says: the walk may begin once more by `restart`.
+    pub fn rise_to(&mut self, level: usize)
+        requires live { self.old.live ≡ true }
+        requires level { level ≤ length (stands_planned self.old).path }
+        ensures tree { tree_planned self.new ≡ tree_planned self.old }
+        ensures path { (stands_planned self.new).path ≡ take level (stands_planned self.old).path }
+        ensures node { is_some (node_reached (tree_planned self.new) (stands_planned self.new)) ≡ true }
+        ensures live { self.new.live ≡ true }
+    {
+        self.search.rise_to(&mut self.rooms, level);
+    }
+
+    /// What a method of another code finds for a task in the state of the node reached, by the method's node: the
+    /// branch that it would choose there, and what the events of that branch's precondition come to. The task is an
+    /// atom without variables and calls. The walk stays as it is, after an error too.
+    pub fn ask(
+        &mut self,
+        code: &Code,
+        rule: usize,
+        task: &AtomPat,
+    ) -> Result<Option<Found>, AllocError>
+        requires live { self.old.live ≡ true }
+        requires rule { let c = code_of code.now in
+            (m : Method) × (beside rule (rule_nodes c) (rules_in c) ≡ Some (Refines m)) }
+        requires task { IsGroundAtom (atom_of task.now) }
+        ensures found { let c = code_of code.now in
+            IfOk result (λ o. (m : Method) → beside rule (rule_nodes c) (rules_in c) ≡ Some (Refines m)
+            → MatchOption (node_reached (tree_planned self.old) (stands_planned self.old)) ⊥
+            (λ n. Finds (rules_in c) self.old.nest n.state m (atom_said (atom_of task.now)) o)) }
+        ensures same { self.new ≡ self.old }
+    {
+        self.search.ask(code, rule, task)
     }
 
     /// The network of the node reached, with its focus. Its pasts at the moments of the path are the networks of the

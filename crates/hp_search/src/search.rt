@@ -6,8 +6,8 @@ ghost use Rattle.hp_site.specs.Sites.{IsMark, IsSite, held_now};
 ghost use Rattle.hp_tree.specs.SearchNodes.{node_of};
 ghost use Rattle.hp_agenda.specs.Frames.{rules_at};
 ghost use Rattle.hp_search.specs.Planned.{DropsFloor, StepCells, planned};
-ghost use Rattle.hp_search.specs.Searches.{BeginsAt, GivesBack, Goes, IsEntered, IsRested, IsRisen, IsSearch, IsTaken};
-ghost use Rattle.hp_search.specs.Searches.{Moves, base_in, rules_in_search, stands_in, tree_in};
+ghost use Rattle.hp_search.specs.Searches.{BeginsAt, GivesBack, Goes, HasLeft, IsEntered, IsRested, IsRisen, IsSearch, IsTaken};
+ghost use Rattle.hp_search.specs.Searches.{Moves, StandsAbove, base_in, rules_in_search, stands_in, tree_in};
 
 use hp_agenda::{Frame, Successor};
 use hp_cells::Cells;
@@ -98,15 +98,27 @@ impl<'a> Search<'a> {
         Ok(())
     }
 
-    // Goes back to the root, whatever is left at the nodes on the way.
-    fn rise_to_root(&mut self, rooms: &mut Rooms)
+    // Goes to the parent, whatever is left at the node reached and below it.
+    fn leave(&mut self, rooms: &mut Rooms)
         requires search { IsSearch self.old }
-        ensures search { IsSearch self.new }
-        ensures tree { tree_in self.new ≡ tree_in self.old }
-        ensures root { (stands_in self.new).path ≡ [] }
+        requires below { 0 < length self.old.above.items }
+        ensures { HasLeft self.old self.new }
     {
-        while let Some(frame) = self.above.pop() {
-            self.rise(rooms, frame);
+        match self.above.pop() {
+            Some(frame) => self.rise(rooms, frame),
+            // Some node is above.
+            None => unreachable!(),
+        }
+    }
+
+    /// Goes back to the node that so many of the first numbers of the path reach, whatever is left on the way.
+    pub(crate) fn rise_to(&mut self, rooms: &mut Rooms, level: usize)
+        requires search { IsSearch self.old }
+        requires level { level ≤ length self.old.above.items }
+        ensures { StandsAbove level self.old self.new }
+    {
+        while level < self.above.len() {
+            self.leave(rooms);
         }
     }
 
@@ -118,7 +130,7 @@ impl<'a> Search<'a> {
         ensures begins { OnOk result (BeginsAt (rules_in_search self.old) self.old.nest
             (record (tree_in self.old).root { depth = depth }) self.new) }
     {
-        self.rise_to_root(rooms);
+        self.rise_to(rooms, 0);
         self.begin_again(rooms, depth)
     }
 

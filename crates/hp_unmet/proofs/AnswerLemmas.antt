@@ -3,47 +3,21 @@ use Rattle.std.proofs.Common.{◌≡◌, ◌≢◌, ℕ, zero, suc, ◌+◌, ◌
 use Rattle.std.specs.Prelude.{◌==◌, nat_lt}
 use Rattle.std.proofs.lemmas.Bool.Decides.{nat_tests}
 use Rattle.std.proofs.lemmas.Bool.{cases_lt, cond-true, cond-false, le-ltb, lt-ltb, ne_eqb}
-use Rattle.hp_shallow.specs.declared.walking.ShallowEnd.TheVariants as ends
-use Rattle.hp_syntax.specs.declared.fault.RunFault.{RunFault}
 use Rattle.hp_syntax.specs.Events.{Finding, Satisfied, Faulty, Undecided, Nothing, State}
 use Rattle.hp_syntax.specs.Matching.{match_atom}
 use Rattle.hp_syntax.specs.Syntax as syntax
 use Rattle.hp_syntax.specs.Terms.{Term, Symbol, Number, Listed, NoTerm, More}
 use Rattle.hp_syntax.specs.Values.{Bindings, unbound}
-use Rattle.hp_unmet.specs.Begun.{is_atom}
 use Rattle.hp_unmet.specs.Conjunctions.{Conjunction, answer_by, answer_from, answer_if, answer_of, answer_where, found, has_several, matched}
 use Rattle.hp_unmet.specs.Halving.{down_from, part_missing}
-use Rattle.hp_unmet.specs.Trials.{AreNothing, IsDoubtful, IsFirstMet, IsFirstMissing, end_found, is_in_doubt, is_satisfied}
+use Rattle.hp_unmet.specs.Said.{is_atom}
+use Rattle.hp_unmet.specs.Trials.{AreNothing, IsDoubtful, IsFirstMet, IsFirstMissing, is_in_doubt, is_satisfied}
 use Rattle.hp_unmet.proofs.DownSteps.{doubt_down, missing_down, none_down, place_down}
 use Rattle.hp_unmet.specs.declared.unmet.Unmet.{Unmet}
 use Rattle.hp_unmet.specs.declared.unmet.Unmet.TheVariants as unmets
 use Rattle.hp_unmet.proofs.FoundLemmas.{found_where, is_matched, is_unmatched, keeps, none_where}
 
--- ---- what the end of a walk says
-
-pub at_plan : (x : Finding) → ends.Plan ≡ end_found x → x ≡ Satisfied
-at_plan Satisfied e = refl
-at_plan (Faulty f) e = let never : ends.Plan ≡ ends.Fault f = e in absurd (cc)
-at_plan Undecided e = let never : ends.Plan ≡ ends.Cut = e in absurd (cc)
-at_plan Nothing e = let never : ends.Plan ≡ ends.End = e in absurd (cc)
-
-pub at_end : (x : Finding) → ends.End ≡ end_found x → x ≡ Nothing
-at_end Satisfied e = let never : ends.End ≡ ends.Plan = e in absurd (cc)
-at_end (Faulty f) e = let never : ends.End ≡ ends.Fault f = e in absurd (cc)
-at_end Undecided e = let never : ends.End ≡ ends.Cut = e in absurd (cc)
-at_end Nothing e = refl
-
-pub at_cut : (x : Finding) → ends.Cut ≡ end_found x → is_in_doubt x ≡ true
-at_cut Satisfied e = let never : ends.Cut ≡ ends.Plan = e in absurd (cc)
-at_cut (Faulty f) e = refl
-at_cut Undecided e = refl
-at_cut Nothing e = let never : ends.Cut ≡ ends.End = e in absurd (cc)
-
-pub at_fault : (f : RunFault) (x : Finding) → ends.Fault f ≡ end_found x → is_in_doubt x ≡ true
-at_fault f Satisfied e = let never : ends.Fault f ≡ ends.Plan = e in absurd (cc)
-at_fault f (Faulty g) e = refl
-at_fault f Undecided e = refl
-at_fault f Nothing e = let never : ends.Fault f ≡ ends.End = e in absurd (cc)
+-- ---- what is satisfied
 
 -- what is in doubt isn't satisfied
 pub in_doubt : (x : Finding) → is_in_doubt x ≡ true → false ≡ is_satisfied x

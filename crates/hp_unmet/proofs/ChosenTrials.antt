@@ -1,30 +1,32 @@
--- The decomposition that led a trial's walk to its plan tells by its branch how many parts are satisfied.
-use Rattle.std.proofs.Common.{◌≡◌, ◌≢◌, ℕ, zero, suc, false, List, [], ◌∷◌, map, take, Option, Some, None, refl, sym, ap, ◌∙◌, subst}
-use Rattle.std.specs.Prelude.{slice_get, option_map}
+-- What the method of a trial finds for a task tells how many parts are satisfied.
+use Rattle.std.proofs.Common.{◌≡◌, ℕ, zero, suc, true, List, [], ◌∷◌, map, take, Option, Some, None, refl, sym, ap, ap₂, ◌∙◌, subst}
+use Rattle.std.specs.Prelude.{MatchOption, is_some, slice_get}
 use Rattle.std.specs.List.{All}
+use Rattle.std.proofs.lemmas.Bool.{some_since}
 use Rattle.std.proofs.lemmas.List.{take-map}
 use Rattle.std.proofs.lemmas.List.Elements.{All-nil, All-cons, All-head, All-tail}
-use Rattle.std.proofs.lemmas.Option.{slice_get-map}
-use Rattle.hp_code.specs.Lowered.{lowered_axiom, lowered_branch, lowered_method, lowered_rule, lowered_rules}
+use Rattle.std.proofs.lemmas.Option.{MatchOption-at_some}
+use Rattle.hp_choice.specs.declared.asking.Found.{Found}
+use Rattle.hp_choice.specs.Asking.{Finds, IsFoundWhere, finding_of}
+use Rattle.hp_code.specs.CodeViews.{CodeView, IsCodeOf, beside, or_empty, rule_nodes, rules_in}
+use Rattle.hp_code.specs.Lowered.{lowered_axiom, lowered_branch, lowered_method, lowered_rules}
+use Rattle.hp_code.proofs.CodeLemmas.{code_reads, code_trees}
 use Rattle.hp_code.proofs.LoweredLemmas.{axioms_lowered, precondition_same}
-use Rattle.hp_choice.specs.Served.{IsBranchFor, ServesBy}
-use Rattle.hp_laws.specs.Derivations.{IsNext, situation_at}
 use Rattle.hp_method.specs.Branches.{IsChosenAt}
-use Rattle.hp_syntax.specs.Events.{Event, Satisfied, State, axioms_of, finding}
-use Rattle.hp_syntax.specs.Matching.{match_atom}
-use Rattle.hp_syntax.specs.Networks.{Place, Task, candidates, firsts, part_at}
+use Rattle.hp_net.specs.Standings.{node_reached}
+use Rattle.hp_nodes.specs.Trees.{roots}
+use Rattle.hp_search.specs.Planned.{Planned, stands_planned, tree_planned}
+use Rattle.hp_syntax.specs.Events.{Event, Nothing, State, axioms_of, finding}
 use Rattle.hp_syntax.specs.Preconditions.{precondition_events}
 use Rattle.hp_syntax.specs.Syntax as syntax
 use Rattle.hp_syntax.specs.Terms.{Term}
 use Rattle.hp_syntax.specs.Values.{Bindings}
-use Rattle.hp_net.specs.Standings.{Tree}
-use Rattle.hp_syntax.specs.Walk.{Node, node_at, root}
-use Rattle.hp_unmet.specs.Begun.{first_state, task_of}
+use Rattle.hp_syntax.specs.Walk.{chosen_branch}
 use Rattle.hp_unmet.specs.Conjunctions.{Conjunction, first_events, first_parts, found, matched}
-use Rattle.hp_unmet.specs.Trials.{IsFirstMet, trial_branch, trial_method, trial_rules}
+use Rattle.hp_unmet.specs.States.{InStateOf}
+use Rattle.hp_unmet.specs.Trials.{AreNothing, trial_branch, trial_method, trial_rules}
 use Rattle.hp_unmet.proofs.TrialRules.{axioms_back}
-use Rattle.hp_unmet.proofs.TrialSteps.{chosen_has, first_met, none_chosen}
-use Rattle.hp_unmet.proofs.TrialWalks.{at_root, first_heard, heard_of, root_is}
+use Rattle.hp_unmet.proofs.TrialSteps.{IsFoundFirst, chosen_with, none_chosen, none_found}
 
 -- what stands at a place of what is made of a list is made of what stands there
 made_there : {A B : Type 0} (f : A → B) (xs : List A) (i : ℕ) (y : B) → slice_get (map f xs) i ≡ Some y
@@ -33,10 +35,18 @@ made_there f [] i y h = absurd (cc)
 made_there f (x ∷ xs) zero y h = let same : f x ≡ y = cc in (x, refl, same)
 made_there f (x ∷ xs) (suc i) y h = made_there f xs i y h
 
-module _ (rules : List syntax.Rule) (nest : ℕ) (s : State) (t : Term) (c : Conjunction) (ns : List ℕ) where
+-- without events nothing is found with any number
+none_with_any : (ns : List ℕ) → AreNothing (λ n. Nothing) ns
+none_with_any [] = All-nil (λ n. Nothing ≡ Nothing)
+none_with_any (n ∷ ns) = All-cons (λ m. Nothing ≡ Nothing) n ns refl (none_with_any ns)
+
+module _ (rules : List syntax.Rule) (c : Conjunction) (ns : List ℕ) where
   -- the rules as they stand in the code
   abbrev laid : List syntax.Rule
   laid = lowered_rules (trial_rules rules c ns)
+
+  abbrev pub laid_method : syntax.Method
+  laid_method = lowered_method (trial_method c ns)
 
   abbrev laid_branch : ℕ → syntax.Branch
   laid_branch n = lowered_branch (trial_branch c n)
@@ -45,123 +55,108 @@ module _ (rules : List syntax.Rule) (nest : ℕ) (s : State) (t : Term) (c : Con
   laid_axioms =
       axioms_lowered (trial_rules rules c ns) ∙ ap (map lowered_axiom) (axioms_back (axioms_of rules))
 
-  module _ (e : Bindings) where
-    abbrev heard : syntax.Branch → List Event
-    heard b = precondition_events (axioms_of laid) nest s b.pre e
+  branches_laid : (ms : List ℕ) → map lowered_branch (map (trial_branch c) ms) ≡ map laid_branch ms
+  branches_laid [] = refl
+  branches_laid (m ∷ ms) = ap (λ bs. laid_branch m ∷ bs) (branches_laid ms)
 
-    -- a branch there has the events of so many of the first parts
-    heard_laid : (n : ℕ) → heard (laid_branch n) ≡ first_events rules nest s c (Some e) n
-    heard_laid n =
-        ap (λ as'. precondition_events as' nest s (laid_branch n).pre e) laid_axioms
-        ∙ precondition_same (axioms_of rules) nest s (first_parts c n) e
+  module _ (nest : ℕ) (s : State) where
+    module _ (e : Bindings) where
+      abbrev heard : syntax.Branch → List Event
+      heard b = precondition_events (axioms_of laid) nest s b.pre e
 
-    branches_laid : (ms : List ℕ) → map lowered_branch (map (trial_branch c) ms) ≡ map laid_branch ms
-    branches_laid [] = refl
-    branches_laid (m ∷ ms) = ap (λ bs. laid_branch m ∷ bs) (branches_laid ms)
+      abbrev own : ℕ → List Event
+      own n = first_events rules nest s c (Some e) n
 
-    none_laid : (ms : List ℕ) → All (λ b. heard b ≡ []) (map laid_branch ms)
-        → All (λ n. first_events rules nest s c (Some e) n ≡ []) ms
-    none_laid [] h = All-nil (λ n. first_events rules nest s c (Some e) n ≡ [])
-    none_laid (m ∷ ms) h =
-        All-cons (λ n. first_events rules nest s c (Some e) n ≡ []) m ms
-        (sym (heard_laid m) ∙ All-head (λ b. heard b ≡ []) (laid_branch m) (map laid_branch ms) h)
-        (none_laid ms (All-tail (λ b. heard b ≡ []) (laid_branch m) (map laid_branch ms) h))
+      -- a branch there has the events of so many of the first parts
+      heard_laid : (n : ℕ) → heard (laid_branch n) ≡ own n
+      heard_laid n =
+          ap (λ as'. precondition_events as' nest s (laid_branch n).pre e) laid_axioms
+          ∙ precondition_same (axioms_of rules) nest s (first_parts c n) e
 
-    -- the branch that is chosen is that of the first number with any events
-    met_where : (place : ℕ) → IsChosenAt laid nest s e (map laid_branch ns) place
-        → finding (first_heard (first_events rules nest s c (Some e)) ns) ≡ Satisfied
-        → IsFirstMet (λ k. finding (first_events rules nest s c (Some e) k)) ns place
-    met_where place chosen h =
-        let there = made_there laid_branch ns place chosen.branch chosen.there in
-        let some : heard (laid_branch there.0) ≢ [] =
-        subst (λ b. heard b ≢ []) (sym there.2)
-        (chosen_has heard (map laid_branch ns) chosen.branch chosen.events chosen.is) in
-        let before : All (λ b. heard b ≡ []) (map laid_branch (take place ns)) =
-        subst (All (λ b. heard b ≡ [])) (take-map laid_branch place ns)
-        (none_chosen heard (take place (map laid_branch ns)) chosen.before) in
-        first_met (first_events rules nest s c (Some e)) ns place there.0 there.1
-        (none_laid (take place ns) before) (λ none. some (heard_laid there.0 ∙ none)) h
+      none_laid : (ms : List ℕ) → All (λ b. heard b ≡ []) (map laid_branch ms) → All (λ n. own n ≡ []) ms
+      none_laid [] h = All-nil (λ n. own n ≡ [])
+      none_laid (m ∷ ms) h =
+          All-cons (λ n. own n ≡ []) m ms
+          (sym (heard_laid m) ∙ All-head (λ b. heard b ≡ []) (laid_branch m) (map laid_branch ms) h)
+          (none_laid ms (All-tail (λ b. heard b ≡ []) (laid_branch m) (map laid_branch ms) h))
 
-  -- a method that serves the task is the trial's
-  abbrev laid_method : syntax.Method
-  laid_method = lowered_method (trial_method c ns)
+      -- where no branch is chosen nothing is found with any number
+      none_there : (ms : List ℕ) → chosen_branch laid nest s (map laid_branch ms) e ≡ None
+          → AreNothing (λ n. finding (own n)) ms
+      none_there ms h = none_found own ms (none_laid ms (none_chosen heard (map laid_branch ms) h))
 
-  -- no axiom serves a task
-  axioms_serve_none : (xs : List syntax.Axiom) (i : ℕ) (r : syntax.Rule) (branch : ℕ)
-      → slice_get (map lowered_rule (map syntax.Concludes xs)) i ≡ Some r → ServesBy laid nest s t r branch → ⊥
-  axioms_serve_none [] i r branch at serves = absurd (cc)
-  axioms_serve_none (x ∷ xs) zero r branch at serves =
-      let same : syntax.Concludes (lowered_axiom x) ≡ r = cc in
-      subst (λ q. ServesBy laid nest s t q branch) (sym same) serves
-  axioms_serve_none (x ∷ xs) (suc i) r branch at serves = axioms_serve_none xs i r branch at serves
+      -- the branch that is chosen is that of the first number with which anything is found
+      first_there : (bs : List syntax.Branch) (place : ℕ) → bs ≡ map laid_branch ns
+          → (k : IsChosenAt laid nest s e bs place)
+          → IsFoundFirst (λ n. finding (own n)) ns place (finding k.events)
+      first_there bs place same k =
+          let there =
+          made_there laid_branch ns place k.branch (ap (λ ys. slice_get ys place) (sym same) ∙ k.there) in
+          let before : chosen_branch laid nest s (map laid_branch (take place ns)) e ≡ None =
+          ap (λ ys. chosen_branch laid nest s ys e)
+          (sym (take-map laid_branch place ns) ∙ ap (take place) (sym same)) ∙ k.before in
+          record {
+            number = there.0;
+            there = there.1;
+            is =
+                ap finding
+                (sym (heard_laid there.0) ∙ (ap heard there.2 ∙ chosen_with heard bs k.branch k.events k.is));
+            before = none_there (take place ns) before;
+          }
 
-  own_serves : (i : ℕ) (r : syntax.Rule) (branch : ℕ) → slice_get laid i ≡ Some r → ServesBy laid nest s t r branch
-      → IsBranchFor laid nest s t laid_method branch
-  own_serves zero r branch at serves =
-      let same : syntax.Refines laid_method ≡ r = cc in
-      subst (λ q. ServesBy laid nest s t q branch) (sym same) serves
-  own_serves (suc i) r branch at serves =
-      absurd (axioms_serve_none (axioms_of rules) i r branch at serves)
+    -- where the method finds nothing, nothing is found with any number
+    none_where : (o : Option Bindings) → IsFoundWhere laid nest s laid_method o None
+        → AreNothing (λ n. finding (first_events rules nest s c o n)) ns
+    none_where None h = none_with_any ns
+    none_where (Some e) h =
+        none_there e ns (ap (λ bs. chosen_branch laid nest s bs e) (sym (branches_laid ns)) ∙ h)
 
-  -- so many of the parts are satisfied as the branch asks for that led to the plan
-  met_by : (i : ℕ) (r : syntax.Rule) (branch : ℕ) → slice_get laid i ≡ Some r → ServesBy laid nest s t r branch
-      → finding (first_heard (first_events rules nest s c (matched c t)) ns) ≡ Satisfied
-      → IsFirstMet (found rules nest s c t) ns branch
-  met_by i r branch at serves h =
-      let own = own_serves i r branch at serves in
-      let head : matched c t ≡ Some own.matched = own.head in
-      let chosen : IsChosenAt laid nest s own.matched (map laid_branch ns) branch =
-      subst (λ bs. IsChosenAt laid nest s own.matched bs branch) (branches_laid own.matched ns) own.chosen in
-      subst (λ o. IsFirstMet (λ k. finding (first_events rules nest s c o k)) ns branch) (sym head)
-      (met_where own.matched branch chosen
-      (subst (λ o. finding (first_heard (first_events rules nest s c o) ns) ≡ Satisfied) head h))
+    -- what it finds is found with the number of the branch, and nothing with those before it
+    first_where : (o : Option Bindings) (x : Found) → IsFoundWhere laid nest s laid_method o (Some x)
+        → IsFoundFirst (λ n. finding (first_events rules nest s c o n)) ns x.branch (finding_of x.finding)
+    first_where None x h = absurd (let never : Some x ≡ None = h in cc)
+    first_where (Some e) x h =
+        subst (IsFoundFirst (λ n. finding (own e n)) ns x.branch) (sym h.comes)
+        (first_there e laid_method.branches x.branch (branches_laid ns) h.chosen)
 
--- ---- the root of a trial
+  -- ---- the code of a trial
 
--- the task that may be done next at the root is its one task
-task_there : (s : State) (t : Term) (number : ℕ) (place : Place) (u : Term)
-    → IsNext (situation_at (at_root s t)) number place u → u ≡ t
-unfolding candidates firsts part_at
-task_there s t zero place u next =
-    let here : place ≡ [] = cc in
-    let same : Some (Task t false) ≡ Some (Task u next.immediate) =
-    sym (ap (λ p. part_at (Task t false) p) here) ∙ next.there in
-    cc
-task_there s t (suc number) place u next = absurd (let never : None ≡ Some place = next.first in cc)
+  module _ (code : CodeView) (of : IsCodeOf (trial_rules rules c ns) code) where
+    code_is : rules_in code ≡ laid
+    code_is = ap or_empty (code_reads (trial_rules rules c ns) code of)
 
--- the empty path stays at the root
-stays_there : (rules : List syntax.Rule) (nest : ℕ) (n m : Node) → node_at rules nest n [] ≡ Some m → n ≡ m
-unfolding node_at
-stays_there rules nest n m e = let k : Some n ≡ Some m = e in cc
+    -- its first node is that of the method
+    pub method_there : beside 0 (rule_nodes code) (rules_in code) ≡ Some (syntax.Refines laid_method)
+    method_there =
+        ap₂ (λ ts rs. beside 0 (roots 0 ts) rs) (code_trees (trial_rules rules c ns) code of) code_is
 
-module _ (rules : List syntax.Rule) (nest : ℕ) (p : syntax.Pair) (a : syntax.Atom) (c : Conjunction) (ns : List ℕ)
-    (one : p.tasks ≡ syntax.Task a false) where
-  -- the decomposition that led from the root of a trial's tree tells of the first number that is satisfied
-  pub trial_met : (read : List syntax.Rule) (t : Tree)
-      → t ≡ record { rules = read; nest = nest; root = root p 1 }
-      → read ≡ lowered_rules (trial_rules rules c ns) → (above : Node)
-      → node_at t.rules t.nest t.root [] ≡ Some above → (number : ℕ) (place : Place) (u : Term)
-      → IsNext (situation_at above) number place u → (i : ℕ) (r : syntax.Rule) (branch : ℕ)
-      → slice_get t.rules i ≡ Some r → ServesBy t.rules t.nest above.state u r branch
-      → finding (first_heard (heard_of rules nest p c) ns) ≡ Satisfied
-      → IsFirstMet (found rules nest (first_state p) c (task_of p.tasks)) ns branch
-  trial_met read t same reads above there number place u next i r branch at serves h =
-      let s = first_state p in
-      let task = task_of p.tasks in
-      let laid_there = lowered_rules (trial_rules rules c ns) in
-      let begun : root p 1 ≡ at_root s task =
-      root_is p a one ∙ ap (λ ts. at_root s (task_of ts)) (sym one) in
-      let here : above ≡ at_root s task =
-      sym (stays_there t.rules t.nest t.root above there) ∙ (ap (λ (x : Tree). x.root) same ∙ begun) in
-      let asked : u ≡ task =
-      task_there s task number place u (subst (λ n. IsNext (situation_at n) number place u) here next) in
-      let by_read : ServesBy read nest above.state u r branch =
-      subst (λ (x : Tree). ServesBy x.rules x.nest above.state u r branch) same serves in
-      let by_laid : ServesBy laid_there nest above.state u r branch =
-      subst (λ rs. ServesBy rs nest above.state u r branch) reads by_read in
-      let by_state : ServesBy laid_there nest s u r branch =
-      subst (λ (n : Node). ServesBy laid_there nest n.state u r branch) here by_laid in
-      met_by rules nest s task c ns i r branch
-      (subst (λ rs. slice_get rs i ≡ Some r) reads
-      (subst (λ (x : Tree). slice_get x.rules i ≡ Some r) same at))
-      (subst (λ x. ServesBy laid_there nest s x r branch) asked by_state) h
+    -- what a walk answers for it, in the state of the node at which the walk stands
+    abbrev Answers : Planned → Term → Option Found → Type 0
+    Answers p t o =
+        (m : syntax.Method) → beside 0 (rule_nodes code) (rules_in code) ≡ Some (syntax.Refines m)
+        → MatchOption (node_reached (tree_planned p) (stands_planned p)) ⊥
+        (λ n. Finds (rules_in code) p.nest n.state m t o)
+
+    module _ (p : Planned) (t : Term) (o : Option Found) (answers : Answers p t o) where
+      -- it stands at a node
+      pub stands_at_node : is_some (node_reached (tree_planned p) (stands_planned p)) ≡ true
+      stands_at_node = some_since _ _ _ (answers laid_method method_there) (λ never. never)
+
+      finds_there : InStateOf p (λ nest state. Finds laid nest state laid_method t o)
+      finds_there n at =
+          subst (λ rs. Finds rs p.nest n.state laid_method t o) code_is
+          (MatchOption-at_some _ _ n at (answers laid_method method_there))
+
+      -- where it finds nothing, nothing is found with any number
+      pub answers_none : o ≡ None → InStateOf p (λ nest state. AreNothing (found rules nest state c t) ns)
+      answers_none e n at =
+          none_where p.nest n.state (matched c t)
+          (subst (λ x. Finds laid p.nest n.state laid_method t x) e (finds_there n at))
+
+      -- what it finds is found with the number of the branch
+      pub answers_some : (x : Found) → o ≡ Some x
+          → InStateOf p (λ nest state.
+          IsFoundFirst (found rules nest state c t) ns x.branch (finding_of x.finding))
+      answers_some x e n at =
+          first_where p.nest n.state (matched c t) x
+          (subst (λ y. Finds laid p.nest n.state laid_method t y) e (finds_there n at))

@@ -1,5 +1,4 @@
 pub mod SaidLemmas
-pub mod BegunSteps
 pub mod LookUps
 pub mod PartLemmas
 pub mod FindingLemmas
@@ -8,7 +7,6 @@ pub mod DownSteps
 pub mod AnswerLemmas
 pub mod HalvingSteps
 pub mod TrialRules
-pub mod TrialWalks
 pub mod TrialSteps
 pub mod ChosenTrials
 pub mod LawSteps

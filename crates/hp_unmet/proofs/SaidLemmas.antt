@@ -1,18 +1,19 @@
 -- Patterns that say terms, and atoms that do.
-use Rattle.std.proofs.Common.{◌≡◌, ℕ, ◌+◌, ◌-◌, ◌<◌, ◌≤◌, ℤ, List, [], ◌∷◌, ◌++◌, drop, get_or, length, map, take, None, refl, sym, ap, ap₂, ◌∙◌, subst, arith}
+use Rattle.std.proofs.Common.{◌≡◌, ℕ, ◌+◌, ◌-◌, ◌<◌, ◌≤◌, ℤ, List, [], ◌∷◌, ◌++◌, drop, get_or, length, map, take, Option, Some, None, refl, sym, ap, ap₂, ◌∙◌, subst, arith}
 use Rattle.std.specs.List.{All}
 use Rattle.std.proofs.lemmas.Grind.{common_steps}
 use Rattle.std.proofs.lemmas.List.{map-append, map_more}
 use Rattle.std.proofs.lemmas.List.Elements.{All-nil, All-head, All-tail, All-push}
+use Rattle.hp_syntax.specs.declared.pattern.AtomPat.{AtomPat}
 use Rattle.hp_syntax.specs.declared.pattern.Ground.{Ground}
 use Rattle.hp_syntax.specs.declared.pattern.Pat.{Pat}
 use Rattle.hp_syntax.specs.declared.pattern.Span.{Span}
 use Rattle.hp_syntax.specs.GroundPatterns.{AreGroundPatterns, IsGroundPattern, term_said, terms_said}
 use Rattle.hp_syntax.specs.GroundViews.{as_terms, ground_of, grounds_of}
 use Rattle.hp_syntax.specs.Syntax as syntax
-use Rattle.hp_syntax.specs.Terms.{Term, Symbol, Number, Listed, More}
-use Rattle.hp_syntax.specs.Views.{as_patterns, pattern_of}
-use Rattle.hp_unmet.specs.Begun.{AllSay, Says, SaysAtom}
+use Rattle.hp_syntax.specs.Terms.{Term, Terms, Symbol, Number, Listed, More}
+use Rattle.hp_syntax.specs.Views.{as_patterns, atom_of, pattern_of}
+use Rattle.hp_unmet.specs.Said.{AllSay, Says, SaysAtom, SaysIfAtom}
 
 -- a pattern says what an equal one says
 pub says_as : (p q : syntax.Pattern) (t : Term) → p ≡ q → Says q t → Says p t
@@ -68,7 +69,7 @@ say_as : (ps qs : List syntax.Pattern) (ts us : List Term) → ps ≡ qs → ts 
 say_as ps qs ts us e f a = subst (λ xs. AllSay xs us) e (subst (λ ys. AllSay ps ys) f a)
 
 -- the terms of the first so many and one more
-pub one_more : (gs : List Ground) (i : ℕ) (g : Ground) → i < length gs → g ≡ get_or gs i g
+one_more : (gs : List Ground) (i : ℕ) (g : Ground) → i < length gs → g ≡ get_or gs i g
     → map ground_of (take (i + 1) gs) ≡ map ground_of (take i gs) ++ ground_of g ∷ []
 one_more gs i g below at =
     map_more ground_of gs i g below ∙ ap (λ x. map ground_of (take i gs) ++ ground_of x ∷ []) (sym at)
@@ -100,3 +101,12 @@ atom_says s own name ps ts e a = record {
   is_ground = record { args = all_ground ps a.are_ground; tail = refl };
   term = ap₂ (λ n us. Listed (More (Symbol n) us)) e (terms_are ps ts a);
 }
+
+-- an atom that says a list with a symbol in front
+pub headed : (a : AtomPat) (first : Term) (name : List ℕ) (ts : Terms) → first ≡ Symbol name
+    → SaysAtom (atom_of a) (Listed (More (Symbol name) ts)) → SaysIfAtom (Some a) (Listed (More first ts))
+headed a first name ts e h = subst (λ x. SaysIfAtom (Some a) (Listed (More x ts))) (sym e) (refl, h)
+
+-- there is an atom for an equal term
+pub says_if_same : (o : Option AtomPat) (t u : Term) → t ≡ u → SaysIfAtom o t → SaysIfAtom o u
+says_if_same o t u e h = subst (λ x. SaysIfAtom o x) e h

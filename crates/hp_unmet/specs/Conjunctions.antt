@@ -10,7 +10,6 @@ use Rattle.hp_syntax.specs.Terms.{Term}
 use Rattle.hp_syntax.specs.Values.{Bindings, unbound}
 use Rattle.hp_syntax.specs.Views.{as_expressions}
 use Rattle.hp_relaxed.specs.Giving.{body_of, listed}
-use Rattle.hp_unmet.specs.Begun.{state_of}
 use Rattle.hp_unmet.specs.declared.unmet.Unmet.{Unmet}
 use Rattle.hp_unmet.specs.declared.unmet.Unmet.TheVariants as unmets
 
@@ -108,7 +107,6 @@ module _ (rules : List syntax.Rule) (nest : ℕ) (state : State) where
   answer_if task None = unmets.None
   answer_if task (Some c) = answer_of task c
 
--- what of a precondition is satisfied in the state of these terms, where the head of its rule matches the task
-abbrev pub first_unmet : List syntax.Rule → ℕ → List Term → Term → ℕ → ℕ → Unmet
-first_unmet rules nest terms task rule branch =
-    answer_if rules nest (state_of terms) task (asked_in rules rule branch)
+-- what of a precondition is satisfied in a state, where the head of its rule matches the task
+abbrev pub first_unmet : List syntax.Rule → ℕ → State → Term → ℕ → ℕ → Unmet
+first_unmet rules nest state task rule branch = answer_if rules nest state task (asked_in rules rule branch)

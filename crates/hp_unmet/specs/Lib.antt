@@ -1,5 +1,6 @@
-pub mod Begun
 pub mod Conjunctions
 pub mod FirstUnmet
 pub mod Halving
+pub mod Said
+pub mod States
 pub mod Trials

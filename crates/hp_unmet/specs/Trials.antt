@@ -1,17 +1,14 @@
--- Trials: some numbers of first parts of a conjunction as the preconditions of the branches of a method, by which a
--- task is done where they are satisfied.
+-- Trials: some numbers of first parts of a conjunction as the preconditions of the branches of a method, of which the
+-- first is chosen with which anything is found.
 use Rattle.std.specs.Prelude.{◌≡◌, ◌+◌, ◌<◌, ◌≤◌, ℕ, Bool, true, false, List, [], ◌∷◌, length, map, slice_get, take, None, Some}
 use Rattle.std.specs.List.{All, flat_map}
-use Rattle.hp_shallow.specs.declared.walking.ShallowEnd.{ShallowEnd}
-use Rattle.hp_shallow.specs.declared.walking.ShallowEnd.TheVariants as ends
 use Rattle.hp_syntax.specs.Checks.{InHead, atom_faults, expressions_faults, rule_faults, vars_faults}
 use Rattle.hp_syntax.specs.Events.{Finding, Satisfied, Faulty, Undecided, Nothing, State, axioms_of}
+use Rattle.hp_syntax.specs.GroundPatterns.{IsGroundAtom, atom_said}
 use Rattle.hp_syntax.specs.Numbered.{AtomBelow, ExpressionsBelow, IsNumberedRule}
 use Rattle.hp_syntax.specs.Syntax as syntax
 use Rattle.hp_syntax.specs.Terms.{Term}
-use Rattle.hp_syntax.specs.Views.{as_expressions, atom_of, domain_of, expression_of, pair_of}
-use Rattle.hp_syntax.specs.declared.limits.TheConstants.{MOST_LEVELS}
-use Rattle.hp_unmet.specs.Begun.{HasOneTask, first_state, task_of}
+use Rattle.hp_syntax.specs.Views.{as_expressions, atom_of, domain_of, expression_of}
 use Rattle.hp_unmet.specs.Conjunctions.{Conjunction, answer_of, answer_where, first_parts, found, matched}
 use Rattle.hp_unmet.specs.declared.parts.Parts.{Parts}
 use Rattle.hp_unmet.specs.declared.trial.Trial.{Trial}
@@ -61,36 +58,26 @@ conjunction_of p = record {
 abbrev pub rules_tried : Trial → List syntax.Rule
 rules_tried t = (domain_of t.domain.now).rules
 
-abbrev pub state_tried : Trial → State
-state_tried t = first_state (pair_of t.pair.now)
-
 abbrev pub task_tried : Trial → Term
-task_tried t = task_of (pair_of t.pair.now).tasks
+task_tried t = atom_said (atom_of t.task.now)
 
 pub record CanBeTried (t : Trial) : Type 0 where
   pub asked : CanBeAsked (rules_tried t) (conjunction_of t.asked)
-  pub one : HasOneTask (pair_of t.pair.now)
-  pub levels : t.nest ≤ MOST_LEVELS
+  pub ground : IsGroundAtom (atom_of t.task.now)
 
--- what is found with so many of the first parts
-abbrev pub tried : Trial → ℕ → Finding
-tried t n = found (rules_tried t) t.nest (state_tried t) (conjunction_of t.asked) (task_tried t) n
+-- what is found with so many of the first parts, with so many axiom levels in a state
+abbrev pub tried : Trial → ℕ → State → ℕ → Finding
+tried t nest state n = found (rules_tried t) nest state (conjunction_of t.asked) (task_tried t) n
 
-abbrev pub answer_matched : Trial → Unmet
-answer_matched t =
-    answer_where (rules_tried t) t.nest (state_tried t) (conjunction_of t.asked) (task_tried t)
+abbrev pub answer_matched : Trial → ℕ → State → Unmet
+answer_matched t nest state =
+    answer_where (rules_tried t) nest state (conjunction_of t.asked) (task_tried t)
     (matched (conjunction_of t.asked) (task_tried t))
 
-abbrev pub answer_tried : Trial → Unmet
-answer_tried t = answer_of (rules_tried t) t.nest (state_tried t) (task_tried t) (conjunction_of t.asked)
+abbrev pub answer_tried : Trial → ℕ → State → Unmet
+answer_tried t nest state = answer_of (rules_tried t) nest state (task_tried t) (conjunction_of t.asked)
 
 -- ---- what a trial comes to
-
-abbrev pub end_found : Finding → ShallowEnd
-end_found Satisfied = ends.Plan
-end_found (Faulty f) = ends.Fault f
-end_found Undecided = ends.Cut
-end_found Nothing = ends.End
 
 abbrev pub is_satisfied : Finding → Bool
 is_satisfied Satisfied = true

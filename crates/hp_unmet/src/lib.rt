@@ -1,9 +1,9 @@
 //! The first part of a precondition that nothing satisfies together with the parts before it.
 #![tactic(auto)]
 
-mod begun;
 pub mod laws;
 mod parts;
+mod said;
 mod trial;
 mod unmet;
 

@@ -1,30 +1,31 @@
-//! Walks that tell whether the first parts of a conjunction are satisfied.
-ghost use Rattle.std.specs.Prelude.{◌≡◌, ◌≤◌, ◌++◌, ◌∷◌, [], IfOk, OnOk, length, map};
+//! Trials, which tell whether the first parts of a conjunction are satisfied where a walk stands.
+ghost use Rattle.std.specs.Prelude.{◌≡◌, ◌≤◌, ◌++◌, ◌∷◌, [], true, IfOk, OnOk, is_some, length, map};
 ghost use Rattle.std.specs.List.{All};
 ghost use Rattle.hp_code.specs.CodeViews.{IsCodeOf};
 ghost use Rattle.hp_code.specs.Codes.{code_of};
+ghost use Rattle.hp_net.specs.Standings.{node_reached};
+ghost use Rattle.hp_search.specs.Planned.{stands_planned, tree_planned};
 ghost use Rattle.hp_syntax.specs.Events.{axioms_of};
 ghost use Rattle.hp_syntax.specs.Syntax.{Concludes};
 ghost use Rattle.hp_syntax.specs.Views.{branch_of, domain_of, method_of, rule_of};
+ghost use Rattle.hp_unmet.specs.States.{InStateOf};
 ghost use Rattle.hp_unmet.specs.Trials as plain;
 ghost use Rattle.hp_unmet.specs.Trials.{AreWithin, CanBeAsked, CanBeTried, IsTried, conjunction_of, tried};
 
 use crate::parts::Parts;
-use hp_code::laws::{compiled_rules_are_a_code, lowered_rules_have_the_tree};
+use hp_choice::Finding;
 use hp_code::{Code, lower};
 use hp_relaxed::{conjunction, copy_axiom, copy_expressions, copy_names};
-use hp_shallow::{ShallowEnd, walk_at};
-use hp_syntax::{Branch, Domain, Method, NetPat, Pair, Pre, Rule};
+use hp_search::Planner;
+use hp_syntax::{AtomPat, Branch, Domain, Method, NetPat, Pre, Rule};
 use std::alloc::{AllocError, Global};
 
-/// The first parts of a conjunction are looked for in the state in which a pair begins, where its one task is matched.
+/// The first parts of a conjunction are looked for where its head matches a task, which has no variables and no calls.
 #[derive(Clone, Copy)]
 pub struct Trial<'a> {
     pub domain: &'a Domain,
     pub asked: Parts<'a>,
-    pub pair: &'a Pair,
-    /// How deep axioms may call one another.
-    pub nest: u32,
+    pub task: &'a AtomPat,
 }
 
 /// A branch that asks for so many of the first parts, and for no task.
@@ -151,23 +152,31 @@ pub enum Tried {
 }
 
 impl Trial<'_> {
-    /// Looks for so many of the first parts, one number after another, until anything is found, in a walk that begins
-    /// with the whole state.
-    pub fn found(&self, alloc: Global, counts: &[usize]) -> Result<Tried, AllocError>
+    /// Looks for so many of the first parts, one number after another, until anything is found: by one question to a
+    /// walk, in the state of the node at which it stands.
+    pub fn found(
+        &self,
+        alloc: Global,
+        walk: &mut Planner<'_>,
+        counts: &[usize],
+    ) -> Result<Tried, AllocError>
         requires can { CanBeTried self.now }
+        requires live { walk.old.live ≡ true }
         requires within { AreWithin (length self.now.asked.parts.now) counts.now }
-        ensures { IfOk result (IsTried (tried self.now) counts.now) }
+        ensures tried { IfOk result (λ x. InStateOf walk.old
+            (λ nest state. IsTried (tried self.now nest state) counts.now x)) }
+        ensures node { OnOk result (is_some (node_reached (tree_planned walk.old) (stands_planned walk.old)) ≡ true) }
+        ensures same { walk.new ≡ walk.old }
     {
-        // Nothing runs here: the laws make known that the tree by a code is the tree by its rules.
-        compiled_rules_are_a_code();
-        lowered_rules_have_the_tree();
         let code = trial_code(alloc, self.domain, self.asked, counts)?;
-        let walked = walk_at(alloc, &code, self.pair, 1, self.nest, 0)?;
-        match walked.answer {
-            ShallowEnd::Plan => Ok(Tried::Met(walked.walk.decomposition_at(0).branch)),
-            ShallowEnd::End => Ok(Tried::Nothing),
-            ShallowEnd::Cut => Ok(Tried::Doubt),
-            ShallowEnd::Fault(_) => Ok(Tried::Doubt),
+        // The method is the first of the rules, and so its node is the first one.
+        match walk.ask(&code, 0, self.task)? {
+            Some(found) => match found.finding {
+                Finding::Satisfied => Ok(Tried::Met(found.branch)),
+                Finding::Faulty(_) => Ok(Tried::Doubt),
+                Finding::Undecided => Ok(Tried::Doubt),
+            },
+            None => Ok(Tried::Nothing),
         }
     }
 }

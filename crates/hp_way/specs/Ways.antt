@@ -69,6 +69,12 @@ IsWay rules nest root path ways.Absent = (reaching path (visits rules nest root 
 IsWay rules nest root path (ways.Fault f) =
     (reaching path (visits rules nest root [])).knows.answer ≡ reached.Fault f
 
+-- a walk stands at the path where the way leads to a plan
+abbrev pub StandsThere : Way → List ℕ → List ℕ → Type 0
+StandsThere (ways.Plan ds) path stands = stands ≡ path
+StandsThere ways.Absent path stands = Unit {0}
+StandsThere (ways.Fault f) path stands = Unit {0}
+
 -- ---- states
 
 -- the walk to a path comes to a plan, and these are the atoms that hold at the node which so many of the first numbers

@@ -10,7 +10,7 @@ ghost use Rattle.hp_syntax.specs.GroundPatterns.{IsGroundPair};
 ghost use Rattle.hp_syntax.specs.Views.{pair_of};
 ghost use Rattle.hp_syntax.specs.Walk.{root};
 ghost use Rattle.hp_way.specs.Along.{IsDeedAt, LeadSoFar};
-ghost use Rattle.hp_way.specs.Ways.{IsWay, deed_of};
+ghost use Rattle.hp_way.specs.Ways.{IsWay, StandsThere, deed_of};
 
 use hp_after::{Reached, reach};
 use hp_best::to_ground;
@@ -105,14 +105,15 @@ fn deeds_of(alloc: Global, planner: &Planner<'_>) -> Result<Vec<Deed>, AllocErro
     Ok(deeds)
 }
 
-/// What stands at a path of the tree of a walk that has all its visits left, as a new one has. After an error the walk
-/// may be used no more.
+/// What stands at a path of the tree of a walk that has all its visits left, as a new one has. The walk stands at the
+/// plan, if that is what is there. After an error it may be used no more.
 pub fn way_by(alloc: Global, planner: &mut Planner<'_>, path: &[u64]) -> Result<Way, AllocError>
     requires live { planner.old.live ≡ true }
     requires new { (stands_planned planner.old).rest ≡ tree_visits (tree_planned planner.old) }
     requires small { All (λ i. i < 2 ^ 64 - 1) path.now }
     ensures way { IfOk result (λ w. IsWay (tree_planned planner.old).rules (tree_planned planner.old).nest
         (tree_planned planner.old).root path.now w) }
+    ensures stands { IfOk result (λ w. StandsThere w path.now (stands_planned planner.new).path) }
     ensures tree { tree_planned planner.new ≡ tree_planned planner.old }
     ensures live { OnOk result (planner.new.live ≡ true) }
 {

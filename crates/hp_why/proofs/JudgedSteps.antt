@@ -1,5 +1,6 @@
 -- What is answered, step by step.
-use Rattle.std.proofs.Common.{◌≡◌, ℕ, ◌<◌, Bool, true, false, ◌&&◌, List, [], ◌∷◌, length, map, Option, Some, None, Result, Ok, Err, IfOk, MatchOption, refl, sym, subst, ◌∙◌, ap}
+use Rattle.std.proofs.Common.{◌≡◌, ℕ, ◌<◌, Bool, true, false, ◌&&◌, List, [], ◌∷◌, length, map, Option, Some, None, Result, Ok, Err, IfOk, MatchOption, Vec, refl, sym, subst, ◌∙◌, ap}
+use Rattle.std.specs.Global.{Global}
 use Rattle.std.specs.Prelude.{nat_lt, pos, zip}
 use Rattle.std.specs.List.{All, list_all, filter_map}
 use Rattle.std.proofs.lemmas.Bool.Decides.{nat_tests}
@@ -14,8 +15,9 @@ use Rattle.hp_syntax.specs.declared.fault.RunFault.{RunFault}
 use Rattle.hp_search.specs.Planned.{with_depth}
 use Rattle.hp_way.specs.declared.ways.Deed as held
 use Rattle.hp_way.specs.declared.ways.Way.{Way}
+use Rattle.hp_way.specs.declared.ways.Way.TheVariants as ways
 use Rattle.std.proofs.lemmas.List.{length-map}
-use Rattle.hp_way.specs.Ways.{Deed, IsWay, LeadAlong, Here, Through, LeadToPlan, deed_of}
+use Rattle.hp_way.specs.Ways.{Deed, IsWay, LeadAlong, Here, Through, LeadToPlan, StandsThere, deed_of}
 use Rattle.hp_why.specs.declared.twin.Twin.{Twin}
 use Rattle.hp_why.specs.declared.verdict.Reason as code
 use Rattle.hp_why.specs.Twin.{IsExact, IsMissed, OnWay, reason_in, tree_of, unmets_from, visits_of}
@@ -71,18 +73,21 @@ pub deeds_as_long : {rules : List Rule} {nest : ℕ} {root : Node} {p : List ℕ
     → LeadToPlan rules nest root p (map deed_of ds) → length ds ≡ length p
 deeds_as_long ds lead = sym (length-map ds deed_of) ∙ as_long lead.lead
 
--- deeds that lead to a plan, and what they give up
-pub on_way : (t : Twin) (p : List ℕ) (ds : List held.Deed) (reasons : List code.Reason) → IsExact p
+-- deeds that lead to a plan at which a walk stands, and what they give up
+pub on_way : (t : Twin) (p q : List ℕ) (ds : List held.Deed) (reasons : List code.Reason) → IsExact p → q ≡ p
     → LeadToPlan (tree_of t).rules t.nest (tree_of t).root p (map deed_of ds)
-    → reasons ≡ filter_map (reason_in t.own t.origins.now) (zip ds (unmets_from t p 0 ds))
+    → reasons ≡ filter_map (reason_in t.own t.origins.now) (zip ds (unmets_from t q 0 ds))
     → OnWay t p (map reason_of reasons)
-on_way t p ds reasons exact lead e = record {
+on_way t p q ds reasons exact here lead e = record {
   exact = exact;
   node = lead.node;
   holds = lead.plan;
   deeds = map deed_of ds;
   along = lead.lead;
-  told = ap (map reason_of) e ∙ reasons_same t p 0 ds;
+  told =
+      ap (map reason_of)
+      (e ∙ ap (λ r. filter_map (reason_in t.own t.origins.now) (zip ds (unmets_from t r 0 ds))) here)
+      ∙ reasons_same t p 0 ds;
 }
 
 -- a consequence of a fact of each Ok value follows for an Ok value
@@ -106,6 +111,10 @@ free_root t = refl
 pub own_depth : (t : Twin) (u : Tree) → u ≡ tree_of t → with_depth t.depth u ≡ tree_of t
 unfolding root
 own_depth t u e = ap (with_depth t.depth) e
+
+-- a walk stands at the path where the way leads to a plan
+pub stands_there : (p q : List ℕ) (v : Way) (ds : Vec held.Deed Global) → v ≡ ways.Plan ds → StandsThere v p q → q ≡ p
+stands_there p q v ds is h = subst (λ w. StandsThere w p q) is h
 
 -- what stands at a path of a tree that is a twin's
 pub way_on : (t : Twin) (u : Tree) (p : List ℕ) (v w : Way) → v ≡ w → u ≡ tree_of t

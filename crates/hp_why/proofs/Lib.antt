@@ -11,7 +11,6 @@ pub mod QuietLemmas
 pub mod CutSteps
 pub mod ReasonSteps
 pub mod StateSteps
-pub mod AlongSteps
 pub mod JudgedSteps
 pub mod OwnPartSteps
 pub mod OwnPartTwins

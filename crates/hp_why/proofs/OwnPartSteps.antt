@@ -8,10 +8,11 @@ use Rattle.std.proofs.lemmas.Bool.{cond_both, false_from_ne_true}
 use Rattle.std.proofs.lemmas.Bool.Decides.{Decides-int_eq, nat_tests}
 use Rattle.std.proofs.lemmas.Int.{ints}
 use Rattle.std.proofs.lemmas.List.Elements.{All-nil, All-head, All-tail, All-weaker}
+use Rattle.hp_syntax.specs.declared.fault.RunFault.{RunFault}
 use Rattle.hp_syntax.specs.Networks.{Empty, is_empty}
 use Rattle.hp_syntax.specs.Syntax.{Rule}
 use Rattle.hp_syntax.specs.Views.{pair_of}
-use Rattle.hp_syntax.specs.Walk.{Node, Sight, Plan, Visit, begins, children, did_at, is_fault_here, node_at, skip}
+use Rattle.hp_syntax.specs.Walk.{Node, Sight, Plan, FaultHere, Visit, begins, children, did_at, is_fault_here, node_at, skip}
 use Rattle.hp_laws.specs.Derivations.{Choosing, Leads}
 use Rattle.hp_best.proofs.Cheapest.{at_nodes}
 use Rattle.hp_code.specs.Codes.{code_of}
@@ -29,6 +30,7 @@ use Rattle.hp_why.specs.declared.own_part.PartEnd.TheVariants as ends
 use Rattle.hp_why.specs.declared.twin.Twin.{Twin}
 use Rattle.hp_why.specs.OwnPart.{EndsSo, GoesOn, HasOwnPart, IsOfTree, LedByGiving, PartComes}
 use Rattle.hp_why.specs.Twin.{origin_at, tree_of, visits_of}
+use Rattle.hp_why.specs.Whys.{HasFault}
 use Rattle.hp_why.proofs.FinishedPlans.{IsFinished, all_finished}
 use Rattle.hp_why.proofs.JudgedSteps.{all_left_at}
 use Rattle.hp_why.proofs.LoweredSteps.{leads_by_rules}
@@ -250,17 +252,42 @@ module _ (t u : Tree) (s r : Standing) (next : IsNext s r Plan) (of_tree : All (
       at_visit t u s r Plan next (λ v. k ≡ v.node.cost) same
       (All-weaker (IsOfTree t) (IsAtItsNode t) (λ v h. h.0) s.rest of_tree) told
 
+-- ---- faults
+
+-- a fault behind a visit is one with the visit before it
+later_fault : (v : Visit) (vs : List Visit) → HasFault vs → HasFault (v ∷ vs)
+later_fault v vs (k, w, l, e, h) = (suc k, w, omega (arith, l), e, h)
+
+-- a fault that is met next is among what is left
+pub fault_met : (f : RunFault) (v : Visit) (vs ws : List Visit) → vs ≡ v ∷ ws → v.sight ≡ FaultHere f → HasFault vs
+fault_met f v vs ws e seen = subst HasFault (sym e) (zero, v, omega arith, refl, ap is_fault_here seen)
+
+-- where the leading visits at or below a path are left out, a fault that stays was there
+pub fault_stays : (p : List ℕ) (vs : List Visit) → HasFault (skip p vs) → HasFault vs
+fault_stays p [] h = h
+fault_stays p (v ∷ vs) h = by (fault_stays p vs) (begins p v.path) h
+  where
+    by : (HasFault (skip p vs) → HasFault vs) → (b : Bool) → HasFault (cond b (skip p vs) (v ∷ vs))
+        → HasFault (v ∷ vs)
+    by f true k = later_fault v vs (f k)
+    by f false k = k
+
 -- ---- one visit
+
+-- a fault behind the first of what was left was left
+fault_behind : (s r : Standing) (x : Sight) → IsNext s r x → HasFault r.rest → HasFault s.rest
+fault_behind s r x next h = subst HasFault (sym next.rest) (later_fault next.visit r.rest h)
 
 -- where the first of what was left is neither a plan nor a fault, all that was left comes to what is left behind it
 pub passes : (t : Twin) (s r : Standing) (x : Sight) → IsNext s r x → coming_at x ≡ ToNeither → (vs : List Visit)
     → ((part : HasOwnPart t) → coming (own_part part.toll r.rest) ≡ coming (own_part part.toll vs))
-    → length vs ≤ length r.rest → GoesOn t s.rest vs
-passes t s r x next neither vs same shorter = record {
+    → (HasFault vs → HasFault r.rest) → length vs ≤ length r.rest → GoesOn t s.rest vs
+passes t s r x next neither vs same fault shorter = record {
   same = λ part.
       ap (λ us. coming (own_part part.toll us)) next.rest
       ∙ adds_nothing part.toll next.visit r.rest (ap coming_at next.sight ∙ neither)
       ∙ same part;
+  fault = λ h. fault_behind s r x next (fault h);
   shorter = omega (arith, ap length next.rest, shorter);
 }
 
@@ -281,6 +308,7 @@ module _ (t : Twin) (s r : Standing) (next : IsNext s r Plan) (done : next.visit
         (done_costs part.toll next.visit.node done
         ∙ false_from_ne_true (int_eq next.visit.node.cost (pos 0))
         (λ e. dear ((Decides-int_eq next.visit.node.cost (pos 0)).0 e)));
+    fault = fault_behind s r Plan next;
     shorter = omega (arith, ap length next.rest);
   }
 
@@ -288,10 +316,10 @@ module _ (t : Twin) (s r : Standing) (next : IsNext s r Plan) (done : next.visit
 pub none_comes : (t : Twin) (vs : List Visit) → vs ≡ [] → PartComes t ToNeither vs
 none_comes t vs e = λ part. ap (λ us. coming (own_part part.toll us)) e
 
--- what is known of the end of some visits is known of the end of others that come to the same
+-- what is known of the end of some visits is known of the end of others that come to the same and have their faults
 pub ends_alike : (e : PartEnd) (t : Twin) (vs ws : List Visit)
-    → ((part : HasOwnPart t) → coming (own_part part.toll vs) ≡ coming (own_part part.toll ws)) → EndsSo e t ws
-    → EndsSo e t vs
-ends_alike ends.Neither t vs ws same h = λ part. same part ∙ h part
-ends_alike ends.Plan t vs ws same h = λ part. same part ∙ h part
-ends_alike ends.Unknown t vs ws same h = tt
+    → ((part : HasOwnPart t) → coming (own_part part.toll vs) ≡ coming (own_part part.toll ws))
+    → (HasFault ws → HasFault vs) → EndsSo e t ws → EndsSo e t vs
+ends_alike ends.Neither t vs ws same fault h = λ part. same part ∙ h part
+ends_alike ends.Plan t vs ws same fault h = λ part. same part ∙ h part
+ends_alike ends.Unknown t vs ws same fault h = fault h

@@ -1,38 +1,15 @@
--- The states of the nodes on the way to a plan.
-use Rattle.std.proofs.Common.{◌≡◌, ℕ, suc, ◌+◌, ◌≤◌, Bool, true, false, cond, List, [], ◌∷◌, ◌++◌, length, map, take, Option, Some, None, MatchOption, Vec, refl, sym, ◌∙◌, ap, ap₂, inl, inr, arith}
-use Rattle.std.specs.Global.{Global}
+-- The states of the nodes behind a child of a node, and what deeds give up there.
+use Rattle.std.proofs.Common.{◌≡◌, ℕ, suc, ◌+◌, Bool, true, false, cond, List, [], ◌∷◌, ◌++◌, take, Option, Some, None, refl, ◌∙◌, ap, ap₂, arith}
 use Rattle.std.specs.Prelude.{◌==◌}
 use Rattle.std.specs.Option.{option_and_then}
-use Rattle.hp_syntax.specs.declared.pattern.Ground.{Ground}
-use Rattle.hp_syntax.specs.GroundViews.{ground_of}
 use Rattle.hp_syntax.specs.Networks.{is_empty}
 use Rattle.hp_syntax.specs.Syntax.{Rule}
 use Rattle.hp_syntax.specs.Walk.{Node, children, did_at, node_at}
 use Rattle.hp_net.specs.Standings.{Tree}
 use Rattle.hp_relaxed.specs.declared.given.Origin.{Origin}
-use Rattle.hp_way.specs.Ways.{Deed, HasNoStateOnTheWay, IsStateOnTheWay}
-use Rattle.hp_why.specs.declared.twin.Twin.{Twin}
-use Rattle.hp_why.specs.Twin.{ComesTo, given_along, state_in, state_on, tree_of}
+use Rattle.hp_way.specs.Ways.{Deed}
+use Rattle.hp_why.specs.Twin.{given_along, state_in, state_on}
 use Rattle.hp_why.specs.Whys.{given_at}
-
--- ---- what is told of a state
-
-abbrev pub StateTold : Twin → List ℕ → ℕ → Option (Vec Ground Global) → Type 0
-StateTold t p count o =
-    MatchOption o (HasNoStateOnTheWay (tree_of t).rules t.nest (tree_of t).root p count)
-    (λ v. IsStateOnTheWay (tree_of t).rules t.nest (tree_of t).root p count (map ground_of v.items))
-
--- where the walk to a path comes to a plan, each state on the way is told
-pub state_is_told : (t : Twin) (p : List ℕ) (count : ℕ) → ComesTo t p → count ≤ length p → StateTold t p count None → ⊥
-state_is_told t p count comes within (inl h) = h comes.answer
-state_is_told t p count comes within (inr h) = absurd (omega (arith, h, within))
-
--- the atoms that are told are the state
-pub told_state : (t : Twin) (p : List ℕ) (count : ℕ) (v : Vec Ground Global) → StateTold t p count (Some v)
-    → map ground_of v.items ≡ state_on (tree_of t) p count
-told_state t p count v h = h.state ∙ sym (ap state_in h.there)
-
--- ---- behind a child
 
 module _ (rules : List Rule) (nest : ℕ) where
   -- the empty path stays at the node

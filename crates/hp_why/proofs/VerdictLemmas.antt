@@ -41,7 +41,7 @@ use Rattle.hp_why.specs.declared.twin.Twin.{Twin}
 use Rattle.hp_why.specs.declared.verdict.Verdict.{Verdict}
 use Rattle.hp_why.specs.declared.verdict.Verdict.TheVariants as verdicts
 use Rattle.hp_why.specs.Twin.{Answers, IsExact, IsMissed, IsTwinOf, Judged, JudgedBest, JudgedNone, JudgedPath, OnWay, given_along, reasons_by, tree_of, visits_of}
-use Rattle.hp_why.specs.Whys.{Asked, IsLeast, IsLost, IsGivenUp, IsUnplanned, HelpsNothing, IsSound, IsWhy, Reason, Shows, ShowsCheapest, first_cut, giving, next_tasks, own_visits, reason_of, terms_of, twin_ending, twin_rules, twin_visits}
+use Rattle.hp_why.specs.Whys.{Asked, HasFault, IsLeast, IsLost, IsGivenUp, IsUnplanned, HelpsNothing, IsSound, IsWhy, Reason, Shows, ShowsCheapest, first_cut, giving, next_tasks, own_visits, reason_of, terms_of, twin_ending, twin_rules, twin_visits}
 use Rattle.hp_why.proofs.FinishedPlans.{plan_finished}
 use Rattle.hp_why.proofs.KeptSteps.{leads_by_whole}
 use Rattle.hp_why.proofs.OriginLemmas.{as_many_origins, counted}
@@ -315,3 +315,8 @@ pub twin_never_falls : (a : Asked) (t : Twin) → Contains a.problem.pairs a.pai
 twin_never_falls a t contained is e =
     subst NeverFalls (sym (same_visits a contained t is))
     (never_falls (twin_rules a) a.nest e (root a.pair a.depth))
+
+-- where the tree of a twin in memory holds a fault, so does that of the whole twin
+pub twin_meets_fault : (a : Asked) (t : Twin) → Contains a.problem.pairs a.pair → IsTwinOf a t
+    → HasFault (visits_of t) → HasFault (twin_visits a)
+twin_meets_fault a t contained is h = subst HasFault (same_visits a contained t is) h

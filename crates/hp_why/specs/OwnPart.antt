@@ -19,6 +19,7 @@ use Rattle.hp_why.specs.declared.twin.Twin.{Twin}
 use Rattle.hp_why.specs.declared.verdict.Verdict.{Verdict}
 use Rattle.hp_why.specs.declared.verdict.Verdict.TheVariants as verdicts
 use Rattle.hp_why.specs.Twin.{Answers, origin_at, visits_of}
+use Rattle.hp_why.specs.Whys.{HasFault}
 
 -- a twin's code is that of rules that fit together: so many give nothing up, as many as there are origins do, and at
 -- the root no toll is left to pay
@@ -49,24 +50,26 @@ pub record LedByGiving (t : Twin) (p : Planned) : Type 0 where
   pub led : IsLed p decomposition
   pub gives : is_some (origin_at t.own t.origins.now decomposition.rule) ≡ true
 
--- what was left comes in that part to what fewer visits come to
+-- what was left comes in that part to what fewer visits come to, and a fault among these was left
 pub record GoesOn (t : Twin) (vs ws : List Visit) : Type 0 where
   pub same : (part : HasOwnPart t) → coming (own_part part.toll vs) ≡ coming (own_part part.toll ws)
+  pub fault : HasFault ws → HasFault vs
   pub shorter : length ws < length vs
 
 abbrev pub EndsSo : PartEnd → Twin → List Visit → Type 0
 EndsSo ends.Neither t vs = PartComes t ToNeither vs
 EndsSo ends.Plan t vs = PartComes t ToPlan vs
-EndsSo ends.Unknown t vs = Unit {0}
+EndsSo ends.Unknown t vs = HasFault vs
 
--- after a visit it is still to be heard what that part comes to, or it is known, or no more is said
+-- after a visit it is still to be heard what that part comes to, or it is known, or a fault was left
 abbrev pub Heard : Option PartEnd → Twin → List Visit → List Visit → Type 0
 Heard None t vs ws = GoesOn t vs ws
 Heard (Some e) t vs ws = EndsSo e t vs
 
--- what is answered by that part: that there is a plan, or what the search of the twin found where it comes to neither
+-- what is answered by that part: that there is a plan, or what the search of the twin found where it comes to neither;
+-- nothing is answered only where a fault stands in the tree
 abbrev pub AnswersByPart : Twin → Bool → Option Verdict → Type 0
-AnswersByPart t priced None = Unit {0}
+AnswersByPart t priced None = HasFault (visits_of t)
 AnswersByPart t priced (Some v) =
     (PartComes t ToPlan (visits_of t) × (v ≡ verdicts.Plan))
     ⊎ (PartComes t ToNeither (visits_of t) × Answers t priced v)

@@ -103,6 +103,13 @@ abbrev pub unmets_from : Twin → List ℕ → ℕ → List held.Deed → List U
 unmets_from t p count [] = []
 unmets_from t p count (d ∷ ds) = unmet_in t p count d ∷ unmets_from t p (count + 1) ds
 
+-- some of the first numbers of a path are left, and at least so many
+pub record GoesUp (count : ℕ) (old new : List ℕ) : Type 0 where
+  pub level : ℕ
+  pub least : count ≤ level
+  pub most : level ≤ length old
+  pub path : new ≡ take level old
+
 -- what deeds give up along a path, from there on, by these rules
 abbrev pub given_along : List Rule → ℕ → List Origin → Tree → List ℕ → ℕ → List Deed → List Reason
 given_along rules own from t p count [] = []
@@ -130,11 +137,6 @@ Looked (Some false) t vs s = first_cut vs ≡ None
 -- numbers that a path tells as themselves
 abbrev pub IsExact : List ℕ → Type 0
 IsExact p = All (λ i. i < 2 ^ 64 - 1) p
-
--- the walk to a path comes to the plan there
-pub record ComesTo (t : Twin) (p : List ℕ) : Type 0 where
-  pub exact : IsExact p
-  pub answer : (reaching p (visits_of t)).knows.answer ≡ reached.At
 
 -- deeds lead along a path to a plan there, and this is what they give up
 pub record OnWay (t : Twin) (p : List ℕ) (reasons : List Reason) : Type 0 where

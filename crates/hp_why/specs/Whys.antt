@@ -10,7 +10,7 @@ use Rattle.hp_syntax.specs.Networks.{Network, Empty, Task, Ordered, Unordered, P
 use Rattle.hp_syntax.specs.Report.{Ending, AtFault, nothing_seen, quiet_ending}
 use Rattle.hp_syntax.specs.Syntax.{Domain, Pair, Problem, Rule}
 use Rattle.hp_syntax.specs.Terms.{Term}
-use Rattle.hp_syntax.specs.Walk.{Node, Visit, Did, Plan, CutHere, FaultHere, heard_visits, is_plan, root, visits}
+use Rattle.hp_syntax.specs.Walk.{Node, Visit, Did, Plan, CutHere, FaultHere, heard_visits, is_fault_here, is_plan, root, visits}
 use Rattle.hp_laws.specs.Derivations.{Choosing, Situation, Derives, Nothing, ByOperator, ByMethod, first_situation, situation_at}
 use Rattle.hp_laws.specs.TreeLaws.{IsFaultless}
 use Rattle.hp_best.specs.Bounded.{IsCheapest, bounded, is_priced, last_of}
@@ -60,6 +60,9 @@ HasNoFault vs = All (λ v. IsFaultless v.sight) vs
 -- no fault is met anywhere in the twin's tree
 abbrev pub IsSound : Asked → Type 0
 IsSound a = HasNoFault (twin_visits a)
+
+abbrev pub HasFault : List Visit → Type 0
+HasFault vs = Any (λ v. is_fault_here v.sight ≡ true) vs
 
 abbrev pub HasPlan : List Visit → Type 0
 HasPlan vs = Any (λ v. is_plan v.sight ≡ true) vs
@@ -217,7 +220,7 @@ IsWhy a (verdicts.Nothing left) = IsUnplanned a × HelpsNothing a (terms_of left
 IsWhy a (verdicts.TwinFault f) = IsUnplanned a × (twin_ending a ≡ AtFault f)
 IsWhy a verdicts.Lost = IsUnplanned a × IsLost a
 
--- so is one that may be given
+-- so is one that is given; where none is, a fault is met in the twin's tree
 abbrev pub IsWhyIf : Asked → Option Verdict → Type 0
-IsWhyIf a None = Unit {0}
+IsWhyIf a None = HasFault (twin_visits a)
 IsWhyIf a (Some v) = IsWhy a v

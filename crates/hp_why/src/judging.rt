@@ -64,7 +64,7 @@ fn judge_path(
     restart(twin, walk)?;
     match way_by(alloc, walk, path)? {
         Way::Plan(deeds) => {
-            let reasons = reasons(alloc, twin, walk, path, deeds)?;
+            let reasons = reasons(alloc, twin, walk, deeds)?;
             Ok(Verdict::GivenUp { reasons, is_cut })
         }
         Way::Absent => Ok(Verdict::Lost),

@@ -14,7 +14,6 @@ ghost use Rattle.hp_why.specs.Coded.{AreCodesOf, IsTwinCodeOf};
 ghost use Rattle.hp_why.specs.Twin.{CanSearch, IsTwinOf};
 ghost use Rattle.hp_why.specs.Whys.{IsUnplanned, IsWhy, IsWhyIf, asked, own_visits};
 
-mod along;
 mod codes;
 mod judging;
 mod left;

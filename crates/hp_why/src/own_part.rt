@@ -6,6 +6,7 @@ ghost use Rattle.hp_relaxed.specs.OwnParts.{coming, own_part};
 ghost use Rattle.hp_search.specs.Planned.{stands_planned, tree_planned};
 ghost use Rattle.hp_why.specs.OwnPart.{EndsSo, HasOwnPart, Heard, IsOfTree, LedByGiving};
 ghost use Rattle.hp_why.specs.Twin.{tree_of, visits_of};
+ghost use Rattle.hp_why.specs.Whys.{HasFault};
 
 use crate::reasons::origin_at;
 use crate::twin::Twin;
@@ -43,6 +44,7 @@ fn stay_within(twin: &Twin, walk: &mut Planner)
     requires at { All (IsOfTree (tree_planned walk.old)) (stands_planned walk.old).rest }
     ensures same { (part : HasOwnPart twin.now) → coming (own_part part.toll (stands_planned walk.old).rest)
         ≡ coming (own_part part.toll (stands_planned walk.new).rest) }
+    ensures fault { HasFault (stands_planned walk.new).rest → HasFault (stands_planned walk.old).rest }
     ensures shorter { length (stands_planned walk.new).rest ≤ length (stands_planned walk.old).rest }
     ensures at { All (IsOfTree (tree_planned walk.new)) (stands_planned walk.new).rest }
     ensures tree { tree_planned walk.new ≡ tree_planned walk.old }

@@ -1,13 +1,12 @@
 //! What deeds give up, and what of that is satisfied where they are done.
 ghost use Rattle.std.specs.Prelude.{◌≡◌, ◌≤◌, true, IfOk, OnOk, Some, length, zip};
 ghost use Rattle.std.specs.List.{filter_map};
-ghost use Rattle.hp_search.specs.Planned.{tree_planned};
+ghost use Rattle.hp_search.specs.Planned.{stands_planned, tree_planned};
 ghost use Rattle.hp_syntax.specs.GroundViews.{ground_of};
 ghost use Rattle.hp_why.specs.Twin as plain;
-ghost use Rattle.hp_why.specs.Twin.{CanSearch, ComesTo, tree_of, unmets_from};
+ghost use Rattle.hp_why.specs.Twin.{CanSearch, GoesUp, tree_of, unmets_from};
 
-use crate::along::state_along;
-use crate::twin::{Twin, restart};
+use crate::twin::Twin;
 use crate::verdict::Reason;
 use hp_relaxed::Origin;
 use hp_search::Planner;
@@ -26,39 +25,31 @@ pub fn origin_at(rule: usize, own: usize, origins: &[Origin]) -> Option<Origin>
     origins.get(rule - own).copied()
 }
 
-/// What of a precondition is satisfied in the state of the node that so many of the first numbers of a path reach.
+/// What of a precondition is satisfied in the state of the node that so many of the first numbers of the walk's path
+/// reach. The walk goes back to that node, or stays where no parts of the precondition are told apart.
 fn unmet_at(
     alloc: Global,
     twin: &Twin,
     walk: &mut Planner,
-    path: &[u64],
     count: usize,
     origin: Origin,
     task: &Ground,
 ) -> Result<Unmet, AllocError>
     requires search { CanSearch twin.now }
-    requires comes { ComesTo twin.now path.now }
-    requires within { count ≤ length path.now }
+    requires within { count ≤ length (stands_planned walk.old).path }
     requires live { walk.old.live ≡ true }
     requires tree { tree_planned walk.old ≡ tree_of twin.now }
     ensures unmet { IfOk result (λ u. u
-        ≡ plain.unmet_at twin.now path.now count (Some origin) (ground_of task.now)) }
+        ≡ plain.unmet_at twin.now (stands_planned walk.old).path count (Some origin) (ground_of task.now)) }
+    ensures up { GoesUp count (stands_planned walk.old).path (stands_planned walk.new).path }
     ensures tree { tree_planned walk.new ≡ tree_of twin.now }
-    ensures live { OnOk result (walk.new.live ≡ true) }
+    ensures live { walk.new.live ≡ true }
 {
     if !is_told_apart(twin.domain, origin.rule, origin.branch) {
         return Ok(Unmet::None);
     }
-    let state = state_along(alloc, twin, walk, path, count)?;
-    first_unmet(
-        alloc,
-        twin.domain,
-        origin.rule,
-        origin.branch,
-        state.as_slice(),
-        task,
-        twin.nest,
-    )
+    walk.rise_to(count);
+    first_unmet(alloc, twin.domain, origin.rule, origin.branch, walk, task)
 }
 
 /// What of the precondition is satisfied that a deed gives up there; where it gives up none, nothing is asked.
@@ -66,46 +57,44 @@ fn unmet_in(
     alloc: Global,
     twin: &Twin,
     walk: &mut Planner,
-    path: &[u64],
     count: usize,
     deed: &Deed,
 ) -> Result<Unmet, AllocError>
     requires search { CanSearch twin.now }
-    requires comes { ComesTo twin.now path.now }
-    requires within { count ≤ length path.now }
+    requires within { count ≤ length (stands_planned walk.old).path }
     requires live { walk.old.live ≡ true }
     requires tree { tree_planned walk.old ≡ tree_of twin.now }
-    ensures unmet { IfOk result (λ u. u ≡ plain.unmet_in twin.now path.now count deed.now) }
+    ensures unmet { IfOk result (λ u. u ≡ plain.unmet_in twin.now (stands_planned walk.old).path count deed.now) }
+    ensures up { GoesUp count (stands_planned walk.old).path (stands_planned walk.new).path }
     ensures tree { tree_planned walk.new ≡ tree_of twin.now }
-    ensures live { OnOk result (walk.new.live ≡ true) }
+    ensures live { walk.new.live ≡ true }
 {
     match origin_at(deed.rule, twin.own, twin.origins) {
-        Some(origin) => unmet_at(alloc, twin, walk, path, count, origin, &deed.task),
+        Some(origin) => unmet_at(alloc, twin, walk, count, origin, &deed.task),
         None => Ok(Unmet::None),
     }
 }
 
-/// The same of each deed on the way to a plan, in their order, by one walk along it from the root on.
+/// The same of each deed on the way to the node at which a walk stands, in their order. They are asked about from the
+/// last one to the first, while the walk goes back along the way.
 fn unmets(
     alloc: Global,
     twin: &Twin,
     walk: &mut Planner,
-    path: &[u64],
     deeds: &[Deed],
 ) -> Result<Vec<Unmet>, AllocError>
     requires search { CanSearch twin.now }
-    requires comes { ComesTo twin.now path.now }
-    requires along { length deeds.now ≤ length path.now }
+    requires along { length deeds.now ≤ length (stands_planned walk.old).path }
     requires live { walk.old.live ≡ true }
     requires tree { tree_planned walk.old ≡ tree_of twin.now }
-    ensures { IfOk result (λ v. v.items ≡ unmets_from twin.now path.now 0 deeds.now) }
+    ensures { IfOk result (λ v. v.items ≡ unmets_from twin.now (stands_planned walk.old).path 0 deeds.now) }
 {
-    restart(twin, walk)?;
     let mut unmets = Vec::with_capacity(alloc, deeds.len())?;
-    for (count, deed) in deeds.iter().enumerate() {
-        let unmet = unmet_in(alloc, twin, walk, path, count, deed)?;
+    for count in (0..deeds.len()).rev() {
+        let unmet = unmet_in(alloc, twin, walk, count, &deeds[count])?;
         unmets.push(unmet)?;
     }
+    unmets.reverse();
     Ok(unmets)
 }
 
@@ -143,22 +132,20 @@ fn reasons_with(
         .collect(alloc)
 }
 
-/// What deeds give up on the way to a plan, in their order.
+/// What deeds give up on the way to the plan at which a walk stands, in their order.
 pub fn reasons(
     alloc: Global,
     twin: &Twin,
     walk: &mut Planner,
-    path: &[u64],
     deeds: Vec<Deed>,
 ) -> Result<Vec<Reason>, AllocError>
     requires search { CanSearch twin.now }
-    requires comes { ComesTo twin.now path.now }
-    requires along { length deeds.items ≤ length path.now }
+    requires along { length deeds.items ≤ length (stands_planned walk.old).path }
     requires live { walk.old.live ≡ true }
     requires tree { tree_planned walk.old ≡ tree_of twin.now }
     ensures { IfOk result (λ v. v.items ≡ filter_map (plain.reason_in twin.now.own twin.now.origins.now)
-        (zip deeds.items (unmets_from twin.now path.now 0 deeds.items))) }
+        (zip deeds.items (unmets_from twin.now (stands_planned walk.old).path 0 deeds.items))) }
 {
-    let unmets = unmets(alloc, twin, walk, path, deeds.as_slice())?;
+    let unmets = unmets(alloc, twin, walk, deeds.as_slice())?;
     reasons_with(alloc, deeds, unmets, twin.own, twin.origins)
 }

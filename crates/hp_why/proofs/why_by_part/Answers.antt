@@ -10,13 +10,13 @@ use Rattle.hp_why.specs.Twin.{IsTwinOf}
 use Rattle.hp_why.specs.Whys.{Asked, IsWhy, IsWhyIf, asked, twin_rules}
 use Rattle.hp_why.proofs.JudgedSteps.{ok_weaker}
 use Rattle.hp_why.proofs.OwnPartTwins.{planned_by, unplanned_by}
-use Rattle.hp_why.proofs.VerdictLemmas.{search_right, twin_never_falls}
+use Rattle.hp_why.proofs.VerdictLemmas.{search_right, twin_meets_fault, twin_never_falls}
 use Rattle.hp_why.proofs.why_by_part.Goals as goal
 
 -- what is answered by the part of the twin's tree in which nothing is given up is right
 part_right : (a : Asked) (t : Twin) (priced : Bool) → Contains a.problem.pairs a.pair → IsTwinOf a t
     → priced ≡ is_priced (twin_rules a) → (o : Option Verdict) → AnswersByPart t priced o → IsWhyIf a o
-part_right a t priced contained is e None h = tt
+part_right a t priced contained is e None h = twin_meets_fault a t contained is h
 part_right a t priced contained is e (Some v) (inl h) =
     subst (IsWhy a) (sym h.1) (planned_by a t contained is h.0)
 part_right a t priced contained is e (Some v) (inr h) =

@@ -1,4 +1,4 @@
-use Rattle.std.proofs.Common.{◌≡◌, [], ◌∷◌, ◌++◌, ◌-◌, ◌+◌, ap, sym, subst, ◌∙◌, arith}
+use Rattle.std.proofs.Common.{◌≡◌, ◌++◌, ◌-◌, ◌+◌, sym, subst, arith}
 use Rattle.hp_unmet.specs.Halving.{below, down_from}
 use Rattle.hp_unmet.proofs.DownSteps.{down_on}
 use Rattle.hp_unmet.proofs.unmet.counts_down.Goals as goal

@@ -1,39 +1,35 @@
-use Rattle.std.proofs.Common.{map, ap₂, sym, ◌∙◌, subst}
+use Rattle.std.proofs.Common.{ap, sym, ◌∙◌, subst}
 use Rattle.std.proofs.lemmas.Result.{IfOk-weaker}
 use Rattle.hp_syntax.specs.GroundViews.{ground_of}
 use Rattle.hp_syntax.specs.Views.{domain_of}
-use Rattle.hp_unmet.specs.Begun.{BeginsIfAtom, state_of}
-use Rattle.hp_unmet.specs.Conjunctions.{answer_if, asked_in}
+use Rattle.hp_unmet.specs.Conjunctions.{asked_in, first_unmet}
+use Rattle.hp_unmet.specs.Said.{SaysIfAtom}
 use Rattle.hp_unmet.proofs.AnswerLemmas.{no_task, not_apart}
 use Rattle.hp_unmet.proofs.unmet.first_unmet.Goals as goal
 
-pub returns-then-not-is_told_apart : goal.returns-then-not-is_told_apart
-returns-then-not-is_told_apart c =
+pub returns-then-not-is_told_apart-clause-unmet : goal.returns-then-not-is_told_apart-clause-unmet
+returns-then-not-is_told_apart-clause-unmet c = λ n at.
     let rules = (domain_of c.args.domain.now).rules in
-    not_apart rules c.args.nest (state_of (map ground_of c.args.state.now)) (ground_of c.args.task.now)
+    not_apart rules c.args.walk.now.nest n.state (ground_of c.args.task.now)
     (asked_in rules c.args.rule c.args.branch) (sym c.is_told_apart.ensures ∙ c.if-not-is_told_apart.true)
 
-pub unmet_in-requires-clause-one : goal.unmet_in-requires-clause-one
-unmet_in-requires-clause-one c =
-    (subst (BeginsIfAtom (map ground_of c.args.state.now) (ground_of c.args.task.now)) c.in-Some.is
-    c.in_ok-pair.ensures).one
+pub unmet_in-requires-clause-ground : goal.unmet_in-requires-clause-ground
+unmet_in-requires-clause-ground c =
+    (subst (λ o. SaysIfAtom o (ground_of c.args.task.now)) c.in-Some.is c.in_ok-atom.ensures).1.is_ground
 
-pub returns-in-Some : goal.returns-in-Some
-returns-in-Some c =
+pub returns-in-Some-clause-unmet : goal.returns-in-Some-clause-unmet
+returns-in-Some-clause-unmet c =
     let rules = (domain_of c.args.domain.now).rules in
-    let o = asked_in rules c.args.rule c.args.branch in
-    let begins =
-    subst (BeginsIfAtom (map ground_of c.args.state.now) (ground_of c.args.task.now)) c.in-Some.is
-    c.in_ok-pair.ensures in
+    let says = (subst (λ o. SaysIfAtom o (ground_of c.args.task.now)) c.in-Some.is c.in_ok-atom.ensures).1 in
     IfOk-weaker c.unmet_in.result _ _
-    (λ u h. h
-    ∙ ap₂ (λ s t. answer_if rules c.args.nest s t o) begins.state begins.task')
-    c.unmet_in.ensures
+    (λ u h n at.
+    h n at
+    ∙ ap (λ t. first_unmet rules c.args.walk.now.nest n.state t c.args.rule c.args.branch) says.term)
+    c.unmet_in.ensures.unmet
 
-pub returns-in-None : goal.returns-in-None
-returns-in-None c =
+pub returns-in-None-clause-unmet : goal.returns-in-None-clause-unmet
+returns-in-None-clause-unmet c = λ n at.
     let rules = (domain_of c.args.domain.now).rules in
-    no_task rules c.args.nest (state_of (map ground_of c.args.state.now)) (ground_of c.args.task.now)
-    (subst (BeginsIfAtom (map ground_of c.args.state.now) (ground_of c.args.task.now)) c.in-None.is
-    c.in_ok-pair.ensures)
+    no_task rules c.args.walk.now.nest n.state (ground_of c.args.task.now)
+    (subst (λ o. SaysIfAtom o (ground_of c.args.task.now)) c.in-None.is c.in_ok-atom.ensures)
     (asked_in rules c.args.rule c.args.branch)

@@ -15,3 +15,6 @@ returns-in-Absent-clause-way c = sym c.in_ok-arrival.ensures.arrival.answer ∙ 
 
 pub returns-in-Fault-clause-way : goal.returns-in-Fault-clause-way
 returns-in-Fault-clause-way c = sym c.in_ok-arrival.ensures.arrival.answer ∙ c.in-Fault.is
+
+pub returns-in_ok-deeds-in-At-clause-stands : goal.returns-in_ok-deeds-in-At-clause-stands
+returns-in_ok-deeds-in-At-clause-stands c = (c.in_ok-arrival.ensures.at c.in-At.is).path

@@ -1,11 +1,11 @@
 use Rattle.std.proofs.Common.{◌≡◌, FitsSigned, of_z, pos, refl, sym, ◌∙◌, ap, subst, to_z, arith, rules}
 use Rattle.std.specs.Int.{w128}
 use Rattle.std.proofs.lemmas.Int.{to_z-of_z}
-use Rattle.hp_net.proofs.NextVisits.{IsNext, cut_next, did_next, end_next, plan_next}
+use Rattle.hp_net.proofs.NextVisits.{IsNext, cut_next, did_next, end_next, fault_next, plan_next}
 use Rattle.hp_net.specs.Standings.{next_of, step_or_end}
 use Rattle.hp_search.specs.Planned.{stands_planned, tree_planned}
 use Rattle.hp_syntax.specs.Walk.{CutHere, Did, Plan}
-use Rattle.hp_why.proofs.OwnPartSteps.{none_comes, of_tree_kept, passes, plan_comes, plan_cost, plan_done, plan_passes}
+use Rattle.hp_why.proofs.OwnPartSteps.{fault_met, none_comes, of_tree_kept, passes, plan_comes, plan_cost, plan_done, plan_passes}
 use Rattle.hp_why.proofs.own_part.hear.Goals as goal
 
 pub stay_within-requires-clause-at : goal.stay_within-requires-clause-at
@@ -21,7 +21,7 @@ returns-in-Did-clause-heard c =
     did_next _ _ c.in_ok-next.ensures.stands
     (subst (λ x. x ≡ step_or_end (next_of s.rest)) c.in-Did.is c.in_ok-next.ensures.answer) in
     passes c.args.twin.now s r Did next refl (stands_planned c.stay_within.new.walk).rest c.stay_within.ensures.same
-    c.stay_within.ensures.shorter
+    c.stay_within.ensures.fault c.stay_within.ensures.shorter
 
 pub returns-then-cost-eq0-clause-heard : goal.returns-then-cost-eq0-clause-heard
 returns-then-cost-eq0-clause-heard c =
@@ -60,7 +60,14 @@ returns-in-Cut-clause-heard c =
     let next : IsNext s r CutHere =
     cut_next _ _ c.in_ok-next.ensures.stands
     (subst (λ x. x ≡ step_or_end (next_of s.rest)) c.in-Cut.is c.in_ok-next.ensures.answer) in
-    passes c.args.twin.now s r CutHere next refl r.rest (λ part. refl) (omega arith)
+    passes c.args.twin.now s r CutHere next refl r.rest (λ part. refl) (λ h. h) (omega arith)
+
+pub returns-in-Fault-clause-heard : goal.returns-in-Fault-clause-heard
+returns-in-Fault-clause-heard c =
+    let s = stands_planned c.args.walk.now in
+    let next = fault_next c.in-Fault.field-0 s.rest
+    (subst (λ x. x ≡ step_or_end (next_of s.rest)) c.in-Fault.is c.in_ok-next.ensures.answer) in
+    fault_met c.in-Fault.field-0 next.0 s.rest next.1 next.2 next.3
 
 pub returns-in-End-clause-heard : goal.returns-in-End-clause-heard
 returns-in-End-clause-heard c =

@@ -1,13 +1,47 @@
-use Rattle.std.proofs.Common.{length}
+use Rattle.std.proofs.Common.{length, refl, sym, ap, ◌∙◌, subst, arith}
+use Rattle.hp_search.specs.Planned.{Planned}
+use Rattle.hp_unmet.specs.Halving.{IsBetween}
+use Rattle.hp_unmet.specs.States.{InStateOf}
 use Rattle.hp_unmet.specs.Trials.{tried}
 use Rattle.hp_unmet.proofs.HalvingSteps.{between_all, neighbours}
 use Rattle.hp_unmet.proofs.trial.Trial.first_missing.Goals as goal
 
 pub loop-between-init : goal.loop-between-init
-loop-between-init c =
-    between_all (tried c.args.self.now) (length c.args.self.now.asked.parts.now) c.requires.first c.requires.all
+loop-between-init c = record {
+  held = λ n at.
+      let s = c.args.self.now in
+      between_all (tried s c.args.walk.now.nest n.state) (length s.asked.parts.now) (c.requires.first n at)
+      (c.requires.all n at);
+  ordered = omega arith;
+  within = omega arith;
+  same = refl;
+}
 
-pub returns : goal.returns
-returns c =
-    neighbours (tried c.args.self.now) (length c.args.self.now.asked.parts.now) c.loop-between.between
-    c.loop-between.invariant c.loop-between-test.false
+pub nearer-requires-clause-live : goal.nearer-requires-clause-live
+nearer-requires-clause-live c = ap (λ (p : Planned). p.live) c.loop-between.invariant.same ∙ c.requires.live
+
+pub nearer-requires-clause-held : goal.nearer-requires-clause-held
+nearer-requires-clause-held c =
+    let s = c.args.self.now in
+    subst (λ p. InStateOf p
+    (λ nest state. IsBetween (tried s nest state) (length s.asked.parts.now) c.loop-between.between))
+    (sym c.loop-between.invariant.same) c.loop-between.invariant.held
+
+pub loop-between-preserved : goal.loop-between-preserved
+loop-between-preserved c =
+    let s = c.args.self.now in
+    record {
+      held =
+          subst (λ p. InStateOf p
+          (λ nest state. IsBetween (tried s nest state) (length s.asked.parts.now) c.in_ok-nearer.nearer))
+          c.loop-between.invariant.same c.in_ok-nearer.ensures.held;
+      ordered = c.in_ok-nearer.ensures.ordered;
+      within = c.in_ok-nearer.ensures.within;
+      same = c.nearer.ensures.same ∙ c.loop-between.invariant.same;
+    }
+
+pub returns-clause-missing : goal.returns-clause-missing
+returns-clause-missing c = λ n at.
+    let s = c.args.self.now in
+    neighbours (tried s c.args.walk.now.nest n.state) (length s.asked.parts.now) c.loop-between.between
+    (c.loop-between.invariant.held n at) c.loop-between-test.false

@@ -1,10 +1,18 @@
-use Rattle.std.proofs.Common.{◌-◌, length}
+use Rattle.std.proofs.Common.{◌≡◌, ◌≤◌, ◌-◌, length}
 use Rattle.hp_unmet.specs.Halving.{IsBetween}
+use Rattle.hp_unmet.specs.States.{InStateOf}
 use Rattle.hp_unmet.specs.Trials.{tried}
 use Rattle.hp_unmet.proofs.trial.Trial.first_missing.Given as goal
 
 abbrev pub invariant-loop-between : goal.invariant-loop-between
-invariant-loop-between l = IsBetween (tried l.self) (length l.self.asked.parts.now) l.between
+invariant-loop-between l = record {
+  held :
+      InStateOf l.fn.walk
+      (λ nest state. IsBetween (tried l.self nest state) (length l.self.asked.parts.now) l.between);
+  ordered : l.between.met ≤ l.between.unmet;
+  within : l.between.unmet ≤ length l.self.asked.parts.now;
+  same : l.walk ≡ l.fn.walk;
+}
 
 abbrev pub decreases-loop-between : goal.decreases-loop-between
 decreases-loop-between l = l.between.unmet - l.between.met

@@ -1,0 +1,78 @@
+use Rattle.std.proofs.Common.{◌≤◌, None, length, refl, ap, ap₂, sym, subst, ◌∙◌}
+use Rattle.std.proofs.lemmas.Result.{IfOk-weaker}
+use Rattle.hp_syntax.specs.declared.limits.TheConstants.{MOST_VARIABLES}
+use Rattle.hp_syntax.specs.Matching.{match_atom}
+use Rattle.hp_syntax.specs.Syntax.{Refines}
+use Rattle.hp_syntax.specs.Values.{unbound}
+use Rattle.hp_syntax.specs.Views.{atom_of}
+use Rattle.hp_answers.specs.AnswerViews.{MeetsHead}
+use Rattle.hp_code.specs.CodeViews.{rules_in}
+use Rattle.hp_code.proofs.CodeLemmas.{vars_found}
+use Rattle.hp_eval.specs.GoalViews.{term_at}
+use Rattle.hp_eval.specs.Slotted.{bindings_of}
+use Rattle.hp_eval.proofs.GrowthLemmas.{terms_stay}
+use Rattle.hp_suspended.specs.SceneViews.{code_in, setting_of}
+use Rattle.hp_suspended.specs.Settings.{state_in}
+use Rattle.hp_suspended.proofs.CallLemmas.{atoms_grow, knows_grow}
+use Rattle.hp_world.specs.Stages.{live_atoms}
+use Rattle.hp_choice.specs.Asking.{IsFoundUnder, IsFoundWhere}
+use Rattle.hp_choice.proofs.RuleReadings.{few_of_rule}
+use Rattle.hp_choice.proofs.asking.ask.Goals as goal
+
+pub matched-requires-clause-few : goal.matched-requires-clause-few
+matched-requires-clause-few c =
+    let s = c.args.scene.now in
+    subst (λ vs. length vs ≤ MOST_VARIABLES) (sym c.vars-vars.ensures)
+    (few_of_rule (code_in s) s.code.now.kept c.args.rule (Refines c.requires.rule.0) c.requires.rule.1)
+
+pub found_under-requires-clause-ready : goal.found_under-requires-clause-ready
+found_under-requires-clause-ready c =
+    let s = c.args.scene.now in
+    let old = c.args.cells.now in
+    let new = c.ground_atom.new.cells in
+    let vars = length c.vars-vars.result.now in
+    let found = match_atom (atom_of c.head_of.result.now) (term_at new c.in_ok-cell.cell) (unbound vars) in
+    let met = subst (λ x. MeetsHead new vars x found) c.in-Some.is c.in_ok-slots.ensures in
+    record {
+      atoms = atoms_grow s old new c.in_ok-cell.ensures.cells c.requires.atoms;
+      knows = knows_grow s old new c.in_ok-cell.ensures.cells c.requires.knows;
+      bindings = met.2;
+    }
+
+pub returns-in-Some-clause-found : goal.returns-in-Some-clause-found
+returns-in-Some-clause-found c =
+    let s = c.args.scene.now in
+    let code = code_in s in
+    let old = c.args.cells.now in
+    let new = c.ground_atom.new.cells in
+    let vars = length c.vars-vars.result.now in
+    let t = term_at new c.in_ok-cell.cell in
+    let head = atom_of c.head_of.result.now in
+    let met = subst (λ x. MeetsHead new vars x (match_atom head t (unbound vars))) c.in-Some.is
+    c.in_ok-slots.ensures in
+    let e = bindings_of new c.in-Some.slots in
+    let stay = terms_stay old new c.in_ok-cell.ensures.cells (live_atoms s.world.now.places) c.requires.atoms in
+    IfOk-weaker c.found_under.result _ _
+    (λ o own m found.
+    let many = ap length (c.vars-vars.ensures ∙ vars_found code s.code.now.kept c.args.rule (Refines m) found) in
+    let same = ap₂ (λ a k. match_atom a t (unbound k)) (sym (c.head_of.ensures m found)) (sym many) in
+    let is = ap (λ x. match_atom m.head x (unbound (length m.vars))) (sym c.in_ok-cell.ensures.term) ∙ same ∙ met.0 in
+    subst (λ b. IsFoundWhere (rules_in code) c.args.nest (state_in (setting_of s old)) m b o) (sym is)
+    (subst (λ st. IsFoundUnder (rules_in code) c.args.nest st m e o) stay (own m found)))
+    c.found_under.ensures.found
+
+pub returns-in-None-clause-found : goal.returns-in-None-clause-found
+returns-in-None-clause-found c = λ m found.
+    let s = c.args.scene.now in
+    let code = code_in s in
+    let old = c.args.cells.now in
+    let new = c.ground_atom.new.cells in
+    let vars = length c.vars-vars.result.now in
+    let t = term_at new c.in_ok-cell.cell in
+    let head = atom_of c.head_of.result.now in
+    let met = subst (λ x. MeetsHead new vars x (match_atom head t (unbound vars))) c.in-None.is
+    c.in_ok-slots.ensures in
+    let many = ap length (c.vars-vars.ensures ∙ vars_found code s.code.now.kept c.args.rule (Refines m) found) in
+    let same = ap₂ (λ a k. match_atom a t (unbound k)) (sym (c.head_of.ensures m found)) (sym many) in
+    let is = ap (λ x. match_atom m.head x (unbound (length m.vars))) (sym c.in_ok-cell.ensures.term) ∙ same ∙ met in
+    subst (λ b. IsFoundWhere (rules_in code) c.args.nest (state_in (setting_of s old)) m b None) (sym is) refl
