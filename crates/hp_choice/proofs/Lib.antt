@@ -7,3 +7,4 @@ pub mod DeedSteps
 pub mod ChoiceLemmas
 pub mod NextSteps
 pub mod FindingLemmas
+pub mod AskingSteps

@@ -1,38 +1,57 @@
--- What a method finds for a task in a state.
-use Rattle.std.specs.Prelude.{◌≡◌, ℕ, List, length, Option, None, Some}
+-- What parts of a conjunction find for a task in a state, by the head of their rule.
+use Rattle.std.specs.Prelude.{◌≡◌, ℕ, Bool, true, false, List, [], length, Option, None, Some}
+use Rattle.hp_syntax.specs.declared.pattern.Span.{Span}
 use Rattle.hp_syntax.specs.Events as plain
-use Rattle.hp_syntax.specs.Events.{State, finding}
+use Rattle.hp_syntax.specs.Events.{Event, State, axioms_of, finding, finding_with, sat}
 use Rattle.hp_syntax.specs.Matching.{match_atom}
-use Rattle.hp_syntax.specs.Syntax.{Method, Rule}
+use Rattle.hp_syntax.specs.Syntax.{And, Atom, Expression, Expressions, Rule, Does, Refines, Concludes}
 use Rattle.hp_syntax.specs.Terms.{Term}
 use Rattle.hp_syntax.specs.Values.{Bindings, unbound}
-use Rattle.hp_syntax.specs.Walk.{chosen_branch}
-use Rattle.hp_method.specs.Branches.{IsChosenAt}
+use Rattle.hp_nodes.specs.Compiled.{vars_of}
+use Rattle.hp_code.specs.CodeViews.{CodeView, beside, rule_nodes, rules_in}
+use Rattle.hp_suspended.specs.Fitting.{AreExpressionsIn}
+use Rattle.hp_suspended.specs.Nodes.{expressions_in}
+use Rattle.hp_choice.specs.declared.asking.Conjuncts.{Conjuncts}
 use Rattle.hp_choice.specs.declared.asking.Finding.{Finding}
 use Rattle.hp_choice.specs.declared.asking.Finding.TheVariants as findings
-use Rattle.hp_choice.specs.declared.asking.Found.{Found}
 
 -- what events come to, as it is told
 abbrev pub finding_of : Finding → plain.Finding
 finding_of findings.Satisfied = plain.Satisfied
 finding_of (findings.Faulty f) = plain.Faulty f
 finding_of findings.Undecided = plain.Undecided
+finding_of findings.Nothing = plain.Nothing
+
+-- what events come to, where there may be a cut before them
+abbrev pub behind : Bool → plain.Finding → plain.Finding
+behind false x = x
+behind true x = finding_with plain.Cut x
+
+-- the head of a rule
+abbrev pub head_of : Rule → Atom
+head_of (Does o) = o.head
+head_of (Refines m) = m.head
+head_of (Concludes x) = x.head
 
 module _ (rules : List Rule) (nest : ℕ) (st : State) where
-  -- of a method's branches the one of this number is chosen, and the events of its precondition come to this
-  pub record IsFound (m : Method) (e : Bindings) (x : Found) : Type 0 where
-    pub chosen : IsChosenAt rules nest st e m.branches x.branch
-    pub comes : finding_of x.finding ≡ finding chosen.events
+  -- what an expression meets under bindings, and nothing where there are none
+  abbrev pub events_under : Expression → Option Bindings → List Event
+  events_under E None = []
+  events_under E (Some e) = sat (axioms_of rules) nest st E e
 
-  -- nothing is found under bindings where no branch is chosen
-  abbrev pub IsFoundUnder : Method → Bindings → Option Found → Type 0
-  IsFoundUnder m e None = chosen_branch rules nest st m.branches e ≡ None
-  IsFoundUnder m e (Some x) = IsFound m e x
+  -- what it meets where the head of a rule matches a task
+  abbrev pub asked_events : Rule → Expression → Term → List Event
+  asked_events r E t = events_under E (match_atom (head_of r) t (unbound (length (vars_of r))))
 
-  -- and nothing where the head doesn't match
-  abbrev pub IsFoundWhere : Method → Option Bindings → Option Found → Type 0
-  IsFoundWhere m None o = o ≡ None
-  IsFoundWhere m (Some e) o = IsFoundUnder m e o
+-- they are parts by the nodes of a code, below some rule's
+pub record AreConjuncts (c : CodeView) (x : Conjuncts) : Type 0 where
+  pub rule : Rule
+  pub is : beside x.rule (rule_nodes c) (rules_in c) ≡ Some rule
+  pub parts : AreExpressionsIn c x.first x.end
 
-  abbrev pub Finds : Method → Term → Option Found → Type 0
-  Finds m t o = IsFoundWhere m (match_atom m.head t (unbound (length m.vars))) o
+-- all of them together come to this for a task
+abbrev pub Finds : CodeView → ℕ → State → Conjuncts → Term → Finding → Type 0
+Finds c nest st x t f =
+    (r : Rule) (s : Span) (ps : Expressions) → beside x.rule (rule_nodes c) (rules_in c) ≡ Some r
+    → expressions_in c x.first x.end ≡ Some ps
+    → finding_of f ≡ finding (asked_events (rules_in c) nest st r (And s ps) t)

@@ -6,7 +6,7 @@ mod choice;
 mod opening;
 mod rooms;
 
-pub use asking::{Finding, Found, ask};
+pub use asking::{Conjuncts, Finding, ask};
 pub use choice::{Choice, Deed, Given};
 pub use opening::open;
 pub use rooms::Rooms;

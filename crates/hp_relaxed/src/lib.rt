@@ -18,12 +18,11 @@ mod omitted;
 mod staying;
 mod toll;
 
-pub use crate::copies::{copy_axiom, copy_expressions, copy_names};
 use crate::free::free_rules;
 pub use crate::given::{Origin, Relaxed};
 use crate::giving::Given;
 use crate::omitted::Omitted;
-pub use crate::staying::{body_of, conjunction};
+pub use crate::staying::body_of;
 use crate::toll::{payer, toll_of};
 use hp_syntax::{Domain, Name, Problem, Rule};
 use std::alloc::{AllocError, Global};

@@ -1,17 +1,15 @@
-//! What a method of another code finds in the state of the node reached.
-ghost use Rattle.std.specs.Prelude.{◌≡◌, IfOk, Some};
-ghost use Rattle.hp_choice.specs.Asking.{Finds};
+//! What parts of a conjunction of another code find in the state of the node reached.
+ghost use Rattle.std.specs.Prelude.{◌≡◌, IfOk};
+ghost use Rattle.hp_choice.specs.Asking.{AreConjuncts, Finds};
 ghost use Rattle.hp_code.specs.Codes.{code_of};
-ghost use Rattle.hp_code.specs.CodeViews.{beside, rule_nodes, rules_in};
 ghost use Rattle.hp_search.specs.Searches.{IsSearch};
 ghost use Rattle.hp_site.specs.Sites.{held_now};
 ghost use Rattle.hp_syntax.specs.GroundPatterns.{IsGroundAtom, atom_said};
-ghost use Rattle.hp_syntax.specs.Syntax.{Method, Refines};
 ghost use Rattle.hp_syntax.specs.Views.{atom_of};
 ghost use Rattle.hp_tree.specs.SearchNodes.{node_of};
 
 use crate::search::Search;
-use hp_choice::{Found, ask};
+use hp_choice::{Conjuncts, Finding, ask};
 use hp_code::Code;
 use hp_gen::Scene;
 use hp_syntax::AtomPat;
@@ -20,28 +18,25 @@ use std::alloc::AllocError;
 use std::mem;
 
 impl Search<'_> {
-    /// What a method finds for a task in the world as it stands, which is lent out and taken back, with the cells that
-    /// there were.
+    /// What parts of a conjunction find for a task in the world as it stands, which is lent out and taken back, with
+    /// the cells that there were.
     pub(crate) fn ask(
         &mut self,
         code: &Code,
-        rule: usize,
+        asked: Conjuncts,
         task: &AtomPat,
-    ) -> Result<Option<Found>, AllocError>
+    ) -> Result<Finding, AllocError>
         requires search { IsSearch self.old }
-        requires rule { let c = code_of code.now in
-            (m : Method) × (beside rule (rule_nodes c) (rules_in c) ≡ Some (Refines m)) }
+        requires asked { AreConjuncts (code_of code.now) asked }
         requires task { IsGroundAtom (atom_of task.now) }
-        ensures found { let c = code_of code.now in
-            IfOk result (λ o. (m : Method) → beside rule (rule_nodes c) (rules_in c) ≡ Some (Refines m)
-            → Finds (rules_in c) self.old.nest (node_of self.old.cells (held_now self.old.site)).state m
-            (atom_said (atom_of task.now)) o) }
+        ensures found { IfOk result (Finds (code_of code.now) self.old.nest
+            (node_of self.old.cells (held_now self.old.site)).state asked (atom_said (atom_of task.now))) }
         ensures same { self.new ≡ self.old }
     {
         let floor = self.cells.len();
         let world = mem::replace(&mut self.site.scene.world, World::new(self.alloc));
         let mut scene = Scene { world, code };
-        let found = ask(self.alloc, &scene, self.nest, rule, task, &mut self.cells);
+        let found = ask(self.alloc, &scene, self.nest, asked, task, &mut self.cells);
         mem::swap(&mut self.site.scene.world, &mut scene.world);
         self.cells.give_back(floor);
         found

@@ -2,7 +2,7 @@
 use crate::decomposition::Decomposition;
 use crate::search::Search;
 use hp_cells::{Cell, Cells};
-use hp_choice::{Found, Rooms};
+use hp_choice::{Conjuncts, Finding, Rooms};
 use hp_code::{Code, asked_parts};
 use hp_gen::Scene;
 use hp_net::{Net, Step, Walk};
@@ -47,12 +47,11 @@ impl<'a> Planner<'a> {
     ghost use Rattle.std.specs.Prelude.{◌≡◌, ◌≤◌, ◌<◌, [], Some, true, false, pos, IfOk, MatchOption, OnErr, OnOk, is_some, length, take};
     ghost use Rattle.hp_syntax.specs.declared.limits.TheConstants.{GREATEST_DEPTH, MOST_LEVELS};
     ghost use Rattle.hp_syntax.specs.GroundPatterns.{IsGroundAtom, IsGroundPair, atom_said};
-    ghost use Rattle.hp_syntax.specs.Syntax.{Method, Refines};
     ghost use Rattle.hp_syntax.specs.Views.{atom_of, pair_of};
     ghost use Rattle.hp_syntax.specs.Walk.{root, visits};
     ghost use Rattle.hp_code.specs.Codes.{code_of};
-    ghost use Rattle.hp_choice.specs.Asking.{Finds};
-    ghost use Rattle.hp_code.specs.CodeViews.{beside, rule_nodes, rules_in};
+    ghost use Rattle.hp_choice.specs.Asking.{AreConjuncts, Finds};
+    ghost use Rattle.hp_code.specs.CodeViews.{rules_in};
     ghost use Rattle.hp_links.specs.Linked.{PartBelow, focused};
     ghost use Rattle.hp_net.specs.Standings.{node_reached, standing, tree_visits};
     ghost use Rattle.std.specs.List.{All};
@@ -151,26 +150,23 @@ impl<'a> Planner<'a> {
         self.search.rise_to(&mut self.rooms, level);
     }
 
-    /// What a method of another code finds for a task in the state of the node reached, by the method's node: the
-    /// branch that it would choose there, and what the events of that branch's precondition come to. The task is an
-    /// atom without variables and calls. The walk stays as it is, after an error too.
+    /// What parts of a conjunction of any code come to together in the state of the node reached, where the head of
+    /// their rule matches a task; where it doesn't, there is nothing. The parts are told by nodes of that code, and the
+    /// task is an atom without variables and calls. The walk stays as it is, after an error too.
     pub fn ask(
         &mut self,
         code: &Code,
-        rule: usize,
+        asked: Conjuncts,
         task: &AtomPat,
-    ) -> Result<Option<Found>, AllocError>
+    ) -> Result<Finding, AllocError>
         requires live { self.old.live ≡ true }
-        requires rule { let c = code_of code.now in
-            (m : Method) × (beside rule (rule_nodes c) (rules_in c) ≡ Some (Refines m)) }
+        requires asked { AreConjuncts (code_of code.now) asked }
         requires task { IsGroundAtom (atom_of task.now) }
-        ensures found { let c = code_of code.now in
-            IfOk result (λ o. (m : Method) → beside rule (rule_nodes c) (rules_in c) ≡ Some (Refines m)
-            → MatchOption (node_reached (tree_planned self.old) (stands_planned self.old)) ⊥
-            (λ n. Finds (rules_in c) self.old.nest n.state m (atom_said (atom_of task.now)) o)) }
+        ensures found { IfOk result (λ f. MatchOption (node_reached (tree_planned self.old) (stands_planned self.old)) ⊥
+            (λ n. Finds (code_of code.now) self.old.nest n.state asked (atom_said (atom_of task.now)) f)) }
         ensures same { self.new ≡ self.old }
     {
-        self.search.ask(code, rule, task)
+        self.search.ask(code, asked, task)
     }
 
     /// The network of the node reached, with its focus. Its pasts at the moments of the path are the networks of the

@@ -1,30 +1,19 @@
 -- The answer, by what is found with all parts and with some.
-use Rattle.std.proofs.Common.{◌≡◌, ◌≢◌, ℕ, zero, suc, ◌+◌, ◌-◌, ◌<◌, ◌≤◌, Bool, true, false, cond, List, length, Option, Some, None, refl, sym, ap, ◌∙◌, arith, ⊎_elim}
-use Rattle.std.specs.Prelude.{◌==◌, nat_lt}
+use Rattle.std.proofs.Common.{◌≡◌, ◌≢◌, ℕ, zero, suc, ◌+◌, ◌<◌, ◌≤◌, true, false, List, length, Option, Some, None, refl, sym, ap, ◌∙◌, arith, ⊎_elim}
+use Rattle.std.specs.Prelude.{nat_lt}
 use Rattle.std.proofs.lemmas.Bool.Decides.{nat_tests}
-use Rattle.std.proofs.lemmas.Bool.{cases_lt, cond-true, cond-false, le-ltb, lt-ltb, ne_eqb}
+use Rattle.std.proofs.lemmas.Bool.{cases_lt, cond-true, cond-false, le-ltb, lt-ltb}
 use Rattle.hp_syntax.specs.Events.{Finding, Satisfied, Faulty, Undecided, Nothing, State}
-use Rattle.hp_syntax.specs.Matching.{match_atom}
 use Rattle.hp_syntax.specs.Syntax as syntax
-use Rattle.hp_syntax.specs.Terms.{Term, Symbol, Number, Listed, NoTerm, More}
-use Rattle.hp_syntax.specs.Values.{Bindings, unbound}
+use Rattle.hp_syntax.specs.Terms.{Term}
+use Rattle.hp_syntax.specs.Values.{Bindings}
 use Rattle.hp_unmet.specs.Conjunctions.{Conjunction, answer_by, answer_from, answer_if, answer_of, answer_where, found, has_several, matched}
-use Rattle.hp_unmet.specs.Halving.{down_from, part_missing}
-use Rattle.hp_unmet.specs.Said.{is_atom}
-use Rattle.hp_unmet.specs.Trials.{AreNothing, IsDoubtful, IsFirstMet, IsFirstMissing, is_in_doubt, is_satisfied}
-use Rattle.hp_unmet.proofs.DownSteps.{doubt_down, missing_down, none_down, place_down}
+use Rattle.hp_unmet.specs.Trials.{IsFirstMissing, is_in_doubt, is_satisfied}
 use Rattle.hp_unmet.specs.declared.unmet.Unmet.{Unmet}
 use Rattle.hp_unmet.specs.declared.unmet.Unmet.TheVariants as unmets
 use Rattle.hp_unmet.proofs.FoundLemmas.{found_where, is_matched, is_unmatched, keeps, none_where}
 
 -- ---- what is satisfied
-
--- what is in doubt isn't satisfied
-pub in_doubt : (x : Finding) → is_in_doubt x ≡ true → false ≡ is_satisfied x
-in_doubt Satisfied h = h
-in_doubt (Faulty f) h = refl
-in_doubt Undecided h = refl
-in_doubt Nothing h = refl
 
 pub is_met : (x : Finding) → true ≡ is_satisfied x → x ≡ Satisfied
 is_met Satisfied e = refl
@@ -168,72 +157,9 @@ module _ (rules : List syntax.Rule) (nest : ℕ) (state : State) (c : Conjunctio
           ap (λ o. found_where rules nest state c o 0) is ∙ none_where rules nest state c b in
           answered_by b unmets.Unknown is (doubt_told own own_keeps count first doubt)
 
-  -- a limit or a fault is met with fewer
-  pub doubt_unmet : (k : ℕ) → k ≤ count → is_in_doubt (own k) ≡ true → unmets.Unknown ≡ answered (matched c task)
-  doubt_unmet k l doubt =
-      unknown_unmet
-      (ap is_in_doubt
-      (own_keeps k count l (λ h. let never : false ≡ true = sym (ap is_in_doubt h) ∙ doubt in cc)) ∙ doubt)
-
   -- where the head doesn't match nothing is asked
   pub unmatched_unmet : own 0 ≢ Satisfied → unmets.None ≡ answered (matched c task)
   unmatched_unmet unmet = sym (ap answered (is_unmatched rules nest state c task (matched c task) refl unmet))
-
-  -- so many numbers of parts are tried in vain
-  pub few_met : (place : ℕ) → IsFirstMet own (down_from count) place
-      → part_missing place count ≡ answered (matched c task)
-  few_met zero h =
-      let l = place_down count zero h.number h.there in
-      let here : h.number ≡ count = omega arith in
-      none_unmet (ap own (sym here) ∙ h.met)
-  few_met (suc place) h =
-      let l = place_down count (suc place) h.number h.there in
-      let here : count - suc place ≡ h.number = omega arith in
-      let some : (suc place == 0) ≡ false = ne_eqb (suc place) 0 (λ e. omega arith) in
-      cond-false (suc place == 0) unmets.None (unmets.Part (count - suc place)) some
-      ∙ ap (λ n. unmets.Part n) here
-      ∙ part_unmet h.number (met_before own own_keeps 0 h.number (omega arith) h.met)
-      (record {
-        within = omega arith;
-        met = h.met;
-        missing = missing_down own count place h.number h.there h.before;
-      })
-
-  -- there are at most as many as all
-  pub few_within : (place : ℕ) → IsFirstMet own (down_from count) place → place ≤ count
-  few_within place h = let l = place_down count place h.number h.there in omega arith
-
-  -- with no number of them anything is found
-  pub few_nothing : AreNothing own (down_from count) → unmets.None ≡ answered (matched c task)
-  few_nothing h =
-      unmatched_unmet
-      (λ e. let never : Satisfied ≡ Nothing = sym e ∙ none_down own count h in cc)
-
-  -- a limit or a fault is met with a number of them
-  pub few_doubtful : IsDoubtful own (down_from count) → unmets.Unknown ≡ answered (matched c task)
-  few_doubtful h = let some = doubt_down own count h in doubt_unmet some.0 some.1 some.2
-
--- ---- a task that is no atom
-
-no_match : (a : syntax.Atom) (t : Term) (e : Bindings) → is_atom t ≡ false → match_atom a t e ≡ None
-no_match a (Symbol name) e h = refl
-no_match a (Number n) e h = refl
-no_match a (Listed NoTerm) e h = refl
-no_match a (Listed (More (Symbol name) ts)) e h = let never : true ≡ false = h in absurd (cc)
-no_match a (Listed (More (Number n) ts)) e h = refl
-no_match a (Listed (More (Listed us) ts)) e h = refl
-
-module _ (rules : List syntax.Rule) (nest : ℕ) (state : State) (task : Term) (unmet : is_atom task ≡ false) where
-  by_count : (c : Conjunction) (b : Bool)
-      → cond b unmets.None (answer_where rules nest state c task (matched c task)) ≡ unmets.None
-  by_count c true = refl
-  by_count c false =
-      ap (λ o. answer_where rules nest state c task o) (no_match c.head task (unbound (length c.vars)) unmet)
-
-  -- no head matches a task that is no atom
-  pub no_task : (o : Option Conjunction) → unmets.None ≡ answer_if rules nest state task o
-  no_task None = refl
-  no_task (Some c) = sym (by_count c (nat_lt (length c.parts) 2))
 
 -- ---- fewer than two parts
 

@@ -15,6 +15,7 @@ use Rattle.hp_unmet.specs.Conjunctions.{Conjunction, answer_by, answer_from, ans
 use Rattle.hp_unmet.specs.FirstUnmet.{IsFirstUnmet}
 use Rattle.hp_unmet.specs.declared.unmet.Unmet.TheVariants as unmets
 use Rattle.hp_unmet.proofs.AnswerLemmas.{many_parts, met_before, part_unmet}
+use Rattle.hp_unmet.proofs.ConjunctionNodes.{listed_again}
 use Rattle.hp_unmet.proofs.FindingLemmas.{asks, found_alike}
 use Rattle.hp_unmet.proofs.FoundLemmas.{found_where, keeps_where, none_where}
 
@@ -167,10 +168,6 @@ module _ (rules : List syntax.Rule) (nest : ℕ) (state : State) (task : Term) (
       satisfied_by_count e (nat_lt (length c.parts) 2) (le-ltb (length c.parts) 2 many) is h
 
 -- ---- all parts
-
-listed_again : (es : syntax.Expressions) → as_expressions (listed es) ≡ es
-listed_again syntax.NoExpression = refl
-listed_again (syntax.Also e es) = ap (λ xs. syntax.Also e xs) (listed_again es)
 
 -- what is found of events is found of them up to the first satisfier
 up_to_sat_finding : (xs : List Event) → finding (up_to_sat xs) ≡ finding xs

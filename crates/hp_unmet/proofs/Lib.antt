@@ -3,10 +3,13 @@ pub mod LookUps
 pub mod PartLemmas
 pub mod FindingLemmas
 pub mod FoundLemmas
-pub mod DownSteps
+pub mod LoweredParts
+pub mod AskedRules
+pub mod PrefixSteps
+pub mod TrialLemmas
 pub mod AnswerLemmas
 pub mod HalvingSteps
-pub mod TrialRules
-pub mod TrialSteps
-pub mod ChosenTrials
 pub mod LawSteps
+pub mod RuleNodeSteps
+pub mod ConjunctionNodes
+pub mod PreconditionSteps

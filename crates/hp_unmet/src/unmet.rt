@@ -1,28 +1,26 @@
 //! The first part that nothing satisfies.
-ghost use Rattle.std.specs.Prelude.{◌≡◌, ◌+◌, ◌-◌, ◌<◌, ◌≤◌, true, IfOk, None, length};
-ghost use Rattle.hp_syntax.specs.Checks.{domain_faults, first_of};
+ghost use Rattle.std.specs.Prelude.{◌≡◌, ◌+◌, ◌-◌, ◌<◌, ◌≤◌, true, IfOk, Some, length};
 ghost use Rattle.hp_syntax.specs.Events.{Satisfied, Nothing};
 ghost use Rattle.hp_syntax.specs.GroundPatterns.{IsGroundAtom, atom_said};
 ghost use Rattle.hp_syntax.specs.GroundViews.{ground_of};
-ghost use Rattle.hp_syntax.specs.Numbered.{IsNumberedDomain};
 ghost use Rattle.hp_syntax.specs.Views.{atom_of, domain_of};
-ghost use Rattle.hp_unmet.specs.Conjunctions.{first_unmet, is_told_apart};
-ghost use Rattle.hp_unmet.specs.Halving.{IsBetween, down_from, part_missing};
+ghost use Rattle.hp_unmet.specs.Conjunctions.{asked_in, first_unmet, is_told_apart};
+ghost use Rattle.hp_unmet.specs.Halving.{IsBetween};
+ghost use Rattle.hp_unmet.specs.PartNodes.{IsDomainCode};
 ghost use Rattle.hp_unmet.specs.States.{InStateOf};
-ghost use Rattle.hp_unmet.specs.Trials.{CanBeTried, IsFirstMissing, answer_matched, answer_tried, is_satisfied, tried};
+ghost use Rattle.hp_unmet.specs.Trials.{CanBeTried, IsFirstMissing, IsPrefix, answer_matched, answer_tried, conjunction_of, rules_tried, tried};
 
-use crate::parts::asked_in;
+use crate::nodes::{DomainCode, parts_asked};
+use crate::parts::{Parts, asked_in};
 use crate::said::to_atom;
-use crate::trial::{Trial, Tried};
+use crate::trial::{Prefix, Trial};
+use hp_choice::Finding;
 use hp_search::Planner;
 use hp_syntax::{AtomPat, Domain, Ground};
 use std::alloc::{AllocError, Global};
 
 // Where there are fewer parts, none is told apart.
 const FEWEST_PARTS: usize = 2;
-
-// So many parts are tried by one question, whose code grows by the square of their number.
-const MOST_AT_ONCE: usize = 8;
 
 /// What of a precondition is satisfied in a state, by the parts of its conjunction from the first on.
 #[derive(Clone, Copy, Debug, PartialEq, Eq)]
@@ -41,86 +39,41 @@ pub enum Unmet {
 /// So many of the first parts are satisfied, and with so many nothing is found.
 #[derive(Clone, Copy)]
 struct Between {
-    met: usize,
+    met: Prefix,
     unmet: usize,
 }
 
-/// The part with which nothing is found, where so many numbers of parts are tried in vain, from all on down.
-fn part_missing(tried: usize, count: usize) -> Unmet
-    requires { tried ≤ count }
-    ensures { result ≡ part_missing tried count }
-{
-    if tried == 0 {
-        Unmet::None
-    } else {
-        Unmet::Part(count - tried)
-    }
-}
-
-fn middle_of(low: usize, high: usize) -> usize
+/// How far the next number is from one of two: half of the way, or as far as that one is from none, where this is
+/// nearer. So few questions find a part that is one of the first.
+fn step_from(low: usize, high: usize) -> usize
     requires { low + 1 < high }
-    ensures above { low < result }
-    ensures below { result < high }
+    ensures some { 0 < result }
+    ensures below { low + result < high }
 {
-    low + (high - low) / 2
-}
-
-/// A number, and those below it from the greatest on.
-fn counts_down(alloc: Global, count: usize) -> Result<Vec<usize>, AllocError>
-    ensures { IfOk result (λ v. v.items ≡ down_from count) }
-{
-    let mut counts = vec![in alloc; count]?;
-    let mut left = count;
-    while 0 < left {
-        left -= 1;
-        counts.push(left)?;
-    }
-    Ok(counts)
+    let half = (high - low) / 2;
+    if low < half { low.max(1) } else { half }
 }
 
 impl Trial<'_> {
-    fn is_met(
-        &self,
-        alloc: Global,
-        walk: &mut Planner<'_>,
-        count: usize,
-    ) -> Result<bool, AllocError>
-        requires can { CanBeTried self.now }
-        requires live { walk.old.live ≡ true }
-        requires within { count ≤ length self.now.asked.parts.now }
-        ensures met { IfOk result (λ b. InStateOf walk.old
-            (λ nest state. b ≡ is_satisfied (tried self.now nest state count))) }
-        ensures same { walk.new ≡ walk.old }
-    {
-        match self.found(alloc, walk, &[count])? {
-            Tried::Met(_) => Ok(true),
-            Tried::Nothing => Ok(false),
-            Tried::Doubt => Ok(false),
-        }
-    }
-
     /// Two such numbers that are nearer to each other.
-    fn nearer(
-        &self,
-        alloc: Global,
-        walk: &mut Planner<'_>,
-        between: Between,
-    ) -> Result<Between, AllocError>
+    fn nearer(&self, walk: &mut Planner<'_>, between: Between) -> Result<Between, AllocError>
         requires can { CanBeTried self.now }
         requires live { walk.old.live ≡ true }
         requires held { InStateOf walk.old
             (λ nest state. IsBetween (tried self.now nest state) (length self.now.asked.parts.now) between) }
-        requires apart { between.met + 1 < between.unmet }
+        requires prefix { IsPrefix self.now between.met }
+        requires apart { between.met.count + 1 < between.unmet }
         requires within { between.unmet ≤ length self.now.asked.parts.now }
         ensures held { IfOk result (λ b. InStateOf walk.old
             (λ nest state. IsBetween (tried self.now nest state) (length self.now.asked.parts.now) b)) }
-        ensures nearer { IfOk result (λ b. b.unmet - b.met < between.unmet - between.met) }
-        ensures ordered { IfOk result (λ b. b.met ≤ b.unmet) }
+        ensures prefix { IfOk result (λ b. IsPrefix self.now b.met) }
+        ensures nearer { IfOk result (λ b. b.unmet - b.met.count < between.unmet - between.met.count) }
+        ensures ordered { IfOk result (λ b. b.met.count ≤ b.unmet) }
         ensures within { IfOk result (λ b. b.unmet ≤ length self.now.asked.parts.now) }
         ensures same { walk.new ≡ walk.old }
     {
-        let middle = middle_of(between.met, between.unmet);
-        let is_met = self.is_met(alloc, walk, middle)?;
+        let middle = self.more(between.met, step_from(between.met.count, between.unmet));
+        let is_met = self.is_met(walk, middle)?;
         if is_met {
             Ok(Between {
                 met: middle,
@@ -129,14 +82,14 @@ impl Trial<'_> {
         } else {
             Ok(Between {
                 met: between.met,
-                unmet: middle,
+                unmet: middle.count,
             })
         }
     }
 
-    /// The place of the first part with which nothing is found, by halving: where some first parts aren't satisfied, no
-    /// more of them are.
-    fn first_missing(&self, alloc: Global, walk: &mut Planner<'_>) -> Result<usize, AllocError>
+    /// The place of the first part with which nothing is found: where some first parts aren't satisfied, no more of
+    /// them are.
+    fn first_missing(&self, walk: &mut Planner<'_>) -> Result<usize, AllocError>
         requires can { CanBeTried self.now }
         requires live { walk.old.live ≡ true }
         requires first { InStateOf walk.old (λ nest state. tried self.now nest state 0 ≡ Satisfied) }
@@ -147,18 +100,18 @@ impl Trial<'_> {
         ensures same { walk.new ≡ walk.old }
     {
         let mut between = Between {
-            met: 0,
+            met: self.none(),
             unmet: self.asked.parts.len(),
         };
-        while between.met + 1 < between.unmet {
-            let nearer = self.nearer(alloc, walk, between)?;
+        while between.met.count + 1 < between.unmet {
+            let nearer = self.nearer(walk, between)?;
             between = nearer;
         }
-        Ok(between.met)
+        Ok(between.met.count)
     }
 
     // Nothing is found with all parts: that may be because the head doesn't match.
-    fn missing(&self, alloc: Global, walk: &mut Planner<'_>) -> Result<Unmet, AllocError>
+    fn missing(&self, walk: &mut Planner<'_>) -> Result<Unmet, AllocError>
         requires can { CanBeTried self.now }
         requires live { walk.old.live ≡ true }
         requires all { InStateOf walk.old
@@ -166,60 +119,31 @@ impl Trial<'_> {
         ensures answer { IfOk result (λ u. InStateOf walk.old (λ nest state. u ≡ answer_matched self.now nest state)) }
         ensures same { walk.new ≡ walk.old }
     {
-        let is_met = self.is_met(alloc, walk, 0)?;
+        let is_met = self.is_met(walk, self.none())?;
         if is_met {
-            let place = self.first_missing(alloc, walk)?;
+            let place = self.first_missing(walk)?;
             Ok(Unmet::Part(place))
         } else {
             Ok(Unmet::None)
         }
     }
 
-    /// The answer by a question for all parts, and some more.
-    fn answer_of_many(&self, alloc: Global, walk: &mut Planner<'_>) -> Result<Unmet, AllocError>
+    /// The answer where two parts and more are asked for: by a question for all of them, and some more.
+    fn answer_of_parts(&self, walk: &mut Planner<'_>) -> Result<Unmet, AllocError>
         requires can { CanBeTried self.now }
         requires live { walk.old.live ≡ true }
         ensures answer { IfOk result (λ u. InStateOf walk.old (λ nest state. u ≡ answer_matched self.now nest state)) }
         ensures same { walk.new ≡ walk.old }
     {
-        match self.found(alloc, walk, &[self.asked.parts.len()])? {
-            Tried::Met(_) => Ok(Unmet::None),
-            Tried::Nothing => self.missing(alloc, walk),
-            Tried::Doubt => Ok(Unmet::Unknown),
+        match self.found(walk, self.all())? {
+            Finding::Satisfied => Ok(Unmet::None),
+            Finding::Faulty(_) => Ok(Unmet::Unknown),
+            Finding::Undecided => Ok(Unmet::Unknown),
+            Finding::Nothing => self.missing(walk),
         }
     }
 
-    /// The answer by one question, for all parts, and for fewer and fewer where nothing satisfies these.
-    fn answer_of_few(&self, alloc: Global, walk: &mut Planner<'_>) -> Result<Unmet, AllocError>
-        requires can { CanBeTried self.now }
-        requires live { walk.old.live ≡ true }
-        ensures answer { IfOk result (λ u. InStateOf walk.old (λ nest state. u ≡ answer_matched self.now nest state)) }
-        ensures same { walk.new ≡ walk.old }
-    {
-        let count = self.asked.parts.len();
-        let counts = counts_down(alloc, count)?;
-        match self.found(alloc, walk, counts.as_slice())? {
-            Tried::Met(place) => Ok(part_missing(place, count)),
-            Tried::Nothing => Ok(Unmet::None),
-            Tried::Doubt => Ok(Unmet::Unknown),
-        }
-    }
-
-    /// The answer where two parts and more are asked for.
-    fn answer_of_parts(&self, alloc: Global, walk: &mut Planner<'_>) -> Result<Unmet, AllocError>
-        requires can { CanBeTried self.now }
-        requires live { walk.old.live ≡ true }
-        ensures answer { IfOk result (λ u. InStateOf walk.old (λ nest state. u ≡ answer_matched self.now nest state)) }
-        ensures same { walk.new ≡ walk.old }
-    {
-        if self.asked.parts.len() <= MOST_AT_ONCE {
-            self.answer_of_few(alloc, walk)
-        } else {
-            self.answer_of_many(alloc, walk)
-        }
-    }
-
-    fn answer(&self, alloc: Global, walk: &mut Planner<'_>) -> Result<Unmet, AllocError>
+    fn answer(&self, walk: &mut Planner<'_>) -> Result<Unmet, AllocError>
         requires can { CanBeTried self.now }
         requires live { walk.old.live ≡ true }
         ensures answer { IfOk result (λ u. InStateOf walk.old (λ nest state. u ≡ answer_tried self.now nest state)) }
@@ -228,7 +152,7 @@ impl Trial<'_> {
         if self.asked.parts.len() < FEWEST_PARTS {
             Ok(Unmet::None)
         } else {
-            self.answer_of_parts(alloc, walk)
+            self.answer_of_parts(walk)
         }
     }
 }
@@ -243,16 +167,44 @@ pub fn is_told_apart(domain: &Domain, rule: usize, branch: usize) -> bool
     }
 }
 
+/// Parts of a precondition that are told apart, as they are tried for a task.
+fn trial_of<'a>(
+    domain: &'a Domain,
+    own: &'a DomainCode,
+    asked: Parts<'a>,
+    rule: usize,
+    branch: usize,
+    task: &'a AtomPat,
+) -> Trial<'a>
+    requires code { IsDomainCode (domain_of domain.now).rules own.now }
+    requires asked { asked_in (domain_of domain.now).rules rule branch ≡ Some (conjunction_of asked) }
+    requires apart { 2 ≤ length asked.parts.now }
+    requires ground { IsGroundAtom (atom_of task.now) }
+    ensures can { CanBeTried result }
+    ensures rules { rules_tried result ≡ (domain_of domain.now).rules }
+    ensures asked { result.asked ≡ asked.entry }
+    ensures task { result.task.now ≡ task.now }
+{
+    let nodes = parts_asked(&own.code, own.rules[rule], branch);
+    Trial {
+        domain,
+        asked,
+        code: &own.code,
+        nodes,
+        task,
+    }
+}
+
 fn unmet_in(
-    alloc: Global,
     domain: &Domain,
+    own: &DomainCode,
     rule: usize,
     branch: usize,
     walk: &mut Planner<'_>,
     task: &AtomPat,
 ) -> Result<Unmet, AllocError>
-    requires numbered { IsNumberedDomain (domain_of domain.now) }
-    requires checked { first_of (domain_faults (domain_of domain.now)) ≡ None }
+    requires code { IsDomainCode (domain_of domain.now).rules own.now }
+    requires apart { is_told_apart (domain_of domain.now).rules rule branch ≡ true }
     requires live { walk.old.live ≡ true }
     requires ground { IsGroundAtom (atom_of task.now) }
     ensures unmet { IfOk result (λ u. InStateOf walk.old (λ nest state. u
@@ -261,34 +213,29 @@ fn unmet_in(
 {
     match asked_in(domain, rule, branch) {
         Some(asked) => {
-            let trial = Trial {
-                domain,
-                asked,
-                task,
-            };
-            trial.answer(alloc, walk)
+            let trial = trial_of(domain, own, asked, rule, branch, task);
+            trial.answer(walk)
         }
         None => Ok(Unmet::None),
     }
 }
 
 /// What of the precondition of an operator, or of a branch of a method, is satisfied where the head matches a task, in
-/// the state of the node at which a walk stands: the rule and the branch are told by their places in the domain. Axioms
-/// may call one another as deep as in the walk, which stays as it is, after an error too.
+/// the state of the node at which a walk stands: the rule and the branch are told by their places in the domain, of
+/// which there is a code. Axioms may call one another as deep as in the walk, which stays as it is, after an error too.
 ///
-/// Where parts are told apart, one question is asked, for all of them and, where nothing satisfies these, for fewer and
-/// fewer. Of more than eight parts one is asked for all, and then some more by halving their number, about as many as
-/// the number has binary digits.
+/// Where parts are told apart, the walk is asked for all of them together. Where nothing satisfies these it is asked
+/// for fewer: about twice as often as the number of those that are satisfied has binary digits.
 pub fn first_unmet(
     alloc: Global,
     domain: &Domain,
+    own: &DomainCode,
     rule: usize,
     branch: usize,
     walk: &mut Planner<'_>,
     task: &Ground,
 ) -> Result<Unmet, AllocError>
-    requires numbered { IsNumberedDomain (domain_of domain.now) }
-    requires checked { first_of (domain_faults (domain_of domain.now)) ≡ None }
+    requires code { IsDomainCode (domain_of domain.now).rules own.now }
     requires live { walk.old.live ≡ true }
     ensures unmet { IfOk result (λ u. InStateOf walk.old
         (λ nest state. u ≡ first_unmet (domain_of domain.now).rules nest state (ground_of task.now) rule branch)) }
@@ -298,7 +245,7 @@ pub fn first_unmet(
         return Ok(Unmet::None);
     }
     match to_atom(alloc, task)? {
-        Some(atom) => unmet_in(alloc, domain, rule, branch, walk, &atom),
+        Some(atom) => unmet_in(domain, own, rule, branch, walk, &atom),
         None => Ok(Unmet::None),
     }
 }

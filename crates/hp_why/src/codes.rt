@@ -3,12 +3,13 @@ ghost use Rattle.std.specs.Prelude.{◌≡◌, ◌++◌, None, true, IfOk, OnOk,
 ghost use Rattle.hp_syntax.specs.Checks.{domain_faults, first_of, problem_faults};
 ghost use Rattle.hp_syntax.specs.Numbered.{IsNumberedDomain};
 ghost use Rattle.hp_syntax.specs.Views.{domain_of, problem_of};
-ghost use Rattle.hp_why.specs.Coded.{AreCodesOf, IsTwinCodeOf};
+ghost use Rattle.hp_why.specs.Coded.{AreCodesOf, IsOwnIf, IsTwinCodeOf};
 
 use crate::pricing::costs_numbers;
 use hp_code::{Code, lower};
 use hp_relaxed::{Origin, relaxed};
 use hp_syntax::{Domain, Problem};
+use hp_unmet::{DomainCode, domain_code};
 use std::alloc::{AllocError, Global};
 
 /// The code of a domain's twin, how many of its rules give nothing up, where those behind them come from, and whether
@@ -36,7 +37,7 @@ impl Drop for TwinCode {
 /// The code of a domain's twin, and that of the domain as soon as a pair needs it.
 pub struct Codes {
     pub twin: TwinCode,
-    pub own: Option<Code>,
+    pub own: Option<DomainCode>,
 }
 
 impl Drop for Codes {
@@ -77,24 +78,22 @@ pub fn codes_of(alloc: Global, domain: &Domain, problem: &Problem) -> Result<Cod
     Ok(Codes { twin, own: None })
 }
 
-/// Makes the code of the domain, where there is none yet.
+/// Makes the code of a domain, where there is none yet.
 pub fn know_own(
     alloc: Global,
     domain: &Domain,
-    problem: &Problem,
-    codes: &mut Codes,
+    own: &mut Option<DomainCode>,
 ) -> Result<(), AllocError>
     requires numbered { IsNumberedDomain (domain_of domain.now) }
-    requires checked { first_of (domain_faults (domain_of domain.now)
-        ++ problem_faults (domain_of domain.now) (problem_of problem.now)) ≡ None }
-    requires known { AreCodesOf (domain_of domain.now) (problem_of problem.now) codes.old }
-    ensures known { OnOk result (AreCodesOf (domain_of domain.now) (problem_of problem.now) codes.new) }
-    ensures there { OnOk result (is_some codes.new.own ≡ true) }
+    requires checked { first_of (domain_faults (domain_of domain.now)) ≡ None }
+    requires known { IsOwnIf (domain_of domain.now) own.old }
+    ensures known { OnOk result (IsOwnIf (domain_of domain.now) own.new) }
+    ensures there { OnOk result (is_some own.new ≡ true) }
 {
-    if codes.own.is_some() {
+    if own.is_some() {
         return Ok(());
     }
-    let own = lower(alloc, domain)?;
-    codes.own = Some(own);
+    let made = domain_code(alloc, domain)?;
+    *own = Some(made);
     Ok(())
 }

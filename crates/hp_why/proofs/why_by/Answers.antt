@@ -19,10 +19,11 @@ search-requires-clause-falls c = λ e.
     twin_never_falls (asked d p (pair_of c.args.pair.now) c.args.depth c.args.nest) c.twin_of-searched.result
     c.requires.contained (c.twin_of-searched.ensures.twin p c.requires.twin) (sym c.requires.twin.priced ∙ e)
 
-pub returns : goal.returns
-returns c =
+pub returns-clause-why : goal.returns-clause-why
+returns-clause-why c =
     let d = domain_of c.args.domain.now in
     let p = problem_of c.args.problem.now in
     let a = asked d p (pair_of c.args.pair.now) c.args.depth c.args.nest in
-    ok_weaker _ _ c.search.result c.search.ensures (λ v h. search_right h a c.requires.contained c.requires.unplanned
+    ok_weaker _ _ c.search.result c.search.ensures.answers
+    (λ v h. search_right h a c.requires.contained c.requires.unplanned
     (c.twin_of-searched.ensures.twin p c.requires.twin) c.requires.twin.priced)

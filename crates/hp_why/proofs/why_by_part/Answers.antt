@@ -35,11 +35,11 @@ search_by_part-requires-clause-falls c = λ e.
     twin_never_falls (asked d p (pair_of c.args.pair.now) c.args.depth c.args.nest) c.twin_of-searched.result
     c.requires.contained (c.twin_of-searched.ensures.twin p c.requires.twin) (sym c.requires.twin.priced ∙ e)
 
-pub returns : goal.returns
-returns c =
+pub returns-clause-why : goal.returns-clause-why
+returns-clause-why c =
     let d = domain_of c.args.domain.now in
     let p = problem_of c.args.problem.now in
     let a = asked d p (pair_of c.args.pair.now) c.args.depth c.args.nest in
-    ok_weaker _ _ c.search_by_part.result c.search_by_part.ensures
+    ok_weaker _ _ c.search_by_part.result c.search_by_part.ensures.answers
     (part_right a c.twin_of-searched.result c.args.twin.now.is_priced c.requires.contained
     (c.twin_of-searched.ensures.twin p c.requires.twin) c.requires.twin.priced)

@@ -1,11 +1,13 @@
-use Rattle.std.proofs.Common.{◌≤◌, None, length, refl, ap, ap₂, sym, subst, ◌∙◌}
+use Rattle.std.proofs.Common.{◌≡◌, ◌≤◌, Option, None, Some, length, ap, ap₂, sym, subst, ◌∙◌}
 use Rattle.std.proofs.lemmas.Result.{IfOk-weaker}
 use Rattle.hp_syntax.specs.declared.limits.TheConstants.{MOST_VARIABLES}
+use Rattle.hp_syntax.specs.Events.{State, finding}
 use Rattle.hp_syntax.specs.Matching.{match_atom}
-use Rattle.hp_syntax.specs.Syntax.{Refines}
-use Rattle.hp_syntax.specs.Values.{unbound}
+use Rattle.hp_syntax.specs.Syntax.{And}
+use Rattle.hp_syntax.specs.Values.{Bindings, unbound}
 use Rattle.hp_syntax.specs.Views.{atom_of}
 use Rattle.hp_answers.specs.AnswerViews.{MeetsHead}
+use Rattle.hp_nodes.specs.Compiled.{vars_of}
 use Rattle.hp_code.specs.CodeViews.{rules_in}
 use Rattle.hp_code.proofs.CodeLemmas.{vars_found}
 use Rattle.hp_eval.specs.GoalViews.{term_at}
@@ -15,7 +17,7 @@ use Rattle.hp_suspended.specs.SceneViews.{code_in, setting_of}
 use Rattle.hp_suspended.specs.Settings.{state_in}
 use Rattle.hp_suspended.proofs.CallLemmas.{atoms_grow, knows_grow}
 use Rattle.hp_world.specs.Stages.{live_atoms}
-use Rattle.hp_choice.specs.Asking.{IsFoundUnder, IsFoundWhere}
+use Rattle.hp_choice.specs.Asking.{events_under, head_of}
 use Rattle.hp_choice.proofs.RuleReadings.{few_of_rule}
 use Rattle.hp_choice.proofs.asking.ask.Goals as goal
 
@@ -23,7 +25,7 @@ pub matched-requires-clause-few : goal.matched-requires-clause-few
 matched-requires-clause-few c =
     let s = c.args.scene.now in
     subst (λ vs. length vs ≤ MOST_VARIABLES) (sym c.vars-vars.ensures)
-    (few_of_rule (code_in s) s.code.now.kept c.args.rule (Refines c.requires.rule.0) c.requires.rule.1)
+    (few_of_rule (code_in s) s.code.now.kept c.args.asked.rule c.requires.asked.rule c.requires.asked.is)
 
 pub found_under-requires-clause-ready : goal.found_under-requires-clause-ready
 found_under-requires-clause-ready c =
@@ -53,16 +55,19 @@ returns-in-Some-clause-found c =
     let e = bindings_of new c.in-Some.slots in
     let stay = terms_stay old new c.in_ok-cell.ensures.cells (live_atoms s.world.now.places) c.requires.atoms in
     IfOk-weaker c.found_under.result _ _
-    (λ o own m found.
-    let many = ap length (c.vars-vars.ensures ∙ vars_found code s.code.now.kept c.args.rule (Refines m) found) in
-    let same = ap₂ (λ a k. match_atom a t (unbound k)) (sym (c.head_of.ensures m found)) (sym many) in
-    let is = ap (λ x. match_atom m.head x (unbound (length m.vars))) (sym c.in_ok-cell.ensures.term) ∙ same ∙ met.0 in
-    subst (λ b. IsFoundWhere (rules_in code) c.args.nest (state_in (setting_of s old)) m b o) (sym is)
-    (subst (λ st. IsFoundUnder (rules_in code) c.args.nest st m e o) stay (own m found)))
+    (λ f own r span ps found is.
+    let many = ap length (c.vars-vars.ensures ∙ vars_found code s.code.now.kept c.args.asked.rule r found) in
+    let same = ap₂ (λ a k. match_atom a t (unbound k)) (sym (c.head_of.ensures r found)) (sym many) in
+    let matches = ap (λ x. match_atom (head_of r) x (unbound (length (vars_of r)))) (sym c.in_ok-cell.ensures.term)
+    ∙ same ∙ met.0 in
+    own span ps is
+    ∙ ap (λ (st : State). finding (events_under (rules_in code) c.args.nest st (And span ps) (Some e))) stay
+    ∙ ap (λ (o : Option Bindings). finding (events_under (rules_in code) c.args.nest (state_in (setting_of s old))
+    (And span ps) o)) (sym matches))
     c.found_under.ensures.found
 
 pub returns-in-None-clause-found : goal.returns-in-None-clause-found
-returns-in-None-clause-found c = λ m found.
+returns-in-None-clause-found c = λ r span ps found is.
     let s = c.args.scene.now in
     let code = code_in s in
     let old = c.args.cells.now in
@@ -72,7 +77,9 @@ returns-in-None-clause-found c = λ m found.
     let head = atom_of c.head_of.result.now in
     let met = subst (λ x. MeetsHead new vars x (match_atom head t (unbound vars))) c.in-None.is
     c.in_ok-slots.ensures in
-    let many = ap length (c.vars-vars.ensures ∙ vars_found code s.code.now.kept c.args.rule (Refines m) found) in
-    let same = ap₂ (λ a k. match_atom a t (unbound k)) (sym (c.head_of.ensures m found)) (sym many) in
-    let is = ap (λ x. match_atom m.head x (unbound (length m.vars))) (sym c.in_ok-cell.ensures.term) ∙ same ∙ met in
-    subst (λ b. IsFoundWhere (rules_in code) c.args.nest (state_in (setting_of s old)) m b None) (sym is) refl
+    let many = ap length (c.vars-vars.ensures ∙ vars_found code s.code.now.kept c.args.asked.rule r found) in
+    let same = ap₂ (λ a k. match_atom a t (unbound k)) (sym (c.head_of.ensures r found)) (sym many) in
+    let matches = ap (λ x. match_atom (head_of r) x (unbound (length (vars_of r)))) (sym c.in_ok-cell.ensures.term)
+    ∙ same ∙ met in
+    ap (λ (o : Option Bindings). finding (events_under (rules_in code) c.args.nest (state_in (setting_of s old))
+    (And span ps) o)) (sym matches)

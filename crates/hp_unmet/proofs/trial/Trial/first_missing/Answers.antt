@@ -1,5 +1,4 @@
-use Rattle.std.proofs.Common.{length, refl, sym, ap, ◌∙◌, subst, arith}
-use Rattle.hp_search.specs.Planned.{Planned}
+use Rattle.std.proofs.Common.{length, refl, ◌∙◌, subst, arith}
 use Rattle.hp_unmet.specs.Halving.{IsBetween}
 use Rattle.hp_unmet.specs.States.{InStateOf}
 use Rattle.hp_unmet.specs.Trials.{tried}
@@ -10,22 +9,13 @@ pub loop-between-init : goal.loop-between-init
 loop-between-init c = record {
   held = λ n at.
       let s = c.args.self.now in
-      between_all (tried s c.args.walk.now.nest n.state) (length s.asked.parts.now) (c.requires.first n at)
-      (c.requires.all n at);
-  ordered = omega arith;
+      between_all (tried s c.args.walk.now.nest n.state) (length s.asked.parts.now) c.none.result c.none.ensures.count
+      (c.requires.first n at) (c.requires.all n at);
+  prefix = c.none.ensures.prefix;
+  ordered = omega (arith, c.none.ensures.count);
   within = omega arith;
   same = refl;
 }
-
-pub nearer-requires-clause-live : goal.nearer-requires-clause-live
-nearer-requires-clause-live c = ap (λ (p : Planned). p.live) c.loop-between.invariant.same ∙ c.requires.live
-
-pub nearer-requires-clause-held : goal.nearer-requires-clause-held
-nearer-requires-clause-held c =
-    let s = c.args.self.now in
-    subst (λ p. InStateOf p
-    (λ nest state. IsBetween (tried s nest state) (length s.asked.parts.now) c.loop-between.between))
-    (sym c.loop-between.invariant.same) c.loop-between.invariant.held
 
 pub loop-between-preserved : goal.loop-between-preserved
 loop-between-preserved c =
@@ -35,6 +25,7 @@ loop-between-preserved c =
           subst (λ p. InStateOf p
           (λ nest state. IsBetween (tried s nest state) (length s.asked.parts.now) c.in_ok-nearer.nearer))
           c.loop-between.invariant.same c.in_ok-nearer.ensures.held;
+      prefix = c.in_ok-nearer.ensures.prefix;
       ordered = c.in_ok-nearer.ensures.ordered;
       within = c.in_ok-nearer.ensures.within;
       same = c.nearer.ensures.same ∙ c.loop-between.invariant.same;

@@ -1,7 +1,7 @@
 use Rattle.std.proofs.Common.{◌≡◌, ◌≤◌, ◌-◌, length}
 use Rattle.hp_unmet.specs.Halving.{IsBetween}
 use Rattle.hp_unmet.specs.States.{InStateOf}
-use Rattle.hp_unmet.specs.Trials.{tried}
+use Rattle.hp_unmet.specs.Trials.{IsPrefix, tried}
 use Rattle.hp_unmet.proofs.trial.Trial.first_missing.Given as goal
 
 abbrev pub invariant-loop-between : goal.invariant-loop-between
@@ -9,10 +9,11 @@ invariant-loop-between l = record {
   held :
       InStateOf l.fn.walk
       (λ nest state. IsBetween (tried l.self nest state) (length l.self.asked.parts.now) l.between);
-  ordered : l.between.met ≤ l.between.unmet;
+  prefix : IsPrefix l.self l.between.met;
+  ordered : l.between.met.count ≤ l.between.unmet;
   within : l.between.unmet ≤ length l.self.asked.parts.now;
   same : l.walk ≡ l.fn.walk;
 }
 
 abbrev pub decreases-loop-between : goal.decreases-loop-between
-decreases-loop-between l = l.between.unmet - l.between.met
+decreases-loop-between l = l.between.unmet - l.between.met.count

@@ -1,0 +1,35 @@
+-- The node behind an operator's is that of its precondition, and so is the node behind that of a method's branch.
+use Rattle.std.proofs.Common.{◌+◌, ap, ◌∙◌, arith}
+use Rattle.hp_syntax.specs.Views.{atom_of}
+use Rattle.hp_nodes.specs.NodeViews.{laid_of, operation_of}
+use Rattle.hp_code.specs.Codes.{code_of}
+use Rattle.hp_precondition.specs.PreconditionNodes.{precondition_at}
+use Rattle.hp_choice.proofs.RuleReadings.{rule_within}
+use Rattle.hp_unmet.proofs.PreconditionSteps.{behind_branch, behind_rule, few_nodes, no_method}
+use Rattle.hp_unmet.proofs.nodes.precondition_node.Goals as goal
+
+pub node_at-requires : goal.node_at-requires
+node_at-requires c =
+    let h = c.requires.1 in
+    rule_within (code_of c.args.code.now) c.args.code.now.kept c.args.rule h.rule h.is
+
+pub overflow_add-result : goal.overflow_add-result
+overflow_add-result c =
+    let code = code_of c.args.code.now in
+    let b = behind_branch code c.args.code.now.kept c.args.rule c.args.branch (laid_of c.node_at.result.now)
+    c.requires.0 c.node_at.ensures.is c.requires.1 (atom_of c.in-Method.field-0) (ap operation_of c.in-Method.is) in
+    omega (arith, b.inside, c.past.ensures, few_nodes c.args.code.now)
+
+pub returns-in-Method : goal.returns-in-Method
+returns-in-Method c = λ p h.
+    let code = code_of c.args.code.now in
+    let b = behind_branch code c.args.code.now.kept c.args.rule c.args.branch (laid_of c.node_at.result.now) p
+    c.node_at.ensures.is h (atom_of c.in-Method.field-0) (ap operation_of c.in-Method.is) in
+    ap (λ i. precondition_at code (i + 1)) c.past.ensures ∙ b.is
+
+pub returns-in_default : goal.returns-in_default
+returns-in_default c = λ p h.
+    let b = behind_rule (code_of c.args.code.now) c.args.code.now.kept c.args.rule c.args.branch
+    (laid_of c.node_at.result.now) p c.node_at.ensures.is h
+    (no_method c.node_at.result.now.op c.in_default.not-Method) in
+    b.is

@@ -1,0 +1,66 @@
+-- Where the parts of preconditions stand in a code.
+use Rattle.std.specs.Prelude.{◌≡◌, ◌≤◌, ℕ, zero, suc, List, length, slice_get, Option, Some, None}
+use Rattle.std.specs.Option.{option_map}
+use Rattle.hp_syntax.specs.Syntax as syntax
+use Rattle.hp_syntax.specs.Views.{as_expressions}
+use Rattle.hp_nodes.specs.Compiled.{vars_of}
+use Rattle.hp_nodes.specs.Trees.{Laid}
+use Rattle.hp_code.specs.CodeViews.{CodeView, IsCodeOf, beside, rule_nodes, rules_in}
+use Rattle.hp_code.specs.Codes.{code_of}
+use Rattle.hp_code.specs.Lowered.{all_lowered}
+use Rattle.hp_suspended.specs.Fitting.{AreExpressionsIn}
+use Rattle.hp_suspended.specs.Nodes.{expressions_in}
+use Rattle.hp_choice.specs.declared.asking.Conjuncts.{Conjuncts}
+use Rattle.hp_choice.specs.Asking.{head_of}
+use Rattle.hp_relaxed.specs.Giving.{body_of}
+use Rattle.hp_unmet.specs.Conjunctions.{Conjunction, conjuncts}
+use Rattle.hp_unmet.specs.declared.nodes.DomainCode.{DomainCode}
+
+-- a code of rules, with the nodes of the rules in their order
+pub record IsDomainCode (rules : List syntax.Rule) (d : DomainCode) : Type 0 where
+  pub code : IsCodeOf rules (code_of d.code)
+  pub nodes : d.rules.items ≡ rule_nodes (code_of d.code)
+
+-- the index behind the tree of a node; where there is no node, the index itself
+abbrev pub next_tree : Option Laid → ℕ → ℕ
+next_tree None i = i
+next_tree (Some l) i = l.to
+
+-- the index past so many trees from one on, as far as there are nodes
+abbrev pub past : List Laid → ℕ → ℕ → ℕ
+past nodes i zero = i
+past nodes i (suc n) = past nodes (next_tree (slice_get nodes i) i) n
+
+-- the precondition of an operator, or of the branch of a method that has this number
+abbrev pub precondition_by : ℕ → syntax.Rule → Option syntax.Precondition
+precondition_by branch (syntax.Does o) = Some o.pre
+precondition_by branch (syntax.Refines m) = option_map (λ b. b.pre) (slice_get m.branches branch)
+precondition_by branch (syntax.Concludes x) = None
+
+-- the rule of a node has this precondition there
+pub record HasPrecondition (c : CodeView) (i branch : ℕ) (p : syntax.Precondition) : Type 0 where
+  pub rule : syntax.Rule
+  pub is : beside i (rule_nodes c) (rules_in c) ≡ Some rule
+  pub own : precondition_by branch rule ≡ Some p
+
+-- and asks by it for these together, of which there are some
+pub record AsksFor (c : CodeView) (i branch : ℕ) (parts : List syntax.Expression) : Type 0 where
+  pub pre : syntax.Precondition
+  pub has : HasPrecondition c i branch pre
+  pub are : conjuncts (body_of pre) ≡ parts
+  pub some : 1 ≤ length parts
+
+-- expressions stand below nodes from one index up to another
+pub record StandBetween (c : CodeView) (first end : ℕ) (parts : List syntax.Expression) : Type 0 where
+  pub range : AreExpressionsIn c first end
+  pub are : expressions_in c first end ≡ Some (as_expressions parts)
+
+-- the parts of a conjunction stand in a code of rules, as it holds them, and so does its head
+pub record StandIn (rules : List syntax.Rule) (code : CodeView) (c : Conjunction) (x : Conjuncts) : Type 0 where
+  pub of : IsCodeOf rules code
+  pub rule : syntax.Rule
+  pub is : beside x.rule (rule_nodes code) (rules_in code) ≡ Some rule
+  pub head : head_of rule ≡ c.head
+  pub vars : vars_of rule ≡ c.vars
+  pub range : AreExpressionsIn code x.first x.end
+  pub parts : expressions_in code x.first x.end ≡ Some (all_lowered (as_expressions c.parts))
