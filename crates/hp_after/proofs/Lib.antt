@@ -1,6 +1,9 @@
 pub mod Arrivals
 pub mod ContinueLemmas
+pub mod FollowSteps
 pub mod HeardLemmas
 pub mod PlanLemmas
 pub mod SideLemmas
+pub mod StepSides
+pub mod SteppingLemmas
 pub mod TurnSteps

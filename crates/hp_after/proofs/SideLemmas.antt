@@ -1,15 +1,15 @@
 -- Where a path lies beside another one.
-use Rattle.std.proofs.Common.{◌≡◌, ℕ, ◌+◌, ◌-◌, ◌^◌, ◌<◌, ◌≤◌, ◌⊎◌, min, Bool, true, false, ◌&&◌, ◌==◌, cond, ltb, List, [], ◌∷◌, length, get_or, drop, refl, sym, ap, ap₂, ◌∙◌, inl, inr, ⊎_elim, arith}
+use Rattle.std.proofs.Common.{◌≡◌, ℕ, ◌-◌, ◌^◌, ◌<◌, ◌≤◌, ◌⊎◌, min, Bool, true, false, ◌&&◌, ◌==◌, cond, ltb, List, [], ◌∷◌, refl, sym, ap, ap₂, ◌∙◌, inl, inr, ⊎_elim, arith}
 use Rattle.std.specs.List.{All}
 use Rattle.std.specs.Prelude.{nat_lt}
 use Rattle.std.proofs.lemmas.Bool.{cases_lt, eq-eqb, le-ltb, lt-ltb, ltb-false, ltb-true, ne_eqb}
-use Rattle.std.proofs.lemmas.List.{drop_more}
 use Rattle.std.proofs.lemmas.List.Elements.{All-head, All-tail}
 use Rattle.hp_laws.specs.TreeLaws.{IsBefore}
 use Rattle.hp_syntax.specs.Walk.{begins, told}
 use Rattle.hp_after.specs.declared.reaching.Side.{Side}
 use Rattle.hp_after.specs.declared.reaching.Side.TheVariants as sides
 use Rattle.hp_after.specs.Reach.{side_of}
+use Rattle.hp_after.specs.Stepping.{IsBeginning}
 
 -- ---- tests of numbers
 
@@ -39,13 +39,8 @@ side_told (i ∷ q) (j ∷ p) a =
 -- ---- one number more
 
 -- the side of what is left of two paths, where both go on
-abbrev beside : ℕ → ℕ → Side → Side
+abbrev pub beside : ℕ → ℕ → Side → Side
 beside i j x = cond (nat_lt i j) sides.Before (cond (nat_lt j i) sides.Beyond x)
-
-pub side_on : (q : List ℕ) (k i : ℕ) (r : List ℕ) (j : ℕ) (behind : List ℕ) → k < length q → i ≡ get_or q k 0
-    → r ≡ j ∷ behind → side_of (drop k q) r ≡ beside i j (side_of (drop (k + 1) q) behind)
-side_on q k i r j behind l at e =
-    ap₂ side_of (drop_more q k 0 l ∙ ap (λ n. n ∷ drop (k + 1) q) (sym at)) e
 
 pub before_here : (i j : ℕ) (x : Side) → i < j → beside i j x ≡ sides.Before
 before_here i j x l = ap (λ b. cond b sides.Before (cond (nat_lt j i) sides.Beyond x)) (lt-ltb i j l)
@@ -59,12 +54,6 @@ pub same_here : (i j : ℕ) (x : Side) → j ≤ i → i ≤ j → beside i j x 
 same_here i j x l k =
     ap (λ b. cond b sides.Before (cond (nat_lt j i) sides.Beyond x)) (le-ltb i j l)
     ∙ ap (λ b. cond b sides.Beyond x) (le-ltb j i k)
-
--- a path that goes on where the other ends is beyond it
-pub beyond_end : (q : List ℕ) (k : ℕ) (r : List ℕ) → k < length q → length r ≡ 0
-    → side_of (drop k q) r ≡ sides.Beyond
-beyond_end q k (j ∷ r) l e = absurd (omega arith)
-beyond_end q k [] l e = ap (λ x. side_of x []) (drop_more q k 0 l)
 
 -- ---- what a side says of paths
 
@@ -86,6 +75,21 @@ here_same [] [] h = refl
 here_same [] (j ∷ p) h = let f : sides.Above ≡ sides.Here = h in absurd (cc)
 here_same (i ∷ q) [] h = let f : sides.Beyond ≡ sides.Here = h in absurd (cc)
 here_same (i ∷ q) (j ∷ p) h = here_by i j q p (here_same q p) (ltb i j) refl (ltb j i) refl h
+
+-- a path that is above begins the other one
+above_by : (i j : ℕ) (q p : List ℕ) → (side_of q p ≡ sides.Above → IsBeginning q p) → (a : Bool) → ltb i j ≡ a
+    → (b : Bool) → ltb j i ≡ b → cond a sides.Before (cond b sides.Beyond (side_of q p)) ≡ sides.Above
+    → IsBeginning (i ∷ q) (j ∷ p)
+above_by i j q p deeper true e b f h = let g : sides.Before ≡ sides.Above = h in absurd (cc)
+above_by i j q p deeper false e true f h = let g : sides.Beyond ≡ sides.Above = h in absurd (cc)
+above_by i j q p deeper false e false f h =
+    let b = deeper h in
+    record { behind = b.behind; whole = ap₂ (λ n l. n ∷ l) (sym (same_numbers i j e f)) b.whole }
+
+pub above_begins : (q p : List ℕ) → side_of q p ≡ sides.Above → IsBeginning q p
+above_begins [] p h = record { behind = p; whole = refl }
+above_begins (i ∷ q) [] h = let f : sides.Beyond ≡ sides.Above = h in absurd (cc)
+above_begins (i ∷ q) (j ∷ p) h = above_by i j q p (above_begins q p) (ltb i j) refl (ltb j i) refl h
 
 -- each path is here beside itself
 pub side_same : (p : List ℕ) → side_of p p ≡ sides.Here

@@ -1,3 +1,4 @@
 pub mod Enumerations
 pub mod Reach
 pub mod Reaching
+pub mod Stepping

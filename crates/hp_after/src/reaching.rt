@@ -5,10 +5,12 @@ ghost use Rattle.hp_net.specs.Standings.{tree_visits};
 ghost use Rattle.hp_syntax.specs.Walk.{heard_visits, told};
 ghost use Rattle.hp_after.specs.Reach.{Coming, HoldsPlan, IsArrival, IsThere, side_of};
 ghost use Rattle.hp_after.specs.Reaching.{Knows, Turned, did_answer, did_left, plan_answer};
+ghost use Rattle.hp_after.specs.Stepping.{AllFollow, IsBeginning, StepsFrom};
 
 use hp_net::{Step, Walk};
 use hp_syntax::RunFault;
 use std::alloc::AllocError;
+use std::cmp::Ordering;
 
 /// What a walk to a path came to: the plan there, the end of what could hold it, or a fault before that.
 #[derive(Clone, Copy, Debug, PartialEq, Eq)]
@@ -35,27 +37,21 @@ enum Side {
     Beyond,
 }
 
-/// Where a path lies beside the target.
+/// Where the path of a decomposition lies beside the target. All its numbers but the last begin the target, so that one
+/// alone is compared.
 fn side_of(path: &[u64], target: &[u64]) -> Side
+    requires { StepsFrom path.now target.now }
     ensures { result ≡ side_of path.now target.now }
 {
-    let mut rest = target;
-    for number in path {
-        let Some((other, behind)) = rest.split_first() else {
-            return Side::Beyond;
-        };
-        if *number < *other {
-            return Side::Before;
-        }
-        if *other < *number {
-            return Side::Beyond;
-        }
-        rest = behind;
-    }
-    if rest.is_empty() {
-        Side::Here
-    } else {
-        Side::Above
+    let level = path.len() - 1;
+    let Some(wanted) = target.get(level) else {
+        return Side::Beyond;
+    };
+    match path[level].cmp(wanted) {
+        Ordering::Less => Side::Before,
+        Ordering::Greater => Side::Beyond,
+        Ordering::Equal if path.len() == target.len() => Side::Here,
+        Ordering::Equal => Side::Above,
     }
 }
 
@@ -64,6 +60,7 @@ fn side_of(path: &[u64], target: &[u64]) -> Side
 fn pass_by<W: Walk>(walk: &mut W, target: &[u64]) -> Option<Reached>
     requires live { W.is_live walk.old ≡ true }
     requires did { (W.stands walk.old).at_did ≡ true }
+    requires steps { StepsFrom (told (W.stands walk.old).path) target.now }
     ensures answer { result ≡ did_answer (side_of (told (W.stands walk.old).path) target.now) }
     ensures stands { W.stands walk.new
         ≡ did_left (side_of (told (W.stands walk.old).path) target.now) (W.stands walk.old) }
@@ -80,13 +77,15 @@ fn pass_by<W: Walk>(walk: &mut W, target: &[u64]) -> Option<Reached>
     }
 }
 
-/// Ends the walk at the plan of the target.
+/// Ends the walk at the plan of the target. The path of each plan that is met begins the target, so the lengths tell.
 fn stop_at(path: &[u64], target: &[u64]) -> Option<Reached>
+    requires { IsBeginning path.now target.now }
     ensures { result ≡ plan_answer (side_of path.now target.now) }
 {
-    match side_of(path, target) {
-        Side::Here => Some(Reached::At),
-        Side::Before | Side::Above | Side::Beyond => None,
+    if path.len() == target.len() {
+        Some(Reached::At)
+    } else {
+        None
     }
 }
 
@@ -98,8 +97,10 @@ fn go_on<W: Walk>(
 ) -> Result<Option<Reached>, AllocError>
     requires live { W.is_live walk.old ≡ true }
     requires small { All (λ i. i < 2 ^ 64 - 1) target.now }
+    requires follow { AllFollow target.now (W.stands walk.old).rest }
     ensures turned { IfOk result (λ o. (known : Coming) → Knows expansions.old known
         → Turned target.now o expansions.new known (W.stands walk.old).rest (W.stands walk.new)) }
+    ensures follow { IfOk result (λ o. o ≡ None → AllFollow target.now (W.stands walk.new).rest) }
     ensures tree { W.tree walk.new ≡ W.tree walk.old }
     ensures live { OnOk result (W.is_live walk.new ≡ true) }
 {
@@ -116,8 +117,8 @@ fn go_on<W: Walk>(
 }
 
 /// Goes to the plan of a path in the tree of a new walk, whose later visits are left then. What lies below a
-/// decomposition before the path is left out, so a fault there isn't met; and one beyond the path ends the walk. After
-/// an error the walk may be used no more.
+/// decomposition before the path is left out, so a fault there isn't met; and one beyond the path ends the walk. Of the
+/// path of each decomposition one number is compared. After an error the walk may be used no more.
 pub fn reach<W: Walk>(walk: &mut W, target: &[u64]) -> Result<Arrival, AllocError>
     requires live { W.is_live walk.old ≡ true }
     requires new { (W.stands walk.old).rest ≡ tree_visits (W.tree walk.old) }

@@ -52,7 +52,7 @@ module _ (w : Setting) (nest first end : ℕ) (e : Slotted) where
 module _ (s : Scene) (c d : List Term) (e : Slotted) (v : View) (ready : IsReady s c e)
     (fits : Fits (code_in s) (length c) (length e.trail) v) (grown : Grows c d) where
   -- over more cells the same is left
-  left_before : left (setting_of s c) e v ≡ left (setting_of s d) e v
+  pub left_before : left (setting_of s c) e v ≡ left (setting_of s d) e v
   left_before = left_grows (setting_of s c) d grown ready.atoms (code_in s) (length e.trail) v e fits ready.bindings
 
   module _ (b : Bool) (x : Event) (f : Slotted) (u : View)

@@ -1,10 +1,10 @@
 -- What events come to, by the first of them; and the head of a rule's node.
-use Rattle.std.proofs.Common.{◌≡◌, ℕ, ◌<◌, Bool, true, false, List, [], ◌∷◌, length, refl, sym, ap, ◌∙◌, arith}
+use Rattle.std.proofs.Common.{◌≡◌, ℕ, ◌<◌, Bool, true, false, List, length, refl, ap, ◌∙◌, arith}
 use Rattle.hp_syntax.specs.declared.fault.RunFault.{RunFault}
 use Rattle.hp_syntax.specs.declared.pattern.AtomPat.{AtomPat}
 use Rattle.hp_syntax.specs.Events as plain
 use Rattle.hp_syntax.specs.Events.{Finding, Satisfied, Faulty, Undecided, Nothing, finding, finding_with}
-use Rattle.hp_syntax.specs.Syntax.{Atom, Rule, Does, Refines, Concludes}
+use Rattle.hp_syntax.specs.Syntax.{Rule, Does, Refines, Concludes}
 use Rattle.hp_syntax.specs.Values.{Bindings}
 use Rattle.hp_syntax.specs.Views.{atom_of}
 use Rattle.hp_nodes.specs.declared.node.Op.{Op}
@@ -12,7 +12,6 @@ use Rattle.hp_nodes.specs.declared.node.Op.TheVariants as ops
 use Rattle.hp_nodes.specs.NodeViews.{operation_of}
 use Rattle.hp_nodes.specs.Trees.{Laid, Operation, OperatorOf, MethodOf, AxiomOf}
 use Rattle.hp_code.specs.CodeViews.{CodeView}
-use Rattle.hp_eval.specs.declared.event.Event.{Event}
 use Rattle.hp_eval.specs.declared.event.Event.TheVariants as events
 use Rattle.hp_eval.specs.Events.{PlainEvent}
 use Rattle.hp_suspended.specs.Answering.{Gives}

@@ -1,13 +1,17 @@
 -- A head that matches a task, or doesn't.
-use Rattle.std.proofs.Common.{◌≡◌, ℕ, zero, suc, Bool, true, false, length, List, ◌∷◌, Option, Some, None, refl, sym, ◌∙◌, ap}
+use Rattle.std.proofs.Common.{◌≡◌, ℕ, zero, suc, Bool, true, false, length, List, ◌∷◌, Option, Some, None, refl, sym, ◌∙◌, ap, ap₂}
 use Rattle.std.proofs.lemmas.List.{length-replicate}
 use Rattle.hp_syntax.specs.Matching.{match_atom}
-use Rattle.hp_syntax.specs.Syntax.{Atom}
+use Rattle.hp_syntax.specs.Syntax.{Atom, Rule}
 use Rattle.hp_syntax.specs.Terms.{Term}
 use Rattle.hp_syntax.specs.Values.{unbound}
+use Rattle.hp_nodes.specs.Compiled.{vars_of}
+use Rattle.hp_code.specs.CodeViews.{CodeView, IsCode, beside, rule_nodes, rules_in, vars_at}
+use Rattle.hp_code.proofs.CodeLemmas.{vars_found}
 use Rattle.hp_eval.specs.GoalViews.{term_at}
 use Rattle.hp_eval.specs.Slotted.{Slotted, Matched, bindings_of, no_bindings}
 use Rattle.hp_eval.proofs.SlotLemmas.{binds_vars, match_failed, match_made}
+use Rattle.hp_choice.specs.Asking.{head_of}
 
 -- free slots bind none of their variables
 none_bound : (terms : List Term) (n : ℕ) → bindings_of terms (no_bindings n) ≡ unbound n
@@ -34,3 +38,14 @@ module _ (terms : List Term) (head : Atom) (cell vars : ℕ) (slots new : Slotte
   head_vars e =
       binds_vars slots new (match_made does _ terms slots new e told).1
       ∙ (ap (λ s. length s.values) free ∙ length-replicate {A = Option ℕ} vars None)
+
+-- ---- the head of a rule
+
+-- what the head of a rule matches is what it matches as the code holds the head and the names of the variables
+pub rule_matches : (c : CodeView) → IsCode c → (i : ℕ) (r : Rule) → beside i (rule_nodes c) (rules_in c) ≡ Some r
+    → (vars : List (List ℕ)) → vars ≡ vars_at c i → (head : Atom) → head ≡ head_of r → (said told : Term) → told ≡ said
+    → match_atom (head_of r) said (unbound (length (vars_of r))) ≡ match_atom head told (unbound (length vars))
+rule_matches c code i r found vars named head is said told same =
+    let many = ap length (named ∙ vars_found c code i r found) in
+    ap (λ x. match_atom (head_of r) x (unbound (length (vars_of r)))) (sym same)
+    ∙ ap₂ (λ a k. match_atom a told (unbound k)) (sym is) (sym many)

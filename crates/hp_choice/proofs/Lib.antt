@@ -8,3 +8,5 @@ pub mod ChoiceLemmas
 pub mod NextSteps
 pub mod FindingLemmas
 pub mod AskingSteps
+pub mod AlongSteps
+pub mod AlongLaws

@@ -1,19 +1,24 @@
--- What parts of a conjunction find for a task in a state, by the head of their rule.
-use Rattle.std.specs.Prelude.{◌≡◌, ℕ, Bool, true, false, List, [], length, Option, None, Some}
+-- What parts of a conjunction find for a task in a state, and how many of the first are satisfied one after another, by
+-- the head of their rule.
+use Rattle.std.specs.Prelude.{◌≡◌, ℕ, zero, suc, Bool, true, false, cond, List, [], ◌∷◌, length, slice_get, Option, None, Some, IfSome}
+use Rattle.std.specs.Option.{option_map}
 use Rattle.hp_syntax.specs.declared.pattern.Span.{Span}
 use Rattle.hp_syntax.specs.Events as plain
 use Rattle.hp_syntax.specs.Events.{Event, State, axioms_of, finding, finding_with, sat}
 use Rattle.hp_syntax.specs.Matching.{match_atom}
-use Rattle.hp_syntax.specs.Syntax.{And, Atom, Expression, Expressions, Rule, Does, Refines, Concludes}
+use Rattle.hp_syntax.specs.Syntax.{And, Atom, Axiom, Expression, Expressions, Rule, Does, Refines, Concludes}
 use Rattle.hp_syntax.specs.Terms.{Term}
 use Rattle.hp_syntax.specs.Values.{Bindings, unbound}
+use Rattle.hp_syntax.specs.Views.{as_expressions}
 use Rattle.hp_nodes.specs.Compiled.{vars_of}
+use Rattle.hp_nodes.specs.Trees.{Laid}
 use Rattle.hp_code.specs.CodeViews.{CodeView, beside, rule_nodes, rules_in}
 use Rattle.hp_suspended.specs.Fitting.{AreExpressionsIn}
 use Rattle.hp_suspended.specs.Nodes.{expressions_in}
 use Rattle.hp_choice.specs.declared.asking.Conjuncts.{Conjuncts}
 use Rattle.hp_choice.specs.declared.asking.Finding.{Finding}
 use Rattle.hp_choice.specs.declared.asking.Finding.TheVariants as findings
+use Rattle.hp_choice.specs.declared.asking.Prefix.{Prefix}
 
 -- what events come to, as it is told
 abbrev pub finding_of : Finding → plain.Finding
@@ -55,3 +60,42 @@ Finds c nest st x t f =
     (r : Rule) (s : Span) (ps : Expressions) → beside x.rule (rule_nodes c) (rules_in c) ≡ Some r
     → expressions_in c x.first x.end ≡ Some ps
     → finding_of f ≡ finding (asked_events (rules_in c) nest st r (And s ps) t)
+
+-- ---- parts that are satisfied one after another
+
+-- where the first event is a satisfier, one more than is counted under its bindings; else none
+abbrev pub along_by : List Event → (Bindings → ℕ) → ℕ
+along_by [] rest = 0
+along_by (plain.Sat e ∷ more) rest = suc (rest e)
+along_by (plain.Cut ∷ more) rest = 0
+along_by (plain.Fault f ∷ more) rest = 0
+
+-- how many of the first parts are satisfied one after another, each by its first event under the bindings that the one
+-- before gave
+abbrev pub along : List Axiom → ℕ → State → List Expression → Bindings → ℕ
+along axioms nest st [] e = 0
+along axioms nest st (p ∷ ps) e = along_by (sat axioms nest st p e) (along axioms nest st ps)
+
+-- where the first of events is a satisfier that gives these bindings, one more is counted than under them; else none
+abbrev pub GoesBy : Bool → Bindings → List Event → Type 0
+GoesBy first e events = (rest : Bindings → ℕ) → along_by events rest ≡ cond first (suc (rest e)) 0
+
+-- the index behind the tree of a node; where there is no node, the index itself
+abbrev pub next_tree : Option Laid → ℕ → ℕ
+next_tree None i = i
+next_tree (Some l) i = l.to
+
+-- the index past so many trees from one on, as far as there are nodes
+abbrev pub past : List Laid → ℕ → ℕ → ℕ
+past nodes i zero = i
+past nodes i (suc n) = past nodes (next_tree (slice_get nodes i) i) n
+
+-- so many of the first parts are satisfied one after another for a task, and behind them is this index; there is no
+-- answer where the head doesn't match
+pub record GoesAlong (c : CodeView) (nest : ℕ) (st : State) (x : Conjuncts) (t : Term) (o : Option Prefix)
+    : Type 0 where
+  pub count : (r : Rule) (ps : List Expression) → beside x.rule (rule_nodes c) (rules_in c) ≡ Some r
+      → expressions_in c x.first x.end ≡ Some (as_expressions ps)
+      → option_map (λ p. p.count) o
+      ≡ option_map (along (axioms_of (rules_in c)) nest st ps) (match_atom (head_of r) t (unbound (length (vars_of r))))
+  pub end : IfSome o (λ p. p.end ≡ past c.nodes x.first p.count)

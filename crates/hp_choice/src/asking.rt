@@ -1,25 +1,26 @@
-//! What parts of a conjunction find for a task, by the head of their rule.
-ghost use Rattle.std.specs.Prelude.{◌≡◌, ◌≤◌, IfOk, Some, length};
+//! What parts of a conjunction find for a task, and how many of the first are satisfied one after another, by the head
+//! of their rule.
+ghost use Rattle.std.specs.Prelude.{◌≡◌, ◌≤◌, IfOk, List, Some, length};
 ghost use Rattle.hp_syntax.specs.Events as plain;
 ghost use Rattle.hp_syntax.specs.Events.{axioms_of, finding, sat};
 ghost use Rattle.hp_syntax.specs.GroundPatterns.{IsGroundAtom, atom_said};
 ghost use Rattle.hp_syntax.specs.declared.pattern.Span.{Span};
-ghost use Rattle.hp_syntax.specs.Syntax.{And, Expressions, Rule};
-ghost use Rattle.hp_syntax.specs.Views.{atom_of};
+ghost use Rattle.hp_syntax.specs.Syntax.{And, Expression, Expressions, Rule};
+ghost use Rattle.hp_syntax.specs.Views.{as_expressions, atom_of};
 ghost use Rattle.hp_code.specs.CodeViews.{beside, rule_nodes, rules_in};
 ghost use Rattle.hp_eval.specs.declared.event.Event.TheVariants as events;
 ghost use Rattle.hp_eval.specs.Growth.{Grows};
 ghost use Rattle.hp_eval.specs.Slotted.{bindings_of};
 ghost use Rattle.hp_world.specs.Recorded.{Knows};
 ghost use Rattle.hp_world.specs.Stages.{AllBelow, live_atoms};
-ghost use Rattle.hp_suspended.specs.Fitting.{AreExpressionsIn, Fits};
+ghost use Rattle.hp_suspended.specs.Fitting.{AreExpressionsIn, Fits, IsExpressionAt};
 ghost use Rattle.hp_suspended.specs.Left.{left};
 ghost use Rattle.hp_suspended.specs.Nodes.{expressions_in};
 ghost use Rattle.hp_suspended.specs.SceneViews.{IsReady, code_in, setting_of};
-ghost use Rattle.hp_suspended.specs.Settings.{state_in};
+ghost use Rattle.hp_suspended.specs.Settings.{node_events, state_in};
 ghost use Rattle.hp_suspended.specs.Views as names;
 ghost use Rattle.hp_suspended.specs.Views.{view};
-ghost use Rattle.hp_choice.specs.Asking.{AreConjuncts, Finds, behind, finding_of, head_of};
+ghost use Rattle.hp_choice.specs.Asking.{AreConjuncts, Finds, GoesAlong, GoesBy, along, behind, finding_of, head_of, past};
 
 use crate::opening::{matched, node_at};
 use hp_cells::Cells;
@@ -43,10 +44,17 @@ pub enum Finding {
 }
 
 /// Parts of a conjunction by nodes of a code: that of their rule, the first of theirs, and the index behind them.
-#[derive(Clone, Copy)]
+#[derive(Clone, Copy, Debug)]
 pub struct Conjuncts {
     pub rule: usize,
     pub first: usize,
+    pub end: usize,
+}
+
+/// So many of the first parts of a conjunction, and the index of the code behind them.
+#[derive(Clone, Copy, Debug)]
+pub struct Prefix {
+    pub count: usize,
     pub end: usize,
 }
 
@@ -173,5 +181,90 @@ pub fn ask(
     match matched(alloc, head_of(asked.rule, scene), vars, cell, cells)? {
         Some(mut slots) => found_under(alloc, scene, nest, asked, &mut slots, cells),
         None => Ok(Finding::Nothing),
+    }
+}
+
+/// Whether the first event of a node's expression is a satisfier, whose bindings stand then.
+fn first_satisfies(
+    alloc: Global,
+    scene: &Scene<'_>,
+    nest: u32,
+    node: usize,
+    slots: &mut Slots,
+    cells: &mut Cells,
+) -> Result<bool, AllocError>
+    requires part { IsExpressionAt (code_in scene.now) node }
+    requires ready { IsReady scene.now cells.old slots.old }
+    ensures first { IfOk result (λ b. GoesBy b (bindings_of cells.new slots.new)
+        (node_events (setting_of scene.now cells.old) nest node (bindings_of cells.old slots.old))) }
+    ensures ready { IsReady scene.now cells.new slots.new }
+    ensures cells { Grows cells.old cells.new }
+{
+    let mark = slots.mark();
+    let mut part = Suspended::Fresh { mark, nest, node };
+    match part.next(alloc, scene, cells, slots)? {
+        Event::Sat => Ok(true),
+        Event::Fault(_) | Event::Cut | Event::End => Ok(false),
+    }
+}
+
+/// How many of the first parts are satisfied one after another, from bindings on.
+fn satisfied_along(
+    alloc: Global,
+    scene: &Scene<'_>,
+    nest: u32,
+    asked: Conjuncts,
+    slots: &mut Slots,
+    cells: &mut Cells,
+) -> Result<Prefix, AllocError>
+    requires parts { AreExpressionsIn (code_in scene.now) asked.first asked.end }
+    requires ready { IsReady scene.now cells.old slots.old }
+    ensures count { let c = code_in scene.now in IfOk result (λ p. (ps : List Expression)
+        → expressions_in c asked.first asked.end ≡ Some (as_expressions ps) → p.count ≡ along (axioms_of (rules_in c))
+        nest (state_in (setting_of scene.now cells.old)) ps (bindings_of cells.old slots.old)) }
+    ensures end { IfOk result (λ p. p.end ≡ past (code_in scene.now).nodes asked.first p.count) }
+    ensures cells { Grows cells.old cells.new }
+{
+    let mut count = 0;
+    let mut next = asked.first;
+    while next < asked.end {
+        if !first_satisfies(alloc, scene, nest, next, slots, cells)? {
+            return Ok(Prefix { count, end: next });
+        }
+        next = node_at(next, scene).to;
+        count += 1;
+    }
+    Ok(Prefix { count, end: next })
+}
+
+/// How many of the first parts of a conjunction are satisfied one after another for a task in a scene, and the index
+/// behind them: each by its first event, under the bindings that the one before gave, with so many axiom levels, at
+/// most 128. There is no answer where the head of their rule doesn't match the task. The task is an atom without
+/// variables and calls. Only cells are added.
+pub fn ask_along(
+    alloc: Global,
+    scene: &Scene<'_>,
+    nest: u32,
+    asked: Conjuncts,
+    task: &AtomPat,
+    cells: &mut Cells,
+) -> Result<Option<Prefix>, AllocError>
+    requires asked { AreConjuncts (code_in scene.now) asked }
+    requires atoms { AllBelow (length cells.old) (live_atoms scene.now.world.now.places) }
+    requires knows { Knows cells.old scene.now.world }
+    requires task { IsGroundAtom (atom_of task.now) }
+    requires levels { nest ≤ 128 }
+    ensures along { IfOk result (GoesAlong (code_in scene.now) nest (state_in (setting_of scene.now cells.old)) asked
+        (atom_said (atom_of task.now))) }
+    ensures cells { Grows cells.old cells.new }
+{
+    let cell = ground_atom(alloc, task, cells)?;
+    let vars = scene.code.vars(asked.rule).len();
+    match matched(alloc, head_of(asked.rule, scene), vars, cell, cells)? {
+        Some(mut slots) => {
+            let prefix = satisfied_along(alloc, scene, nest, asked, &mut slots, cells)?;
+            Ok(Some(prefix))
+        }
+        None => Ok(None),
     }
 }

@@ -3,10 +3,11 @@
 
 mod asking;
 mod choice;
+pub mod laws;
 mod opening;
 mod rooms;
 
-pub use asking::{Conjuncts, Finding, ask};
+pub use asking::{Conjuncts, Finding, Prefix, ask, ask_along};
 pub use choice::{Choice, Deed, Given};
 pub use opening::open;
 pub use rooms::Rooms;

@@ -5,6 +5,7 @@ pub mod ListingLemmas
 pub mod ListingSteps
 pub mod LookUpSteps
 pub mod LoweredLemmas
+pub mod LoweringSteps
 pub mod NodeLemmas
 pub mod RuleLemmas
 pub mod SourceLemmas

@@ -106,7 +106,8 @@ module _ {V : Type 0} (f : V → List (List ℕ)) (c : CodeView) (i : ℕ) (ns :
     names_at =
         names_are
         ∙ ap or_empty
-        (beside_at 0 ns (map f vs) k i (ascend c i ns nodes) inside (ranked _ i _ (sym (found i))) ∙ slice_get-map f vs k)
+        (beside_at 0 ns (map f vs) k i (ascend c i ns nodes) inside (ranked _ i _ (sym (found i)))
+        ∙ slice_get-map f vs k)
 
     -- the names beside a rule's node are those of the rule
     pub names_found : (v : V) → k < length vs → v ≡ get_or vs k v → f v ≡ vars_at c i

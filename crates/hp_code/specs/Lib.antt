@@ -4,4 +4,5 @@ pub mod CodeViews
 pub mod Codes
 pub mod Listing
 pub mod Lowered
+pub mod Lowerings
 pub mod Sources

@@ -12,4 +12,4 @@ pub use code::Code;
 pub use hp_nodes::{CodeNode, LAST_PART, Op};
 pub use lines::listing;
 pub use look_ups::asked_parts;
-pub use lowering::lower;
+pub use lowering::{Lowering, lower};

@@ -4,7 +4,7 @@ ghost use Rattle.hp_nodes.specs.Asked.{asked_parts};
 ghost use Rattle.hp_nodes.specs.NodeViews.{laid_of};
 ghost use Rattle.hp_nodes.specs.Trees.{Laid};
 ghost use Rattle.hp_code.specs.Codes.{code_of};
-ghost use Rattle.hp_code.specs.CodeViews.{IsPlaceOf, concludes, vars_at};
+ghost use Rattle.hp_code.specs.CodeViews.{IsPlaceOf, concludes, rule_nodes, vars_at};
 
 use crate::code::Code;
 use hp_nodes::{CodeNode, asked_by_nodes};
@@ -42,6 +42,13 @@ impl Code {
         }
     }
 
+    /// The node of the rule at a place, in the order of the domain.
+    pub fn rule_at(&self, place: usize) -> Option<usize>
+        ensures { result ≡ slice_get (rule_nodes (code_of self.now)) place }
+    {
+        self.rules.get(place).copied()
+    }
+
     /// The nodes of the operators and methods for the tasks of a name, in the order of the domain.
     pub fn task_rules(&self, name: &Name) -> &[usize]
         ensures { result.now ≡ (code_of self.now).task_rules name.now }
@@ -67,9 +74,9 @@ impl Code {
 }
 
 /// The parts of atoms that the goals of a code ask for, in order, each once: 0 where there is a goal, since each asks
-/// for its name, and the places of the arguments that a goal may know when it is come to, up to the first that it surely
-/// knows, none above `LAST_PART`. Atoms are found by the first argument that is known, so none behind that one serves.
-/// A world may keep indexes by the parts.
+/// for its name, and the places of the arguments that a goal may know when it is come to, up to the first that it
+/// surely knows, none above `LAST_PART`. Atoms are found by the first argument that is known, so none behind that one
+/// serves. A world may keep indexes by the parts.
 pub fn asked_parts(alloc: Global, code: &Code) -> Result<Vec<usize>, AllocError>
     ensures { IfOk result (λ parts. parts.items ≡ asked_parts (code_of code.now).nodes) }
 {

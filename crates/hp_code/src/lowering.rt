@@ -1,17 +1,20 @@
 //! From a domain to its code.
-ghost use Rattle.std.specs.Prelude.{◌≡◌, ℕ, List, None, IfOk, length, map};
+ghost use Rattle.std.specs.Prelude.{◌≡◌, ℕ, List, [], ◌∷◌, None, IfOk, OnOk, length, map};
 ghost use Rattle.hp_syntax.specs.Checks.{first_of, domain_faults};
 ghost use Rattle.hp_syntax.specs.Numbered.{IsNumberedDomain};
-ghost use Rattle.hp_syntax.specs.Views.{domain_of, rule_of};
-ghost use Rattle.hp_tables.specs.Tables.{places_in, places_of};
+ghost use Rattle.hp_syntax.specs.Syntax as plain;
+ghost use Rattle.hp_syntax.specs.Views.{branch_of, domain_of, method_of, operator_of, pattern_of, precondition_of, rule_of, tasks_of};
+ghost use Rattle.hp_tables.specs.Tables.{places_in};
 ghost use Rattle.hp_nodes.specs.Compiled.{vars_of};
 ghost use Rattle.hp_nodes.specs.NodeViews.{laid_of};
+ghost use Rattle.hp_nodes.specs.Varied.{branch_behind, method_with, operator_with};
 ghost use Rattle.hp_code.specs.Codes.{code_of};
 ghost use Rattle.hp_code.specs.CodeViews.{IsCodeOf, concluded_in, concludes};
+ghost use Rattle.hp_code.specs.Lowerings.{Begins, CanBeCode, Extends, Holds};
 
 use crate::code::Code;
-use hp_nodes::{CodeNode, LaidRules, Op, lay_rules};
-use hp_syntax::{Domain, Name, Rule};
+use hp_nodes::{CodeNode, Op, lay_method_with, lay_operator_with, lay_rule};
+use hp_syntax::{Branch, Domain, Method, Name, NetPat, Operator, Pat, Pre, Rule};
 use hp_tables::{Kind, Table};
 use std::alloc::{AllocError, Global};
 
@@ -34,30 +37,6 @@ fn copy_names(alloc: Global, names: &[Name]) -> Result<Vec<Name>, AllocError>
         copies.push(name.copy(alloc)?)?;
     }
     Ok(copies)
-}
-
-// The names of the variables of each rule.
-fn all_names(alloc: Global, rules: &[Rule]) -> Result<Vec<Vec<Name>>, AllocError>
-    ensures { IfOk result (λ all. map (λ names. names.items) all.items ≡ map vars_of (map rule_of rules.now)) }
-{
-    let mut all = Vec::with_capacity(alloc, rules.len())?;
-    for rule in rules {
-        all.push(copy_names(alloc, names_of(rule))?)?;
-    }
-    Ok(all)
-}
-
-// The nodes of the rules of a kind by their names, where each rule has the node of its number.
-fn table_of(alloc: Global, kind: Kind, rules: &[Rule], nodes: &[usize]) -> Result<Table, AllocError>
-    requires { length nodes.now ≡ length rules.now }
-    ensures { IfOk result (λ table. (name : List ℕ) → places_in table name
-        ≡ places_of kind name nodes.now (map rule_of rules.now)) }
-{
-    let mut table = Table::new(alloc);
-    for (number, rule) in rules.iter().enumerate() {
-        table.add_rule(alloc, kind, rule, nodes[number])?;
-    }
-    Ok(table)
 }
 
 // Whether a node is an atom's whose name axioms conclude.
@@ -85,24 +64,146 @@ fn concluded_in(
     Ok(all)
 }
 
+/// A code in the making: rules are compiled one after another, also such as are told by their parts and never made.
+/// After want of memory it is of no use.
+pub struct Lowering {
+    nodes: Vec<CodeNode>,
+    /// The indices of the rules' nodes.
+    rules: Vec<usize>,
+    vars: Vec<Vec<Name>>,
+    task_rules: Table,
+    axiom_rules: Table,
+}
+
+impl Drop for Lowering {
+    fn drop(self) {
+        let Lowering {
+            nodes,
+            rules,
+            vars,
+            task_rules,
+            axiom_rules,
+        } = self;
+        drop(nodes);
+        drop(rules);
+        drop(vars);
+        drop(task_rules);
+        drop(axiom_rules);
+    }
+}
+
+impl Lowering {
+    /// Without rules. It takes no memory.
+    pub fn new(alloc: Global) -> Lowering
+        ensures { Holds [] result }
+    {
+        Lowering {
+            nodes: Vec::new(alloc),
+            rules: Vec::new(alloc),
+            vars: Vec::new(alloc),
+            task_rules: Table::new(alloc),
+            axiom_rules: Table::new(alloc),
+        }
+    }
+
+    /// How many rules it holds.
+    pub fn len(&self) -> usize
+        ensures { (rules : List plain.Rule) → Holds rules self.now → result ≡ length rules }
+    {
+        self.rules.len()
+    }
+
+    // A rule begins with a node, and has variables of these names.
+    fn begin(&mut self, alloc: Global, node: usize, vars: &[Name]) -> Result<(), AllocError>
+        ensures { OnOk result (Begins node vars.now self.old self.new) }
+    {
+        let names = copy_names(alloc, vars)?;
+        self.vars.push(names)?;
+        self.rules.push(node)?;
+        Ok(())
+    }
+
+    /// Adds a rule.
+    pub fn rule(&mut self, alloc: Global, rule: &Rule) -> Result<(), AllocError>
+        ensures { OnOk result (Extends (rule_of rule.now ∷ []) self.old self.new) }
+    {
+        let node = self.nodes.len();
+        self.begin(alloc, node, names_of(rule))?;
+        self.task_rules.add_rule(alloc, Kind::Task, rule, node)?;
+        self.axiom_rules.add_rule(alloc, Kind::Axiom, rule, node)?;
+        lay_rule(&mut self.nodes, alloc, rule)
+    }
+
+    /// Adds an operator with another precondition and another cost.
+    pub fn operator_with(
+        &mut self,
+        alloc: Global,
+        operator: &Operator,
+        pre: &Pre,
+        cost: &Pat,
+    ) -> Result<(), AllocError>
+        ensures { OnOk result (Extends (plain.Does
+            (operator_with (operator_of operator.now) (precondition_of pre.now) (pattern_of cost.now)) ∷ [])
+            self.old self.new) }
+    {
+        let node = self.nodes.len();
+        self.begin(alloc, node, operator.vars.as_slice())?;
+        self.task_rules.add(alloc, &operator.head.name, node)?;
+        lay_operator_with(&mut self.nodes, alloc, operator, pre, cost)
+    }
+
+    /// Adds a method with a single branch: one of its own with another precondition, whose tasks stand behind others.
+    pub fn method_with(
+        &mut self,
+        alloc: Global,
+        method: &Method,
+        first: &NetPat,
+        branch: &Branch,
+        pre: &Pre,
+    ) -> Result<(), AllocError>
+        ensures { OnOk result (Extends (plain.Refines (method_with (method_of method.now)
+            (branch_behind (tasks_of first.now) (branch_of branch.now) (precondition_of pre.now))) ∷ [])
+            self.old self.new) }
+    {
+        let node = self.nodes.len();
+        self.begin(alloc, node, method.vars.as_slice())?;
+        self.task_rules.add(alloc, &method.head.name, node)?;
+        lay_method_with(&mut self.nodes, alloc, method, first, branch, pre)
+    }
+
+    /// The code of the rules.
+    pub fn code(self, alloc: Global) -> Result<Code, AllocError>
+        requires { CanBeCode self }
+        ensures { IfOk result (λ code. (rules : List plain.Rule) → Holds rules self → IsCodeOf rules (code_of code)) }
+    {
+        let concluded = concluded_in(alloc, &self.axiom_rules, self.nodes.as_slice())?;
+        let Lowering {
+            nodes,
+            rules,
+            vars,
+            task_rules,
+            axiom_rules,
+        } = self;
+        Ok(Code {
+            nodes,
+            rules,
+            vars,
+            task_rules,
+            axiom_rules,
+            concluded,
+        })
+    }
+}
+
 /// Compiles the rules of a domain in which the checks find nothing.
 pub fn lower(alloc: Global, domain: &Domain) -> Result<Code, AllocError>
     requires numbered { IsNumberedDomain (domain_of domain.now) }
     requires checked { first_of (domain_faults (domain_of domain.now)) ≡ None }
     ensures { IfOk result (λ code. IsCodeOf (domain_of domain.now).rules (code_of code)) }
 {
-    let rules = domain.rules.as_slice();
-    let LaidRules { nodes, places } = lay_rules(alloc, rules)?;
-    let vars = all_names(alloc, rules)?;
-    let task_rules = table_of(alloc, Kind::Task, rules, places.as_slice())?;
-    let axiom_rules = table_of(alloc, Kind::Axiom, rules, places.as_slice())?;
-    let concluded = concluded_in(alloc, &axiom_rules, nodes.as_slice())?;
-    Ok(Code {
-        nodes,
-        rules: places,
-        vars,
-        task_rules,
-        axiom_rules,
-        concluded,
-    })
+    let mut lowering = Lowering::new(alloc);
+    for rule in &domain.rules {
+        lowering.rule(alloc, rule)?;
+    }
+    lowering.code(alloc)
 }

@@ -1,16 +1,22 @@
 -- Steps of laying rules down.
-use Rattle.std.proofs.Common.{◌≡◌, ℕ, zero, ◌+◌, ◌<◌, ◌≤◌, List, [], ◌∷◌, ◌++◌, map, length, get_or, drop, Result, refl, ap, sym, subst, ◌∙◌, arith}
+use Rattle.std.proofs.Common.{◌≡◌, ℕ, ◌+◌, ◌<◌, ◌≤◌, List, [], ◌∷◌, map, length, get_or, drop, Result, refl, ap, ap₂, sym, subst, ◌∙◌}
+use Rattle.std.specs.Global.{Global}
+use Rattle.std.specs.Prelude.{Vec}
 use Rattle.std.specs.Result.{OnOk}
-use Rattle.std.proofs.lemmas.List.{append_assoc, append-nil, drop_more, at_drop_all}
+use Rattle.std.proofs.lemmas.List.{drop_more, at_drop_all}
 use Rattle.hp_syntax.specs.declared.domain.Side.{Side}
 use Rattle.hp_syntax.specs.declared.pattern.Span.{Span}
-use Rattle.hp_syntax.specs.Syntax.{Effect}
+use Rattle.hp_syntax.specs.declared.tasks.NetPat.{NetPat}
+use Rattle.hp_syntax.specs.declared.tasks.NetPat.TheVariants as nets
+use Rattle.hp_syntax.specs.Syntax.{Effect, Tasks, Ordered, Then, NoTasks}
+use Rattle.hp_syntax.specs.ViewLaws.{tasks_of-ordered}
+use Rattle.hp_syntax.specs.Views.{task_list_of, tasks_of}
 use Rattle.hp_nodes.specs.declared.node.CodeNode.{CodeNode}
 use Rattle.hp_nodes.specs.Compiled.{only, effect_tree, effect_trees}
 use Rattle.hp_nodes.specs.Laying.{Lays, Opens}
 use Rattle.hp_nodes.specs.NodeViews.{laid_of}
-use Rattle.hp_nodes.specs.Trees.{Operation, Laid, Tree, Trees, Node, NoTree, More, size, sizes, roots}
-use Rattle.hp_nodes.proofs.LayingLemmas.{laid_behind, laid_behind-none, laid_on, lays_both, length_after}
+use Rattle.hp_nodes.specs.Trees.{Operation, Laid, Tree, Trees, Node, NoTree, More}
+use Rattle.hp_nodes.proofs.LayingLemmas.{laid_behind, laid_behind-none, laid_on, lays_both}
 use Rattle.hp_nodes.proofs.TreeLemmas.{followed}
 
 -- ---- equal operations
@@ -42,20 +48,6 @@ module _ {X : Type 0} (rest : List X → Trees) (tree : X → Tree) (xs : List X
   laid_one_more whole left =
       laid_on (only (tree x)) (rest (drop (i + 1) xs)) old new put ∙ ap (laid_behind old) (sym rest_here) ∙ left
 
-  -- and so are the indices so far and those of what is left
-  pub placed_one_more : (places : List ℕ) (whole : List ℕ)
-      → places ++ roots (length old) (rest (drop i xs)) ≡ whole
-      → (places ++ length old ∷ []) ++ roots (length new) (rest (drop (i + 1) xs)) ≡ whole
-  unfolding sizes
-  placed_one_more places whole left =
-      let e : size (tree x) + zero ≡ size (tree x) = omega arith in
-      let behind = rest (drop (i + 1) xs) in
-      append_assoc places (length old ∷ []) (roots (length new) behind)
-      ∙ ap (λ n. places ++ length old ∷ roots n behind)
-      (length_after (only (tree x)) old new put ∙ ap (λ n. length old + n) e)
-      ∙ ap (λ ts. places ++ roots (length old) ts) (sym rest_here)
-      ∙ left
-
 module _ {X : Type 0} (rest : List X → Trees) (xs : List X) (i : ℕ) (past : length xs ≤ i)
     (none : rest [] ≡ NoTree) where
   -- when all parts of a list are laid down, the nodes are the whole
@@ -63,12 +55,6 @@ module _ {X : Type 0} (rest : List X → Trees) (xs : List X) (i : ℕ) (past : 
       → laid_behind nodes (rest (drop i xs)) ≡ whole → map laid_of nodes ≡ whole
   all_parts_laid nodes whole left =
       sym (laid_behind-none nodes) ∙ ap (laid_behind nodes) (sym (at_drop_all rest xs i past ∙ none)) ∙ left
-
-  -- and all of their indices are there
-  pub all_parts_placed : (n : ℕ) (places whole : List ℕ)
-      → places ++ roots n (rest (drop i xs)) ≡ whole → places ≡ whole
-  all_parts_placed n places whole left =
-      sym (append-nil places) ∙ ap (λ ts. places ++ roots n ts) (sym (at_drop_all rest xs i past ∙ none)) ∙ left
 
 -- ---- effects
 
@@ -85,3 +71,12 @@ pub effects_before : (side : Side) (s : Span) (xs : List Effect) (ts : Trees) (a
 effects_before side s xs ts a b c h k =
     lays_both (effect_trees side s xs NoTree) ts a b c h k
     ∙ ap (laid_behind a) (effect_trees-followed side s xs ts)
+
+-- ---- tasks
+
+-- two tasks in a list are ordered as they stand in it
+pub ordered_both : (ps : Vec NetPat Global) (a b : NetPat) (x y : Tasks) → ps.items ≡ a ∷ b ∷ []
+    → tasks_of a ≡ x → tasks_of b ≡ y → tasks_of (nets.Ordered ps) ≡ Ordered (Then x (Then y NoTasks))
+ordered_both ps a b x y h k l =
+    tasks_of-ordered ps
+    ∙ (ap (λ ts. Ordered (task_list_of ts)) h ∙ ap₂ (λ u v. Ordered (Then u (Then v NoTasks))) k l)

@@ -4,3 +4,4 @@ pub mod Laying
 pub mod Marks
 pub mod NodeViews
 pub mod Trees
+pub mod Varied

@@ -215,8 +215,8 @@ fn marked_parts(alloc: Global, marks: &[bool]) -> Result<Vec<usize>, AllocError>
     Ok(parts)
 }
 
-/// The parts that the goals among nodes ask for, in order, each once: the name, and the arguments that may be known when
-/// a goal is come to, up to the first that surely is.
+/// The parts that the goals among nodes ask for, in order, each once: the name, and the arguments that may be known
+/// when a goal is come to, up to the first that surely is.
 pub fn asked_by_nodes(alloc: Global, nodes: &[CodeNode]) -> Result<Vec<usize>, AllocError>
     ensures { IfOk result (λ parts. parts.items ≡ asked_parts (map laid_of nodes.now)) }
 {

@@ -1,19 +1,22 @@
 //! Operators, methods and axioms.
 ghost use Rattle.std.specs.Prelude.{◌≡◌, IfOk, OnOk, map};
 ghost use Rattle.hp_syntax.specs.Changes.{pattern_span};
-ghost use Rattle.hp_syntax.specs.Views.{pattern_of, tasks_of, operator_of, branch_of, method_of, clause_of, axiom_of, rule_of};
+ghost use Rattle.hp_syntax.specs.Views.{pattern_of, precondition_of, tasks_of, operator_of, branch_of, method_of, clause_of, axiom_of, rule_of};
 ghost use Rattle.hp_syntax.specs.Syntax as syntax;
 ghost use Rattle.hp_nodes.specs.Compiled as compiled;
-ghost use Rattle.hp_nodes.specs.Compiled.{only, effect_trees, operator_tree, branch_tree, branch_trees, clause_tree, clause_trees, rule_tree, rule_trees};
+ghost use Rattle.hp_nodes.specs.Compiled.{only, effect_trees, operator_tree, branch_tree, branch_trees, clause_tree, clause_trees, rule_tree};
 ghost use Rattle.hp_nodes.specs.Laying.{Lays};
 ghost use Rattle.hp_nodes.specs.NodeViews.{laid_of, operation_of};
-ghost use Rattle.hp_nodes.specs.Trees.{BranchOf, CostOf, TasksOf, all_laid, roots};
+ghost use Rattle.hp_nodes.specs.Trees.{BranchOf, CostOf, TasksOf};
+ghost use Rattle.hp_nodes.specs.Varied.{branch_behind, method_with, operator_with, tasks_behind};
 
 use crate::effects::lay_effects;
 use crate::expressions::{lay_part, lay_precondition};
 use crate::laying::{close_node, leaf, open_node};
 use crate::node::{CodeNode, Op};
-use hp_syntax::{Axiom, Branch, Clause, Method, Name, NetPat, Operator, Pat, Rule, Side, Span};
+use hp_syntax::{
+    Axiom, Branch, Clause, Method, Name, NetPat, Operator, Pat, Pre, Rule, Side, Span,
+};
 use std::alloc::{AllocError, Global};
 
 /// What an operator costs.
@@ -25,20 +28,41 @@ fn lay_cost(nodes: &mut Vec<CodeNode>, alloc: Global, cost: &Pat) -> Result<(), 
     leaf(nodes, op, cost.span)
 }
 
-/// What an operator deletes, then what it adds, and then what it costs.
+/// What an operator deletes, then what it adds, and then a cost.
 fn lay_effects_and_cost(
     nodes: &mut Vec<CodeNode>,
     alloc: Global,
     operator: &Operator,
+    cost: &Pat,
 ) -> Result<(), AllocError>
-    ensures { OnOk result (let o = operator_of operator.now in
+    ensures { OnOk result (let o = operator_of operator.now in let price = pattern_of cost.now in
         Lays (effect_trees Side.Deletes o.span o.dels (effect_trees Side.Adds o.span o.adds
-        (only (compiled.leaf (CostOf o.cost) (pattern_span o.cost))))) nodes.old.items nodes.new.items) }
+        (only (compiled.leaf (CostOf price) (pattern_span price))))) nodes.old.items nodes.new.items) }
 {
     let span = operator.span;
     lay_effects(nodes, alloc, Side::Deletes, span, operator.dels.as_slice())?;
     lay_effects(nodes, alloc, Side::Adds, span, operator.adds.as_slice())?;
-    lay_cost(nodes, alloc, &operator.cost)
+    lay_cost(nodes, alloc, cost)
+}
+
+/// Lays an operator with another precondition and another cost down behind the nodes that there are.
+pub fn lay_operator_with(
+    nodes: &mut Vec<CodeNode>,
+    alloc: Global,
+    operator: &Operator,
+    pre: &Pre,
+    cost: &Pat,
+) -> Result<(), AllocError>
+    ensures { OnOk result (Lays (only (operator_tree
+        (operator_with (operator_of operator.now) (precondition_of pre.now) (pattern_of cost.now))))
+        nodes.old.items nodes.new.items) }
+{
+    let op = Op::Operator(operator.head.copy(alloc)?);
+    let at = open_node(nodes, op, operator.span)?;
+    lay_precondition(nodes, alloc, operator.span, pre)?;
+    lay_effects_and_cost(nodes, alloc, operator, cost)?;
+    close_node(nodes, at);
+    Ok(())
 }
 
 /// An operator.
@@ -50,12 +74,7 @@ fn lay_operator(
     ensures { OnOk result (Lays (only (operator_tree (operator_of operator.now)))
         nodes.old.items nodes.new.items) }
 {
-    let op = Op::Operator(operator.head.copy(alloc)?);
-    let at = open_node(nodes, op, operator.span)?;
-    lay_precondition(nodes, alloc, operator.span, &operator.pre)?;
-    lay_effects_and_cost(nodes, alloc, operator)?;
-    close_node(nodes, at);
-    Ok(())
+    lay_operator_with(nodes, alloc, operator, &operator.pre, &operator.cost)
 }
 
 /// The tasks of a branch.
@@ -69,6 +88,32 @@ fn lay_tasks(
         nodes.old.items nodes.new.items) }
 {
     let op = Op::Tasks(tasks.copy(alloc)?);
+    leaf(nodes, op, span)
+}
+
+/// Tasks behind others.
+fn tasks_behind(alloc: Global, first: &NetPat, tasks: &NetPat) -> Result<NetPat, AllocError>
+    ensures { IfOk result (λ all. tasks_of all ≡ tasks_behind (tasks_of first.now) (tasks_of tasks.now)) }
+{
+    let rest = tasks.copy(alloc)?;
+    let before = first.copy(alloc)?;
+    let parts = vec![in alloc; before, rest]?;
+    Ok(NetPat::Ordered(parts))
+}
+
+/// The tasks of a branch, behind others.
+fn lay_tasks_behind(
+    nodes: &mut Vec<CodeNode>,
+    alloc: Global,
+    span: Span,
+    first: &NetPat,
+    tasks: &NetPat,
+) -> Result<(), AllocError>
+    ensures { OnOk result
+        (Lays (only (compiled.leaf (TasksOf (tasks_behind (tasks_of first.now) (tasks_of tasks.now))) span))
+        nodes.old.items nodes.new.items) }
+{
+    let op = Op::Tasks(tasks_behind(alloc, first, tasks)?);
     leaf(nodes, op, span)
 }
 
@@ -96,6 +141,48 @@ fn lay_branch(
     let at = open_node(nodes, op, span)?;
     lay_precondition(nodes, alloc, span, &branch.pre)?;
     lay_tasks(nodes, alloc, span, &branch.tasks)?;
+    close_node(nodes, at);
+    Ok(())
+}
+
+/// A branch of a method that stands here, with another precondition, whose tasks stand behind others.
+fn lay_branch_behind(
+    nodes: &mut Vec<CodeNode>,
+    alloc: Global,
+    span: Span,
+    first: &NetPat,
+    branch: &Branch,
+    pre: &Pre,
+) -> Result<(), AllocError>
+    ensures { OnOk result (Lays (only (branch_tree span
+        (branch_behind (tasks_of first.now) (branch_of branch.now) (precondition_of pre.now))))
+        nodes.old.items nodes.new.items) }
+{
+    let op = named(alloc, &branch.name)?;
+    let at = open_node(nodes, op, span)?;
+    lay_precondition(nodes, alloc, span, pre)?;
+    lay_tasks_behind(nodes, alloc, span, first, &branch.tasks)?;
+    close_node(nodes, at);
+    Ok(())
+}
+
+/// Lays a method down behind the nodes that there are which has a single branch: one of its own with another
+/// precondition, whose tasks stand behind others.
+pub fn lay_method_with(
+    nodes: &mut Vec<CodeNode>,
+    alloc: Global,
+    method: &Method,
+    first: &NetPat,
+    branch: &Branch,
+    pre: &Pre,
+) -> Result<(), AllocError>
+    ensures { OnOk result (Lays (only (rule_tree (syntax.Refines (method_with (method_of method.now)
+        (branch_behind (tasks_of first.now) (branch_of branch.now) (precondition_of pre.now))))))
+        nodes.old.items nodes.new.items) }
+{
+    let op = Op::Method(method.head.copy(alloc)?);
+    let at = open_node(nodes, op, method.span)?;
+    lay_branch_behind(nodes, alloc, method.span, first, branch, pre)?;
     close_node(nodes, at);
     Ok(())
 }
@@ -171,11 +258,7 @@ fn lay_axiom(nodes: &mut Vec<CodeNode>, alloc: Global, rule: &Axiom) -> Result<(
 }
 
 /// Lays a rule down behind the nodes that there are.
-pub(crate) fn lay_rule(
-    nodes: &mut Vec<CodeNode>,
-    alloc: Global,
-    rule: &Rule,
-) -> Result<(), AllocError>
+pub fn lay_rule(nodes: &mut Vec<CodeNode>, alloc: Global, rule: &Rule) -> Result<(), AllocError>
     ensures { OnOk result (Lays (only (rule_tree (rule_of rule.now))) nodes.old.items nodes.new.items) }
 {
     match rule {
@@ -183,27 +266,4 @@ pub(crate) fn lay_rule(
         Rule::Method(method) => lay_method(nodes, alloc, method),
         Rule::Axiom(axiom) => lay_axiom(nodes, alloc, axiom),
     }
-}
-
-/// Rules that are laid down one behind the other.
-#[derive(Drop)]
-pub struct LaidRules {
-    pub nodes: Vec<CodeNode>,
-    /// The index of each rule's node.
-    pub places: Vec<usize>,
-}
-
-/// Lays rules down.
-pub fn lay_rules(alloc: Global, rules: &[Rule]) -> Result<LaidRules, AllocError>
-    ensures nodes { IfOk result (λ laid.
-        map laid_of laid.nodes.items ≡ all_laid 0 (rule_trees (map rule_of rules.now))) }
-    ensures places { IfOk result (λ laid. laid.places.items ≡ roots 0 (rule_trees (map rule_of rules.now))) }
-{
-    let mut nodes = Vec::new(alloc);
-    let mut places = Vec::with_capacity(alloc, rules.len())?;
-    for rule in rules {
-        places.push(nodes.len())?;
-        lay_rule(&mut nodes, alloc, rule)?;
-    }
-    Ok(LaidRules { nodes, places })
 }

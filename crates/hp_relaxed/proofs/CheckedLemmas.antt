@@ -12,9 +12,10 @@ use Rattle.hp_laws.proofs.FaultLemmas.{both_empty}
 use Rattle.hp_lint.specs.declared.uses.Use.{Use}
 use Rattle.hp_lint.specs.Branches.{expression_span}
 use Rattle.hp_lint.specs.Variables.{atom_uses, atoms_uses}
+use Rattle.hp_nodes.specs.Varied.{operator_with}
 use Rattle.hp_relaxed.specs.GivingViews.{times_nothing}
 use Rattle.hp_relaxed.specs.Twins.{free_cost, free_rule, twin}
-use Rattle.hp_relaxed.specs.Giving.{all_giving_up, behind_operator, body_of, branch_given, branch_giving_up, branch_with, giving_up, if_fewer, left_of, left_of_branch, left_of_operator, listed, needed_by, operator_given, operator_with, paid_tasks, parts_of, payer, price_at, relaxed_rules, staying, stays, surely_bound, toll_of, with_body, with_parts}
+use Rattle.hp_relaxed.specs.Giving.{all_giving_up, behind_operator, body_of, branch_given, branch_giving_up, branch_with, giving_up, if_fewer, left_of, left_of_branch, left_of_operator, listed, needed_by, operator_given, paid_tasks, parts_of, payer, price_at, relaxed_rules, staying, stays, surely_bound, toll_of, with_body, with_parts}
 
 -- lists that are empty are empty together
 together : {A : Type 0} (xs ys : List A) → xs ≡ [] → ys ≡ [] → xs ++ ys ≡ []

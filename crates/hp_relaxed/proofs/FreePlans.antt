@@ -196,7 +196,8 @@ nothing_owed toll net h = omega (arith, ints)
 second_nothing : (a b : ℕ) → a + b ≡ 0 → b ≡ 0
 second_nothing a b h = omega arith
 
-module _ (toll : List ℕ) (rules more : List Rule) (payer : Rule) (twins : AreTwins toll rules more payer) (nest : ℕ) where
+module _ (toll : List ℕ) (rules more : List Rule) (payer : Rule) (twins : AreTwins toll rules more payer)
+    (nest : ℕ) where
   abbrev all : List Rule
   all = twin rules more payer
 

@@ -100,7 +100,7 @@ module _ (omits : List ℕ → Bool) where
   free_if false r xs ys e = e
 
   -- the rules for nothing that are kept are those of the kept rules
-  kept_free : (rules : List Rule) → kept omits (map free_rule rules) ≡ map free_rule (kept omits rules)
+  pub kept_free : (rules : List Rule) → kept omits (map free_rule rules) ≡ map free_rule (kept omits rules)
   kept_free [] = refl
   kept_free (Does o ∷ rules) =
       free_if (not (omits o.head.name)) (Does o) (kept omits (map free_rule rules)) (kept omits rules) (kept_free rules)

@@ -15,5 +15,6 @@ pub mod KeptVisits
 pub mod PlaceLemmas
 pub mod KeptPlaces
 pub mod OmittedLemmas
+pub mod ServingLemmas
 pub mod OwedNodes
 pub mod OwnPartLemmas

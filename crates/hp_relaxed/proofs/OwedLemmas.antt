@@ -99,7 +99,8 @@ module _ (toll : List ℕ) where
   -- after an operator that costs so much
   pub step_owes : (j k : ℕ) (o : Operator) → Charges k o → (n : Network) (p : Place) (t : Term) (i : Bool)
       (e b : Bindings) (c d : ℤ) → match_atom o.head t e ≡ Some b
-      → part_at n p ≡ Some (networks.Task t i) → (x : Bindings) → cost_value o.cost x ≡ Went d → Owes j c n → Owes (j + k) (c +ℤ d) (finish n p).0
+      → part_at n p ≡ Some (networks.Task t i) → (x : Bindings) → cost_value o.cost x ≡ Went d
+      → Owes j c n → Owes (j + k) (c +ℤ d) (finish n p).0
   step_owes j k o (Costs other costs) n p t i e b c d m at' x paid owes =
       let q = costs x d paid in
       let done = done_tolls n p t i at' in
@@ -157,7 +158,8 @@ module _ (toll : List ℕ) where
   module _ (rules : List Rule) (nest j k : ℕ) (n : Node) (p : Place) (t : Term) (i : Bool)
       (there : part_at n.network p ≡ Some (networks.Task t i)) (owes : Owes j n.cost n.network) where
     -- the children by an operator
-    applied_owe : (o : Operator) → Charges k o → (b x : Bindings) → match_atom o.head t (unbound (length o.vars)) ≡ Some b
+    applied_owe : (o : Operator) → Charges k o → (b x : Bindings)
+        → match_atom o.head t (unbound (length o.vars)) ≡ Some b
         → (d : ℤ) → cost_value o.cost x ≡ Went d → (a : Applied)
         → All (ChildOwes (j + k)) (walk.operated n p t d a)
     applied_owe o h b x m d paid (Guarded y) = All-nil (ChildOwes (j + k))
@@ -174,7 +176,8 @@ module _ (toll : List ℕ) where
         (step_owes j k o h n.network p t i (unbound (length o.vars)) b n.cost d m there x paid owes)
         (All-nil (ChildOwes (j + k)))
 
-    effects_owe : (o : Operator) → Charges k o → (b x : Bindings) → match_atom o.head t (unbound (length o.vars)) ≡ Some b
+    effects_owe : (o : Operator) → Charges k o → (b x : Bindings)
+        → match_atom o.head t (unbound (length o.vars)) ≡ Some b
         → (r : Going (Changes × ℤ)) → effects (axioms_of rules) nest n.state o x ≡ r
         → All (ChildOwes (j + k)) (walk.after_effects n p t r)
     effects_owe o h b x m CutShort q = All-cons (ChildOwes (j + k)) CutChild [] tt (All-nil (ChildOwes (j + k)))

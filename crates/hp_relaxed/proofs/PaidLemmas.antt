@@ -150,7 +150,8 @@ all_add toll rules more payer twins =
 
 -- ---- derivations
 
-module _ (toll : List ℕ) (rules more : List Rule) (payer : Rule) (twins : AreTwins toll rules more payer) (nest : ℕ) where
+module _ (toll : List ℕ) (rules more : List Rule) (payer : Rule) (twins : AreTwins toll rules more payer)
+    (nest : ℕ) where
   abbrev given : Choosing → ℕ
   given c = many toll (is_given_up rules more c)
 
@@ -159,7 +160,8 @@ module _ (toll : List ℕ) (rules more : List Rule) (payer : Rule) (twins : AreT
       → given_up rules more (c ∷ cs) ≡ given c + given_up rules more cs
   given_first c cs = of_bool (is_given_up rules more c)
     where
-      of_bool : (b : Bool) → length (cond b (c ∷ filter (is_given_up rules more) cs) (filter (is_given_up rules more) cs))
+      of_bool : (b : Bool)
+          → length (cond b (c ∷ filter (is_given_up rules more) cs) (filter (is_given_up rules more) cs))
           ≡ cond b 1 0 + length (filter (is_given_up rules more) cs)
       of_bool true = omega arith
       of_bool false = omega arith
@@ -184,7 +186,8 @@ module _ (toll : List ℕ) (rules more : List Rule) (payer : Rule) (twins : AreT
       → tolls toll between.network ≡ tolls toll before.network + given c
   split_paid c before between f =
       let adds = twin_adds toll rules more payer twins c (Refines f.method) f.known in
-      let among = chosen_of toll (λ y. precondition_events (axioms_of (twin rules more payer)) nest before.state y.pre f.matched)
+      let among = chosen_of toll
+      (λ y. precondition_events (axioms_of (twin rules more payer)) nest before.state y.pre f.matched)
       f.method.branches f.branch f.chosen in
       let h = split_owes toll (tolls toll before.network) (given c) f.method before.network f.place f.task
       f.next.immediate (unbound (length f.method.vars)) f.matched f.satisfier (pos 0) f.branch.0 f.subtasks adds.0

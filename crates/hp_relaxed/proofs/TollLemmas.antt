@@ -91,7 +91,8 @@ module _ (toll : List ℕ) where
     pub parts_tolls : (ns : networks.Networks) → tolls_of_parts toll (networks.normal_parts ns) ≡ tolls_of_parts toll ns
     parts_tolls networks.NoNetwork = refl
     parts_tolls (networks.And n ns) =
-        unless_tolls (networks.normal n) (networks.normal_parts ns) ∙ ap₂ (λ x y. x + y) (normal_tolls n) (parts_tolls ns)
+        unless_tolls (networks.normal n) (networks.normal_parts ns)
+        ∙ ap₂ (λ x y. x + y) (normal_tolls n) (parts_tolls ns)
 
   mutual
     unfolding networks.with_part networks.part_at tolls

@@ -10,6 +10,7 @@ use Rattle.hp_lint.specs.declared.uses.Use.{Use}
 use Rattle.hp_lint.specs.Branches.{expression_span}
 use Rattle.hp_lint.specs.Serving.{task_head}
 use Rattle.hp_lint.specs.Variables.{use_at, atom_uses, atoms_uses, bound_in, effect_uses, is_bound, pattern_uses, patterns_uses}
+use Rattle.hp_nodes.specs.Varied.{branch_behind, method_with, operator_with, tasks_behind}
 use Rattle.hp_relaxed.specs.declared.given.Origin.{Origin}
 use Rattle.hp_relaxed.specs.Twins.{price, twin}
 
@@ -155,31 +156,25 @@ module _ (rules : List syntax.Rule) where
 abbrev pub price_at : Span → syntax.Pattern
 price_at s = syntax.Number s (pos price)
 
--- an operator with another precondition and another cost
-abbrev pub operator_with : syntax.Operator → syntax.Precondition → syntax.Pattern → syntax.Operator
-operator_with o pre cost = record o { pre = pre; cost = cost }
-
 abbrev pub toll_atom : List ℕ → syntax.Atom
 toll_atom toll = record { span = nowhere; name = toll; args = syntax.NoPattern; tail = None }
 
+abbrev pub toll_task : List ℕ → syntax.Tasks
+toll_task toll = syntax.Task (toll_atom toll) false
+
 -- tasks behind the toll
 abbrev pub paid_tasks : List ℕ → syntax.Tasks → syntax.Tasks
-paid_tasks toll tasks =
-    syntax.Ordered (syntax.Then (syntax.Task (toll_atom toll) false) (syntax.Then tasks syntax.NoTasks))
+paid_tasks toll tasks = tasks_behind (toll_task toll) tasks
 
 -- a branch with another precondition, whose tasks stand behind the toll
 abbrev pub branch_with : List ℕ → syntax.Branch → syntax.Precondition → syntax.Branch
-branch_with toll b pre = record { name = b.name; pre = pre; tasks = paid_tasks toll b.tasks }
-
--- a method with such a branch alone
-abbrev pub method_with : List ℕ → syntax.Method → syntax.Branch → syntax.Precondition → syntax.Method
-method_with toll m b pre = record m { branches = branch_with toll b pre ∷ [] }
+branch_with toll b pre = branch_behind (toll_task toll) b pre
 
 abbrev pub operator_giving : syntax.Operator → syntax.Precondition → syntax.Rule
 operator_giving o pre = syntax.Does (operator_with o pre (price_at o.span))
 
 abbrev pub method_giving : List ℕ → syntax.Method → syntax.Branch → syntax.Precondition → syntax.Rule
-method_giving toll m b pre = syntax.Refines (method_with toll m b pre)
+method_giving toll m b pre = syntax.Refines (method_with m (branch_with toll b pre))
 
 abbrev pub operator_given : syntax.Operator → Option syntax.Precondition → List syntax.Rule
 operator_given o None = []

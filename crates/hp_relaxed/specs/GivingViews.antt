@@ -4,14 +4,16 @@ use Rattle.std.specs.Borrow.{Bor}
 use Rattle.hp_syntax.specs.declared.pattern.Span.{Span}
 use Rattle.hp_syntax.specs.declared.expression.Expr.{Expr}
 use Rattle.hp_syntax.specs.Syntax as syntax
-use Rattle.hp_syntax.specs.Views.{expression_of, rule_of}
+use Rattle.hp_syntax.specs.Views.{expression_of, rule_of, tasks_of}
 use Rattle.hp_lint.specs.declared.uses.Use.{Use}
 use Rattle.hp_lint.specs.declared.variables.Counts.{Counts}
 use Rattle.hp_lint.specs.LintViews.{Counted, is_seen}
+use Rattle.hp_code.specs.Lowerings.{Extends}
 use Rattle.hp_relaxed.specs.declared.concluded.Concluded.{Concluded}
 use Rattle.hp_relaxed.specs.declared.given.Origin.{Origin}
 use Rattle.hp_relaxed.specs.declared.giving.Given.{Given}
-use Rattle.hp_relaxed.specs.Giving.{staying, surely_bound}
+use Rattle.hp_relaxed.specs.declared.toll.Toll.{Toll}
+use Rattle.hp_relaxed.specs.Giving.{staying, surely_bound, toll_task}
 use Rattle.hp_relaxed.specs.Twins.{free_cost}
 
 -- a pattern times nothing
@@ -21,6 +23,10 @@ times_nothing s p =
 
 abbrev pub free_operator : syntax.Operator → syntax.Operator
 free_operator o = record o { cost = free_cost o.cost }
+
+-- the task of a toll has its name
+abbrev pub IsToll : Toll → Type 0
+IsToll toll = tasks_of toll.task ≡ toll_task toll.name
 
 -- the rules whose conclusions are known
 abbrev pub rules_of : Concluded → List syntax.Rule
@@ -64,5 +70,10 @@ Stay needed old parts kept =
 
 -- rules and where they come from were added to those that there were
 pub record Gives (rules : List syntax.Rule) (origins : List Origin) (old new : Given) : Type 0 where
-  pub rules_added : map rule_of new.rules.items ≡ map rule_of old.rules.items ++ rules
+  pub rules_added : Extends rules old.rules new.rules
   pub origins_added : new.origins.items ≡ old.origins.items ++ origins
+
+-- rules are left to add, and where they come from: once these are added too, all were added that were to be
+abbrev pub Lacks : List syntax.Rule → List Origin → List syntax.Rule → List Origin → Given → Given → Type 0
+Lacks rules origins all_rules all_origins old now =
+    (new : Given) → Gives rules origins now new → Gives all_rules all_origins old new

@@ -1,10 +1,11 @@
 -- What may be left out of the rules, where no task of a problem comes to it.
-use Rattle.std.specs.Prelude.{◌≡◌, ℕ, ◌+◌, Bool, true, false, not, cond, List, [], ◌∷◌, ◌++◌, filter}
+use Rattle.std.specs.Prelude.{◌≡◌, ℕ, ◌+◌, Bool, true, false, not, cond, List, [], ◌∷◌, ◌++◌, Some, filter, slice_get}
 use Rattle.std.specs.List.{All, flat_map}
 use Rattle.hp_syntax.specs.Notes.{problem_atoms, rule_atoms}
 use Rattle.hp_syntax.specs.Syntax.{Atom, Domain, Problem, Rule, Does, Refines, Concludes}
 use Rattle.hp_relaxed.specs.declared.given.Origin.{Origin}
 use Rattle.hp_relaxed.specs.Giving.{giving_up, relaxed_rules, rule_origins, toll_of}
+use Rattle.hp_relaxed.specs.Twins.{free_rule}
 
 -- by the names of heads that are left out
 module _ (omits : List ℕ → Bool) where
@@ -16,6 +17,15 @@ module _ (omits : List ℕ → Bool) where
 
   abbrev pub kept : List Rule → List Rule
   kept rules = filter is_kept rules
+
+  -- how many rules are kept before each, from so many on
+  abbrev pub kept_places_from : ℕ → List Rule → List ℕ
+  kept_places_from i [] = []
+  kept_places_from i (r ∷ rs) = i ∷ kept_places_from (cond (is_kept r) (i + 1) i) rs
+
+  -- how many rules before each are kept
+  abbrev pub kept_places : List Rule → List ℕ
+  kept_places rules = kept_places_from 0 rules
 
   abbrev pub HasKeptName : Atom → Type 0
   HasKeptName a = omits a.name ≡ false
@@ -33,6 +43,14 @@ module _ (omits : List ℕ → Bool) where
   -- the rules of a twin that are kept
   abbrev pub kept_twin : Domain → Problem → List Rule
   kept_twin d p = kept (relaxed_rules d p)
+
+  -- a precondition that is given up comes from a kept rule, which stands in the twin for nothing at its place
+  pub record StandsKept (d : Domain) (p : Problem) (o : Origin) : Type 0 where
+    pub rule : Rule
+    pub is : slice_get d.rules o.rule ≡ Some rule
+    pub place : ℕ
+    pub place_is : slice_get (kept_places d.rules) o.rule ≡ Some place
+    pub twin_at : slice_get (kept_twin d p) place ≡ Some (free_rule rule)
 
   -- those that give up a precondition of a kept rule
   module _ (rules : List Rule) where

@@ -1,14 +1,15 @@
 //! Rules by which nothing is paid.
-ghost use Rattle.std.specs.Prelude.{◌≡◌, ◌∷◌, ◌++◌, [], IfOk, OnOk, map, pos};
+ghost use Rattle.std.specs.Prelude.{◌≡◌, ◌∷◌, [], IfOk, OnOk, map, pos};
 ghost use Rattle.hp_syntax.specs.Syntax as syntax;
 ghost use Rattle.hp_syntax.specs.Views.{pattern_of, operator_of, rule_of};
+ghost use Rattle.hp_code.specs.Lowerings.{Extends};
 ghost use Rattle.hp_relaxed.specs.GivingViews.{free_operator, times_nothing};
 ghost use Rattle.hp_relaxed.specs.Keeping.{kept};
-ghost use Rattle.hp_relaxed.specs.KeepingViews.{omits};
+ghost use Rattle.hp_relaxed.specs.KeepingViews.{omits, AreFree, AreFreeWith};
 ghost use Rattle.hp_relaxed.specs.Twins.{free_cost, free_rule};
 
-use crate::copies::{copy_axiom, copy_method, copy_operator_with, copy_precondition};
 use crate::omitted::Omitted;
+use hp_code::Lowering;
 use hp_syntax::{Name, Operator, Pat, PatKind, Rule, Span};
 use std::alloc::{AllocError, Global};
 
@@ -47,48 +48,71 @@ fn free_cost(alloc: Global, cost: &Pat) -> Result<Pat, AllocError>
     }
 }
 
-fn free_operator(alloc: Global, operator: &Operator) -> Result<Operator, AllocError>
-    ensures { IfOk result (λ free. operator_of free ≡ free_operator (operator_of operator.now)) }
+fn add_free_operator(
+    code: &mut Lowering,
+    alloc: Global,
+    operator: &Operator,
+) -> Result<(), AllocError>
+    ensures { OnOk result (Extends (syntax.Does (free_operator (operator_of operator.now)) ∷ []) code.old code.new) }
 {
     let cost = free_cost(alloc, &operator.cost)?;
-    let pre = copy_precondition(alloc, &operator.pre)?;
-    copy_operator_with(alloc, operator, pre, cost)
+    code.operator_with(alloc, operator, &operator.pre, &cost)
 }
 
-fn free_rule(alloc: Global, rule: &Rule) -> Result<Rule, AllocError>
-    ensures { IfOk result (λ free. rule_of free ≡ free_rule (rule_of rule.now)) }
+fn add_free(code: &mut Lowering, alloc: Global, rule: &Rule) -> Result<(), AllocError>
+    ensures { OnOk result (Extends (free_rule (rule_of rule.now) ∷ []) code.old code.new) }
 {
-    Ok(match rule {
-        Rule::Operator(operator) => Rule::Operator(free_operator(alloc, operator)?),
-        Rule::Method(method) => Rule::Method(copy_method(alloc, method)?),
-        Rule::Axiom(axiom) => Rule::Axiom(copy_axiom(alloc, axiom)?),
-    })
+    match rule {
+        Rule::Operator(operator) => add_free_operator(code, alloc, operator),
+        Rule::Method(_) => code.rule(alloc, rule),
+        Rule::Axiom(_) => code.rule(alloc, rule),
+    }
 }
 
-/// Adds a rule for nothing, where it is kept.
-fn push_free(
-    free: &mut Vec<Rule>,
+fn add_free_if_kept(
+    code: &mut Lowering,
     alloc: Global,
     omitted: &Omitted,
     rule: &Rule,
 ) -> Result<(), AllocError>
-    ensures { OnOk result (map rule_of free.new.items ≡ map rule_of free.old.items
-        ++ map free_rule (kept (omits omitted.now) (rule_of rule.now ∷ []))) }
+    ensures { OnOk result (Extends (map free_rule (kept (omits omitted.now) (rule_of rule.now ∷ [])))
+        code.old code.new) }
 {
     if omitted.keeps(rule) {
-        free.push(free_rule(alloc, rule)?)?;
+        add_free(code, alloc, rule)
+    } else {
+        Ok(())
     }
-    Ok(())
 }
 
-/// The rules that are kept, by which nothing is paid.
-pub fn free_rules(alloc: Global, omitted: &Omitted, rules: &[Rule]) -> Result<Vec<Rule>, AllocError>
-    ensures { IfOk result (λ free. map rule_of free.items
-        ≡ map free_rule (kept (omits omitted.now) (map rule_of rules.now))) }
+/// The rules of a domain that are kept, by which nothing is paid, compiled; and for each of its rules how many of those
+/// before it are kept.
+#[derive(Drop)]
+pub struct Free {
+    pub rules: Lowering,
+    pub places: Vec<usize>,
+}
+
+impl Free {
+    /// Adds a rule, where it is kept, and its place.
+    fn push(&mut self, alloc: Global, omitted: &Omitted, rule: &Rule) -> Result<(), AllocError>
+        ensures { OnOk result (AreFreeWith (omits omitted.now) (rule_of rule.now) self.old self.new) }
+    {
+        self.places.push(self.rules.len())?;
+        add_free_if_kept(&mut self.rules, alloc, omitted, rule)
+    }
+}
+
+/// Compiles those of these rules that are kept.
+pub fn free_rules(alloc: Global, omitted: &Omitted, rules: &[Rule]) -> Result<Free, AllocError>
+    ensures { IfOk result (AreFree (omits omitted.now) (map rule_of rules.now)) }
 {
-    let mut free = Vec::new(alloc);
+    let mut free = Free {
+        rules: Lowering::new(alloc),
+        places: Vec::with_capacity(alloc, rules.len())?,
+    };
     for rule in rules {
-        push_free(&mut free, alloc, omitted, rule)?;
+        free.push(alloc, omitted, rule)?;
     }
     Ok(free)
 }

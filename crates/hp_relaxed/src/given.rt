@@ -1,7 +1,5 @@
 //! What is made.
-ghost use Rattle.std.specs.Prelude.{◌≡◌};
-
-use hp_syntax::Domain;
+use hp_code::Lowering;
 
 /// Where a rule comes from that gives up a precondition: the place of the rule whose precondition it is, and that of
 /// its branch, which is 0 for an operator.
@@ -11,37 +9,14 @@ pub struct Origin {
     pub branch: usize,
 }
 
-/// A twin of a domain: the domain's rules for nothing, the rules that give up a precondition for a price, and the one
-/// by which methods pay it. Of the first there are `own`, and `origins` tells of the second where they come from.
+/// A twin of a domain, compiled: the domain's rules for nothing, the rules that give up a precondition for a price, and
+/// the one by which methods pay it. Of the first there are `own`; `places` tells for each rule of the domain how many
+/// of those before it are kept, which is its place among the twin's where it is kept itself; and `origins` tells of
+/// the second where they come from.
+#[derive(Drop)]
 pub struct Relaxed {
-    pub domain: Domain,
+    pub rules: Lowering,
     pub own: usize,
+    pub places: Vec<usize>,
     pub origins: Vec<Origin>,
-}
-
-impl Drop for Relaxed {
-    fn drop(self) {
-        let Relaxed {
-            domain,
-            own: _,
-            origins,
-        } = self;
-        drop(domain);
-        drop(origins);
-    }
-}
-
-impl Relaxed {
-    /// Where the rules come from that give something up, alone.
-    pub fn into_origins(self) -> Vec<Origin>
-        ensures { result ≡ self.origins }
-    {
-        let Relaxed {
-            domain,
-            own: _,
-            origins,
-        } = self;
-        drop(domain);
-        origins
-    }
 }

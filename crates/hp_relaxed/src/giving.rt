@@ -1,36 +1,29 @@
 //! The rules that give up a precondition.
-ghost use Rattle.std.specs.Prelude.{◌≡◌, ◌++◌, ◌∷◌, [], IfOk, OnOk, List, map, option_map, false};
+ghost use Rattle.std.specs.Prelude.{◌≡◌, ◌++◌, ◌∷◌, [], IfOk, OnOk, List, map, option_map};
 ghost use Rattle.std.specs.List.{flat_map};
-ghost use Rattle.hp_syntax.specs.Views.{atom_of, tasks_of, precondition_of, branch_of, operator_of, method_of, rule_of};
+ghost use Rattle.hp_syntax.specs.Views.{atom_of, precondition_of, branch_of, operator_of, method_of, rule_of};
 ghost use Rattle.hp_lint.specs.LintViews.{Counted};
 ghost use Rattle.hp_lint.specs.declared.uses.Use.{Use};
 ghost use Rattle.hp_relaxed.specs.Giving as plain;
-ghost use Rattle.hp_relaxed.specs.GivingViews.{lent_expressions, rules_of, Gives};
+ghost use Rattle.hp_relaxed.specs.GivingViews.{lent_expressions, rules_of, Gives, IsToll};
 ghost use Rattle.hp_relaxed.specs.Keeping.{all_kept_giving_up, kept_giving_up, kept_origins, kept_rule_origins};
 ghost use Rattle.hp_relaxed.specs.KeepingViews.{omits};
 
 use crate::concluded::Concluded;
-use crate::copies::{copy_label, copy_names, copy_operator_with};
-use crate::given::{Origin, Relaxed};
+use crate::given::Origin;
 use crate::omitted::Omitted;
 use crate::staying::{body_of, needed_by, parts_of, staying, with_parts};
-use crate::toll::{price_at, toll_task};
+use crate::toll::{Toll, price_at};
+use hp_code::Lowering;
 use hp_lint::{Counts, Use, Uses, bound_by_head};
-use hp_syntax::{Branch, Domain, Expr, Method, Name, NetPat, Operator, Pre, Rule};
+use hp_syntax::{Branch, Expr, Method, Operator, Pre, Rule};
 use std::alloc::{AllocError, Global};
 
-/// Rules, and where those come from that give something up.
+/// Rules, compiled, and where those come from that give something up.
+#[derive(Drop)]
 pub struct Given {
-    pub rules: Vec<Rule>,
+    pub rules: Lowering,
     pub origins: Vec<Origin>,
-}
-
-impl Drop for Given {
-    fn drop(self) {
-        let Given { rules, origins } = self;
-        drop(rules);
-        drop(origins);
-    }
 }
 
 #[tactic(auto, using(crate::proofs::StayingLemmas::fewer_is, crate::proofs::StayingLemmas::not_fewer))]
@@ -134,70 +127,7 @@ fn left_of_branch(
     )
 }
 
-fn paid_tasks(alloc: Global, toll: &Name, tasks: &NetPat) -> Result<NetPat, AllocError>
-    ensures { IfOk result (λ paid. tasks_of paid ≡ plain.paid_tasks toll.now (tasks_of tasks.now)) }
-{
-    let rest = tasks.copy(alloc)?;
-    let pay = toll_task(alloc, toll)?;
-    let parts = vec![in alloc; pay, rest]?;
-    Ok(NetPat::Ordered(parts))
-}
-
-fn paid_branch(alloc: Global, toll: &Name, branch: &Branch, pre: Pre) -> Result<Branch, AllocError>
-    ensures { IfOk result (λ paid. branch_of paid
-        ≡ plain.branch_with toll.now (branch_of branch.now) (precondition_of pre)) }
-{
-    Ok(Branch {
-        name: copy_label(alloc, &branch.name)?,
-        tasks: paid_tasks(alloc, toll, &branch.tasks)?,
-        pre,
-    })
-}
-
-fn method_with(
-    alloc: Global,
-    toll: &Name,
-    method: &Method,
-    branch: &Branch,
-    pre: Pre,
-) -> Result<Method, AllocError>
-    ensures { IfOk result (λ paid. method_of paid
-        ≡ plain.method_with toll.now (method_of method.now) (branch_of branch.now) (precondition_of pre)) }
-{
-    let only = paid_branch(alloc, toll, branch, pre)?;
-    let branches = vec![in alloc; only]?;
-    Ok(Method {
-        span: method.span,
-        vars: copy_names(alloc, method.vars.as_slice())?,
-        head: method.head.copy(alloc)?,
-        branches,
-    })
-}
-
 impl Given {
-    /// A domain of these rules, of which so many give up nothing.
-    pub fn named(self, name: Name, own: usize) -> Relaxed
-        ensures name { result.domain.name ≡ name }
-        ensures rules { result.domain.rules ≡ self.rules }
-        ensures own { result.own ≡ own }
-        ensures origins { result.origins ≡ self.origins }
-    {
-        let Given { rules, origins } = self;
-        Relaxed {
-            domain: Domain { name, rules },
-            own,
-            origins,
-        }
-    }
-
-    fn add(&mut self, rule: Rule, origin: Origin) -> Result<(), AllocError>
-        ensures { OnOk result (Gives (rule_of rule ∷ []) (origin ∷ []) self.old self.new) }
-    {
-        self.origins.push(origin)?;
-        self.rules.push(rule)?;
-        Ok(())
-    }
-
     fn give_operator(
         &mut self,
         alloc: Global,
@@ -209,9 +139,9 @@ impl Given {
             (plain.operator_giving (operator_of operator.now) (precondition_of pre) ∷ [])
             (origin ∷ []) self.old self.new) }
     {
+        self.origins.push(origin)?;
         let cost = price_at(operator.span);
-        let given = copy_operator_with(alloc, operator, pre, cost)?;
-        self.add(Rule::Operator(given), origin)
+        self.rules.operator_with(alloc, operator, &pre, &cost)
     }
 
     fn operator(
@@ -242,31 +172,35 @@ impl Given {
     fn give_branch(
         &mut self,
         alloc: Global,
-        toll: &Name,
+        toll: &Toll,
         method: &Method,
         branch: &Branch,
         pre: Pre,
         origin: Origin,
     ) -> Result<(), AllocError>
+        requires toll { IsToll toll.now }
         ensures { OnOk result (Gives
-            (plain.method_giving toll.now (method_of method.now) (branch_of branch.now) (precondition_of pre) ∷ [])
+            (plain.method_giving toll.now.name (method_of method.now) (branch_of branch.now) (precondition_of pre) ∷ [])
             (origin ∷ []) self.old self.new) }
     {
-        let given = method_with(alloc, toll, method, branch, pre)?;
-        self.add(Rule::Method(given), origin)
+        self.origins.push(origin)?;
+        self.rules
+            .method_with(alloc, method, &toll.task, branch, &pre)
     }
 
     fn branch(
         &mut self,
         alloc: Global,
         concluded: &Concluded,
-        toll: &Name,
+        toll: &Toll,
         method: &Method,
         branch: &Branch,
         origin: Origin,
     ) -> Result<(), AllocError>
+        requires toll { IsToll toll.now }
         ensures { OnOk result (Gives
-            (plain.branch_giving_up (rules_of concluded.now) toll.now (method_of method.now) (branch_of branch.now))
+            (plain.branch_giving_up (rules_of concluded.now) toll.now.name (method_of method.now)
+            (branch_of branch.now))
             (plain.origin_where origin
             (plain.left_of_branch (rules_of concluded.now) (atom_of method.now.head) (branch_of branch.now)))
             self.old self.new) }
@@ -282,13 +216,14 @@ impl Given {
         &mut self,
         alloc: Global,
         concluded: &Concluded,
-        toll: &Name,
+        toll: &Toll,
         method: &Method,
         branches: &[Branch],
         rule: usize,
     ) -> Result<(), AllocError>
+        requires toll { IsToll toll.now }
         ensures { OnOk result (Gives
-            (flat_map (plain.branch_giving_up (rules_of concluded.now) toll.now (method_of method.now))
+            (flat_map (plain.branch_giving_up (rules_of concluded.now) toll.now.name (method_of method.now))
             (map branch_of branches.now))
             (plain.branch_origins (rules_of concluded.now) rule (atom_of method.now.head) 0
             (map branch_of branches.now))
@@ -308,11 +243,12 @@ impl Given {
         &mut self,
         alloc: Global,
         concluded: &Concluded,
-        toll: &Name,
+        toll: &Toll,
         rule: &Rule,
         place: usize,
     ) -> Result<(), AllocError>
-        ensures { OnOk result (Gives (plain.giving_up (rules_of concluded.now) toll.now (rule_of rule.now))
+        requires toll { IsToll toll.now }
+        ensures { OnOk result (Gives (plain.giving_up (rules_of concluded.now) toll.now.name (rule_of rule.now))
             (plain.rule_origins (rules_of concluded.now) place (rule_of rule.now)) self.old self.new) }
     {
         match rule {
@@ -336,12 +272,13 @@ impl Given {
         alloc: Global,
         concluded: &Concluded,
         omitted: &Omitted,
-        toll: &Name,
+        toll: &Toll,
         rule: &Rule,
         place: usize,
     ) -> Result<(), AllocError>
+        requires toll { IsToll toll.now }
         ensures { OnOk result (Gives
-            (kept_giving_up (omits omitted.now) (rules_of concluded.now) toll.now (rule_of rule.now))
+            (kept_giving_up (omits omitted.now) (rules_of concluded.now) toll.now.name (rule_of rule.now))
             (kept_rule_origins (omits omitted.now) (rules_of concluded.now) place (rule_of rule.now))
             self.old self.new) }
     {
@@ -357,9 +294,10 @@ impl Given {
         alloc: Global,
         concluded: &Concluded,
         omitted: &Omitted,
-        toll: &Name,
+        toll: &Toll,
     ) -> Result<(), AllocError>
-        ensures { OnOk result (Gives (all_kept_giving_up (omits omitted.now) toll.now (rules_of concluded.now))
+        requires toll { IsToll toll.now }
+        ensures { OnOk result (Gives (all_kept_giving_up (omits omitted.now) toll.now.name (rules_of concluded.now))
             (kept_origins (omits omitted.now) (rules_of concluded.now)) self.old self.new) }
     {
         for (place, rule) in concluded.rules.iter().enumerate() {
@@ -373,10 +311,11 @@ impl Given {
         &mut self,
         alloc: Global,
         omitted: &Omitted,
-        toll: &Name,
+        toll: &Toll,
         rules: &[Rule],
     ) -> Result<(), AllocError>
-        ensures { OnOk result (Gives (all_kept_giving_up (omits omitted.now) toll.now (map rule_of rules.now))
+        requires toll { IsToll toll.now }
+        ensures { OnOk result (Gives (all_kept_giving_up (omits omitted.now) toll.now.name (map rule_of rules.now))
             (kept_origins (omits omitted.now) (map rule_of rules.now)) self.old self.new) }
     {
         let concluded = Concluded::by(alloc, rules)?;

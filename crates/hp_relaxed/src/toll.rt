@@ -1,9 +1,9 @@
 //! The task by which is paid for what a method gives up, and the operator that does it.
-ghost use Rattle.std.specs.Prelude.{◌≡◌, ◌++◌, ◌∷◌, [], IfOk, length, max, pos, replicate, false};
-ghost use Rattle.hp_syntax.specs.Syntax.{Task};
+ghost use Rattle.std.specs.Prelude.{◌≡◌, ◌++◌, ◌∷◌, [], IfOk, length, max, pos, replicate};
 ghost use Rattle.hp_syntax.specs.Views.{atom_of, domain_of, pattern_of, precondition_of, problem_of, rule_of, tasks_of};
 ghost use Rattle.hp_lint.specs.LintViews.{lent_atoms};
 ghost use Rattle.hp_relaxed.specs.Giving as plain;
+ghost use Rattle.hp_relaxed.specs.GivingViews.{IsToll};
 
 use crate::staying::conjunction;
 use hp_lint::{domain_tasks, problem_tasks, task_heads};
@@ -53,8 +53,7 @@ fn one_longer(alloc: Global, count: usize) -> Result<Name, AllocError>
     Name::new(alloc, bytes.as_slice())
 }
 
-/// The name of the toll, longer than those of all heads and tasks.
-pub fn toll_of(alloc: Global, domain: &Domain, problem: &Problem) -> Result<Name, AllocError>
+fn toll_of(alloc: Global, domain: &Domain, problem: &Problem) -> Result<Name, AllocError>
     ensures { IfOk result (λ name. name ≡ plain.toll_of (domain_of domain.now) (problem_of problem.now)) }
 {
     let length = longest_name(alloc, domain, problem)?;
@@ -73,15 +72,34 @@ fn toll_atom(alloc: Global, toll: &Name) -> Result<AtomPat, AllocError>
     })
 }
 
-/// The task of the toll.
-pub fn toll_task(alloc: Global, toll: &Name) -> Result<NetPat, AllocError>
-    ensures { IfOk result (λ task. tasks_of task ≡ Task (plain.toll_atom toll.now) false) }
+fn toll_task(alloc: Global, toll: &Name) -> Result<NetPat, AllocError>
+    ensures { IfOk result (λ task. tasks_of task ≡ plain.toll_task toll.now) }
 {
     let atom = toll_atom(alloc, toll)?;
     Ok(NetPat::Task(TaskPat {
         atom,
         immediate: false,
     }))
+}
+
+/// The toll: its name, longer than those of all heads and tasks, and its task.
+#[derive(Drop)]
+pub struct Toll {
+    pub name: Name,
+    pub task: NetPat,
+}
+
+impl Toll {
+    /// That of a domain and a problem.
+    pub fn of(alloc: Global, domain: &Domain, problem: &Problem) -> Result<Toll, AllocError>
+        ensures name { IfOk result (λ toll. toll.name
+            ≡ plain.toll_of (domain_of domain.now) (problem_of problem.now)) }
+        ensures task { IfOk result IsToll }
+    {
+        let name = toll_of(alloc, domain, problem)?;
+        let task = toll_task(alloc, &name)?;
+        Ok(Toll { name, task })
+    }
 }
 
 /// The price, at a span.

@@ -2,7 +2,7 @@
 use crate::decomposition::Decomposition;
 use crate::search::Search;
 use hp_cells::{Cell, Cells};
-use hp_choice::{Conjuncts, Finding, Rooms};
+use hp_choice::{Conjuncts, Finding, Prefix, Rooms};
 use hp_code::{Code, asked_parts};
 use hp_gen::Scene;
 use hp_net::{Net, Step, Walk};
@@ -50,7 +50,7 @@ impl<'a> Planner<'a> {
     ghost use Rattle.hp_syntax.specs.Views.{atom_of, pair_of};
     ghost use Rattle.hp_syntax.specs.Walk.{root, visits};
     ghost use Rattle.hp_code.specs.Codes.{code_of};
-    ghost use Rattle.hp_choice.specs.Asking.{AreConjuncts, Finds};
+    ghost use Rattle.hp_choice.specs.Asking.{AreConjuncts, Finds, GoesAlong};
     ghost use Rattle.hp_code.specs.CodeViews.{rules_in};
     ghost use Rattle.hp_links.specs.Linked.{PartBelow, focused};
     ghost use Rattle.hp_net.specs.Standings.{node_reached, standing, tree_visits};
@@ -167,6 +167,26 @@ impl<'a> Planner<'a> {
         ensures same { self.new ≡ self.old }
     {
         self.search.ask(code, asked, task)
+    }
+
+    /// How many of the first parts of a conjunction of any code are satisfied one after another in the state of the
+    /// node reached, and the index behind them: each by its first event, under the bindings that the one before gave.
+    /// There is no answer where the head of their rule doesn't match a task. The parts and the task are told as for
+    /// `ask`. The walk stays as it is, after an error too.
+    pub fn ask_along(
+        &mut self,
+        code: &Code,
+        asked: Conjuncts,
+        task: &AtomPat,
+    ) -> Result<Option<Prefix>, AllocError>
+        requires live { self.old.live ≡ true }
+        requires asked { AreConjuncts (code_of code.now) asked }
+        requires task { IsGroundAtom (atom_of task.now) }
+        ensures along { IfOk result (λ o. MatchOption (node_reached (tree_planned self.old) (stands_planned self.old)) ⊥
+            (λ n. GoesAlong (code_of code.now) self.old.nest n.state asked (atom_said (atom_of task.now)) o)) }
+        ensures same { self.new ≡ self.old }
+    {
+        self.search.ask_along(code, asked, task)
     }
 
     /// The network of the node reached, with its focus. Its pasts at the moments of the path are the networks of the

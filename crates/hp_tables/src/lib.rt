@@ -63,8 +63,8 @@ impl Table {
         }
     }
 
-    // Adds a place behind those of a name. After want of memory each name has the places that it had.
-    fn add(&mut self, alloc: Global, name: &Name, place: usize) -> Result<(), AllocError>
+    /// Adds a place behind those of a name. After want of memory each name has the places that it had.
+    pub fn add(&mut self, alloc: Global, name: &Name, place: usize) -> Result<(), AllocError>
         ensures { Adds result (Some name.now) place self.old self.new }
     {
         match self.places.get_mut(name) {

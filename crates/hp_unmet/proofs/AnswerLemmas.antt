@@ -11,21 +11,22 @@ use Rattle.hp_unmet.specs.Conjunctions.{Conjunction, answer_by, answer_from, ans
 use Rattle.hp_unmet.specs.Trials.{IsFirstMissing, is_in_doubt, is_satisfied}
 use Rattle.hp_unmet.specs.declared.unmet.Unmet.{Unmet}
 use Rattle.hp_unmet.specs.declared.unmet.Unmet.TheVariants as unmets
-use Rattle.hp_unmet.proofs.FoundLemmas.{found_where, is_matched, is_unmatched, keeps, none_where}
+use Rattle.hp_unmet.proofs.FoundLemmas.{found_where, is_matched, keeps, none_where}
 
 -- ---- what is satisfied
-
-pub is_met : (x : Finding) → true ≡ is_satisfied x → x ≡ Satisfied
-is_met Satisfied e = refl
-is_met (Faulty f) e = absurd (cc)
-is_met Undecided e = absurd (cc)
-is_met Nothing e = absurd (cc)
 
 pub not_met : (x : Finding) → false ≡ is_satisfied x → x ≢ Satisfied
 not_met Satisfied e = λ h. let never : false ≡ true = e in cc
 not_met (Faulty f) e = λ h. cc
 not_met Undecided e = λ h. cc
 not_met Nothing e = λ h. cc
+
+-- where a limit or a fault is met nothing is satisfied
+in_doubt : (x : Finding) → is_in_doubt x ≡ true → x ≢ Satisfied
+in_doubt Satisfied e = λ h. let never : false ≡ true = e in cc
+in_doubt (Faulty f) e = λ h. cc
+in_doubt Undecided e = λ h. cc
+in_doubt Nothing e = λ h. cc
 
 -- ---- the answer
 
@@ -137,9 +138,9 @@ module _ (rules : List syntax.Rule) (nest : ℕ) (state : State) (c : Conjunctio
       answered_by m.0 unmets.None m.1 (all_met own own_keeps 0 count (ap own here ∙ e))
 
   -- a part is the first with which nothing is found
-  pub part_unmet : (place : ℕ) → own 0 ≡ Satisfied → IsFirstMissing own count place
-      → unmets.Part place ≡ answered (matched c task)
-  part_unmet place first h =
+  pub part_unmet : (place : ℕ) → IsFirstMissing own count place → unmets.Part place ≡ answered (matched c task)
+  part_unmet place h =
+      let first = met_before own own_keeps 0 place (omega arith) h.met in
       let m = is_matched rules nest state c task (matched c task) refl first in
       answered_by m.0 (unmets.Part place) m.1 (part_told own own_keeps count place h)
 
@@ -157,9 +158,10 @@ module _ (rules : List syntax.Rule) (nest : ℕ) (state : State) (c : Conjunctio
           ap (λ o. found_where rules nest state c o 0) is ∙ none_where rules nest state c b in
           answered_by b unmets.Unknown is (doubt_told own own_keeps count first doubt)
 
-  -- where the head doesn't match nothing is asked
-  pub unmatched_unmet : own 0 ≢ Satisfied → unmets.None ≡ answered (matched c task)
-  unmatched_unmet unmet = sym (ap answered (is_unmatched rules nest state c task (matched c task) refl unmet))
+  -- with some first parts a limit or a fault is met, and so it is with all
+  pub unknown_with : (j : ℕ) → j ≤ count → is_in_doubt (own j) ≡ true → unmets.Unknown ≡ answered (matched c task)
+  unknown_with j within doubt =
+      unknown_unmet (ap is_in_doubt (own_keeps j count within (in_doubt (own j) doubt)) ∙ doubt)
 
 -- ---- fewer than two parts
 

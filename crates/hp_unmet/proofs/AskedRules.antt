@@ -1,27 +1,95 @@
--- The rule at a place of a domain, as a code of the domain holds it.
-use Rattle.std.proofs.Common.{◌≡◌, ℕ, ◌<◌, ◌≤◌, List, length, map, Option, Some, None, get_or, refl, sym, ap, ◌∙◌, subst, arith}
-use Rattle.std.specs.Prelude.{option_map, slice_get}
+-- The rule at a place of a domain, and the one in a code that asks for what it does.
+use Rattle.std.proofs.Common.{◌≡◌, ℕ, ◌≤◌, true, List, length, map, Option, Some, None, get_or, refl, sym, ap, ◌∙◌, subst, arith}
+use Rattle.std.specs.Prelude.{nat_le, option_map, slice_get}
 use Rattle.std.specs.Option.{option_and_then}
 use Rattle.std.specs.Ordering.{nat_cmp}
 use Rattle.std.specs.declared.cmp.Ordering.TheVariants.{Equal}
 use Rattle.std.proofs.lemmas.Bool.Decides.{nat_tests}
 use Rattle.std.proofs.lemmas.List.{length-map}
-use Rattle.std.proofs.lemmas.Option.{get_or_from_slice_get, slice_get-get_or, slice_get-map, slice_get_within}
+use Rattle.std.proofs.lemmas.Option.{get_or_from_slice_get, slice_get-map, slice_get_within}
 use Rattle.hp_choice.specs.declared.asking.Conjuncts.{Conjuncts}
 use Rattle.hp_choice.specs.Asking.{head_of}
-use Rattle.hp_code.specs.CodeViews.{CodeView, IsCodeOf, beside, rule_nodes, rules_in}
+use Rattle.hp_code.specs.CodeViews.{CodeView, beside, rule_nodes, rules_in}
 use Rattle.hp_code.specs.Lowered.{lowered, lowered_branch, lowered_precondition, lowered_rule}
-use Rattle.hp_code.proofs.CodeLemmas.{code_trees, length-rule_nodes}
 use Rattle.hp_code.proofs.LookUpSteps.{place_found}
 use Rattle.hp_nodes.specs.Compiled.{vars_of}
-use Rattle.hp_nodes.specs.Trees.{roots}
 use Rattle.hp_relaxed.specs.Giving.{body_of}
 use Rattle.hp_syntax.specs.Syntax as syntax
-use Rattle.hp_unmet.specs.Conjunctions.{Conjunction, asked_by, asked_in, conjuncts, conjunction, in_branch}
-use Rattle.hp_unmet.specs.PartNodes.{AsksFor, StandBetween, StandIn, precondition_by}
+use Rattle.hp_unmet.specs.Conjunctions.{Conjunction, asked_by, asked_in, conjuncts, conjunction, has_several, in_branch, is_told_apart}
+use Rattle.hp_unmet.specs.PartNodes.{AsksAlike, AsksFor, ServesFor, StandBetween, StandIn, precondition_by}
 use Rattle.hp_unmet.proofs.LoweredParts.{asked_lowered, parts_lowered, rules_there}
 
 -- ---- a rule
+
+-- a rule has the head and the variables of a conjunction, and asks there for its parts
+record Asks (branch : ℕ) (r : syntax.Rule) (c : Conjunction) : Type 0 where
+  pub head : head_of r ≡ c.head
+  pub vars : vars_of r ≡ c.vars
+  pub pre : syntax.Precondition
+  pub own : precondition_by branch r ≡ Some pre
+  pub are : conjuncts (body_of pre) ≡ c.parts
+
+method_asks : (branch : ℕ) (m : syntax.Method) (c : Conjunction) (o : Option syntax.Branch)
+    → slice_get m.branches branch ≡ o → option_map (in_branch m) o ≡ Some c → Asks branch (syntax.Refines m) c
+method_asks branch m c None at e = absurd cc
+method_asks branch m c (Some b) at e =
+    let same : in_branch m b ≡ c = cc in
+    subst (Asks branch (syntax.Refines m)) same
+    (record {
+      head = refl;
+      vars = refl;
+      pre = b.pre;
+      own = ap (option_map (λ (x : syntax.Branch). x.pre)) at;
+      are = refl;
+    })
+
+-- a rule asks for its own conjunction
+rule_asks : (branch : ℕ) (r : syntax.Rule) (c : Conjunction) → asked_by branch r ≡ Some c → Asks branch r c
+rule_asks branch (syntax.Does o) c e =
+    let same : conjunction o.span o.vars o.head o.pre ≡ c = cc in
+    subst (Asks branch (syntax.Does o)) same
+    (record { head = refl; vars = refl; pre = o.pre; own = refl; are = refl })
+rule_asks branch (syntax.Refines m) c e = method_asks branch m c (slice_get m.branches branch) refl e
+rule_asks branch (syntax.Concludes x) c e = absurd cc
+
+-- what a rule asks for, one that asks for what it does asks for too
+alike_asks : (branch : ℕ) (r s : syntax.Rule) (c : Conjunction) → AsksAlike r s → Asks branch r c → Asks branch s c
+alike_asks branch r s c alike h = record {
+  head = sym alike.head ∙ h.head;
+  vars = sym alike.vars ∙ h.vars;
+  pre = h.pre;
+  own = sym (alike.preconditions branch) ∙ h.own;
+  are = h.are;
+}
+
+-- ---- a lowered rule
+
+-- a lowered rule has the head of the rule
+lowered_head : (r : syntax.Rule) → head_of (lowered_rule r) ≡ head_of r
+lowered_head (syntax.Does o) = refl
+lowered_head (syntax.Refines m) = refl
+lowered_head (syntax.Concludes x) = refl
+
+-- and its variables
+lowered_vars : (r : syntax.Rule) → vars_of (lowered_rule r) ≡ vars_of r
+lowered_vars (syntax.Does o) = refl
+lowered_vars (syntax.Refines m) = refl
+lowered_vars (syntax.Concludes x) = refl
+
+-- the precondition of a lowered branch is that of the branch, lowered
+branch_lowered : (o : Option syntax.Branch) → option_map (λ b. b.pre) (option_map lowered_branch o)
+    ≡ option_map lowered_precondition (option_map (λ b. b.pre) o)
+branch_lowered None = refl
+branch_lowered (Some b) = refl
+
+-- and so it is with that of a rule
+pre_lowered : (branch : ℕ) (r : syntax.Rule)
+    → precondition_by branch (lowered_rule r) ≡ option_map lowered_precondition (precondition_by branch r)
+pre_lowered branch (syntax.Does o) = refl
+pre_lowered branch (syntax.Refines m) =
+    ap (option_map (λ (b : syntax.Branch). b.pre)) (slice_get-map lowered_branch m.branches branch)
+    ∙ branch_lowered (slice_get m.branches branch)
+pre_lowered branch (syntax.Concludes x) = refl
 
 -- a rule has the head and the variables of a conjunction, and asks there for its parts, lowered
 record AsksLowered (branch : ℕ) (r : syntax.Rule) (c : Conjunction) : Type 0 where
@@ -31,44 +99,16 @@ record AsksLowered (branch : ℕ) (r : syntax.Rule) (c : Conjunction) : Type 0 w
   pub own : precondition_by branch r ≡ Some pre
   pub are : conjuncts (body_of pre) ≡ map lowered c.parts
 
-method_asks : (branch : ℕ) (m : syntax.Method) (c : Conjunction) (o : Option syntax.Branch)
-    → slice_get m.branches branch ≡ o → option_map (in_branch m) o ≡ Some c
-    → AsksLowered branch (lowered_rule (syntax.Refines m)) c
-method_asks branch m c None at e = absurd cc
-method_asks branch m c (Some b) at e =
-    let same : in_branch m b ≡ c = cc in
-    subst (AsksLowered branch (lowered_rule (syntax.Refines m))) same
-    (record {
-      head = refl;
-      vars = refl;
-      pre = lowered_precondition b.pre;
-      own =
-          ap (option_map (λ (x : syntax.Branch). x.pre))
-          (slice_get-map lowered_branch m.branches branch ∙ ap (option_map lowered_branch) at);
-      are = asked_lowered b.pre;
-    })
-
--- what a rule asks for, the lowered rule asks for
-rule_asks : (branch : ℕ) (r : syntax.Rule) (c : Conjunction) → asked_by branch r ≡ Some c
+-- what a rule asks for, the lowered rule asks for, lowered
+lowered_asks : (branch : ℕ) (r : syntax.Rule) (c : Conjunction) → Asks branch r c
     → AsksLowered branch (lowered_rule r) c
-rule_asks branch (syntax.Does o) c e =
-    let same : conjunction o.span o.vars o.head o.pre ≡ c = cc in
-    subst (AsksLowered branch (lowered_rule (syntax.Does o))) same
-    (record {
-      head = refl;
-      vars = refl;
-      pre = lowered_precondition o.pre;
-      own = refl;
-      are = asked_lowered o.pre;
-    })
-rule_asks branch (syntax.Refines m) c e = method_asks branch m c (slice_get m.branches branch) refl e
-rule_asks branch (syntax.Concludes x) c e = absurd cc
-
--- the rule that asks for a conjunction
-asking_rule : (branch : ℕ) (c : Conjunction) (o : Option syntax.Rule) → option_and_then (asked_by branch) o ≡ Some c
-    → (r : syntax.Rule) × (o ≡ Some r) × (asked_by branch r ≡ Some c)
-asking_rule branch c None e = absurd cc
-asking_rule branch c (Some r) e = (r, refl, e)
+lowered_asks branch r c h = record {
+  head = lowered_head r ∙ h.head;
+  vars = lowered_vars r ∙ h.vars;
+  pre = lowered_precondition h.pre;
+  own = pre_lowered branch r ∙ ap (option_map lowered_precondition) h.own;
+  are = asked_lowered h.pre ∙ ap (map lowered) h.are;
+}
 
 -- ---- its node
 
@@ -78,53 +118,54 @@ compared ns k i at d =
     let same : get_or ns k d ≡ i = get_or_from_slice_get ns k i d at in
     grind (arith, nat_tests)
 
-module _ (rules : List syntax.Rule) (code : CodeView) (of : IsCodeOf rules code) (ns : List ℕ)
-    (nodes : ns ≡ rule_nodes code) where
-  -- there are as many nodes as rules
-  as_many : length ns ≡ length rules
-  as_many =
-      ap length nodes ∙ ap (λ ts. length (roots 0 ts)) (code_trees rules code of) ∙ length-rule_nodes 0 rules
+module _ (rules : List syntax.Rule) (rule : ℕ) (code : CodeView) (node : ℕ)
+    (serves : ServesFor rules rule code node) where
+  -- beside the node there stands a rule that serves, lowered
+  beside_node : beside node (rule_nodes code) (rules_in code) ≡ Some (lowered_rule serves.other)
+  beside_node =
+      let ns = rule_nodes code in
+      let place = serves.place in
+      sym (place_found code node ns refl place (slice_get_within ns place node serves.node_at)
+      (compared ns place node serves.node_at)).1
+      ∙ (ap (λ rs. slice_get rs place) (rules_there serves.others code serves.code)
+      ∙ (slice_get-map lowered_rule serves.others place ∙ ap (option_map lowered_rule) serves.other_at))
 
-  module _ (place branch : ℕ) (c : Conjunction) (asked : asked_in rules place branch ≡ Some c) where
-    -- the rule there
-    own : (r : syntax.Rule) × (slice_get rules place ≡ Some r) × (asked_by branch r ≡ Some c)
-    own = asking_rule branch c (slice_get rules place) asked
+  module _ (branch : ℕ) (c : Conjunction) (asked : asked_in rules rule branch ≡ Some c) where
+    asks : AsksLowered branch (lowered_rule serves.other) c
+    asks =
+        lowered_asks branch serves.other c
+        (alike_asks branch serves.own serves.other c serves.alike
+        (rule_asks branch serves.own c (ap (option_and_then (asked_by branch)) (sym serves.own_at) ∙ asked)))
 
-    -- the place is one of a rule
-    pub place_within : place < length ns
-    place_within =
-        let l = slice_get_within rules place own.0 own.1 in omega (arith, as_many, l)
+    -- where the parts are told apart there are some of them
+    some_parts : is_told_apart rules rule branch ≡ true → 1 ≤ length c.parts
+    some_parts apart =
+        let several : nat_le 2 (length c.parts) ≡ true = sym (ap has_several asked) ∙ apart in
+        grind (arith, nat_tests)
 
-    asks : AsksLowered branch (lowered_rule own.0) c
-    asks = rule_asks branch own.0 c own.2
+    -- there it asks for them, lowered
+    pub asks_there : is_told_apart rules rule branch ≡ true → AsksFor code node branch (map lowered c.parts)
+    asks_there apart = record {
+      pre = asks.pre;
+      has = record { rule = lowered_rule serves.other; is = beside_node; own = asks.own };
+      are = asks.are;
+      some = subst (λ n. 1 ≤ n) (sym (length-map c.parts lowered)) (some_parts apart);
+    }
 
-    module _ (i : ℕ) (at : i ≡ get_or ns place i) where
-      -- beside the node there stands the rule, lowered
-      beside_there : beside i (rule_nodes code) (rules_in code) ≡ Some (lowered_rule own.0)
-      beside_there =
-          let here : slice_get ns place ≡ Some i = slice_get-get_or ns place i place_within ∙ ap Some (sym at) in
-          sym (place_found code i ns nodes place place_within (compared ns place i here)).1
-          ∙ (ap (λ rs. slice_get rs place) (rules_there rules code of)
-          ∙ (slice_get-map lowered_rule rules place ∙ ap (option_map lowered_rule) own.1))
-
-      -- it asks for the parts, lowered, where there are some
-      pub asks_there : 1 ≤ length c.parts → AsksFor code i branch (map lowered c.parts)
-      asks_there some = record {
-        pre = asks.pre;
-        has = record { rule = lowered_rule own.0; is = beside_there; own = asks.own };
-        are = asks.are;
-        some = subst (λ n. 1 ≤ n) (sym (length-map c.parts lowered)) some;
-      }
-
-      -- where what it asks for stands between nodes, there stand the parts
-      pub stand_there : (x : Conjuncts) → x.rule ≡ i → StandBetween code x.first x.end (map lowered c.parts)
-          → StandIn rules code c x
-      stand_there x same stand = record {
-        of = of;
-        rule = lowered_rule own.0;
-        is = ap (λ j. beside j (rule_nodes code) (rules_in code)) same ∙ beside_there;
-        head = asks.head;
-        vars = asks.vars;
-        range = stand.range;
-        parts = stand.are ∙ ap Some (sym (parts_lowered c.parts));
-      }
+    -- where what it asks for stands between nodes, there stand the parts
+    pub stand_there : is_told_apart rules rule branch ≡ true → (x : Conjuncts) → x.rule ≡ node
+        → ((parts : List syntax.Expression) → AsksFor code node branch parts → StandBetween code x.first x.end parts)
+        → StandIn rules code c x
+    stand_there apart x same between =
+        let stand = between (map lowered c.parts) (asks_there apart) in
+        record {
+          others = serves.others;
+          of = serves.code;
+          axioms = serves.axioms;
+          rule = lowered_rule serves.other;
+          is = ap (λ j. beside j (rule_nodes code) (rules_in code)) same ∙ beside_node;
+          head = asks.head;
+          vars = asks.vars;
+          range = stand.range;
+          parts = stand.are ∙ ap Some (sym (parts_lowered c.parts));
+        }

@@ -42,9 +42,3 @@ module _ (rules : List syntax.Rule) (nest : ℕ) (state : State) (c : Conjunctio
     is_matched None h e =
         absurd (let never : Nothing ≡ Satisfied = sym (ap (λ o. found_where o 0) h) ∙ e in cc)
     is_matched (Some b) h e = (b, h)
-
-    -- and where it isn't, the head doesn't
-    pub is_unmatched : (o : Option Bindings) → matched c task ≡ o → found rules nest state c task 0 ≢ Satisfied
-        → matched c task ≡ None
-    is_unmatched None h unmet = h
-    is_unmatched (Some b) h unmet = absurd (unmet (ap (λ o. found_where o 0) h ∙ none_where b))

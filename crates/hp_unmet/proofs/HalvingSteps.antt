@@ -1,25 +1,31 @@
 -- Steps of halving between a number of parts that are satisfied and one with which nothing is found.
-use Rattle.std.proofs.Common.{◌≡◌, ◌≢◌, ℕ, zero, suc, ◌+◌, ◌<◌, ◌≤◌, sym, ap, ◌∙◌, arith}
+use Rattle.std.proofs.Common.{◌≡◌, ◌≢◌, ℕ, ◌+◌, ◌<◌, ◌≤◌, inl, inr, sym, ap, ◌∙◌, arith}
+use Rattle.std.proofs.lemmas.Bool.{cases_lt}
+use Rattle.hp_choice.specs.declared.asking.Prefix.{Prefix}
 use Rattle.hp_syntax.specs.Events.{Finding, Satisfied, Nothing}
 use Rattle.hp_unmet.specs.Halving.{IsBetween}
 use Rattle.hp_unmet.specs.Trials.{IsFirstMissing}
-use Rattle.hp_unmet.specs.declared.trial.Prefix.{Prefix}
 use Rattle.hp_unmet.specs.declared.unmet.Between.{Between}
 
 abbrev pub between : Prefix → ℕ → Between
 between met unmet = record { met = met; unmet = unmet }
 
 module _ (found : ℕ → Finding) (count : ℕ) where
-  some_parts : (n : ℕ) → found 0 ≡ Satisfied → found n ≡ Nothing → 0 < n
-  some_parts zero e h = absurd (let never : Satisfied ≡ Nothing = sym e ∙ h in cc)
-  some_parts (suc n) e h = omega arith
+  -- first parts that are satisfied are fewer than all, where nothing is found with all
+  fewer : (n : ℕ) → n ≤ count → found n ≡ Satisfied → found count ≡ Nothing → n < count
+  fewer n within e h = elim (cases_lt n count) [
+    | inl less ↦ less
+    | inr over ↦
+        let same : n ≡ count = omega (arith, within, over) in
+        let never : Satisfied ≡ Nothing = sym e ∙ ap found same ∙ h in
+        absurd cc
+  ]
 
-  -- at first all are between
-  pub between_all : (none : Prefix) → none.count ≡ 0 → found 0 ≡ Satisfied → found count ≡ Nothing
-      → IsBetween found count (between none count)
-  between_all none at e h =
-      let some = some_parts count e h in
-      record { met = ap found at ∙ e; missing = h; below = omega arith; within = omega arith }
+  -- at first some parts are satisfied, and nothing is found with all
+  pub between_all : (met : Prefix) → met.count ≤ count → found met.count ≡ Satisfied → found count ≡ Nothing
+      → IsBetween found count (between met count)
+  between_all met within e h =
+      record { met = e; missing = h; below = fewer met.count within e h; within = omega arith }
 
   module _ (b : Between) (middle : Prefix) (h : IsBetween found count b) where
     -- a number in the middle that isn't satisfied takes the place of the greater one

@@ -143,7 +143,6 @@ module _ (rules : List syntax.Rule) (nest : ℕ) (state : State) (task : Term) (
       let missing : own h.bindings (place + 1) ≡ Nothing = ap finding (h.more (place + 1) (omega arith)) in
       sym (many_parts rules nest state c task (length c.parts) refl (unmets.Part place) many
       (part_unmet rules nest state c task (length c.parts) refl place
-      (ap (λ f. f 0) same ∙ h.fewer 0 (omega arith))
       (record {
         within = h.within;
         met = ap (λ f. f place) same ∙ h.fewer place (omega arith);

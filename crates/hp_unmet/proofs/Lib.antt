@@ -10,6 +10,5 @@ pub mod TrialLemmas
 pub mod AnswerLemmas
 pub mod HalvingSteps
 pub mod LawSteps
-pub mod RuleNodeSteps
 pub mod ConjunctionNodes
 pub mod PreconditionSteps

@@ -50,15 +50,17 @@ asked_lowered (syntax.Sorted key e) = conjuncts_lowered e
 
 -- ---- a code of rules
 
-module _ (rules : List syntax.Rule) (code : CodeView) (of : IsCodeOf rules code) where
+module _ (others : List syntax.Rule) (code : CodeView) (of : IsCodeOf others code) where
   -- a code of rules reads back as the rules, lowered
-  pub rules_there : rules_in code ≡ lowered_rules rules
-  rules_there = ap or_empty (code_reads rules code of)
+  pub rules_there : rules_in code ≡ lowered_rules others
+  rules_there = ap or_empty (code_reads others code of)
 
-  axioms_there : axioms_of (rules_in code) ≡ map lowered_axiom (axioms_of rules)
-  axioms_there = ap axioms_of rules_there ∙ axioms_lowered rules
+  module _ (rules : List syntax.Rule) (axioms : axioms_of others ≡ axioms_of rules)
+      (nest : ℕ) (state : State) (c : Conjunction) (n : ℕ) where
+    -- its axioms are those of any rules that have the same ones, lowered
+    axioms_there : axioms_of (rules_in code) ≡ map lowered_axiom (axioms_of rules)
+    axioms_there = ap axioms_of rules_there ∙ (axioms_lowered others ∙ ap (map lowered_axiom) axioms)
 
-  module _ (nest : ℕ) (state : State) (c : Conjunction) (n : ℕ) where
     -- so many of the first parts, together, as the code holds them
     abbrev pub first_there : syntax.Expression
     first_there = syntax.And c.span (as_expressions (take n (map lowered c.parts)))

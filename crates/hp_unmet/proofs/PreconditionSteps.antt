@@ -16,8 +16,9 @@ use Rattle.hp_suspended.proofs.NodeRanges.{head_same, tail_same}
 use Rattle.hp_precondition.specs.PreconditionNodes.{precondition_at}
 use Rattle.hp_method.specs.Branches.{AreBranchesIn, branch_at, branches_at}
 use Rattle.hp_method.proofs.BranchNodes.{branch_nodes, branches_end, stands_branch}
+use Rattle.hp_choice.specs.Asking.{past}
 use Rattle.hp_choice.proofs.RuleReadings.{RuleNodes, rule_node}
-use Rattle.hp_unmet.specs.PartNodes.{HasPrecondition, past, precondition_by}
+use Rattle.hp_unmet.specs.PartNodes.{HasPrecondition, precondition_by}
 use Rattle.hp_unmet.proofs.PrefixSteps.{past_first}
 
 -- ---- branches

@@ -13,7 +13,7 @@ use Rattle.hp_suspended.specs.Nodes.{expression_at, expressions_in}
 use Rattle.hp_suspended.specs.Settings.{Setting}
 use Rattle.hp_suspended.proofs.NodeRanges.{below_ends, node_in, range_ends}
 use Rattle.hp_suspended.proofs.RangeLemmas.{code_laid, expression_of, first_expression, range_ascends}
-use Rattle.hp_unmet.specs.PartNodes.{next_tree, past}
+use Rattle.hp_choice.specs.Asking.{next_tree, past}
 
 -- past some trees and then some more is past as many as both
 pub past_more : (nodes : List Laid) (i n m : ℕ) → past nodes i (n + m) ≡ past nodes (past nodes i n) m

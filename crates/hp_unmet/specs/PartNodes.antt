@@ -1,12 +1,11 @@
 -- Where the parts of preconditions stand in a code.
-use Rattle.std.specs.Prelude.{◌≡◌, ◌≤◌, ℕ, zero, suc, List, length, slice_get, Option, Some, None}
+use Rattle.std.specs.Prelude.{◌≡◌, ◌≤◌, ℕ, List, length, slice_get, Option, Some, None}
 use Rattle.std.specs.Option.{option_map}
+use Rattle.hp_syntax.specs.Events.{axioms_of}
 use Rattle.hp_syntax.specs.Syntax as syntax
 use Rattle.hp_syntax.specs.Views.{as_expressions}
 use Rattle.hp_nodes.specs.Compiled.{vars_of}
-use Rattle.hp_nodes.specs.Trees.{Laid}
 use Rattle.hp_code.specs.CodeViews.{CodeView, IsCodeOf, beside, rule_nodes, rules_in}
-use Rattle.hp_code.specs.Codes.{code_of}
 use Rattle.hp_code.specs.Lowered.{all_lowered}
 use Rattle.hp_suspended.specs.Fitting.{AreExpressionsIn}
 use Rattle.hp_suspended.specs.Nodes.{expressions_in}
@@ -14,28 +13,31 @@ use Rattle.hp_choice.specs.declared.asking.Conjuncts.{Conjuncts}
 use Rattle.hp_choice.specs.Asking.{head_of}
 use Rattle.hp_relaxed.specs.Giving.{body_of}
 use Rattle.hp_unmet.specs.Conjunctions.{Conjunction, conjuncts}
-use Rattle.hp_unmet.specs.declared.nodes.DomainCode.{DomainCode}
-
--- a code of rules, with the nodes of the rules in their order
-pub record IsDomainCode (rules : List syntax.Rule) (d : DomainCode) : Type 0 where
-  pub code : IsCodeOf rules (code_of d.code)
-  pub nodes : d.rules.items ≡ rule_nodes (code_of d.code)
-
--- the index behind the tree of a node; where there is no node, the index itself
-abbrev pub next_tree : Option Laid → ℕ → ℕ
-next_tree None i = i
-next_tree (Some l) i = l.to
-
--- the index past so many trees from one on, as far as there are nodes
-abbrev pub past : List Laid → ℕ → ℕ → ℕ
-past nodes i zero = i
-past nodes i (suc n) = past nodes (next_tree (slice_get nodes i) i) n
 
 -- the precondition of an operator, or of the branch of a method that has this number
 abbrev pub precondition_by : ℕ → syntax.Rule → Option syntax.Precondition
 precondition_by branch (syntax.Does o) = Some o.pre
 precondition_by branch (syntax.Refines m) = option_map (λ b. b.pre) (slice_get m.branches branch)
 precondition_by branch (syntax.Concludes x) = None
+
+-- a rule asks for what another one does: they have the same head, variables and preconditions
+pub record AsksAlike (r s : syntax.Rule) : Type 0 where
+  pub head : head_of r ≡ head_of s
+  pub vars : vars_of r ≡ vars_of s
+  pub preconditions : (branch : ℕ) → precondition_by branch r ≡ precondition_by branch s
+
+-- in a code of rules with the same axioms, the rule of a node asks for what the rule of this place does
+pub record ServesFor (rules : List syntax.Rule) (rule : ℕ) (c : CodeView) (node : ℕ) : Type 0 where
+  pub others : List syntax.Rule
+  pub code : IsCodeOf others c
+  pub axioms : axioms_of others ≡ axioms_of rules
+  pub place : ℕ
+  pub node_at : slice_get (rule_nodes c) place ≡ Some node
+  pub own : syntax.Rule
+  pub own_at : slice_get rules rule ≡ Some own
+  pub other : syntax.Rule
+  pub other_at : slice_get others place ≡ Some other
+  pub alike : AsksAlike own other
 
 -- the rule of a node has this precondition there
 pub record HasPrecondition (c : CodeView) (i branch : ℕ) (p : syntax.Precondition) : Type 0 where
@@ -55,9 +57,11 @@ pub record StandBetween (c : CodeView) (first end : ℕ) (parts : List syntax.Ex
   pub range : AreExpressionsIn c first end
   pub are : expressions_in c first end ≡ Some (as_expressions parts)
 
--- the parts of a conjunction stand in a code of rules, as it holds them, and so does its head
+-- the parts of a conjunction stand in a code of rules with the same axioms, as it holds them, and so does its head
 pub record StandIn (rules : List syntax.Rule) (code : CodeView) (c : Conjunction) (x : Conjuncts) : Type 0 where
-  pub of : IsCodeOf rules code
+  pub others : List syntax.Rule
+  pub of : IsCodeOf others code
+  pub axioms : axioms_of others ≡ axioms_of rules
   pub rule : syntax.Rule
   pub is : beside x.rule (rule_nodes code) (rules_in code) ≡ Some rule
   pub head : head_of rule ≡ c.head

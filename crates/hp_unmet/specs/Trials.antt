@@ -6,10 +6,11 @@ use Rattle.hp_syntax.specs.Syntax as syntax
 use Rattle.hp_syntax.specs.Terms.{Term}
 use Rattle.hp_syntax.specs.Views.{atom_of, domain_of, expression_of}
 use Rattle.hp_code.specs.Codes.{code_of}
+use Rattle.hp_choice.specs.Asking.{past}
+use Rattle.hp_choice.specs.declared.asking.Prefix.{Prefix}
 use Rattle.hp_unmet.specs.Conjunctions.{Conjunction, answer_of, answer_where, found, matched}
-use Rattle.hp_unmet.specs.PartNodes.{StandIn, past}
+use Rattle.hp_unmet.specs.PartNodes.{StandIn}
 use Rattle.hp_unmet.specs.declared.parts.Parts.{Parts}
-use Rattle.hp_unmet.specs.declared.trial.Prefix.{Prefix}
 use Rattle.hp_unmet.specs.declared.trial.Trial.{Trial}
 use Rattle.hp_unmet.specs.declared.unmet.Unmet.{Unmet}
 

@@ -8,6 +8,5 @@ mod said;
 mod trial;
 mod unmet;
 
-pub use nodes::{DomainCode, domain_code};
 pub use parts::part_at;
 pub use unmet::{Unmet, first_unmet, is_told_apart};

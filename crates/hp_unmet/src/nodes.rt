@@ -1,68 +1,21 @@
-//! Where the parts of preconditions stand in the code of a domain.
-ghost use Rattle.std.specs.Prelude.{◌≡◌, ◌<◌, ◌^◌, ◌+◌, ◌≤◌, IfOk, List, None, Some, length, slice_get};
+//! Where the parts of preconditions stand in a code.
+ghost use Rattle.std.specs.Prelude.{◌≡◌, ◌<◌, List, Some, length, slice_get};
+ghost use Rattle.hp_choice.specs.Asking as plain;
 ghost use Rattle.hp_code.specs.Codes.{code_of};
-ghost use Rattle.hp_code.specs.CodeViews.{rule_nodes};
 ghost use Rattle.hp_nodes.specs.NodeViews.{laid_of};
 ghost use Rattle.hp_precondition.specs.PreconditionNodes.{precondition_at};
-ghost use Rattle.hp_syntax.specs.Checks.{domain_faults, first_of};
-ghost use Rattle.hp_syntax.specs.Numbered.{IsNumberedDomain};
 ghost use Rattle.hp_syntax.specs.Syntax.{Expression, Precondition};
-ghost use Rattle.hp_syntax.specs.Views.{domain_of};
-ghost use Rattle.hp_unmet.specs.PartNodes as plain;
-ghost use Rattle.hp_unmet.specs.PartNodes.{AsksFor, HasPrecondition, IsDomainCode, StandBetween};
+ghost use Rattle.hp_unmet.specs.PartNodes.{AsksFor, HasPrecondition, StandBetween};
 
 use hp_choice::Conjuncts;
-use hp_code::{Code, CodeNode, Op, lower};
-use hp_syntax::Domain;
-use std::alloc::{AllocError, Global};
-
-/// The code of a domain, and the nodes of its rules in their order.
-pub struct DomainCode {
-    pub code: Code,
-    pub rules: Vec<usize>,
-}
-
-impl Drop for DomainCode {
-    fn drop(self) {
-        let DomainCode { code, rules } = self;
-        drop(code);
-        drop(rules);
-    }
-}
+use hp_code::{Code, CodeNode, Op};
 
 /// The node of an index.
 fn node_at(code: &Code, node: usize) -> &CodeNode
     requires { node < length (code_of code.now).nodes }
     ensures is { slice_get (code_of code.now).nodes node ≡ Some (laid_of result.now) }
-    ensures small { node + 1 < 2 ^ 64 }
 {
-    let nodes = code.nodes();
-    let _ = nodes.len();
-    &nodes[node]
-}
-
-/// The nodes of the rules of a code, in their order.
-fn rule_nodes(alloc: Global, code: &Code) -> Result<Vec<usize>, AllocError>
-    ensures { IfOk result (λ v. v.items ≡ rule_nodes (code_of code.now)) }
-{
-    let mut rules = Vec::new(alloc);
-    let mut next = 0;
-    while next < code.nodes().len() {
-        rules.push(next)?;
-        next = node_at(code, next).to;
-    }
-    Ok(rules)
-}
-
-/// The code of a domain, with the nodes of its rules.
-pub fn domain_code(alloc: Global, domain: &Domain) -> Result<DomainCode, AllocError>
-    requires numbered { IsNumberedDomain (domain_of domain.now) }
-    requires checked { first_of (domain_faults (domain_of domain.now)) ≡ None }
-    ensures { IfOk result (IsDomainCode (domain_of domain.now).rules) }
-{
-    let code = lower(alloc, domain)?;
-    let rules = rule_nodes(alloc, &code)?;
-    Ok(DomainCode { code, rules })
+    &code.nodes()[node]
 }
 
 /// The index behind the tree of a node; where there is no node, the index itself.

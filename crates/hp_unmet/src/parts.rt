@@ -1,6 +1,6 @@
 //! The parts of the preconditions of a domain.
 ghost use Rattle.std.specs.Prelude.{◌≡◌, map, option_map};
-ghost use Rattle.hp_syntax.specs.Views.{atom_of, branch_of, domain_of, expression_of, method_of, operator_of, precondition_of, rule_of};
+ghost use Rattle.hp_syntax.specs.Views.{branch_of, domain_of, expression_of, method_of, operator_of, precondition_of, rule_of};
 ghost use Rattle.hp_relaxed.specs.Giving.{body_of};
 ghost use Rattle.hp_unmet.specs.Conjunctions as plain;
 ghost use Rattle.hp_unmet.specs.Trials.{conjunction_of};

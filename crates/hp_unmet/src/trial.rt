@@ -1,19 +1,21 @@
 //! Trials, which tell what the first parts of a conjunction come to where a walk stands.
-ghost use Rattle.std.specs.Prelude.{◌≡◌, ◌+◌, ◌≤◌, true, IfOk, length};
+ghost use Rattle.std.specs.Prelude.{◌≡◌, ◌+◌, ◌≤◌, None, true, IfOk, IfSome, length};
 ghost use Rattle.hp_choice.specs.Asking.{finding_of};
+ghost use Rattle.hp_syntax.specs.Events.{Satisfied};
+ghost use Rattle.hp_unmet.specs.Conjunctions.{matched};
 ghost use Rattle.hp_unmet.specs.States.{InStateOf};
-ghost use Rattle.hp_unmet.specs.Trials.{CanBeTried, IsPrefix, is_satisfied, tried};
+ghost use Rattle.hp_unmet.specs.Trials.{CanBeTried, IsPrefix, conjunction_of, is_satisfied, task_tried, tried};
 
 use crate::nodes::past;
 use crate::parts::Parts;
-use hp_choice::{Conjuncts, Finding};
+use hp_choice::{Conjuncts, Finding, Prefix};
 use hp_code::Code;
 use hp_search::Planner;
 use hp_syntax::{AtomPat, Domain};
 use std::alloc::AllocError;
 
 /// The first parts of a conjunction are looked for where its head matches a task, which has no variables and no calls:
-/// by the nodes of the parts in a code of the domain.
+/// by the nodes of the parts in a code of rules whose axioms are the domain's.
 #[derive(Clone, Copy)]
 pub struct Trial<'a> {
     pub domain: &'a Domain,
@@ -23,26 +25,8 @@ pub struct Trial<'a> {
     pub task: &'a AtomPat,
 }
 
-/// So many of the first parts of a trial, and the index of the code behind them.
-#[derive(Clone, Copy)]
-pub struct Prefix {
-    pub count: usize,
-    pub end: usize,
-}
-
 impl Trial<'_> {
-    /// None of the parts.
-    pub fn none(&self) -> Prefix
-        ensures prefix { IsPrefix self.now result }
-        ensures count { result.count ≡ 0 }
-    {
-        Prefix {
-            count: 0,
-            end: self.nodes.first,
-        }
-    }
-
-    /// All of them.
+    /// All parts.
     pub fn all(&self) -> Prefix
         requires can { CanBeTried self.now }
         ensures prefix { IsPrefix self.now result }
@@ -54,7 +38,7 @@ impl Trial<'_> {
         }
     }
 
-    /// So many more than some of them.
+    /// So many more than some of the first parts.
     pub fn more(&self, prefix: Prefix, more: usize) -> Prefix
         requires prefix { IsPrefix self.now prefix }
         requires within { prefix.count + more ≤ length self.now.asked.parts.now }
@@ -66,6 +50,20 @@ impl Trial<'_> {
             count: prefix.count + more,
             end: past(self.code, prefix.end, more),
         }
+    }
+
+    /// The first parts that are satisfied one after another; none where the head doesn't match the task.
+    pub fn along(&self, walk: &mut Planner<'_>) -> Result<Option<Prefix>, AllocError>
+        requires can { CanBeTried self.now }
+        requires live { walk.old.live ≡ true }
+        ensures prefix { IfOk result (λ o. IfSome o (IsPrefix self.now)) }
+        ensures met { IfOk result (λ o. IfSome o
+            (λ p. InStateOf walk.old (λ nest state. tried self.now nest state p.count ≡ Satisfied))) }
+        ensures none { IfOk result (λ o. o ≡ None
+            → InStateOf walk.old (λ nest state. matched (conjunction_of self.now.asked) (task_tried self.now) ≡ None)) }
+        ensures same { walk.new ≡ walk.old }
+    {
+        walk.ask_along(self.code, self.nodes, self.task)
     }
 
     /// What so many of the first parts come to, by one question to a walk, in the state of the node at which it stands.

@@ -1,20 +1,22 @@
 //! The first part that nothing satisfies.
-ghost use Rattle.std.specs.Prelude.{◌≡◌, ◌+◌, ◌-◌, ◌<◌, ◌≤◌, true, IfOk, Some, length};
+ghost use Rattle.std.specs.Prelude.{◌≡◌, ◌+◌, ◌-◌, ◌<◌, ◌≤◌, true, IfOk, length};
+ghost use Rattle.hp_code.specs.Codes.{code_of};
 ghost use Rattle.hp_syntax.specs.Events.{Satisfied, Nothing};
 ghost use Rattle.hp_syntax.specs.GroundPatterns.{IsGroundAtom, atom_said};
 ghost use Rattle.hp_syntax.specs.GroundViews.{ground_of};
 ghost use Rattle.hp_syntax.specs.Views.{atom_of, domain_of};
-ghost use Rattle.hp_unmet.specs.Conjunctions.{asked_in, first_unmet, is_told_apart};
+ghost use Rattle.hp_unmet.specs.Conjunctions.{first_unmet, is_told_apart};
 ghost use Rattle.hp_unmet.specs.Halving.{IsBetween};
-ghost use Rattle.hp_unmet.specs.PartNodes.{IsDomainCode};
+ghost use Rattle.hp_unmet.specs.PartNodes.{ServesFor};
 ghost use Rattle.hp_unmet.specs.States.{InStateOf};
-ghost use Rattle.hp_unmet.specs.Trials.{CanBeTried, IsFirstMissing, IsPrefix, answer_matched, answer_tried, conjunction_of, rules_tried, tried};
+ghost use Rattle.hp_unmet.specs.Trials.{CanBeTried, IsFirstMissing, IsPrefix, answer_matched, answer_tried, tried};
 
-use crate::nodes::{DomainCode, parts_asked};
-use crate::parts::{Parts, asked_in};
+use crate::nodes::parts_asked;
+use crate::parts::asked_in;
 use crate::said::to_atom;
-use crate::trial::{Prefix, Trial};
-use hp_choice::Finding;
+use crate::trial::Trial;
+use hp_choice::{Finding, Prefix};
+use hp_code::Code;
 use hp_search::Planner;
 use hp_syntax::{AtomPat, Domain, Ground};
 use std::alloc::{AllocError, Global};
@@ -43,26 +45,31 @@ struct Between {
     unmet: usize,
 }
 
-/// How far the next number is from one of two: half of the way, or as far as that one is from none, where this is
-/// nearer. So few questions find a part that is one of the first.
-fn step_from(low: usize, high: usize) -> usize
-    requires { low + 1 < high }
+/// How far the next number is from the lower of two: a step, but no more than half of the way.
+fn step_from(step: usize, low: usize, high: usize) -> usize
+    requires some { 0 < step }
+    requires apart { low + 1 < high }
     ensures some { 0 < result }
     ensures below { low + result < high }
 {
-    let half = (high - low) / 2;
-    if low < half { low.max(1) } else { half }
+    step.min((high - low) / 2)
 }
 
 impl Trial<'_> {
-    /// Two such numbers that are nearer to each other.
-    fn nearer(&self, walk: &mut Planner<'_>, between: Between) -> Result<Between, AllocError>
+    /// Two such numbers that are nearer to each other, by asking for a step more, or for half of those between.
+    fn nearer(
+        &self,
+        walk: &mut Planner<'_>,
+        between: Between,
+        step: usize,
+    ) -> Result<Between, AllocError>
         requires can { CanBeTried self.now }
         requires live { walk.old.live ≡ true }
         requires held { InStateOf walk.old
             (λ nest state. IsBetween (tried self.now nest state) (length self.now.asked.parts.now) between) }
         requires prefix { IsPrefix self.now between.met }
         requires apart { between.met.count + 1 < between.unmet }
+        requires some { 0 < step }
         requires within { between.unmet ≤ length self.now.asked.parts.now }
         ensures held { IfOk result (λ b. InStateOf walk.old
             (λ nest state. IsBetween (tried self.now nest state) (length self.now.asked.parts.now) b)) }
@@ -72,7 +79,8 @@ impl Trial<'_> {
         ensures within { IfOk result (λ b. b.unmet ≤ length self.now.asked.parts.now) }
         ensures same { walk.new ≡ walk.old }
     {
-        let middle = self.more(between.met, step_from(between.met.count, between.unmet));
+        let more = step_from(step, between.met.count, between.unmet);
+        let middle = self.more(between.met, more);
         let is_met = self.is_met(walk, middle)?;
         if is_met {
             Ok(Between {
@@ -87,12 +95,13 @@ impl Trial<'_> {
         }
     }
 
-    /// The place of the first part with which nothing is found: where some first parts aren't satisfied, no more of
-    /// them are.
-    fn first_missing(&self, walk: &mut Planner<'_>) -> Result<usize, AllocError>
+    /// The place of the first part with which nothing is found, behind some first parts that are satisfied: where some
+    /// first parts aren't, no more of them are. One part more is asked for first, then twice as many more each time.
+    fn first_missing(&self, walk: &mut Planner<'_>, met: Prefix) -> Result<usize, AllocError>
         requires can { CanBeTried self.now }
         requires live { walk.old.live ≡ true }
-        requires first { InStateOf walk.old (λ nest state. tried self.now nest state 0 ≡ Satisfied) }
+        requires prefix { IsPrefix self.now met }
+        requires met { InStateOf walk.old (λ nest state. tried self.now nest state met.count ≡ Satisfied) }
         requires all { InStateOf walk.old
             (λ nest state. tried self.now nest state (length self.now.asked.parts.now) ≡ Nothing) }
         ensures missing { IfOk result (λ place. InStateOf walk.old
@@ -100,38 +109,24 @@ impl Trial<'_> {
         ensures same { walk.new ≡ walk.old }
     {
         let mut between = Between {
-            met: self.none(),
+            met,
             unmet: self.asked.parts.len(),
         };
+        let mut step = 1;
         while between.met.count + 1 < between.unmet {
-            let nearer = self.nearer(walk, between)?;
+            let nearer = self.nearer(walk, between, step)?;
             between = nearer;
+            step = step.saturating_mul(2);
         }
         Ok(between.met.count)
     }
 
-    // Nothing is found with all parts: that may be because the head doesn't match.
-    fn missing(&self, walk: &mut Planner<'_>) -> Result<Unmet, AllocError>
+    /// The answer where some first parts are satisfied: by a question for all parts, and some more.
+    fn answer_of_all(&self, walk: &mut Planner<'_>, met: Prefix) -> Result<Unmet, AllocError>
         requires can { CanBeTried self.now }
         requires live { walk.old.live ≡ true }
-        requires all { InStateOf walk.old
-            (λ nest state. tried self.now nest state (length self.now.asked.parts.now) ≡ Nothing) }
-        ensures answer { IfOk result (λ u. InStateOf walk.old (λ nest state. u ≡ answer_matched self.now nest state)) }
-        ensures same { walk.new ≡ walk.old }
-    {
-        let is_met = self.is_met(walk, self.none())?;
-        if is_met {
-            let place = self.first_missing(walk)?;
-            Ok(Unmet::Part(place))
-        } else {
-            Ok(Unmet::None)
-        }
-    }
-
-    /// The answer where two parts and more are asked for: by a question for all of them, and some more.
-    fn answer_of_parts(&self, walk: &mut Planner<'_>) -> Result<Unmet, AllocError>
-        requires can { CanBeTried self.now }
-        requires live { walk.old.live ≡ true }
+        requires prefix { IsPrefix self.now met }
+        requires met { InStateOf walk.old (λ nest state. tried self.now nest state met.count ≡ Satisfied) }
         ensures answer { IfOk result (λ u. InStateOf walk.old (λ nest state. u ≡ answer_matched self.now nest state)) }
         ensures same { walk.new ≡ walk.old }
     {
@@ -139,7 +134,43 @@ impl Trial<'_> {
             Finding::Satisfied => Ok(Unmet::None),
             Finding::Faulty(_) => Ok(Unmet::Unknown),
             Finding::Undecided => Ok(Unmet::Unknown),
-            Finding::Nothing => self.missing(walk),
+            Finding::Nothing => {
+                let place = self.first_missing(walk, met)?;
+                Ok(Unmet::Part(place))
+            }
+        }
+    }
+
+    /// The answer where some first parts are satisfied, and more are asked for: mostly one more tells it.
+    fn answer_behind(&self, walk: &mut Planner<'_>, met: Prefix) -> Result<Unmet, AllocError>
+        requires can { CanBeTried self.now }
+        requires live { walk.old.live ≡ true }
+        requires prefix { IsPrefix self.now met }
+        requires met { InStateOf walk.old (λ nest state. tried self.now nest state met.count ≡ Satisfied) }
+        requires fewer { met.count < length self.now.asked.parts.now }
+        ensures answer { IfOk result (λ u. InStateOf walk.old (λ nest state. u ≡ answer_matched self.now nest state)) }
+        ensures same { walk.new ≡ walk.old }
+    {
+        let next = self.more(met, 1);
+        match self.found(walk, next)? {
+            Finding::Satisfied => self.answer_of_all(walk, next),
+            Finding::Faulty(_) => Ok(Unmet::Unknown),
+            Finding::Undecided => Ok(Unmet::Unknown),
+            Finding::Nothing => Ok(Unmet::Part(met.count)),
+        }
+    }
+
+    /// The answer where two parts and more are asked for.
+    fn answer_of_parts(&self, walk: &mut Planner<'_>) -> Result<Unmet, AllocError>
+        requires can { CanBeTried self.now }
+        requires live { walk.old.live ≡ true }
+        ensures answer { IfOk result (λ u. InStateOf walk.old (λ nest state. u ≡ answer_matched self.now nest state)) }
+        ensures same { walk.new ≡ walk.old }
+    {
+        match self.along(walk)? {
+            Some(met) if met.count < self.asked.parts.len() => self.answer_behind(walk, met),
+            Some(_) => Ok(Unmet::None),
+            None => Ok(Unmet::None),
         }
     }
 
@@ -167,43 +198,16 @@ pub fn is_told_apart(domain: &Domain, rule: usize, branch: usize) -> bool
     }
 }
 
-/// Parts of a precondition that are told apart, as they are tried for a task.
-fn trial_of<'a>(
-    domain: &'a Domain,
-    own: &'a DomainCode,
-    asked: Parts<'a>,
-    rule: usize,
-    branch: usize,
-    task: &'a AtomPat,
-) -> Trial<'a>
-    requires code { IsDomainCode (domain_of domain.now).rules own.now }
-    requires asked { asked_in (domain_of domain.now).rules rule branch ≡ Some (conjunction_of asked) }
-    requires apart { 2 ≤ length asked.parts.now }
-    requires ground { IsGroundAtom (atom_of task.now) }
-    ensures can { CanBeTried result }
-    ensures rules { rules_tried result ≡ (domain_of domain.now).rules }
-    ensures asked { result.asked ≡ asked.entry }
-    ensures task { result.task.now ≡ task.now }
-{
-    let nodes = parts_asked(&own.code, own.rules[rule], branch);
-    Trial {
-        domain,
-        asked,
-        code: &own.code,
-        nodes,
-        task,
-    }
-}
-
 fn unmet_in(
     domain: &Domain,
-    own: &DomainCode,
+    code: &Code,
+    node: usize,
     rule: usize,
     branch: usize,
     walk: &mut Planner<'_>,
     task: &AtomPat,
 ) -> Result<Unmet, AllocError>
-    requires code { IsDomainCode (domain_of domain.now).rules own.now }
+    requires code { ServesFor (domain_of domain.now).rules rule (code_of code.now) node }
     requires apart { is_told_apart (domain_of domain.now).rules rule branch ≡ true }
     requires live { walk.old.live ≡ true }
     requires ground { IsGroundAtom (atom_of task.now) }
@@ -213,7 +217,14 @@ fn unmet_in(
 {
     match asked_in(domain, rule, branch) {
         Some(asked) => {
-            let trial = trial_of(domain, own, asked, rule, branch, task);
+            let nodes = parts_asked(code, node, branch);
+            let trial = Trial {
+                domain,
+                asked,
+                code,
+                nodes,
+                task,
+            };
             trial.answer(walk)
         }
         None => Ok(Unmet::None),
@@ -221,21 +232,25 @@ fn unmet_in(
 }
 
 /// What of the precondition of an operator, or of a branch of a method, is satisfied where the head matches a task, in
-/// the state of the node at which a walk stands: the rule and the branch are told by their places in the domain, of
-/// which there is a code. Axioms may call one another as deep as in the walk, which stays as it is, after an error too.
+/// the state of the node at which a walk stands: the rule and the branch are told by their places in the domain. It is
+/// asked by the nodes of a code that serves for the domain's: its rule of that node asks for what the domain's does,
+/// and its axioms are the domain's. Axioms may call one another as deep as in the walk, which stays as it is, after an
+/// error too.
 ///
-/// Where parts are told apart, the walk is asked for all of them together. Where nothing satisfies these it is asked
-/// for fewer: about twice as often as the number of those that are satisfied has binary digits.
+/// Where parts are told apart, the walk goes along them once, each by its first satisfier, and then it is asked for one
+/// part more: mostly that tells the answer. Where these are satisfied too it is asked for all of them, for twice as
+/// many more again and again, and for numbers between.
 pub fn first_unmet(
     alloc: Global,
     domain: &Domain,
-    own: &DomainCode,
+    code: &Code,
+    node: usize,
     rule: usize,
     branch: usize,
     walk: &mut Planner<'_>,
     task: &Ground,
 ) -> Result<Unmet, AllocError>
-    requires code { IsDomainCode (domain_of domain.now).rules own.now }
+    requires code { ServesFor (domain_of domain.now).rules rule (code_of code.now) node }
     requires live { walk.old.live ≡ true }
     ensures unmet { IfOk result (λ u. InStateOf walk.old
         (λ nest state. u ≡ first_unmet (domain_of domain.now).rules nest state (ground_of task.now) rule branch)) }
@@ -245,7 +260,7 @@ pub fn first_unmet(
         return Ok(Unmet::None);
     }
     match to_atom(alloc, task)? {
-        Some(atom) => unmet_in(domain, own, rule, branch, walk, &atom),
+        Some(atom) => unmet_in(domain, code, node, rule, branch, walk, &atom),
         None => Ok(Unmet::None),
     }
 }

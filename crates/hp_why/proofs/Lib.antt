@@ -10,6 +10,7 @@ pub mod OwnEnds
 pub mod QuietLemmas
 pub mod CutSteps
 pub mod ReasonSteps
+pub mod ServedTwins
 pub mod StateSteps
 pub mod JudgedSteps
 pub mod OwnPartSteps

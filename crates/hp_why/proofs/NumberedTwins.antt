@@ -1,5 +1,5 @@
 -- The rules that are kept of the twin of a numbered domain are numbered, and the checks find nothing in them.
-use Rattle.std.proofs.Common.{◌≡◌, ℕ, Bool, true, false, cond, List, [], ◌∷◌, ◌++◌, length, map, Option, Some, None, refl, ◌∙◌, ap, ap₂}
+use Rattle.std.proofs.Common.{◌≡◌, ℕ, Bool, true, false, cond, List, [], ◌∷◌, ◌++◌, length, map, Option, Some, None, refl, ap, ap₂}
 use Rattle.std.specs.Prelude.{nat_lt, flat_map}
 use Rattle.std.specs.List.{All}
 use Rattle.std.proofs.lemmas.List.Elements.{All-nil, All-cons, All-append, All-filter, All-map, All-weaker}
@@ -15,7 +15,8 @@ use Rattle.hp_relaxed.proofs.CheckedLemmas.{twin_checked}
 use Rattle.hp_relaxed.specs.Keeping.{is_kept, kept, kept_twin}
 use Rattle.hp_lint.specs.declared.uses.Use.{Use}
 use Rattle.hp_lint.specs.Branches.{expression_span}
-use Rattle.hp_relaxed.specs.Giving.{all_giving_up, body_of, branch_given, branch_giving_up, giving_up, if_fewer, left_of, left_of_branch, left_of_operator, listed, needed_by, operator_given, operator_with, parts_of, payer, price_at, relaxed_rules, staying, stays, surely_bound, toll_of, with_body, with_parts}
+use Rattle.hp_nodes.specs.Varied.{operator_with}
+use Rattle.hp_relaxed.specs.Giving.{all_giving_up, body_of, branch_given, branch_giving_up, giving_up, if_fewer, left_of, left_of_branch, left_of_operator, listed, needed_by, operator_given, parts_of, payer, price_at, relaxed_rules, staying, stays, surely_bound, toll_of, with_body, with_parts}
 use Rattle.hp_relaxed.specs.Twins.{free_cost, free_rule, twin}
 
 module _ (count : ℕ) where
@@ -174,10 +175,10 @@ kept_clean omits (r ∷ rs) h =
     by false own others = others
 
 -- and the checks find nothing in them where they find nothing in the domain and the problem
-pub relaxed_checked : (omits : List ℕ → Bool) (d x : Domain) (p : Problem) → x.rules ≡ kept_twin omits d p
-    → first_of (domain_faults d ++ problem_faults d p) ≡ None → first_of (domain_faults x) ≡ None
+pub relaxed_checked : (omits : List ℕ → Bool) (d : Domain) (p : Problem)
+    → first_of (domain_faults d ++ problem_faults d p) ≡ None
+    → first_of (flat_map rule_faults (kept_twin omits d p)) ≡ None
 unfolding domain_faults
-relaxed_checked omits d x p e h =
-    ap (λ rs. first_of (flat_map rule_faults rs)) e
-    ∙ ap first_of (kept_clean omits (relaxed_rules d p)
+relaxed_checked omits d p h =
+    ap first_of (kept_clean omits (relaxed_rules d p)
     (none_found _ (accepted_is_checked (record d { rules = relaxed_rules d p }) p (twin_checked d p h))))

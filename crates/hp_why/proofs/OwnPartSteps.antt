@@ -40,7 +40,7 @@ use Rattle.hp_why.proofs.StateSteps.{stays}
 -- ---- rules that give something up
 
 -- a number at which something stands in a list is less than its length
-within : {A : Type 0} (xs : List A) (i : ℕ) → is_some (slice_get xs i) ≡ true → i < length xs
+pub within : {A : Type 0} (xs : List A) (i : ℕ) → is_some (slice_get xs i) ≡ true → i < length xs
 within [] i h = absurd cc
 within (x ∷ xs) zero h = omega arith
 within (x ∷ xs) (suc i) h = let rest = within xs i h in omega arith

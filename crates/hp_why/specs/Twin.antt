@@ -2,11 +2,9 @@
 use Rattle.std.specs.Prelude.{◌≡◌, ◌≢◌, ◌+◌, ◌-◌, ◌^◌, ◌<◌, ◌≤◌, ℕ, nat_le, Bool, true, false, cond, List, [], ◌∷◌, ◌++◌, length, map, slice_get, take, Option, Some, None, option_map}
 use Rattle.std.specs.List.{All}
 use Rattle.hp_syntax.specs.declared.limits.TheConstants.{GREATEST_DEPTH, MOST_LEVELS}
-use Rattle.hp_syntax.specs.Checks.{domain_faults, first_of}
 use Rattle.hp_syntax.specs.Events.{State}
 use Rattle.hp_syntax.specs.GroundPatterns.{IsGroundPair}
 use Rattle.hp_syntax.specs.GroundViews.{ground_of}
-use Rattle.hp_syntax.specs.Numbered.{IsNumberedDomain}
 use Rattle.hp_syntax.specs.Syntax.{Rule}
 use Rattle.hp_syntax.specs.Views.{domain_of, pair_of}
 use Rattle.hp_syntax.specs.Terms.{Term}
@@ -21,12 +19,13 @@ use Rattle.hp_best.specs.Bounded.{IsCheapestOf, IsFound}
 use Rattle.hp_after.specs.declared.reaching.Reached.TheVariants as reached
 use Rattle.hp_after.specs.Reach.{reaching}
 use Rattle.hp_code.specs.Codes.{code_of}
-use Rattle.hp_code.specs.CodeViews.{IsCodeOf, rules_in}
+use Rattle.hp_code.specs.CodeViews.{IsCodeOf, rule_nodes, rules_in}
 use Rattle.hp_relaxed.specs.declared.given.Origin.{Origin}
 use Rattle.hp_relaxed.specs.Keeping.{AreEnough, kept, kept_origins, kept_twin}
 use Rattle.hp_way.specs.declared.ways.Deed as held
 use Rattle.hp_way.specs.Ways.{Deed, HoldsPlanOf, LeadAlong}
 use Rattle.hp_unmet.specs.Conjunctions.{first_unmet}
+use Rattle.hp_unmet.specs.PartNodes.{ServesFor}
 use Rattle.hp_unmet.specs.declared.unmet.Unmet.{Unmet}
 use Rattle.hp_unmet.specs.declared.unmet.Unmet.TheVariants as unmets
 use Rattle.hp_why.specs.declared.twin.Twin.{Twin}
@@ -46,13 +45,20 @@ tree_of t = record {
 abbrev pub visits_of : Twin → List Visit
 visits_of t = visits (rules_in (code_of t.code.now)) t.nest (root (pair_of t.pair.now) t.depth) []
 
+-- the twin's code has a node whose rule asks for what the rule does from which a precondition comes
+pub record IsServed (t : Twin) (o : Origin) : Type 0 where
+  pub place : ℕ
+  pub place_is : slice_get t.places.now o.rule ≡ Some place
+  pub node : ℕ
+  pub node_is : slice_get (rule_nodes (code_of t.code.now)) place ≡ Some node
+  pub serves : ServesFor (domain_of t.domain.now).rules o.rule (code_of t.code.now) node
+
 -- a twin can be searched
 pub record CanSearch (t : Twin) : Type 0 where
-  pub numbered : IsNumberedDomain (domain_of t.domain.now)
-  pub checked : first_of (domain_faults (domain_of t.domain.now)) ≡ None
   pub pair : IsGroundPair (pair_of t.pair.now)
   pub depth : t.depth ≤ GREATEST_DEPTH
   pub nest : t.nest ≤ MOST_LEVELS
+  pub served : (number : ℕ) (o : Origin) → slice_get t.origins.now number ≡ Some o → IsServed t o
 
 -- a twin is that of the domain of which is asked, without some rules that no task of the problem comes to
 pub record IsTwinOf (a : Asked) (t : Twin) : Type 0 where

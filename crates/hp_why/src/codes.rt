@@ -3,20 +3,20 @@ ghost use Rattle.std.specs.Prelude.{◌≡◌, ◌++◌, None, true, IfOk, OnOk,
 ghost use Rattle.hp_syntax.specs.Checks.{domain_faults, first_of, problem_faults};
 ghost use Rattle.hp_syntax.specs.Numbered.{IsNumberedDomain};
 ghost use Rattle.hp_syntax.specs.Views.{domain_of, problem_of};
-ghost use Rattle.hp_why.specs.Coded.{AreCodesOf, IsOwnIf, IsTwinCodeOf};
+ghost use Rattle.hp_why.specs.Coded.{AreCodesOf, IsTwinCodeOf};
 
 use crate::pricing::costs_numbers;
 use hp_code::{Code, lower};
-use hp_relaxed::{Origin, relaxed};
+use hp_relaxed::{Origin, Relaxed, relaxed};
 use hp_syntax::{Domain, Problem};
-use hp_unmet::{DomainCode, domain_code};
 use std::alloc::{AllocError, Global};
 
-/// The code of a domain's twin, how many of its rules give nothing up, where those behind them come from, and whether
-/// it is priced.
+/// The code of a domain's twin, how many of its rules give nothing up, the place among these of each rule of the domain
+/// that is kept, where those behind them come from, and whether it is priced.
 pub struct TwinCode {
     pub code: Code,
     pub own: usize,
+    pub places: Vec<usize>,
     pub origins: Vec<Origin>,
     pub is_priced: bool,
 }
@@ -26,10 +26,12 @@ impl Drop for TwinCode {
         let TwinCode {
             code,
             own: _,
+            places,
             origins,
             is_priced: _,
         } = self;
         drop(code);
+        drop(places);
         drop(origins);
     }
 }
@@ -37,7 +39,7 @@ impl Drop for TwinCode {
 /// The code of a domain's twin, and that of the domain as soon as a pair needs it.
 pub struct Codes {
     pub twin: TwinCode,
-    pub own: Option<DomainCode>,
+    pub own: Option<Code>,
 }
 
 impl Drop for Codes {
@@ -55,14 +57,19 @@ fn twin_code(alloc: Global, domain: &Domain, problem: &Problem) -> Result<TwinCo
         ++ problem_faults (domain_of domain.now) (problem_of problem.now)) ≡ None }
     ensures { IfOk result (IsTwinCodeOf (domain_of domain.now) (problem_of problem.now)) }
 {
-    let twin = relaxed(alloc, domain, problem)?;
-    let code = lower(alloc, &twin.domain)?;
-    let own = twin.own;
+    let Relaxed {
+        rules,
+        own,
+        places,
+        origins,
+    } = relaxed(alloc, domain, problem)?;
+    let code = rules.code(alloc)?;
     let is_priced = costs_numbers(domain);
     Ok(TwinCode {
         code,
         own,
-        origins: twin.into_origins(),
+        places,
+        origins,
         is_priced,
     })
 }
@@ -78,22 +85,24 @@ pub fn codes_of(alloc: Global, domain: &Domain, problem: &Problem) -> Result<Cod
     Ok(Codes { twin, own: None })
 }
 
-/// Makes the code of a domain, where there is none yet.
+/// Makes the code of the domain, where there is none yet.
 pub fn know_own(
     alloc: Global,
     domain: &Domain,
-    own: &mut Option<DomainCode>,
+    problem: &Problem,
+    codes: &mut Codes,
 ) -> Result<(), AllocError>
     requires numbered { IsNumberedDomain (domain_of domain.now) }
-    requires checked { first_of (domain_faults (domain_of domain.now)) ≡ None }
-    requires known { IsOwnIf (domain_of domain.now) own.old }
-    ensures known { OnOk result (IsOwnIf (domain_of domain.now) own.new) }
-    ensures there { OnOk result (is_some own.new ≡ true) }
+    requires checked { first_of (domain_faults (domain_of domain.now)
+        ++ problem_faults (domain_of domain.now) (problem_of problem.now)) ≡ None }
+    requires known { AreCodesOf (domain_of domain.now) (problem_of problem.now) codes.old }
+    ensures known { OnOk result (AreCodesOf (domain_of domain.now) (problem_of problem.now) codes.new) }
+    ensures there { OnOk result (is_some codes.new.own ≡ true) }
 {
-    if own.is_some() {
+    if codes.own.is_some() {
         return Ok(());
     }
-    let made = domain_code(alloc, domain)?;
-    *own = Some(made);
+    let own = lower(alloc, domain)?;
+    codes.own = Some(own);
     Ok(())
 }

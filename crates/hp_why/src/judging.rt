@@ -5,8 +5,6 @@ ghost use Rattle.hp_best.specs.Bounded.{IsCheapestOf, IsFound, NeverFalls};
 ghost use Rattle.hp_laws.specs.TreeLaws.{IsFaultless};
 ghost use Rattle.hp_net.specs.Standings.{standing};
 ghost use Rattle.hp_search.specs.Planned.{stands_planned, tree_planned};
-ghost use Rattle.hp_syntax.specs.Views.{domain_of};
-ghost use Rattle.hp_why.specs.Coded.{IsOwnIf};
 ghost use Rattle.hp_why.specs.OwnPart.{AnswersByPart};
 ghost use Rattle.hp_why.specs.Twin.{Answers, CanSearch, Judged, JudgedBest, JudgedNone, JudgedPath, tree_of, visits_of};
 
@@ -17,7 +15,6 @@ use crate::twin::{Twin, restart};
 use crate::verdict::Verdict;
 use hp_best::{BestEnd, Chosen, Found, best};
 use hp_search::Planner;
-use hp_unmet::DomainCode;
 use hp_way::{Way, way_by};
 use std::alloc::{AllocError, Global};
 
@@ -52,17 +49,14 @@ fn is_exact(path: &[u64]) -> bool
 fn judge_path(
     alloc: Global,
     twin: &Twin,
-    own: &mut Option<DomainCode>,
     walk: &mut Planner,
     path: &[u64],
     is_cut: bool,
 ) -> Result<Verdict, AllocError>
     requires search { CanSearch twin.now }
-    requires known { IsOwnIf (domain_of twin.now.domain.now) own.old }
     requires live { walk.old.live ≡ true }
     requires tree { tree_planned walk.old ≡ tree_of twin.now }
-    ensures judged { IfOk result (JudgedPath twin.now path.now is_cut) }
-    ensures known { OnOk result (IsOwnIf (domain_of twin.now.domain.now) own.new) }
+    ensures { IfOk result (JudgedPath twin.now path.now is_cut) }
 {
     if !is_exact(path) {
         return Ok(Verdict::Lost);
@@ -70,7 +64,7 @@ fn judge_path(
     restart(twin, walk)?;
     match way_by(alloc, walk, path)? {
         Way::Plan(deeds) => {
-            let reasons = reasons(alloc, twin, own, walk, deeds)?;
+            let reasons = reasons(alloc, twin, walk, deeds)?;
             Ok(Verdict::GivenUp { reasons, is_cut })
         }
         Way::Absent => Ok(Verdict::Lost),
@@ -101,20 +95,17 @@ fn judge_none(
 fn judge_best(
     alloc: Global,
     twin: &Twin,
-    own: &mut Option<DomainCode>,
     walk: &mut Planner,
     best: &Option<Chosen>,
     is_cut: bool,
 ) -> Result<Verdict, AllocError>
     requires search { CanSearch twin.now }
-    requires known { IsOwnIf (domain_of twin.now.domain.now) own.old }
     requires live { walk.old.live ≡ true }
     requires tree { tree_planned walk.old ≡ tree_of twin.now }
-    ensures judged { IfOk result (JudgedBest twin.now best.now is_cut) }
-    ensures known { OnOk result (IsOwnIf (domain_of twin.now.domain.now) own.new) }
+    ensures { IfOk result (JudgedBest twin.now best.now is_cut) }
 {
     match best {
-        Some(chosen) => judge_path(alloc, twin, own, walk, chosen.path.as_slice(), is_cut),
+        Some(chosen) => judge_path(alloc, twin, walk, chosen.path.as_slice(), is_cut),
         None => judge_none(alloc, twin, walk, is_cut),
     }
 }
@@ -122,21 +113,18 @@ fn judge_best(
 fn judge(
     alloc: Global,
     twin: &Twin,
-    own: &mut Option<DomainCode>,
     walk: &mut Planner,
     ending: BestEnd,
     best: &Option<Chosen>,
 ) -> Result<Verdict, AllocError>
     requires search { CanSearch twin.now }
-    requires known { IsOwnIf (domain_of twin.now.domain.now) own.old }
     requires live { walk.old.live ≡ true }
     requires tree { tree_planned walk.old ≡ tree_of twin.now }
-    ensures judged { IfOk result (Judged twin.now ending best.now) }
-    ensures known { OnOk result (IsOwnIf (domain_of twin.now.domain.now) own.new) }
+    ensures { IfOk result (Judged twin.now ending best.now) }
 {
     match ending {
-        BestEnd::End => judge_best(alloc, twin, own, walk, best, false),
-        BestEnd::Cut => judge_best(alloc, twin, own, walk, best, true),
+        BestEnd::End => judge_best(alloc, twin, walk, best, false),
+        BestEnd::Cut => judge_best(alloc, twin, walk, best, true),
         BestEnd::Fault(fault) => Ok(Verdict::TwinFault(fault)),
     }
 }
@@ -146,38 +134,28 @@ fn judge(
 fn search_by(
     alloc: Global,
     twin: &Twin,
-    own: &mut Option<DomainCode>,
     walk: &mut Planner,
     priced: bool,
 ) -> Result<Verdict, AllocError>
     requires search { CanSearch twin.now }
-    requires known { IsOwnIf (domain_of twin.now.domain.now) own.old }
     requires falls { priced ≡ true → NeverFalls (visits_of twin.now) }
     requires live { walk.old.live ≡ true }
     requires tree { tree_planned walk.old ≡ tree_of twin.now }
     requires new { stands_planned walk.old ≡ standing [] (visits_of twin.now) false }
-    ensures answers { IfOk result (Answers twin.now priced) }
-    ensures known { OnOk result (IsOwnIf (domain_of twin.now.domain.now) own.new) }
+    ensures { IfOk result (Answers twin.now priced) }
 {
     let found = cheapest(alloc, twin, walk, priced)?;
-    judge(alloc, twin, own, walk, found.ending, &found.best)
+    judge(alloc, twin, walk, found.ending, &found.best)
 }
 
 /// Looks for the cheapest plan of a twin, and says by it why there is none of the domain.
-pub fn search(
-    alloc: Global,
-    twin: &Twin,
-    own: &mut Option<DomainCode>,
-    priced: bool,
-) -> Result<Verdict, AllocError>
+pub fn search(alloc: Global, twin: &Twin, priced: bool) -> Result<Verdict, AllocError>
     requires search { CanSearch twin.now }
-    requires known { IsOwnIf (domain_of twin.now.domain.now) own.old }
     requires falls { priced ≡ true → NeverFalls (visits_of twin.now) }
-    ensures answers { IfOk result (Answers twin.now priced) }
-    ensures known { OnOk result (IsOwnIf (domain_of twin.now.domain.now) own.new) }
+    ensures { IfOk result (Answers twin.now priced) }
 {
     let mut walk = Planner::new(alloc, twin.code, twin.pair, twin.depth, twin.nest)?;
-    search_by(alloc, twin, own, &mut walk, priced)
+    search_by(alloc, twin, &mut walk, priced)
 }
 
 /// The same, where the part of the twin's tree in which nothing is given up holds neither a plan nor a fault; where it
@@ -185,20 +163,17 @@ pub fn search(
 pub fn search_by_part(
     alloc: Global,
     twin: &Twin,
-    own: &mut Option<DomainCode>,
     priced: bool,
 ) -> Result<Option<Verdict>, AllocError>
     requires search { CanSearch twin.now }
-    requires known { IsOwnIf (domain_of twin.now.domain.now) own.old }
     requires falls { priced ≡ true → NeverFalls (visits_of twin.now) }
-    ensures answers { IfOk result (AnswersByPart twin.now priced) }
-    ensures known { OnOk result (IsOwnIf (domain_of twin.now.domain.now) own.new) }
+    ensures { IfOk result (AnswersByPart twin.now priced) }
 {
     let mut walk = Planner::new(alloc, twin.code, twin.pair, twin.depth, twin.nest)?;
     match part_end(twin, &mut walk)? {
         PartEnd::Neither => {
             restart(twin, &mut walk)?;
-            let verdict = search_by(alloc, twin, own, &mut walk, priced)?;
+            let verdict = search_by(alloc, twin, &mut walk, priced)?;
             Ok(Some(verdict))
         }
         PartEnd::Plan => Ok(Some(Verdict::Plan)),

@@ -10,7 +10,7 @@ ghost use Rattle.hp_syntax.specs.GroundPatterns.{IsGroundPair};
 ghost use Rattle.hp_syntax.specs.Numbered.{IsNumberedDomain};
 ghost use Rattle.hp_syntax.specs.Syntax as plain;
 ghost use Rattle.hp_syntax.specs.Views.{domain_of, pair_of, problem_of};
-ghost use Rattle.hp_why.specs.Coded.{AreCodesOf, IsOwnIf, IsTwinCodeOf};
+ghost use Rattle.hp_why.specs.Coded.{AreCodesOf, IsTwinCodeOf};
 ghost use Rattle.hp_why.specs.Twin.{CanSearch, IsTwinOf};
 ghost use Rattle.hp_why.specs.Whys.{IsUnplanned, IsWhy, IsWhyIf, asked, own_visits};
 
@@ -32,7 +32,6 @@ use crate::twin::Twin;
 pub use crate::verdict::{Reason, Verdict};
 use hp_shallow::ShallowEnd;
 use hp_syntax::{Domain, Pair, Problem};
-use hp_unmet::DomainCode;
 use std::alloc::{AllocError, Global};
 
 /// The twin of a domain, as it is searched for a pair.
@@ -43,15 +42,15 @@ fn twin_of<'a>(
     depth: u32,
     nest: u32,
 ) -> Twin<'a>
-    ensures search { IsNumberedDomain (domain_of domain.now) → first_of (domain_faults (domain_of domain.now)) ≡ None
+    ensures search { (p : plain.Problem) → IsTwinCodeOf (domain_of domain.now) p twin.now
         → IsGroundPair (pair_of pair.now) → depth ≤ GREATEST_DEPTH → nest ≤ MOST_LEVELS → CanSearch result }
-    ensures domain { result.domain.now ≡ domain.now }
     ensures twin { (p : plain.Problem) → IsTwinCodeOf (domain_of domain.now) p twin.now
         → IsTwinOf (asked (domain_of domain.now) p (pair_of pair.now) depth nest) result }
 {
     Twin {
         domain,
         code: &twin.code,
+        places: twin.places.as_slice(),
         origins: twin.origins.as_slice(),
         own: twin.own,
         pair,
@@ -66,28 +65,22 @@ fn why_by(
     domain: &Domain,
     problem: &Problem,
     twin: &TwinCode,
-    own: &mut Option<DomainCode>,
     pair: &Pair,
     depth: u32,
     nest: u32,
 ) -> Result<Verdict, AllocError>
-    requires numbered { IsNumberedDomain (domain_of domain.now) }
-    requires checked { first_of (domain_faults (domain_of domain.now)
-        ++ problem_faults (domain_of domain.now) (problem_of problem.now)) ≡ None }
     requires contained { Contains (problem_of problem.now).pairs (pair_of pair.now) }
     requires pair { IsGroundPair (pair_of pair.now) }
     requires depth { depth ≤ GREATEST_DEPTH }
     requires nest { nest ≤ MOST_LEVELS }
     requires twin { IsTwinCodeOf (domain_of domain.now) (problem_of problem.now) twin.now }
-    requires known { IsOwnIf (domain_of domain.now) own.old }
     requires unplanned { IsUnplanned
         (asked (domain_of domain.now) (problem_of problem.now) (pair_of pair.now) depth nest) }
-    ensures why { IfOk result (IsWhy
+    ensures { IfOk result (IsWhy
         (asked (domain_of domain.now) (problem_of problem.now) (pair_of pair.now) depth nest)) }
-    ensures known { OnOk result (IsOwnIf (domain_of domain.now) own.new) }
 {
     let searched = twin_of(domain, twin, pair, depth, nest);
-    search(alloc, &searched, own, twin.is_priced)
+    search(alloc, &searched, twin.is_priced)
 }
 
 /// Whether a pair has a plan, and where it has none, why, as far as the part of the twin's tree in which nothing is
@@ -97,26 +90,20 @@ fn why_by_part(
     domain: &Domain,
     problem: &Problem,
     twin: &TwinCode,
-    own: &mut Option<DomainCode>,
     pair: &Pair,
     depth: u32,
     nest: u32,
 ) -> Result<Option<Verdict>, AllocError>
-    requires numbered { IsNumberedDomain (domain_of domain.now) }
-    requires checked { first_of (domain_faults (domain_of domain.now)
-        ++ problem_faults (domain_of domain.now) (problem_of problem.now)) ≡ None }
     requires contained { Contains (problem_of problem.now).pairs (pair_of pair.now) }
     requires pair { IsGroundPair (pair_of pair.now) }
     requires depth { depth ≤ GREATEST_DEPTH }
     requires nest { nest ≤ MOST_LEVELS }
     requires twin { IsTwinCodeOf (domain_of domain.now) (problem_of problem.now) twin.now }
-    requires known { IsOwnIf (domain_of domain.now) own.old }
-    ensures why { IfOk result (IsWhyIf
+    ensures { IfOk result (IsWhyIf
         (asked (domain_of domain.now) (problem_of problem.now) (pair_of pair.now) depth nest)) }
-    ensures known { OnOk result (IsOwnIf (domain_of domain.now) own.new) }
 {
     let searched = twin_of(domain, twin, pair, depth, nest);
-    search_by_part(alloc, &searched, own, twin.is_priced)
+    search_by_part(alloc, &searched, twin.is_priced)
 }
 
 /// How the walk of a pair by the domain's own rules ends, whose code is made if it isn't there.
@@ -140,9 +127,9 @@ fn own_ending(
         (asked (domain_of domain.now) (problem_of problem.now) (pair_of pair.now) depth nest))).ending) }
     ensures known { OnOk result (AreCodesOf (domain_of domain.now) (problem_of problem.now) codes.new) }
 {
-    know_own(alloc, domain, &mut codes.own)?;
+    know_own(alloc, domain, problem, codes)?;
     match &codes.own {
-        Some(own) => own_end(alloc, domain, &own.code, pair, depth, nest),
+        Some(own) => own_end(alloc, domain, own, pair, depth, nest),
         // It was just made.
         None => unreachable!(),
     }
@@ -178,7 +165,6 @@ fn why_walked(
             domain,
             problem,
             &codes.twin,
-            &mut codes.own,
             pair,
             depth,
             nest,
@@ -209,16 +195,7 @@ pub fn why_with(
         (asked (domain_of domain.now) (problem_of problem.now) (pair_of pair.now) depth nest)) }
     ensures known { OnOk result (AreCodesOf (domain_of domain.now) (problem_of problem.now) codes.new) }
 {
-    match why_by_part(
-        alloc,
-        domain,
-        problem,
-        &codes.twin,
-        &mut codes.own,
-        pair,
-        depth,
-        nest,
-    )? {
+    match why_by_part(alloc, domain, problem, &codes.twin, pair, depth, nest)? {
         Some(verdict) => Ok(verdict),
         None => why_walked(alloc, domain, problem, codes, pair, depth, nest),
     }

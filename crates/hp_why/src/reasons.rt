@@ -4,17 +4,17 @@ ghost use Rattle.std.specs.List.{filter_map};
 ghost use Rattle.hp_search.specs.Planned.{stands_planned, tree_planned};
 ghost use Rattle.hp_syntax.specs.GroundViews.{ground_of};
 ghost use Rattle.hp_syntax.specs.Views.{domain_of};
-ghost use Rattle.hp_why.specs.Coded.{IsOwnIf};
+ghost use Rattle.hp_code.specs.Codes.{code_of};
+ghost use Rattle.hp_unmet.specs.PartNodes.{ServesFor};
 ghost use Rattle.hp_why.specs.Twin as plain;
-ghost use Rattle.hp_why.specs.Twin.{CanSearch, GoesUp, tree_of, unmets_from};
+ghost use Rattle.hp_why.specs.Twin.{CanSearch, GoesUp, IsServed, tree_of, unmets_from};
 
-use crate::codes::know_own;
 use crate::twin::Twin;
 use crate::verdict::Reason;
 use hp_relaxed::Origin;
 use hp_search::Planner;
 use hp_syntax::Ground;
-use hp_unmet::{DomainCode, Unmet, first_unmet, is_told_apart};
+use hp_unmet::{Unmet, first_unmet, is_told_apart};
 use hp_way::Deed;
 use std::alloc::{AllocError, Global};
 
@@ -28,27 +28,35 @@ pub fn origin_at(rule: usize, own: usize, origins: &[Origin]) -> Option<Origin>
     origins.get(rule - own).copied()
 }
 
+/// The node of the twin's rule that stands for the one from which a precondition comes.
+fn served_by(twin: &Twin, origin: Origin) -> usize
+    requires { IsServed twin.now origin }
+    ensures { ServesFor (domain_of twin.now.domain.now).rules origin.rule (code_of twin.now.code.now) result }
+{
+    match twin.code.rule_at(twin.places[origin.rule]) {
+        Some(node) => node,
+        // It is kept, so the code has a node for it.
+        None => unreachable!(),
+    }
+}
+
 /// What of a precondition is satisfied in the state of the node that so many of the first numbers of the walk's path
-/// reach. The walk goes back to that node, or stays where no parts of the precondition are told apart. The code of the
-/// domain is made as soon as it is needed.
+/// reach. The walk goes back to that node, or stays where no parts of the precondition are told apart.
 fn unmet_at(
     alloc: Global,
     twin: &Twin,
-    own: &mut Option<DomainCode>,
     walk: &mut Planner,
     count: usize,
     origin: Origin,
     task: &Ground,
 ) -> Result<Unmet, AllocError>
-    requires search { CanSearch twin.now }
-    requires known { IsOwnIf (domain_of twin.now.domain.now) own.old }
+    requires served { IsServed twin.now origin }
     requires within { count ≤ length (stands_planned walk.old).path }
     requires live { walk.old.live ≡ true }
     requires tree { tree_planned walk.old ≡ tree_of twin.now }
     ensures unmet { IfOk result (λ u. u
         ≡ plain.unmet_at twin.now (stands_planned walk.old).path count (Some origin) (ground_of task.now)) }
     ensures up { GoesUp count (stands_planned walk.old).path (stands_planned walk.new).path }
-    ensures known { OnOk result (IsOwnIf (domain_of twin.now.domain.now) own.new) }
     ensures tree { tree_planned walk.new ≡ tree_of twin.now }
     ensures live { walk.new.live ≡ true }
 {
@@ -56,47 +64,37 @@ fn unmet_at(
         return Ok(Unmet::None);
     }
     walk.rise_to(count);
-    know_own(alloc, twin.domain, own)?;
-    match own {
-        Some(own) => {
-            let unmet = first_unmet(
-                alloc,
-                twin.domain,
-                own,
-                origin.rule,
-                origin.branch,
-                walk,
-                task,
-            )?;
-            Ok(unmet)
-        }
-        // It was just made.
-        None => unreachable!(),
-    }
+    first_unmet(
+        alloc,
+        twin.domain,
+        twin.code,
+        served_by(twin, origin),
+        origin.rule,
+        origin.branch,
+        walk,
+        task,
+    )
 }
 
 /// What of the precondition is satisfied that a deed gives up there; where it gives up none, nothing is asked.
 fn unmet_in(
     alloc: Global,
     twin: &Twin,
-    own: &mut Option<DomainCode>,
     walk: &mut Planner,
     count: usize,
     deed: &Deed,
 ) -> Result<Unmet, AllocError>
     requires search { CanSearch twin.now }
-    requires known { IsOwnIf (domain_of twin.now.domain.now) own.old }
     requires within { count ≤ length (stands_planned walk.old).path }
     requires live { walk.old.live ≡ true }
     requires tree { tree_planned walk.old ≡ tree_of twin.now }
     ensures unmet { IfOk result (λ u. u ≡ plain.unmet_in twin.now (stands_planned walk.old).path count deed.now) }
     ensures up { GoesUp count (stands_planned walk.old).path (stands_planned walk.new).path }
-    ensures known { OnOk result (IsOwnIf (domain_of twin.now.domain.now) own.new) }
     ensures tree { tree_planned walk.new ≡ tree_of twin.now }
     ensures live { walk.new.live ≡ true }
 {
     match origin_at(deed.rule, twin.own, twin.origins) {
-        Some(origin) => unmet_at(alloc, twin, own, walk, count, origin, &deed.task),
+        Some(origin) => unmet_at(alloc, twin, walk, count, origin, &deed.task),
         None => Ok(Unmet::None),
     }
 }
@@ -106,21 +104,18 @@ fn unmet_in(
 fn unmets(
     alloc: Global,
     twin: &Twin,
-    own: &mut Option<DomainCode>,
     walk: &mut Planner,
     deeds: &[Deed],
 ) -> Result<Vec<Unmet>, AllocError>
     requires search { CanSearch twin.now }
-    requires known { IsOwnIf (domain_of twin.now.domain.now) own.old }
     requires along { length deeds.now ≤ length (stands_planned walk.old).path }
     requires live { walk.old.live ≡ true }
     requires tree { tree_planned walk.old ≡ tree_of twin.now }
-    ensures unmets { IfOk result (λ v. v.items ≡ unmets_from twin.now (stands_planned walk.old).path 0 deeds.now) }
-    ensures known { OnOk result (IsOwnIf (domain_of twin.now.domain.now) own.new) }
+    ensures { IfOk result (λ v. v.items ≡ unmets_from twin.now (stands_planned walk.old).path 0 deeds.now) }
 {
     let mut unmets = Vec::with_capacity(alloc, deeds.len())?;
     for count in (0..deeds.len()).rev() {
-        let unmet = unmet_in(alloc, twin, own, walk, count, &deeds[count])?;
+        let unmet = unmet_in(alloc, twin, walk, count, &deeds[count])?;
         unmets.push(unmet)?;
     }
     unmets.reverse();
@@ -165,20 +160,16 @@ fn reasons_with(
 pub fn reasons(
     alloc: Global,
     twin: &Twin,
-    own: &mut Option<DomainCode>,
     walk: &mut Planner,
     deeds: Vec<Deed>,
 ) -> Result<Vec<Reason>, AllocError>
     requires search { CanSearch twin.now }
-    requires known { IsOwnIf (domain_of twin.now.domain.now) own.old }
     requires along { length deeds.items ≤ length (stands_planned walk.old).path }
     requires live { walk.old.live ≡ true }
     requires tree { tree_planned walk.old ≡ tree_of twin.now }
-    ensures reasons { IfOk result (λ v. v.items ≡ filter_map (plain.reason_in twin.now.own twin.now.origins.now)
+    ensures { IfOk result (λ v. v.items ≡ filter_map (plain.reason_in twin.now.own twin.now.origins.now)
         (zip deeds.items (unmets_from twin.now (stands_planned walk.old).path 0 deeds.items))) }
-    ensures known { OnOk result (IsOwnIf (domain_of twin.now.domain.now) own.new) }
 {
-    let unmets = unmets(alloc, twin, own, walk, deeds.as_slice())?;
-    let reasons = reasons_with(alloc, deeds, unmets, twin.own, twin.origins)?;
-    Ok(reasons)
+    let unmets = unmets(alloc, twin, walk, deeds.as_slice())?;
+    reasons_with(alloc, deeds, unmets, twin.own, twin.origins)
 }

@@ -11,12 +11,14 @@ use hp_search::Planner;
 use hp_syntax::{Domain, Pair};
 use std::alloc::AllocError;
 
-/// The domain; the code of its twin, how many of the twin's rules give nothing up, and where those behind them come
-/// from; the pair, the depth and how deep axioms may call one another.
+/// The domain; the code of its twin, how many of the twin's rules give nothing up, the place among these of each rule
+/// of the domain that is kept, and where those behind them come from; the pair, the depth and how deep axioms may call
+/// one another.
 #[derive(Clone, Copy)]
 pub struct Twin<'a> {
     pub domain: &'a Domain,
     pub code: &'a Code,
+    pub places: &'a [usize],
     pub origins: &'a [Origin],
     pub own: usize,
     pub pair: &'a Pair,

@@ -1,13 +1,8 @@
 use Rattle.std.proofs.Common.{subst}
-use Rattle.hp_laws.proofs.FaultLemmas.{accepted_is_checked}
-use Rattle.hp_syntax.specs.Views.{domain_of, problem_of}
+use Rattle.hp_syntax.specs.Views.{domain_of}
 use Rattle.hp_why.specs.Coded.{IsOwnIf}
 use Rattle.hp_why.proofs.own_ending.Goals as goal
 
-pub know_own-requires-clause-checked : goal.know_own-requires-clause-checked
-know_own-requires-clause-checked c =
-    accepted_is_checked (domain_of c.args.domain.now) (problem_of c.args.problem.now) c.requires.checked
-
 pub own_end-requires-clause-code : goal.own_end-requires-clause-code
 own_end-requires-clause-code c =
-    (subst (IsOwnIf (domain_of c.args.domain.now)) c.in-Some.is c.in_ok-know_own.ensures.known).code
+    subst (IsOwnIf (domain_of c.args.domain.now)) c.in-Some.is c.in_ok-know_own.ensures.known.own

@@ -2,7 +2,6 @@ use Rattle.std.proofs.Common.{◌≡◌, Bool, Option, Some, None, inl, inr, sym
 use Rattle.std.specs.Prelude.{Contains}
 use Rattle.hp_best.specs.Bounded.{is_priced}
 use Rattle.hp_syntax.specs.Views.{domain_of, pair_of, problem_of}
-use Rattle.hp_laws.proofs.FaultLemmas.{accepted_is_checked}
 use Rattle.hp_why.specs.declared.twin.Twin.{Twin}
 use Rattle.hp_why.specs.declared.verdict.Verdict.{Verdict}
 use Rattle.hp_why.specs.OwnPart.{AnswersByPart}
@@ -24,9 +23,8 @@ part_right a t priced contained is e (Some v) (inr h) =
 
 pub search_by_part-requires-clause-search : goal.search_by_part-requires-clause-search
 search_by_part-requires-clause-search c =
-    c.twin_of-searched.ensures.search c.requires.numbered
-    (accepted_is_checked (domain_of c.args.domain.now) (problem_of c.args.problem.now) c.requires.checked)
-    c.requires.pair c.requires.depth c.requires.nest
+    c.twin_of-searched.ensures.search (problem_of c.args.problem.now) c.requires.twin c.requires.pair c.requires.depth
+    c.requires.nest
 
 pub search_by_part-requires-clause-falls : goal.search_by_part-requires-clause-falls
 search_by_part-requires-clause-falls c = λ e.
@@ -35,11 +33,11 @@ search_by_part-requires-clause-falls c = λ e.
     twin_never_falls (asked d p (pair_of c.args.pair.now) c.args.depth c.args.nest) c.twin_of-searched.result
     c.requires.contained (c.twin_of-searched.ensures.twin p c.requires.twin) (sym c.requires.twin.priced ∙ e)
 
-pub returns-clause-why : goal.returns-clause-why
-returns-clause-why c =
+pub returns : goal.returns
+returns c =
     let d = domain_of c.args.domain.now in
     let p = problem_of c.args.problem.now in
     let a = asked d p (pair_of c.args.pair.now) c.args.depth c.args.nest in
-    ok_weaker _ _ c.search_by_part.result c.search_by_part.ensures.answers
+    ok_weaker _ _ c.search_by_part.result c.search_by_part.ensures
     (part_right a c.twin_of-searched.result c.args.twin.now.is_priced c.requires.contained
     (c.twin_of-searched.ensures.twin p c.requires.twin) c.requires.twin.priced)

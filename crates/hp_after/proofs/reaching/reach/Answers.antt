@@ -1,14 +1,19 @@
-use Rattle.std.proofs.Common.{◌∙◌, refl, subst}
+use Rattle.std.proofs.Common.{◌∙◌, refl, subst, sym}
 use Rattle.hp_net.specs.Standings.{tree_visits}
 use Rattle.hp_after.proofs.Arrivals.{arrives, searched_from, searched_on, stands_there}
 use Rattle.hp_after.proofs.PlanLemmas.{told_found, told_only}
+use Rattle.hp_after.proofs.SteppingLemmas.{tree_follows}
 use Rattle.hp_after.specs.Reach.{Coming}
 use Rattle.hp_after.specs.Reaching.{Knows, Turned}
+use Rattle.hp_after.specs.Stepping.{AllFollow}
 use Rattle.hp_after.proofs.reaching.reach.Goals as goal
 
 pub loop-answer-init : goal.loop-answer-init
 loop-answer-init g c = record {
   searched = searched_from c.args.target.now (g.W.Walk.tree c.args.walk.now) _ c.requires.new;
+  follow =
+      subst (AllFollow c.args.target.now) (sym c.requires.new)
+      (tree_follows (g.W.Walk.tree c.args.walk.now) c.args.target.now);
   tree = refl;
   live = c.requires.live;
 }
@@ -24,6 +29,7 @@ loop-answer-preserved g c =
           (subst (λ o. (k : Coming) → Knows c.loop-answer.expansions k
           → Turned c.args.target.now o c.go_on.new.expansions k vs t) c.in_default.is
           c.in_ok-answer.ensures.turned);
+      follow = c.in_ok-answer.ensures.follow c.in_default.is;
       tree = c.go_on.ensures.tree ∙ c.loop-answer.invariant.tree;
       live = c.in_ok-answer.ensures.live;
     }

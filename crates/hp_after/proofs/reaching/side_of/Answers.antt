@@ -1,30 +1,34 @@
-use Rattle.std.proofs.Common.{◌≡◌, ◌∙◌, length, refl, sym, arith, rules}
-use Rattle.hp_after.proofs.SideLemmas.{before_here, beyond_end, beyond_here, same_here, side_on}
+use Rattle.std.proofs.Common.{refl, sym}
+use Rattle.std.proofs.lemmas.Cmp.{ranked}
+use Rattle.hp_after.proofs.StepSides.{above_by_length, before_level, beginning_level, beyond_level, here_by_length, past_level}
 use Rattle.hp_after.proofs.reaching.side_of.Goals as goal
 
 pub returns-in_default : goal.returns-in_default
 returns-in_default c =
-    let none : length c.loop-number.rest.now ≡ 0 = search rules in
-    sym (beyond_end c.args.path.now c.loop-number.number-index c.loop-number.rest.now (omega arith) none)
-    ∙ c.loop-number.invariant
+    sym (beyond_level c.args.path.now c.args.target.now c.requires c.in_default.ensures.lookup.3)
 
-pub returns-then-number-other : goal.returns-then-number-other
-returns-then-number-other c =
-    sym (side_on c.args.path.now c.loop-number.number-index _ c.loop-number.rest.now c.in-Some.other.now
-    c.in-Some.behind.now (omega arith) refl c.in-Some.ensures.cases.0
-    ∙ before_here _ c.in-Some.other.now _ c.if-number-other.true)
-    ∙ c.loop-number.invariant
+pub returns-in-Less : goal.returns-in-Less
+returns-in-Less c =
+    let at = c.in-Some.ensures.lookup.3 in
+    sym (before_level c.args.path.now c.args.target.now c.requires _ c.in-Some.wanted.now at.0 refl (at.1 0)
+    (ranked _ c.in-Some.wanted.now _ c.in-Less.ensures))
 
-pub returns-then-other-number : goal.returns-then-other-number
-returns-then-other-number c =
-    sym (side_on c.args.path.now c.loop-number.number-index _ c.loop-number.rest.now c.in-Some.other.now
-    c.in-Some.behind.now (omega arith) refl c.in-Some.ensures.cases.0
-    ∙ beyond_here _ c.in-Some.other.now _ c.if-other-number.true)
-    ∙ c.loop-number.invariant
+pub returns-in-Greater : goal.returns-in-Greater
+returns-in-Greater c =
+    let at = c.in-Some.ensures.lookup.3 in
+    sym (past_level c.args.path.now c.args.target.now c.requires _ c.in-Some.wanted.now at.0 refl (at.1 0)
+    (ranked _ c.in-Some.wanted.now _ c.in-Greater.ensures))
 
-pub loop-number-preserved : goal.loop-number-preserved
-loop-number-preserved c =
-    sym (side_on c.args.path.now c.loop-number.number-index _ c.loop-number.rest.now c.in-Some.other.now
-    c.in-Some.behind.now (omega arith) refl c.in-Some.ensures.cases.0
-    ∙ same_here _ c.in-Some.other.now _ c.if-number-other.false c.if-other-number.false)
-    ∙ c.loop-number.invariant
+pub returns-in-Equal : goal.returns-in-Equal
+returns-in-Equal c =
+    let at = c.in-Some.ensures.lookup.3 in
+    sym (here_by_length c.args.path.now c.args.target.now
+    (beginning_level c.args.path.now c.args.target.now c.requires _ c.in-Some.wanted.now at.0 refl (at.1 0)
+    (ranked _ c.in-Some.wanted.now _ c.in-Equal.ensures)) c.if-path-target.true)
+
+pub returns-in-Equal-2 : goal.returns-in-Equal-2
+returns-in-Equal-2 c =
+    let at = c.in-Some.ensures.lookup.3 in
+    sym (above_by_length c.args.path.now c.args.target.now
+    (beginning_level c.args.path.now c.args.target.now c.requires _ c.in-Some.wanted.now at.0 refl (at.1 0)
+    (ranked _ c.in-Some.wanted.now _ c.in-Equal.ensures)) c.if-path-target.false)

@@ -1,4 +1,4 @@
-use Rattle.std.proofs.Common.{◌≡◌, ◌≤◌, Option, None, Some, length, ap, ap₂, sym, subst, ◌∙◌}
+use Rattle.std.proofs.Common.{◌≤◌, Option, Some, length, ap, sym, subst, ◌∙◌}
 use Rattle.std.proofs.lemmas.Result.{IfOk-weaker}
 use Rattle.hp_syntax.specs.declared.limits.TheConstants.{MOST_VARIABLES}
 use Rattle.hp_syntax.specs.Events.{State, finding}
@@ -7,9 +7,7 @@ use Rattle.hp_syntax.specs.Syntax.{And}
 use Rattle.hp_syntax.specs.Values.{Bindings, unbound}
 use Rattle.hp_syntax.specs.Views.{atom_of}
 use Rattle.hp_answers.specs.AnswerViews.{MeetsHead}
-use Rattle.hp_nodes.specs.Compiled.{vars_of}
 use Rattle.hp_code.specs.CodeViews.{rules_in}
-use Rattle.hp_code.proofs.CodeLemmas.{vars_found}
 use Rattle.hp_eval.specs.GoalViews.{term_at}
 use Rattle.hp_eval.specs.Slotted.{bindings_of}
 use Rattle.hp_eval.proofs.GrowthLemmas.{terms_stay}
@@ -17,7 +15,8 @@ use Rattle.hp_suspended.specs.SceneViews.{code_in, setting_of}
 use Rattle.hp_suspended.specs.Settings.{state_in}
 use Rattle.hp_suspended.proofs.CallLemmas.{atoms_grow, knows_grow}
 use Rattle.hp_world.specs.Stages.{live_atoms}
-use Rattle.hp_choice.specs.Asking.{events_under, head_of}
+use Rattle.hp_choice.specs.Asking.{events_under}
+use Rattle.hp_choice.proofs.HeadLemmas.{rule_matches}
 use Rattle.hp_choice.proofs.RuleReadings.{few_of_rule}
 use Rattle.hp_choice.proofs.asking.ask.Goals as goal
 
@@ -47,19 +46,17 @@ returns-in-Some-clause-found c =
     let code = code_in s in
     let old = c.args.cells.now in
     let new = c.ground_atom.new.cells in
-    let vars = length c.vars-vars.result.now in
+    let vars = c.vars-vars.result.now in
     let t = term_at new c.in_ok-cell.cell in
     let head = atom_of c.head_of.result.now in
-    let met = subst (λ x. MeetsHead new vars x (match_atom head t (unbound vars))) c.in-Some.is
+    let met = subst (λ x. MeetsHead new (length vars) x (match_atom head t (unbound (length vars)))) c.in-Some.is
     c.in_ok-slots.ensures in
     let e = bindings_of new c.in-Some.slots in
     let stay = terms_stay old new c.in_ok-cell.ensures.cells (live_atoms s.world.now.places) c.requires.atoms in
     IfOk-weaker c.found_under.result _ _
     (λ f own r span ps found is.
-    let many = ap length (c.vars-vars.ensures ∙ vars_found code s.code.now.kept c.args.asked.rule r found) in
-    let same = ap₂ (λ a k. match_atom a t (unbound k)) (sym (c.head_of.ensures r found)) (sym many) in
-    let matches = ap (λ x. match_atom (head_of r) x (unbound (length (vars_of r)))) (sym c.in_ok-cell.ensures.term)
-    ∙ same ∙ met.0 in
+    let matches = rule_matches code s.code.now.kept c.args.asked.rule r found vars c.vars-vars.ensures head
+    (c.head_of.ensures r found) _ t c.in_ok-cell.ensures.term ∙ met.0 in
     own span ps is
     ∙ ap (λ (st : State). finding (events_under (rules_in code) c.args.nest st (And span ps) (Some e))) stay
     ∙ ap (λ (o : Option Bindings). finding (events_under (rules_in code) c.args.nest (state_in (setting_of s old))
@@ -72,14 +69,12 @@ returns-in-None-clause-found c = λ r span ps found is.
     let code = code_in s in
     let old = c.args.cells.now in
     let new = c.ground_atom.new.cells in
-    let vars = length c.vars-vars.result.now in
+    let vars = c.vars-vars.result.now in
     let t = term_at new c.in_ok-cell.cell in
     let head = atom_of c.head_of.result.now in
-    let met = subst (λ x. MeetsHead new vars x (match_atom head t (unbound vars))) c.in-None.is
+    let met = subst (λ x. MeetsHead new (length vars) x (match_atom head t (unbound (length vars)))) c.in-None.is
     c.in_ok-slots.ensures in
-    let many = ap length (c.vars-vars.ensures ∙ vars_found code s.code.now.kept c.args.asked.rule r found) in
-    let same = ap₂ (λ a k. match_atom a t (unbound k)) (sym (c.head_of.ensures r found)) (sym many) in
-    let matches = ap (λ x. match_atom (head_of r) x (unbound (length (vars_of r)))) (sym c.in_ok-cell.ensures.term)
-    ∙ same ∙ met in
+    let matches = rule_matches code s.code.now.kept c.args.asked.rule r found vars c.vars-vars.ensures head
+    (c.head_of.ensures r found) _ t c.in_ok-cell.ensures.term ∙ met in
     ap (λ (o : Option Bindings). finding (events_under (rules_in code) c.args.nest (state_in (setting_of s old))
     (And span ps) o)) (sym matches)

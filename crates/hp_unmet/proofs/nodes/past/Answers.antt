@@ -1,7 +1,7 @@
 -- One tree more is passed in each turn.
 use Rattle.std.proofs.Common.{◌≡◌, suc, ◌+◌, ◌-◌, ap, sym, ◌∙◌, arith}
 use Rattle.hp_code.specs.Codes.{code_of}
-use Rattle.hp_unmet.specs.PartNodes as plain
+use Rattle.hp_choice.specs.Asking as plain
 use Rattle.hp_unmet.proofs.nodes.past.Goals as goal
 
 pub loop-preserved : goal.loop-preserved

@@ -1,7 +1,7 @@
 -- The index past all trees is that past those that are left, from where the first of them end.
 use Rattle.std.proofs.Common.{◌≡◌, ◌-◌}
 use Rattle.hp_code.specs.Codes.{code_of}
-use Rattle.hp_unmet.specs.PartNodes as plain
+use Rattle.hp_choice.specs.Asking as plain
 use Rattle.hp_unmet.proofs.nodes.past.Given as goal
 
 abbrev pub invariant-loop : goal.invariant-loop

@@ -21,12 +21,12 @@ reasons-requires-clause-along c =
     c.in_ok-restart.ensures.tree c.in_ok-deeds.ensures.way) in
     omega (arith, same, ap length here)
 
-pub returns-then-not-is_exact-clause-judged : goal.returns-then-not-is_exact-clause-judged
-returns-then-not-is_exact-clause-judged c = λ exact.
+pub returns-then-not-is_exact : goal.returns-then-not-is_exact
+returns-then-not-is_exact c = λ exact.
     absurd (not_less (2 ^ 64 - 1) c.args.path.now (sym c.is_exact.ensures ∙ c.if-not-is_exact.true) exact)
 
-pub returns-in_ok-reasons-in-Plan-clause-judged : goal.returns-in_ok-reasons-in-Plan-clause-judged
-returns-in_ok-reasons-in-Plan-clause-judged c = (
+pub returns-in_ok-reasons-in-Plan : goal.returns-in_ok-reasons-in-Plan
+returns-in_ok-reasons-in-Plan c = (
   refl,
   on_way c.args.twin.now c.args.path.now (stands_planned c.way_by.new.planner).path c.in-Plan.deeds.items
       c.in_ok-reasons-in-Plan.reasons.items
@@ -35,5 +35,5 @@ returns-in_ok-reasons-in-Plan-clause-judged c = (
       c.in_ok-deeds.ensures.stands)
       (way_on c.args.twin.now (tree_planned c.restart.new.walk) c.args.path.now _ _ c.in-Plan.is
       c.in_ok-restart.ensures.tree c.in_ok-deeds.ensures.way)
-      c.in_ok-reasons-in-Plan.ensures.reasons,
+      c.in_ok-reasons-in-Plan.ensures,
 )

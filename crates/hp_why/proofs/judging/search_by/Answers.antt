@@ -1,8 +1,8 @@
 use Rattle.std.proofs.lemmas.Result.{IfOk-weaker}
 use Rattle.hp_why.proofs.judging.search_by.Goals as goal
 
-pub returns-clause-answers : goal.returns-clause-answers
-returns-clause-answers c =
+pub returns : goal.returns
+returns c =
     IfOk-weaker c.judge.result _ _
     (λ v h. record {
       found = c.in_ok-found.found;
@@ -10,4 +10,4 @@ returns-clause-answers c =
       cheapest = c.in_ok-found.ensures.cheapest;
       judged = h;
     })
-    c.judge.ensures.judged
+    c.judge.ensures

@@ -1,4 +1,5 @@
 use Rattle.std.proofs.Common.{sym, ap, ◌∙◌}
+use Rattle.std.proofs.lemmas.Result.{IfOk-weaker}
 use Rattle.hp_search.specs.Planned.{Planned, stands_planned, tree_planned}
 use Rattle.hp_syntax.specs.GroundViews.{ground_of}
 use Rattle.hp_syntax.specs.Views.{domain_of}
@@ -23,9 +24,11 @@ returns-then-not-is_told_apart-clause-up c =
 pub returns-clause-unmet : goal.returns-clause-unmet
 returns-clause-unmet c =
     let t = c.args.twin.now in
-    unmet_there t c.rise_to.new.self (stands_planned c.args.walk.now).path c.args.count c.args.origin
-    (ground_of c.args.task.now) c.in_ok-unmet-in-Some.unmet (c.rise_to.ensures.tree ∙ c.requires.tree)
-    c.rise_to.ensures.path c.rise_to.ensures.node c.in_ok-unmet-in-Some.ensures.unmet
+    IfOk-weaker c.first_unmet.result _ _
+    (λ u h. unmet_there t c.rise_to.new.self (stands_planned c.args.walk.now).path c.args.count c.args.origin
+    (ground_of c.args.task.now) u (c.rise_to.ensures.tree ∙ c.requires.tree) c.rise_to.ensures.path
+    c.rise_to.ensures.node h)
+    c.first_unmet.ensures.unmet
 
 pub returns-clause-up : goal.returns-clause-up
 returns-clause-up c =

@@ -11,7 +11,6 @@ loop-count-init c =
     record {
       unmets = ap reverse c.in_ok-unmets.ensures.items ∙ sym (none_told c.args.twin.now p ds (length ds) (omega arith));
       up = stays_up (length ds) p c.requires.along;
-      known = c.requires.known;
       tree = c.requires.tree;
       live = c.requires.live;
     }
@@ -39,13 +38,12 @@ loop-count-preserved c =
       up =
           further_up next p q c.loop-count.invariant.up count (stands_planned c.unmet_in.new.walk).path
           c.unmet_in.ensures.up;
-      known = c.in_ok-unmet.ensures.known;
       tree = c.unmet_in.ensures.tree;
       live = c.unmet_in.ensures.live;
     }
 
-pub returns-clause-unmets : goal.returns-clause-unmets
-returns-clause-unmets c =
+pub returns : goal.returns
+returns c =
     let last : c.loop-count.count ≡ 0 = omega arith in
     c.reverse.ensures.items
     ∙ (c.loop-count.invariant.unmets

@@ -1,31 +1,22 @@
-use Rattle.std.proofs.Common.{sym, ap, ◌∙◌}
+use Rattle.std.proofs.Common.{◌≡◌, IfSome, length, ◌∙◌, subst, arith}
 use Rattle.std.proofs.lemmas.List.{length-map}
-use Rattle.hp_choice.specs.Asking.{finding_of}
+use Rattle.hp_syntax.specs.Events.{Satisfied}
 use Rattle.hp_syntax.specs.Views.{expression_of}
-use Rattle.hp_unmet.specs.Trials.{conjunction_of, is_in_doubt, rules_tried, task_tried}
-use Rattle.hp_unmet.proofs.AnswerLemmas.{none_unmet, unknown_unmet}
+use Rattle.hp_unmet.specs.States.{InStateOf}
+use Rattle.hp_unmet.specs.Trials.{IsPrefix, conjunction_of, rules_tried, task_tried, tried}
+use Rattle.hp_unmet.proofs.AnswerLemmas.{none_unmet}
 use Rattle.hp_unmet.proofs.trial.Trial.answer_of_parts.Goals as goal
 
-pub returns-in-Satisfied-clause-answer : goal.returns-in-Satisfied-clause-answer
-returns-in-Satisfied-clause-answer c = λ n at.
+pub returns-in-Some-2-clause-answer : goal.returns-in-Some-2-clause-answer
+returns-in-Some-2-clause-answer c = λ n at.
     let s = c.args.self.now in
-    let nest = c.args.walk.now.nest in
-    none_unmet (rules_tried s) nest n.state (conjunction_of s.asked) (task_tried s) c.all.result.count
-    (length-map s.asked.parts.now expression_of ∙ sym c.all.ensures.count)
-    (sym (c.in_ok-found.ensures.found n at) ∙ ap finding_of c.in-Satisfied.is)
-
-pub returns-in-Faulty-clause-answer : goal.returns-in-Faulty-clause-answer
-returns-in-Faulty-clause-answer c = λ n at.
-    let s = c.args.self.now in
-    let nest = c.args.walk.now.nest in
-    unknown_unmet (rules_tried s) nest n.state (conjunction_of s.asked) (task_tried s) c.all.result.count
-    (length-map s.asked.parts.now expression_of ∙ sym c.all.ensures.count)
-    (ap is_in_doubt (sym (c.in_ok-found.ensures.found n at) ∙ ap finding_of c.in-Faulty.is))
-
-pub returns-in-Undecided-clause-answer : goal.returns-in-Undecided-clause-answer
-returns-in-Undecided-clause-answer c = λ n at.
-    let s = c.args.self.now in
-    let nest = c.args.walk.now.nest in
-    unknown_unmet (rules_tried s) nest n.state (conjunction_of s.asked) (task_tried s) c.all.result.count
-    (length-map s.asked.parts.now expression_of ∙ sym c.all.ensures.count)
-    (ap is_in_doubt (sym (c.in_ok-found.ensures.found n at) ∙ ap finding_of c.in-Undecided.is))
+    let w = c.args.walk.now in
+    let prefix : IsPrefix s c.in-Some.met =
+    subst (λ o. IfSome o (IsPrefix s)) c.in-Some.is c.in_ok-met.ensures.prefix in
+    let met : InStateOf w (λ nest state. tried s nest state c.in-Some.met.count ≡ Satisfied) =
+    subst (λ o. IfSome o (λ p. InStateOf w (λ nest state. tried s nest state p.count ≡ Satisfied))) c.in-Some.is
+    c.in_ok-met.ensures.met in
+    let few = prefix.within in
+    let all : length s.asked.parts.now ≡ c.in-Some.met.count = omega (arith, few, c.if-met-self.false) in
+    none_unmet (rules_tried s) w.nest n.state (conjunction_of s.asked) (task_tried s) c.in-Some.met.count
+    (length-map s.asked.parts.now expression_of ∙ all) (met n at)

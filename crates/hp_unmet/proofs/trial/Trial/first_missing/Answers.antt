@@ -9,11 +9,12 @@ pub loop-between-init : goal.loop-between-init
 loop-between-init c = record {
   held = λ n at.
       let s = c.args.self.now in
-      between_all (tried s c.args.walk.now.nest n.state) (length s.asked.parts.now) c.none.result c.none.ensures.count
-      (c.requires.first n at) (c.requires.all n at);
-  prefix = c.none.ensures.prefix;
-  ordered = omega (arith, c.none.ensures.count);
+      between_all (tried s c.args.walk.now.nest n.state) (length s.asked.parts.now) c.args.met c.requires.prefix.within
+      (c.requires.met n at) (c.requires.all n at);
+  prefix = c.requires.prefix;
+  ordered = c.requires.prefix.within;
   within = omega arith;
+  some = omega arith;
   same = refl;
 }
 
@@ -28,6 +29,7 @@ loop-between-preserved c =
       prefix = c.in_ok-nearer.ensures.prefix;
       ordered = c.in_ok-nearer.ensures.ordered;
       within = c.in_ok-nearer.ensures.within;
+      some = omega (arith, c.saturating_mul-step.ensures, c.loop-between.invariant.some);
       same = c.nearer.ensures.same ∙ c.loop-between.invariant.same;
     }
 

@@ -1,4 +1,4 @@
-use Rattle.std.proofs.Common.{◌≡◌, ◌≤◌, ◌-◌, length}
+use Rattle.std.proofs.Common.{◌≡◌, ◌<◌, ◌≤◌, ◌-◌, length}
 use Rattle.hp_unmet.specs.Halving.{IsBetween}
 use Rattle.hp_unmet.specs.States.{InStateOf}
 use Rattle.hp_unmet.specs.Trials.{IsPrefix, tried}
@@ -12,6 +12,7 @@ invariant-loop-between l = record {
   prefix : IsPrefix l.self l.between.met;
   ordered : l.between.met.count ≤ l.between.unmet;
   within : l.between.unmet ≤ length l.self.asked.parts.now;
+  some : 0 < l.step;
   same : l.walk ≡ l.fn.walk;
 }
 

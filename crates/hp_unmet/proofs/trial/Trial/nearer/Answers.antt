@@ -11,8 +11,8 @@ returns-else-is_met-clause-held c = λ n at.
     let middle = c.more-middle.result in
     let nest = c.args.walk.now.nest in
     let found = tried s nest n.state in
-    let some = c.step_from.ensures.some in
-    let apart = c.step_from.ensures.below in
+    let some = c.step_from-more.ensures.some in
+    let apart = c.step_from-more.ensures.below in
     let count = c.more-middle.ensures.count in
     between_lower found (length s.asked.parts.now) c.args.between middle (c.requires.held n at)
     (keeps (rules_tried s) nest n.state (conjunction_of s.asked) (task_tried s))

@@ -1,0 +1,26 @@
+-- The node's rule asks for what the domain's does, so the parts stand where it asks for them.
+use Rattle.std.proofs.Common.{map, option_map, sym, ap, ◌∙◌}
+use Rattle.hp_code.specs.Codes.{code_of}
+use Rattle.hp_code.specs.Lowered.{lowered}
+use Rattle.hp_syntax.specs.Views.{domain_of}
+use Rattle.hp_unmet.specs.Trials.{conjunction_of}
+use Rattle.hp_unmet.proofs.AskedRules.{asks_there, stand_there}
+use Rattle.hp_unmet.proofs.unmet.unmet_in.Goals as goal
+
+pub parts_asked-nodes-requires : goal.parts_asked-nodes-requires
+parts_asked-nodes-requires c =
+    let asked = conjunction_of c.in-Some.asked in (
+      map lowered asked.parts,
+      asks_there (domain_of c.args.domain.now).rules c.args.rule (code_of c.args.code.now) c.args.node c.requires.code
+          c.args.branch asked (sym c.asked_in.ensures ∙ ap (option_map conjunction_of) c.in-Some.is) c.requires.apart,
+    )
+
+pub answer-requires-clause-can : goal.answer-requires-clause-can
+answer-requires-clause-can c = record {
+  stand =
+      stand_there (domain_of c.args.domain.now).rules c.args.rule (code_of c.args.code.now) c.args.node c.requires.code
+      c.args.branch (conjunction_of c.in-Some.asked)
+      (sym c.asked_in.ensures ∙ ap (option_map conjunction_of) c.in-Some.is) c.requires.apart
+      c.parts_asked-nodes.result c.parts_asked-nodes.ensures.rule c.parts_asked-nodes.ensures.parts;
+  ground = c.requires.ground;
+}
