@@ -1,88 +1,108 @@
 -- A whole walk to a path.
-use Rattle.std.proofs.Common.{◌≡◌, ℕ, List, [], ◌∷◌, ◌++◌, Some, None, refl, sym, ap, ◌∙◌, subst, append_assoc}
+use Rattle.std.proofs.Common.{◌≡◌, ℕ, ◌<◌, ◌-◌, ◌^◌, List, ◌∷◌, ◌++◌, refl, sym, ap, ◌∙◌, subst}
 use Rattle.std.specs.List.{All}
-use Rattle.std.proofs.lemmas.List.Elements.{All-head, All-tail}
 use Rattle.hp_laws.proofs.PathLemmas.{visits_in_tree}
-use Rattle.hp_net.specs.Standings.{Tree, Standing, tree_visits}
-use Rattle.hp_syntax.specs.Walk.{Visit, Plan, visit, node_at, count_told}
+use Rattle.hp_net.specs.Standings.{Tree, Standing, IsAtItsNode, tree_visits}
+use Rattle.hp_passes.proofs.PassingLemmas.{IsEnd, Whole, Ended, TurnsAs, passed}
+use Rattle.hp_passes.specs.Passing.{Passes}
+use Rattle.hp_passes.specs.declared.passing.Turn.{Turn}
+use Rattle.hp_passes.specs.declared.passing.Turn.TheVariants.{On, Past, Last}
+use Rattle.hp_syntax.specs.Walk.{Visit, Plan, visit, node_at}
 use Rattle.hp_after.specs.declared.reaching.Arrival.{Arrival}
-use Rattle.hp_after.specs.declared.reaching.Reached.{Reached}
 use Rattle.hp_after.specs.declared.reaching.Reached.TheVariants as reached
-use Rattle.hp_after.specs.Reach.{Coming, nothing_met, IsArrival, IsThere}
-use Rattle.hp_after.specs.Reaching.{Outcome, outcome, Knows, Turned}
+use Rattle.hp_after.specs.declared.reaching.Reaching.{Reaching}
+use Rattle.hp_after.specs.Reach.{Coming, IsArrival, IsThere, nothing_met, reach_turn, reaching}
+use Rattle.hp_after.specs.Reaching.{MeetsReaching, Tells, Turns, knowing}
+use Rattle.hp_after.specs.Stepping.{AllFollow, Follows}
+use Rattle.hp_after.proofs.FollowSteps.{FollowsThen, follows_then}
+use Rattle.hp_after.proofs.PlanLemmas.{Fits, comes_to_plan, fits, in_midst}
+use Rattle.hp_after.proofs.SteppingLemmas.{tree_follows}
 
--- what holds of all holds of one in their midst
-pub in_midst : (P : Visit → Type 0) (before : List Visit) (v : Visit) (after : List Visit)
-    → All P (before ++ v ∷ after) → P v
-in_midst P [] v after a = All-head P v after a
-in_midst P (u ∷ before) v after a = in_midst P before v after (All-tail P u (before ++ v ∷ after) a)
+-- all visits are at their nodes
+pub tree_at : (t : Tree) (vs : List Visit) → vs ≡ tree_visits t → All (IsAtItsNode t) vs
+tree_at t vs e = subst (All (IsAtItsNode t)) (sym e) (visits_in_tree t.rules t.nest t.root)
 
--- a walk midway, by all visits and those that are left
-pub record Searched (p : List ℕ) (n : ℕ) (all rest : List Visit) : Type 0 where
-  pub so_far : Coming
-  pub knows : Knows n so_far
-  pub same : outcome p so_far rest ≡ outcome p nothing_met all
-  pub before : List Visit
-  pub from : all ≡ before ++ rest
+module _ (p : List ℕ) where
+  -- before the visits that are left the plan wasn't met
+  record Knows (k : Coming) (s : Reaching) (c : Unit {0}) (vs : List Visit) : Type 0 where
+    target : s.target.now ≡ p
+    absent : k.answer ≡ reached.Absent
+    tells : Tells s.arrival k
+    follow : AllFollow p vs
 
--- at first all visits are left, and nothing is known
-searched_none : (p : List ℕ) (all : List Visit) → Searched p 0 all all
-searched_none p all = record {
-  so_far = nothing_met;
-  knows = record { answer = refl; expansions = refl };
-  same = refl;
-  before = [];
-  from = refl;
-}
+  -- the last visit was the plan at the path, where the walk came to that
+  record Over (k : Coming) (s : Reaching) (c : Unit {0}) (v : Visit) : Type 0 where
+    tells : Tells s.arrival k
+    at : k.answer ≡ reached.At → (v.sight ≡ Plan) × (v.path ≡ p)
 
-pub searched_from : (p : List ℕ) (t : Tree) (vs : List Visit) → vs ≡ tree_visits t → Searched p 0 (tree_visits t) vs
-searched_from p t vs e = subst (Searched p 0 (tree_visits t)) (sym e) (searched_none p (tree_visits t))
+  module _ (small : All (λ i. i < 2 ^ 64 - 1) p) where
+    turns_as : (s t : Reaching) (c d : Unit {0}) (v : Visit) (vs : List Visit) (x : Turn) (k : Coming)
+        → t.target.now ≡ p → Tells t.arrival k → Fits p v (knowing x k) → FollowsThen p v vs (knowing x k)
+        → TurnsAs MeetsReaching (reach_turn p) Knows Over (knowing x k) x t d v vs
+    turns_as s t c d v vs On k target tells fit then =
+        record { target = target; absent = fit; tells = tells; follow = then }
+    turns_as s t c d v vs Past k target tells fit then =
+        record { target = target; absent = fit; tells = tells; follow = then }
+    turns_as s t c d v vs Last k target tells fit then = record { tells = tells; at = fit }
 
--- after one visit more
-pub searched_on : (p : List ℕ) (n m : ℕ) (all vs : List Visit) (t : Standing) → Searched p n all vs
-    → ((s : Coming) → Knows n s → Turned p None m s vs t) → Searched p m all t.rest
-searched_on p n m all vs t s h =
-    let goes = h s.so_far s.knows in
+    -- each visit turns the pass as it does the walk to the path
+    agrees : (k : Coming) (s t : Reaching) (c d : Unit {0}) (v : Visit) (vs : List Visit) (x : Turn)
+        → Knows k s c (v ∷ vs) → MeetsReaching s c v x t d
+        → TurnsAs MeetsReaching (reach_turn p) Knows Over (reach_turn p k v) x t d v vs
+    agrees k s t c d v vs x h m =
+        let turns = (subst (λ q. All (λ i. i < 2 ^ 64 - 1) q → Follows v.sight v.path q → (j : Coming)
+        → Tells s.arrival j → Turns q j v x t.arrival) h.target m.turns) small h.follow.0 k h.tells in
+        subst (λ y. TurnsAs MeetsReaching (reach_turn p) Knows Over y x t d v vs) (sym turns.turn)
+        (turns_as s t c d v vs x turns.next (m.target ∙ h.target) turns.tells
+        (subst (Fits p v) turns.turn (fits p k v h.absent v.sight refl))
+        (subst (FollowsThen p v vs) turns.turn (follows_then p v vs h.follow.1 k v.sight refl h.follow.0)))
+
+  -- in the end the arrival tells what is known, and where that is the plan, the walk stands at it
+  record Arrives (k : Coming) (ws : List Visit) (s : Reaching) (there : Standing) : Type 0 where
+    tells : Tells s.arrival k
+    path : k.answer ≡ reached.At → there.path ≡ p
+    rest : k.answer ≡ reached.At → there.rest ≡ ws
+
+  at_end : (k : Coming) (ws : List Visit) (s : Reaching) (c : Unit {0}) (there : Standing)
+      → IsEnd MeetsReaching (reach_turn p) Knows Over k ws s c there → Arrives k ws s there
+  at_end _ _ _ _ _ (Whole k s c h) =
+      let never : k.answer ≡ reached.At → ⊥ = λ e. let f = sym h.absent ∙ e in absurd (cc) in
+      record { tells = h.tells; path = λ e. absurd (never e); rest = λ e. absurd (never e) }
+  at_end _ _ _ _ _ (Ended k ws s c v h) = record {
+    tells = h.tells;
+    path = λ e. (h.at e).1;
+    rest = λ e. let plan = (h.at e).0 in rw plan refl;
+  }
+
+-- an arrival tells what the walk to a path comes to; where that is the plan, the walk stands at it
+pub record ComesThere (p : List ℕ) (t : Tree) (a : Arrival) (there : Standing) : Type 0 where
+  pub arrival : IsArrival a p (tree_visits t)
+  pub at : a.answer ≡ reached.At → IsThere t there p
+
+pub arrives : (p : List ℕ) → All (λ i. i < 2 ^ 64 - 1) p → (t : Tree) (s u : Reaching) (c e : Unit {0})
+    (there : Standing) → s.target.now ≡ p → Tells s.arrival nothing_met → (vs : List Visit) → vs ≡ tree_visits t
+    → Passes MeetsReaching s c vs u e there → ComesThere p t u.arrival there
+arrives p small t s u c e there target tells vs new made =
+    let all = reaching p (tree_visits t) in
+    let come = at_end p all.knows all.left u e there
+    (passed MeetsReaching (reach_turn p) (Knows p) (Over p) (agrees p small) nothing_met s u c e (tree_visits t)
+    there (record { target = target; absent = refl; tells = tells; follow = tree_follows t p })
+    (subst (λ ws. Passes MeetsReaching s c ws u e there) new made)).end in
     record {
-      so_far = goes.next;
-      knows = goes.knows;
-      same = sym goes.same ∙ s.same;
-      before = s.before ++ goes.before;
-      from =
-          s.from
-          ∙ (ap (λ l. s.before ++ l) goes.from ∙ sym (append_assoc s.before goes.before t.rest));
+      arrival = record { answer = come.tells.answer; expansions = come.tells.expansions };
+      at =
+          λ e.
+          let met = sym come.tells.answer ∙ e in
+          let plan = (comes_to_plan t.rules t.nest t.root p).only met in
+          record {
+            path = come.path met;
+            node = plan.0;
+            at_node =
+                ap (node_at t.rules t.nest t.root) (come.path met)
+                ∙ in_midst (IsAtItsNode t) plan.1 (visit p plan.0 Plan) all.left
+                (tree_at t (plan.1 ++ visit p plan.0 Plan ∷ all.left) (sym plan.2));
+            before = plan.1;
+            plan = plan.2 ∙ ap (λ ws. plan.1 ++ visit p plan.0 Plan ∷ ws) (sym (come.rest met));
+            left = come.rest met;
+          };
     }
-
-module _ (p : List ℕ) (n m : ℕ) (a : Reached) (t : Tree) (vs : List Visit) (r : Standing)
-    (s : Searched p n (tree_visits t) vs) (h : (k : Coming) → Knows n k → Turned p (Some a) m k vs r) where
-  -- at its ending it comes to what a walk to the path does
-  pub arrives : (x : Arrival) → x.answer ≡ a → x.expansions ≡ m → IsArrival x p (tree_visits t)
-  arrives x answer e =
-      let closes = h s.so_far s.knows in
-      record {
-        answer = answer ∙ (sym closes.answer ∙ ap (λ (z : Outcome). z.0.answer) s.same);
-        expansions = e ∙ (closes.expansions ∙ ap (λ (z : Outcome). count_told z.0.expansions) s.same);
-      }
-
-  -- at the plan it stands there, with all that is behind
-  pub stands_there : a ≡ reached.At → IsThere t r p
-  stands_there e =
-      let k = s.so_far in
-      let closes = h k s.knows in
-      let stops = closes.at e in
-      let v = stops.visit in
-      let all : tree_visits t ≡ s.before ++ v ∷ r.rest = s.from ∙ ap (λ l. s.before ++ l) stops.from in
-      let at_its_node : node_at t.rules t.nest t.root v.path ≡ Some v.node =
-      in_midst (λ w. node_at t.rules t.nest t.root w.path ≡ Some w.node) s.before v r.rest
-      (subst (All (λ w. node_at t.rules t.nest t.root w.path ≡ Some w.node)) all
-      (visits_in_tree t.rules t.nest t.root)) in
-      let is : v ≡ visit p v.node Plan =
-      ap (λ q. visit q v.node v.sight) stops.path ∙ ap (visit p v.node) stops.plan in
-      record {
-        path = stops.stands;
-        node = v.node;
-        at_node = ap (node_at t.rules t.nest t.root) (stops.stands ∙ sym stops.path) ∙ at_its_node;
-        before = s.before;
-        plan = all ∙ ap (λ w. s.before ++ w ∷ r.rest) is;
-        left = stops.left ∙ ap (λ (z : Outcome). z.1) s.same;
-      }

@@ -14,7 +14,6 @@ use Rattle.hp_after.specs.declared.reaching.Reached.TheVariants as reached
 use Rattle.hp_after.specs.declared.reaching.Side.{Side}
 use Rattle.hp_after.specs.declared.reaching.Side.TheVariants as sides
 use Rattle.hp_after.specs.Reach.{Coming, ComesToPlan, HoldsPlan, IsArrival, did_turn, nothing_met, plan_turn, reach_turn, reaching, side_of, with_did}
-use Rattle.hp_after.proofs.Arrivals.{in_midst}
 use Rattle.hp_after.proofs.HeardLemmas.{heard_stands}
 use Rattle.hp_after.proofs.SideLemmas.{before_apart, earlier_side, here_same, side_same}
 use Rattle.hp_after.proofs.TurnSteps.{behind, not_fault, turn_cut, turn_did, turn_fault, turn_plan}
@@ -29,7 +28,7 @@ holds_on : (p : List ℕ) (v : Visit) (vs after : List Visit) → Holds p vs aft
 holds_on p v vs after h = (h.0, v ∷ h.1, ap (λ l. v ∷ l) h.2)
 
 -- behind a visit nothing is answered; where it is the last, it is the plan, or isn't told as that
-abbrev Fits : List ℕ → Visit → Turn Coming → Type 0
+abbrev pub Fits : List ℕ → Visit → Turn Coming → Type 0
 Fits p v (On t) = t.answer ≡ reached.Absent
 Fits p v (Past t) = t.answer ≡ reached.Absent
 Fits p v (Last t) = t.answer ≡ reached.At → (v.sight ≡ Plan) × (v.path ≡ p)
@@ -48,7 +47,7 @@ module _ (p : List ℕ) where
   fits_plan s v sides.Here a e k = λ h. (e, here_same v.path p k)
   fits_plan s v sides.Beyond a e k = a
 
-  fits : (s : Coming) (v : Visit) → s.answer ≡ reached.Absent → (x : Sight) → v.sight ≡ x
+  pub fits : (s : Coming) (v : Visit) → s.answer ≡ reached.Absent → (x : Sight) → v.sight ≡ x
       → Fits p v (reach_turn p s v)
   fits s v a Did e =
       subst (Fits p v) (sym (turn_did p s v (side_of v.path p) e refl)) (fits_did s v (side_of v.path p) a)
@@ -209,6 +208,12 @@ module _ (p : List ℕ) (w : Visit) (plan : w.sight ≡ Plan) (at : w.path ≡ p
     ends (v ∷ before) a out s o =
         ends_by out s v (before ++ w ∷ after) (ends before (All-tail (Leads p) v before a)) o
         (All-head (Leads p) v before a) (is_out out v)
+
+-- what holds of all holds of one in their midst
+pub in_midst : (P : Visit → Type 0) (before : List Visit) (v : Visit) (after : List Visit)
+    → All P (before ++ v ∷ after) → P v
+in_midst P [] v after a = All-head P v after a
+in_midst P (u ∷ before) v after a = in_midst P before v after (All-tail P u (before ++ v ∷ after) a)
 
 -- what holds of any two visits, of which one comes later, holds of those before one in their midst
 in_front : (R : Visit → Visit → Type 0) (before : List Visit) (w : Visit) (after : List Visit)

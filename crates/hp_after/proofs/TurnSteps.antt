@@ -1,18 +1,20 @@
 -- One visit of a walk to a path.
-use Rattle.std.proofs.Common.{◌≡◌, ℕ, ◌+◌, ◌-◌, ◌^◌, ◌<◌, min, Bool, true, false, cond, List, [], ◌∷◌, ◌++◌, length, length-append, Option, Some, None, refl, sym, ap, ◌∙◌, subst, arith}
+use Rattle.std.proofs.Common.{◌≡◌, ◌≢◌, ℕ, ◌+◌, ◌-◌, ◌^◌, min, List, length, Some, None, refl, sym, ap, ◌∙◌, subst}
 use Rattle.hp_net.proofs.Counts.{count_on}
-use Rattle.hp_net.specs.Standings.{Standing}
-use Rattle.hp_passes.proofs.PassLemmas.{skipped}
+use Rattle.hp_passes.specs.declared.passing.Turn as passing
+use Rattle.hp_passes.specs.declared.passing.Turn.TheVariants as turns
 use Rattle.hp_passes.specs.Passes.{Turn, On, Past, Last, Passed, pass, passed_all}
 use Rattle.hp_syntax.specs.declared.fault.RunFault.{RunFault}
-use Rattle.hp_syntax.specs.Walk.{Visit, Did, Plan, CutHere, FaultHere, begins, skip, count_told}
-use Rattle.hp_after.specs.declared.reaching.Reached.{Reached}
+use Rattle.hp_syntax.specs.Walk.{Node, Sight, Visit, visit, Did, Plan, CutHere, FaultHere, told}
 use Rattle.hp_after.specs.declared.reaching.Reached.TheVariants as reached
+use Rattle.hp_after.specs.declared.reaching.Reaching.{Reaching}
 use Rattle.hp_after.specs.declared.reaching.Side.{Side}
 use Rattle.hp_after.specs.declared.reaching.Side.TheVariants as sides
 use Rattle.hp_after.specs.Reach.{Coming, with_did, answered, did_turn, plan_turn, reach_turn, side_of}
-use Rattle.hp_after.specs.Reaching.{Outcome, outcome, outcome_of, Knows, Goes, Closes, Turned, did_answer, did_left, plan_answer}
-use Rattle.hp_after.proofs.SideLemmas.{here_same}
+use Rattle.hp_after.specs.Reaching.{MeetsReaching, knowing}
+use Rattle.hp_after.specs.Stepping.{StepsFrom, Follows}
+use Rattle.hp_after.proofs.SideLemmas.{side_told}
+use Rattle.hp_after.proofs.StepSides.{above_by_length, here_by_length, told_begins, told_steps}
 
 -- ---- the turn at a visit
 
@@ -42,161 +44,99 @@ behind p v vs x =
       | Last t ↦ passed_all t vs
     ]
 
--- what visits come to from one on
-outcome_by : (p : List ℕ) (s : Coming) (v : Visit) (vs : List Visit) (x : Turn Coming) → reach_turn p s v ≡ x
-    → outcome p s (v ∷ vs) ≡ outcome_of (behind p v vs x)
-outcome_by p s v vs x e = ap (λ y. outcome_of (behind p v vs y)) e
-
--- ---- counts
-
--- a decomposition is counted
-knows_did : (n m : ℕ) (s : Coming) → Knows n s → m ≡ min (n + 1) (2 ^ 64 - 1) → Knows m (with_did s)
-knows_did n m s k e = record { answer = k.answer; expansions = count_on m n s.expansions k.expansions e }
-
--- ---- lists
-
--- what is skipped stands before what is left
-skip_by : (p : List ℕ) (v : Visit) (vs : List Visit) → (before : List Visit) × (vs ≡ before ++ skip p vs) → (b : Bool)
-    → (before : List Visit) × (v ∷ vs ≡ before ++ cond b (skip p vs) (v ∷ vs))
-skip_by p v vs h true = (v ∷ h.0, ap (λ l. v ∷ l) h.1)
-skip_by p v vs h false = ([], refl)
-
-skip_before : (p : List ℕ) (vs : List Visit) → (before : List Visit) × (vs ≡ before ++ skip p vs)
-skip_before p [] = ([], refl)
-skip_before p (v ∷ vs) = skip_by p v vs (skip_before p vs) (begins p v.path)
-
--- what is left behind some visits is shorter
-left_shorter : (v : Visit) (vs before us ws : List Visit) → vs ≡ v ∷ us → us ≡ before ++ ws → length ws < length vs
-left_shorter v vs before us ws e h = omega (arith, ap length e, ap length h, length-append before ws)
-
--- ---- one visit
-
-module _ (p : List ℕ) (n : ℕ) (s : Coming) (v : Visit) (vs ws : List Visit) (e : vs ≡ v ∷ ws) where
-  came_to : (x : Turn Coming) → reach_turn p s v ≡ x → outcome p s vs ≡ outcome_of (behind p v ws x)
-  came_to x h = ap (outcome p s) e ∙ outcome_by p s v ws x h
-
-  -- a visit behind which the walk goes on
-  goes_on : (next : Coming) → Knows n next → reach_turn p s v ≡ On next → (t : Standing) → t.rest ≡ ws
-      → Goes p n s vs t.rest
-  goes_on next knows h t left = record {
-    next = next;
-    knows = knows;
-    same = came_to (On next) h ∙ ap (outcome p next) (sym left);
-    before = v ∷ [];
-    from = e ∙ ap (λ l. v ∷ l) (sym left);
-    shorter = left_shorter v vs [] ws t.rest e (sym left);
-  }
-
-  -- a visit behind which what lies below it is left out
-  goes_past : (next : Coming) → Knows n next → reach_turn p s v ≡ Past next → (t : Standing)
-      → t.rest ≡ skip v.path ws → Goes p n s vs t.rest
-  goes_past next knows h t left =
-      let cut = skip_before v.path ws in
-      let parts : ws ≡ cut.0 ++ t.rest = cut.1 ∙ ap (λ l. cut.0 ++ l) (sym left) in
-      record {
-        next = next;
-        knows = knows;
-        same =
-            came_to (Past next) h
-            ∙ (ap outcome_of (skipped (reach_turn p) v.path next ws) ∙ ap (outcome p next) (sym left));
-        before = v ∷ cut.0;
-        from = e ∙ ap (λ l. v ∷ l) parts;
-        shorter = left_shorter v vs cut.0 ws t.rest e parts;
-      }
-
-  -- a visit that is the last, and isn't the plan
-  closes_with : (a : Reached) (last : Coming) → (a ≡ reached.At → ⊥) → last.answer ≡ a
-      → n ≡ count_told last.expansions → reach_turn p s v ≡ Last last → (t : Standing) → Closes p a n s vs t
-  closes_with a last other answer counted h t =
-      let all : outcome p s vs ≡ (last, ws) = came_to (Last last) h in
-      record {
-        answer = ap (λ (z : Outcome). z.0.answer) all ∙ answer;
-        expansions = counted ∙ sym (ap (λ (z : Outcome). count_told z.0.expansions) all);
-        at = λ k. absurd (other k);
-      }
-
--- ---- a decomposition, a plan, a cut, a fault and the end
-
-not_absent : reached.Absent ≡ reached.At → ⊥
-not_absent h = cc
-
 pub not_fault : (f : RunFault) → reached.Fault f ≡ reached.At → ⊥
 not_fault f h = cc
 
-module _ (p : List ℕ) (n : ℕ) (s : Coming) (knows : Knows n s) where
-  did_by : (m : ℕ) (v : Visit) (vs : List Visit) (t r : Standing) → m ≡ min (n + 1) (2 ^ 64 - 1) → vs ≡ v ∷ t.rest
-      → v.sight ≡ Did → t.path ≡ v.path → (x : Side) → side_of v.path p ≡ x → r ≡ did_left x t
-      → Turned p (did_answer x) m s vs r
-  did_by m v vs t r c e seen at sides.Before h k =
-      goes_past p m s v vs t.rest e (with_did s) (knows_did n m s knows c) (turn_did p s v sides.Before seen h) r
-      (ap (λ z. z.rest) k ∙ ap (λ q. skip q t.rest) at)
-  did_by m v vs t r c e seen at sides.Above h k =
-      goes_on p m s v vs t.rest e (with_did s) (knows_did n m s knows c) (turn_did p s v sides.Above seen h) r
-      (ap (λ z. z.rest) k)
-  did_by m v vs t r c e seen at sides.Here h k =
-      goes_on p m s v vs t.rest e (with_did s) (knows_did n m s knows c) (turn_did p s v sides.Here seen h) r
-      (ap (λ z. z.rest) k)
-  did_by m v vs t r c e seen at sides.Beyond h k =
-      let told = knows_did n m s knows c in
-      closes_with p m s v vs t.rest e reached.Absent (with_did s) not_absent told.answer told.expansions
-      (turn_did p s v sides.Beyond seen h) r
+-- ---- one visit of the pass
 
-  -- a decomposition was visited, and the walk went on where its side says
-  pub turned_did : (m : ℕ) (v : Visit) (vs : List Visit) (t r : Standing) (x : Side) (o : Option Reached)
-      → m ≡ min (n + 1) (2 ^ 64 - 1) → vs ≡ v ∷ t.rest → v.sight ≡ Did → t.path ≡ v.path
-      → x ≡ side_of v.path p → o ≡ did_answer x → r ≡ did_left x t → Turned p o m s vs r
-  turned_did m v vs t r x o c e seen at h a k =
-      subst (λ z. Turned p z m s vs r) (sym a) (did_by m v vs t r c e seen at x (sym h) k)
-
-  plan_by : (v : Visit) (vs : List Visit) (t : Standing) → vs ≡ v ∷ t.rest → v.sight ≡ Plan → t.path ≡ v.path
-      → (x : Side) → side_of v.path p ≡ x → Turned p (plan_answer x) n s vs t
-  plan_by v vs t e seen at sides.Before h =
-      goes_on p n s v vs t.rest e s knows (turn_plan p s v sides.Before seen h) t refl
-  plan_by v vs t e seen at sides.Above h =
-      goes_on p n s v vs t.rest e s knows (turn_plan p s v sides.Above seen h) t refl
-  plan_by v vs t e seen at sides.Here h =
-      let last = answered reached.At s in
-      let all : outcome p s vs ≡ (last, t.rest) =
-      came_to p n s v vs t.rest e (Last last) (turn_plan p s v sides.Here seen h) in
-      record {
-        answer = ap (λ (z : Outcome). z.0.answer) all;
-        expansions = knows.expansions ∙ sym (ap (λ (z : Outcome). count_told z.0.expansions) all);
-        at = λ k. record {
-          visit = v;
-          from = e;
-          plan = seen;
-          path = here_same v.path p h;
-          stands = at ∙ here_same v.path p h;
-          left = sym (ap (λ (z : Outcome). z.1) all);
+-- a visit of a node at a path, which the walk reports as w
+module _ (s t : Reaching) (c d : Unit {0}) (q w : List ℕ) (n : Node) (x : Sight) (as_told : w ≡ told q)
+    (same : t.target.now ≡ s.target.now) where
+  -- a decomposition is counted, and its side tells how the walk goes on
+  pub meets_did : (side : Side) (y : passing.Turn) → x ≡ Did
+      → (StepsFrom w s.target.now → side ≡ side_of w s.target.now)
+      → ((k : Coming) → did_turn side k ≡ knowing y k) → t.arrival.answer ≡ s.arrival.answer
+      → t.arrival.expansions ≡ min (s.arrival.expansions + 1) (2 ^ 64 - 1) → MeetsReaching s c (visit q n x) y t d
+  meets_did side y e at turns answer counted = record {
+    target = same;
+    turns =
+        λ small f k tells.
+        let p = s.target.now in
+        let steps = told_steps p small q (subst (λ z. Follows z q p) e f) in
+        let here : side ≡ side_of w p = at (subst (λ l. StepsFrom l p) (sym as_told) steps) in
+        record {
+          next = with_did k;
+          turn =
+              turn_did p k (visit q n x) side e
+              (sym (side_told q p small) ∙ sym (here ∙ ap (λ l. side_of l p) as_told))
+              ∙ turns (with_did k);
+          tells = record {
+            answer = answer ∙ tells.answer;
+            expansions = count_on t.arrival.expansions s.arrival.expansions k.expansions tells.expansions counted;
+          };
         };
-      }
-  plan_by v vs t e seen at sides.Beyond h =
-      goes_on p n s v vs t.rest e s knows (turn_plan p s v sides.Beyond seen h) t refl
+  }
 
-  -- a plan was visited, and its side says whether it is the plan of the path
-  pub turned_plan : (v : Visit) (vs : List Visit) (t : Standing) (x : Side) (o : Option Reached) → vs ≡ v ∷ t.rest
-      → v.sight ≡ Plan → t.path ≡ v.path → x ≡ side_of v.path p → o ≡ plan_answer x → Turned p o n s vs t
-  turned_plan v vs t x o e seen at h a =
-      subst (λ z. Turned p z n s vs t) (sym a) (plan_by v vs t e seen at x (sym h))
+  module _ (counted : t.arrival.expansions ≡ s.arrival.expansions) where
+    -- a plan whose path is as long as the target is the one there
+    pub meets_at : x ≡ Plan → length w ≡ length s.target.now → t.arrival.answer ≡ reached.At
+        → MeetsReaching s c (visit q n x) turns.Last t d
+    meets_at e long answer = record {
+      target = same;
+      turns =
+          λ small f k tells.
+          let p = s.target.now in
+          let begins = told_begins p small q (subst (λ z. Follows z q p) e f) in
+          record {
+            next = answered reached.At k;
+            turn =
+                turn_plan p k (visit q n x) sides.Here e
+                (sym (side_told q p small)
+                ∙ here_by_length (told q) p begins (ap length (sym as_told) ∙ long));
+            tells = record { answer = answer; expansions = counted ∙ tells.expansions };
+          };
+    }
 
-  -- a cut was visited
-  pub turned_cut : (v : Visit) (vs : List Visit) (t : Standing) → vs ≡ v ∷ t.rest → v.sight ≡ CutHere
-      → Goes p n s vs t.rest
-  turned_cut v vs t e seen = goes_on p n s v vs t.rest e s knows (turn_cut p s v seen) t refl
+    -- another plan isn't
+    pub meets_above : x ≡ Plan → length w ≢ length s.target.now → t.arrival.answer ≡ s.arrival.answer
+        → MeetsReaching s c (visit q n x) turns.On t d
+    meets_above e other answer = record {
+      target = same;
+      turns =
+          λ small f k tells.
+          let p = s.target.now in
+          let begins = told_begins p small q (subst (λ z. Follows z q p) e f) in
+          record {
+            next = k;
+            turn =
+                turn_plan p k (visit q n x) sides.Above e
+                (sym (side_told q p small)
+                ∙ above_by_length (told q) p begins (λ h. other (ap length as_told ∙ h)));
+            tells = record { answer = answer ∙ tells.answer; expansions = counted ∙ tells.expansions };
+          };
+    }
 
-  -- a fault was visited
-  pub turned_fault : (f : RunFault) (v : Visit) (vs ws : List Visit) (t : Standing) → vs ≡ v ∷ ws
-      → v.sight ≡ FaultHere f → Closes p (reached.Fault f) n s vs t
-  turned_fault f v vs ws t e seen =
-      closes_with p n s v vs ws e (reached.Fault f) (answered (reached.Fault f) s) (not_fault f) refl knows.expansions
-      (turn_fault p s v f seen) t
+    pub meets_cut : x ≡ CutHere → t.arrival.answer ≡ s.arrival.answer → MeetsReaching s c (visit q n x) turns.On t d
+    meets_cut e answer = record {
+      target = same;
+      turns =
+          λ small f k tells.
+          record {
+            next = k;
+            turn = turn_cut s.target.now k (visit q n x) e;
+            tells = record { answer = answer ∙ tells.answer; expansions = counted ∙ tells.expansions };
+          };
+    }
 
-  -- nothing was left
-  pub turned_end : (vs : List Visit) (t : Standing) → vs ≡ [] → Closes p reached.Absent n s vs t
-  turned_end vs t e =
-      let all : outcome p s vs ≡ (s, []) = ap (outcome p s) e in
-      record {
-        answer = ap (λ (z : Outcome). z.0.answer) all ∙ knows.answer;
-        expansions = knows.expansions ∙ sym (ap (λ (z : Outcome). count_told z.0.expansions) all);
-        at = λ k. absurd (not_absent k);
-      }
+    pub meets_fault : (f : RunFault) → x ≡ FaultHere f → t.arrival.answer ≡ reached.Fault f
+        → MeetsReaching s c (visit q n x) turns.Last t d
+    meets_fault f e answer = record {
+      target = same;
+      turns =
+          λ small g k tells.
+          record {
+            next = answered (reached.Fault f) k;
+            turn = turn_fault s.target.now k (visit q n x) f e;
+            tells = record { answer = answer; expansions = counted ∙ tells.expansions };
+          };
+    }

@@ -2,12 +2,12 @@
 ghost use Rattle.std.specs.Prelude.{◌≡◌, ◌<◌, ◌-◌, ◌^◌, true, IfOk, OnOk};
 ghost use Rattle.std.specs.List.{All};
 ghost use Rattle.hp_net.specs.Standings.{tree_visits};
-ghost use Rattle.hp_syntax.specs.Walk.{heard_visits, told};
-ghost use Rattle.hp_after.specs.Reach.{Coming, HoldsPlan, IsArrival, IsThere, side_of};
-ghost use Rattle.hp_after.specs.Reaching.{Knows, Turned, did_answer, did_left, plan_answer};
-ghost use Rattle.hp_after.specs.Stepping.{AllFollow, IsBeginning, StepsFrom};
+ghost use Rattle.hp_syntax.specs.Walk.{heard_visits};
+ghost use Rattle.hp_after.specs.Reach.{HoldsPlan, IsArrival, IsThere, side_of};
+ghost use Rattle.hp_after.specs.Stepping.{StepsFrom};
 
-use hp_net::{Step, Walk};
+use hp_net::Walk;
+use hp_passes::{Pass, Sight, Stop, Turn, go_through};
 use hp_syntax::RunFault;
 use std::alloc::AllocError;
 use std::cmp::Ordering;
@@ -38,16 +38,17 @@ enum Side {
 }
 
 /// Where the path of a decomposition lies beside the target. All its numbers but the last begin the target, so that one
-/// alone is compared.
+/// alone is compared. Only the path of the root has no number.
 fn side_of(path: &[u64], target: &[u64]) -> Side
-    requires { StepsFrom path.now target.now }
-    ensures { result ≡ side_of path.now target.now }
+    ensures { StepsFrom path.now target.now → result ≡ side_of path.now target.now }
 {
-    let level = path.len() - 1;
-    let Some(wanted) = target.get(level) else {
+    let Some(last) = path.last() else {
+        return Side::Above;
+    };
+    let Some(wanted) = target.get(path.len() - 1) else {
         return Side::Beyond;
     };
-    match path[level].cmp(wanted) {
+    match last.cmp(wanted) {
         Ordering::Less => Side::Before,
         Ordering::Greater => Side::Beyond,
         Ordering::Equal if path.len() == target.len() => Side::Here,
@@ -55,64 +56,46 @@ fn side_of(path: &[u64], target: &[u64]) -> Side
     }
 }
 
-/// Leaves out what lies below the decomposition just visited, where it is before the target, and ends the walk where it
-/// is beyond.
-fn pass_by<W: Walk>(walk: &mut W, target: &[u64]) -> Option<Reached>
-    requires live { W.is_live walk.old ≡ true }
-    requires did { (W.stands walk.old).at_did ≡ true }
-    requires steps { StepsFrom (told (W.stands walk.old).path) target.now }
-    ensures answer { result ≡ did_answer (side_of (told (W.stands walk.old).path) target.now) }
-    ensures stands { W.stands walk.new
-        ≡ did_left (side_of (told (W.stands walk.old).path) target.now) (W.stands walk.old) }
-    ensures tree { W.tree walk.new ≡ W.tree walk.old }
-    ensures live { W.is_live walk.new ≡ true }
-{
-    match side_of(walk.path(), target) {
-        Side::Before => {
-            walk.prune();
-            None
-        }
-        Side::Above | Side::Here => None,
-        Side::Beyond => Some(Reached::Absent),
-    }
+/// A walk to a path, with what it came to so far.
+#[derive(Clone, Copy)]
+struct Reaching<'a> {
+    target: &'a [u64],
+    arrival: Arrival,
 }
 
-/// Ends the walk at the plan of the target. The path of each plan that is met begins the target, so the lengths tell.
-fn stop_at(path: &[u64], target: &[u64]) -> Option<Reached>
-    requires { IsBeginning path.now target.now }
-    ensures { result ≡ plan_answer (side_of path.now target.now) }
-{
-    if path.len() == target.len() {
-        Some(Reached::At)
-    } else {
-        None
-    }
-}
+impl<W: Walk> Pass<W, ()> for Reaching<'_> {
+    ghost use Rattle.hp_after.specs.Reaching.{MeetsReaching};
 
-/// Makes the next visit, and says what the walk came to, where it ends.
-fn go_on<W: Walk>(
-    walk: &mut W,
-    target: &[u64],
-    expansions: &mut u64,
-) -> Result<Option<Reached>, AllocError>
-    requires live { W.is_live walk.old ≡ true }
-    requires small { All (λ i. i < 2 ^ 64 - 1) target.now }
-    requires follow { AllFollow target.now (W.stands walk.old).rest }
-    ensures turned { IfOk result (λ o. (known : Coming) → Knows expansions.old known
-        → Turned target.now o expansions.new known (W.stands walk.old).rest (W.stands walk.new)) }
-    ensures follow { IfOk result (λ o. o ≡ None → AllFollow target.now (W.stands walk.new).rest) }
-    ensures tree { W.tree walk.new ≡ W.tree walk.old }
-    ensures live { OnOk result (W.is_live walk.new ≡ true) }
-{
-    match walk.next()? {
-        Step::Did => {
-            *expansions = expansions.saturating_add(1);
-            Ok(pass_by(walk, target))
+    type Error = AllocError;
+
+    ghost meets = { MeetsReaching };
+
+    ghost fails = { λ s c v e d. ⊥ };
+
+    fn meet(&mut self, walk: &W, _hand: &mut (), sight: Sight) -> Result<Turn, AllocError> {
+        match sight {
+            Sight::Did => {
+                self.arrival.expansions = self.arrival.expansions.saturating_add(1);
+                match side_of(walk.path(), self.target) {
+                    Side::Before => Ok(Turn::Past),
+                    Side::Above | Side::Here => Ok(Turn::On),
+                    Side::Beyond => Ok(Turn::Last),
+                }
+            }
+            Sight::Plan => {
+                // The path of each plan that is met begins the target, so the lengths tell.
+                if walk.path().len() != self.target.len() {
+                    return Ok(Turn::On);
+                }
+                self.arrival.answer = Reached::At;
+                Ok(Turn::Last)
+            }
+            Sight::Cut => Ok(Turn::On),
+            Sight::Fault(fault) => {
+                self.arrival.answer = Reached::Fault(fault);
+                Ok(Turn::Last)
+            }
         }
-        Step::Plan => Ok(stop_at(walk.path(), target)),
-        Step::Cut => Ok(None),
-        Step::Fault(fault) => Ok(Some(Reached::Fault(fault))),
-        Step::End => Ok(Some(Reached::Absent)),
     }
 }
 
@@ -133,10 +116,16 @@ pub fn reach<W: Walk>(walk: &mut W, target: &[u64]) -> Result<Arrival, AllocErro
     ensures live { OnOk result (W.is_live walk.new ≡ true) }
     ensures tree { W.tree walk.new ≡ W.tree walk.old }
 {
-    let mut expansions = 0;
-    loop {
-        if let Some(answer) = go_on(walk, target, &mut expansions)? {
-            return Ok(Arrival { answer, expansions });
-        }
+    let mut pass = Reaching {
+        target,
+        arrival: Arrival {
+            answer: Reached::Absent,
+            expansions: 0,
+        },
+    };
+    match go_through(walk, &mut pass, &mut ()) {
+        Ok(()) => Ok(pass.arrival),
+        Err(Stop::NoMemory) => Err(AllocError),
+        Err(Stop::Failed(error)) => Err(error),
     }
 }

@@ -1,14 +1,13 @@
 -- A walk of a tree that leaves out what can't be cheaper than a plan that is known, and the plan that it finds.
-use Rattle.std.specs.Prelude.{◌≡◌, ◌^◌, ◌-◌, min, ℕ, Bool, true, false, ◌&&◌, cond, ℤ, pos, ◌≤ℤ◌, ◌<ℤ◌, List, [], ◌∷◌, ◌++◌, map, Option, Some, None, option_map}
+use Rattle.std.specs.Prelude.{◌≡◌, ℕ, Bool, true, false, ◌&&◌, cond, ℤ, pos, ◌≤ℤ◌, ◌<ℤ◌, List, [], ◌∷◌, ◌++◌, map, Option, Some, None, option_map}
 use Rattle.std.specs.Int.Signed.{le_z}
 use Rattle.std.specs.List.{All, AllPairs, list_all}
-use Rattle.hp_net.specs.Standings.{Tree}
 use Rattle.hp_passes.specs.Passes.{Turn, On, Past, Last, pass}
 use Rattle.hp_syntax.specs.GroundViews.{ground_of}
 use Rattle.hp_syntax.specs.Report.{Ending, AtFault, AtCut, AtEnd, Tally, nothing_seen, with_plan, with_did, with_cut, Ended, ended, quiet_ending}
 use Rattle.hp_syntax.specs.Syntax as syntax
 use Rattle.hp_syntax.specs.Syntax.{Pattern, Rule}
-use Rattle.hp_syntax.specs.Walk.{Node, Visit, Did, Plan, CutHere, FaultHere, is_plan, begins, visits, told, count_told}
+use Rattle.hp_syntax.specs.Walk.{Node, Visit, Did, Plan, CutHere, FaultHere, is_plan, begins, told, count_told}
 use Rattle.hp_best.specs.declared.bounding.BestEnd.{BestEnd}
 use Rattle.hp_best.specs.declared.bounding.BestEnd.TheVariants as ends
 use Rattle.hp_best.specs.declared.bounding.Chosen.{Chosen}

@@ -1,15 +1,14 @@
 //! The cheapest plan of a tree, by a walk that leaves out what costs too much already.
-ghost use Rattle.std.specs.Prelude.{◌≡◌, ◌&&◌, true, not, cond, Option, None, IfOk, OnOk, MatchOption};
+ghost use Rattle.std.specs.Prelude.{◌≡◌, ◌&&◌, true, not, Option, None, IfOk, OnOk, MatchOption};
 ghost use Rattle.std.specs.List.{All};
 ghost use Rattle.hp_laws.specs.TreeLaws.{IsFaultless};
-ghost use Rattle.hp_net.specs.Standings.{node_reached, pruned, IsAtItsNode, tree_visits};
-ghost use Rattle.hp_syntax.specs.Report.{quiet_ending};
+ghost use Rattle.hp_net.specs.Standings.{node_reached, tree_visits};
 ghost use Rattle.hp_syntax.specs.Walk.{Visit, Plan, visit};
-ghost use Rattle.hp_best.specs.Bounded.{NeverFalls, IsAt, IsChosen, IsFound, IsCheapestOf, reaches, chosen_of, cost_of, end_told};
-ghost use Rattle.hp_best.specs.Searching.{Known, Knows, Turned};
+ghost use Rattle.hp_best.specs.Bounded.{NeverFalls, IsAt, IsChosen, IsFound, IsCheapestOf, reaches, chosen_of, cost_of};
 
 use crate::grounds::to_grounds;
-use hp_net::{Step, Walk};
+use hp_net::Walk;
+use hp_passes::{Pass, Sight, Turn, go_through};
 use hp_syntax::{Ground, RunFault};
 use std::alloc::{AllocError, Global};
 
@@ -65,14 +64,6 @@ impl Drop for Found {
     }
 }
 
-/// What was counted so far, and whether a cut was seen.
-#[derive(Clone, Copy)]
-struct Counts {
-    plans: u64,
-    expansions: u64,
-    is_cut: bool,
-}
-
 /// Whether no plan is known that costs no more than this.
 fn is_cheaper(cost: i128, best: &Option<Chosen>) -> bool
     ensures { result ≡ not (reaches (cost_of best.now) cost) }
@@ -91,13 +82,6 @@ fn is_bounded(priced: bool, cost: i128, best: &Option<Chosen>) -> bool
         Some(known) => priced && known.cost <= cost,
         None => false,
     }
-}
-
-/// How a walk ends without a fault.
-fn quiet(is_cut: bool) -> BestEnd
-    ensures { end_told result ≡ quiet_ending is_cut }
-{
-    if is_cut { BestEnd::Cut } else { BestEnd::End }
 }
 
 /// The plan that a walk stands at.
@@ -128,54 +112,46 @@ fn keep<W: Walk>(alloc: Global, walk: &W, best: &mut Option<Chosen>) -> Result<(
     Ok(())
 }
 
-/// Leaves out what lies below the decomposition just made, where it is bounded.
-fn leave_out<W: Walk>(walk: &mut W, priced: bool, best: &Option<Chosen>)
-    requires live { W.is_live walk.old ≡ true }
-    requires did { (W.stands walk.old).at_did ≡ true }
-    ensures stands { MatchOption (node_reached (W.tree walk.old) (W.stands walk.old)) ⊥
-        (λ n. W.stands walk.new ≡ cond (priced && reaches (cost_of best.now) n.cost) (pruned (W.stands walk.old))
-        (W.stands walk.old)) }
-    ensures tree { W.tree walk.new ≡ W.tree walk.old }
-    ensures live { W.is_live walk.new ≡ true }
-{
-    if is_bounded(priced, walk.cost(), best) {
-        walk.prune();
-    }
+/// A search for the cheapest plan, with what it has found so far.
+struct Bounding {
+    alloc: Global,
+    priced: bool,
+    found: Found,
 }
 
-/// Makes the next visit, and says how the search ends, where it does.
-fn go_on<W: Walk>(
-    alloc: Global,
-    walk: &mut W,
-    priced: bool,
-    best: &mut Option<Chosen>,
-    counts: &mut Counts,
-) -> Result<Option<BestEnd>, AllocError>
-    requires live { W.is_live walk.old ≡ true }
-    requires at { All (IsAtItsNode (W.tree walk.old)) (W.stands walk.old).rest }
-    ensures turned { IfOk result (λ end. (known : Known) → Knows best.old counts.old known
-        → Turned priced end best.new counts.new known (W.stands walk.old).rest (W.stands walk.new).rest) }
-    ensures at { OnOk result (All (IsAtItsNode (W.tree walk.new)) (W.stands walk.new).rest) }
-    ensures tree { W.tree walk.new ≡ W.tree walk.old }
-    ensures live { OnOk result (W.is_live walk.new ≡ true) }
-{
-    match walk.next()? {
-        Step::Did => {
-            counts.expansions = counts.expansions.saturating_add(1);
-            leave_out(walk, priced, best);
-            Ok(None)
+impl<W: Walk> Pass<W, ()> for Bounding {
+    ghost use Rattle.hp_best.specs.Searching.{meets_bounding, fails_bounding};
+
+    type Error = AllocError;
+
+    ghost meets = { meets_bounding };
+
+    ghost fails = { fails_bounding };
+
+    fn meet(&mut self, walk: &W, _hand: &mut (), sight: Sight) -> Result<Turn, AllocError> {
+        match sight {
+            Sight::Did => {
+                self.found.expansions = self.found.expansions.saturating_add(1);
+                if is_bounded(self.priced, walk.cost(), &self.found.best) {
+                    Ok(Turn::Past)
+                } else {
+                    Ok(Turn::On)
+                }
+            }
+            Sight::Plan => {
+                self.found.plans = self.found.plans.saturating_add(1);
+                keep(self.alloc, walk, &mut self.found.best)?;
+                Ok(Turn::On)
+            }
+            Sight::Cut => {
+                self.found.ending = BestEnd::Cut;
+                Ok(Turn::On)
+            }
+            Sight::Fault(fault) => {
+                self.found.ending = BestEnd::Fault(fault);
+                Ok(Turn::Last)
+            }
         }
-        Step::Plan => {
-            counts.plans = counts.plans.saturating_add(1);
-            keep(alloc, walk, best)?;
-            Ok(None)
-        }
-        Step::Cut => {
-            counts.is_cut = true;
-            Ok(None)
-        }
-        Step::Fault(fault) => Ok(Some(BestEnd::Fault(fault))),
-        Step::End => Ok(Some(quiet(counts.is_cut))),
     }
 }
 
@@ -193,20 +169,24 @@ pub fn best<W: Walk>(alloc: Global, walk: &mut W, priced: bool) -> Result<Found,
     ensures tree { W.tree walk.new ≡ W.tree walk.old }
     ensures live { OnOk result (W.is_live walk.new ≡ true) }
 {
-    let mut best = None;
-    let mut counts = Counts {
-        plans: 0,
-        expansions: 0,
-        is_cut: false,
+    let mut search = Bounding {
+        alloc,
+        priced,
+        found: Found {
+            best: None,
+            plans: 0,
+            expansions: 0,
+            ending: BestEnd::End,
+        },
     };
-    loop {
-        if let Some(ending) = go_on(alloc, walk, priced, &mut best, &mut counts)? {
-            return Ok(Found {
-                best,
-                plans: counts.plans,
-                expansions: counts.expansions,
-                ending,
-            });
-        }
+    let went = go_through(walk, &mut search, &mut ());
+    let Bounding {
+        alloc: _,
+        priced: _,
+        found,
+    } = search;
+    match went {
+        Ok(()) => Ok(found),
+        Err(_) => Err(AllocError),
     }
 }

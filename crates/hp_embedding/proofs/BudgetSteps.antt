@@ -1,227 +1,171 @@
--- Facts that a search for a plan within a budget keeps from visit to visit.
-use Rattle.std.proofs.Common.{◌≡◌, ◌<◌, ◌≤◌, ℕ, zero, suc, Bool, true, false, ◌&&◌, cond, ℤ, ◌≤ℤ◌, List, [], ◌∷◌, length, ◌++◌, Some, None, MatchOption, refl, sym, ap, ◌∙◌, subst, arith}
-use Rattle.std.specs.Int.Signed.{le_z, le_z_yes, lt_z, lt_z_yes, clash_ℤ, <ℤ-≤ℤ_trans}
-use Rattle.std.specs.Prelude.{◌<ℤ◌}
-use Rattle.std.specs.List.{All, AllPairs, Any, find}
+-- Facts of a search for a plan within a budget.
+use Rattle.std.proofs.Common.{◌≡◌, ℕ, zero, suc, Bool, true, false, ◌&&◌, cond, ℤ, ◌≤ℤ◌, List, [], ◌∷◌, Option, Some, None, MatchOption, refl, sym, ap, ◌∙◌, subst, arith}
+use Rattle.std.specs.Prelude.{◌<ℤ◌, IfSome}
+use Rattle.std.specs.Int.Signed.{le_z, le_z_yes, clash_ℤ, <ℤ-≤ℤ_trans}
+use Rattle.std.specs.List.{All, Any, find}
 use Rattle.std.proofs.lemmas.Float.{T_from_true}
-use Rattle.std.proofs.lemmas.List.{append_assoc}
-use Rattle.std.proofs.lemmas.List.Elements.{All-nil, All-cons, All-head, All-tail, All-append}
-use Rattle.hp_laws.proofs.JoinLemmas.{all_left, all_one, all_right, pairs_head, pairs_tail}
-use Rattle.hp_net.specs.Standings.{Standing, next_of, pruned}
-use Rattle.hp_syntax.specs.Walk.{Visit, Did, CutHere, FaultHere, is_plan, begins, skip}
+use Rattle.std.proofs.lemmas.List.Elements.{All-head, All-tail}
+use Rattle.hp_laws.proofs.JoinLemmas.{pairs_head, pairs_tail}
+use Rattle.hp_net.specs.Standings.{Standing}
+use Rattle.hp_passes.specs.Passing.{Passes, AtEnd, GoesOn, LeavesOut, Ends, Stops, Between, Within, AfterOne, AfterPart}
+use Rattle.hp_passes.specs.declared.passing.Stop.{Stop}
+use Rattle.hp_passes.specs.declared.passing.Stop.TheVariants as stops
+use Rattle.hp_syntax.specs.Walk.{Visit, FaultHere, is_plan, begins, skip}
+use Rattle.hp_embedding.specs.declared.budget.Affordable.{Affordable}
 use Rattle.hp_embedding.specs.declared.budget.AffordablePlan.{AffordablePlan}
-use Rattle.hp_embedding.specs.declared.budget.Progress.{Progress}
-use Rattle.hp_embedding.specs.declared.budget.Progress.TheVariants as progress
 use Rattle.hp_embedding.specs.declared.budget.SearchError.{SearchError}
 use Rattle.hp_embedding.specs.declared.budget.SearchError.TheVariants as errors
-use Rattle.hp_embedding.specs.Budgets.{NeverFalls, is_affordable, IsOf, IsTaken, IsFirst, Explains, IsBeyond, Passes, Judges, Turned}
+use Rattle.hp_embedding.specs.Budgets.{NeverFalls, is_affordable, IsOf, IsTaken, IsFirst, IsErrorAt, Explains, meets_affordable, fails_affordable}
 
 -- ---- lists
 
-pairs_right : (R : Visit → Visit → Type 0) (xs ys : List Visit) → AllPairs R (xs ++ ys) → AllPairs R ys
-pairs_right R [] ys a = a
-pairs_right R (x ∷ xs) ys a = pairs_right R xs ys (pairs_tail R x (xs ++ ys) a)
+-- some element later on is some element of all
+any_later : (P : Visit → Type 0) (v : Visit) (vs : List Visit) → Any P vs → Any P (v ∷ vs)
+any_later P v vs h = (suc h.0, h.1, (let l = h.2 in omega arith), h.3, h.4)
 
--- a fact of some element behind a prefix is one of some element of all
-any_right : (P : Visit → Type 0) (xs ys : List Visit) → Any P ys → Any P (xs ++ ys)
-any_right P [] ys h = h
-any_right P (x ∷ xs) ys h =
-    let k = any_right P xs ys h in
-    (suc k.0, k.1, (let l = k.2 in omega arith), k.3, k.4)
+any_first : (P : Visit → Type 0) (v : Visit) (vs : List Visit) → P v → Any P (v ∷ vs)
+any_first P v vs h = (zero, v, omega arith, refl, h)
 
--- what stands first behind a prefix is some element
-any_first : (P : Visit → Type 0) (vs : List Visit) → MatchOption (next_of vs) ⊥ P → Any P vs
-any_first P [] h = absurd h
-any_first P (v ∷ vs) h = (zero, v, omega arith, refl, h)
-
-no_longer : (xs ys : List Visit) → length ys ≤ length (xs ++ ys)
-no_longer [] ys = omega arith
-no_longer (x ∷ xs) ys = let h = no_longer xs ys in omega (arith, h)
+-- some element of what is left without a part is some element of all
+any_skipped : (P : Visit → Type 0) (p : List ℕ) (vs : List Visit) → Any P (skip p vs) → Any P vs
+any_skipped P p [] h = h
+any_skipped P p (v ∷ vs) h = by (begins p v.path) h (any_skipped P p vs)
+  where
+    by : (b : Bool) → Any P (cond b (skip p vs) (v ∷ vs)) → (Any P (skip p vs) → Any P vs) → Any P (v ∷ vs)
+    by true k f = any_later P v vs (f k)
+    by false k f = k
 
 -- ---- costs
-
-false_of : (b : Bool) → (b ≡ true → ⊥) → b ≡ false
-false_of true h = absurd (h refl)
-false_of false h = refl
-
--- what costs no less than something above a budget isn't within it
-beyond_from : (budget c : ℤ) (v : Visit) → budget <ℤ c → c ≤ℤ v.node.cost → IsBeyond budget v
-beyond_from budget c v above h =
-    let dear : le_z v.node.cost budget ≡ false =
-    false_of (le_z v.node.cost budget)
-    (λ e. clash_ℤ (<ℤ-≤ℤ_trans above h) (le_z_yes (T_from_true (le_z v.node.cost budget) e))) in
-    no_plan_of (is_plan v.sight) (le_z v.node.cost budget) dear
-  where
-    no_plan_of : (p b : Bool) → b ≡ false → (p && b) ≡ false
-    no_plan_of true b e = e
-    no_plan_of false b e = refl
-
--- ---- what is passed
 
 -- below a decomposition all costs no less
 abbrev IsNoCheaper : Visit → Visit → Type 0
 IsNoCheaper v w = begins v.path w.path ≡ true → v.node.cost ≤ℤ w.node.cost
 
-abbrev IsBelow : List ℕ → Visit → Type 0
-IsBelow p w = begins p w.path ≡ true
+-- what costs more than a budget is no plan within it
+dear : (budget : ℤ) (v : Visit) → budget <ℤ v.node.cost → is_affordable budget v ≡ false
+dear budget v above = by (is_plan v.sight) (le_z v.node.cost budget) refl
+  where
+    by : (p b : Bool) → le_z v.node.cost budget ≡ b → (p && b) ≡ false
+    by true true e = absurd (clash_ℤ above (le_z_yes (T_from_true (le_z v.node.cost budget) e)))
+    by true false e = refl
+    by false b e = refl
 
--- visits are those below a node that come first, and what is left of them without these
-pub record Skips (p : List ℕ) (vs : List Visit) : Type 0 where
-  pub below : List Visit
-  pub whole : vs ≡ below ++ skip p vs
-  pub all : All (IsBelow p) below
+-- the first plan within a budget isn't below a decomposition that costs more
+not_below : (budget : ℤ) (v : Visit) (ws : List Visit) → budget <ℤ v.node.cost → All (IsNoCheaper v) ws
+    → find (is_affordable budget) ws ≡ find (is_affordable budget) (skip v.path ws)
+not_below budget v [] above a = refl
+not_below budget v (w ∷ ws) above a =
+    by (begins v.path w.path) refl (not_below budget v ws above (All-tail (IsNoCheaper v) w ws a))
+  where
+    by : (b : Bool) → begins v.path w.path ≡ b
+        → find (is_affordable budget) ws ≡ find (is_affordable budget) (skip v.path ws)
+        → find (is_affordable budget) (w ∷ ws) ≡ find (is_affordable budget) (cond b (skip v.path ws) (w ∷ ws))
+    by true e h =
+        let over : is_affordable budget w ≡ false =
+        dear budget w (<ℤ-≤ℤ_trans above (All-head (IsNoCheaper v) w ws a e)) in
+        let past : find (is_affordable budget) (w ∷ ws) ≡ find (is_affordable budget) ws = rw over refl in past ∙ h
+    by false e h = refl
 
-skips_by : (p : List ℕ) (w : Visit) (ws : List Visit) → Skips p ws → (b : Bool) → begins p w.path ≡ b
-    → Skips p (w ∷ ws)
-skips_by p w ws k true e =
-    let shorter : skip p (w ∷ ws) ≡ skip p ws = rw e refl in
-    record {
-      below = w ∷ k.below;
-      whole = ap (λ l. w ∷ l) k.whole ∙ ap (λ l. w ∷ (k.below ++ l)) (sym shorter);
-      all = All-cons (IsBelow p) w k.below e k.all;
-    }
-skips_by p w ws k false e =
-    let same : skip p (w ∷ ws) ≡ w ∷ ws = rw e refl in
-    record { below = []; whole = sym same; all = All-nil (IsBelow p) }
-
-skips : (p : List ℕ) (vs : List Visit) → Skips p vs
-skips p [] = record { below = []; whole = refl; all = All-nil (IsBelow p) }
-skips p (w ∷ ws) = skips_by p w ws (skips p ws) (begins p w.path) refl
-
--- what lies below a decomposition above the budget isn't within it
-below_beyond : (budget : ℤ) (v : Visit) → budget <ℤ v.node.cost → (ws : List Visit) → All (IsNoCheaper v) ws
-    → All (IsBelow v.path) ws → All (IsBeyond budget) ws
-below_beyond budget v above [] a b = All-nil (IsBeyond budget)
-below_beyond budget v above (w ∷ ws) a b =
-    All-cons (IsBeyond budget) w ws
-    (beyond_from budget v.node.cost w above
-    (All-head (IsNoCheaper v) w ws a (All-head (IsBelow v.path) w ws b)))
-    (below_beyond budget v above ws (All-tail (IsNoCheaper v) w ws a) (All-tail (IsBelow v.path) w ws b))
-
--- a visit that isn't a plan within the budget is passed
-pub passes_one : (budget : ℤ) (v : Visit) (vs ws : List Visit) → vs ≡ v ∷ ws → IsBeyond budget v
-    → Passes budget vs ws × (length ws < length vs)
-passes_one budget v vs ws e b = (
-  record { passed = v ∷ []; whole = e; beyond = λ h. all_one (IsBeyond budget) v b },
-  omega (arith, ap length e),
-)
-
--- a decomposition is no plan
-did_beyond : (budget : ℤ) (v : Visit) → v.sight ≡ Did → IsBeyond budget v
-did_beyond budget v d = rw d refl
-
--- a cut is no plan
-pub cut_beyond : (budget : ℤ) (v : Visit) → v.sight ≡ CutHere → IsBeyond budget v
-cut_beyond budget v d = rw d refl
-
--- a decomposition above the budget is passed, and all that lies below it
-passes_below : (budget : ℤ) (v : Visit) (vs ws : List Visit) → vs ≡ v ∷ ws → v.sight ≡ Did → budget <ℤ v.node.cost
-    → Passes budget vs (skip v.path ws) × (length (skip v.path ws) < length vs)
-passes_below budget v vs ws e d above =
-    let k = skips v.path ws in (
-      record {
-        passed = v ∷ k.below;
-        whole = e ∙ ap (λ l. v ∷ l) k.whole;
-        beyond = λ h.
-            let dear : All (IsNoCheaper v) ws =
-            pairs_head IsNoCheaper v ws (subst (AllPairs IsNoCheaper) e h) in
-            All-cons (IsBeyond budget) v k.below (did_beyond budget v d)
-            (below_beyond budget v above k.below
-            (all_left (IsNoCheaper v) k.below (skip v.path ws) (subst (All (IsNoCheaper v)) k.whole dear)) k.all);
-      },
-      omega (arith, ap length e, ap length k.whole, no_longer k.below (skip v.path ws)),
-    )
-
--- a decomposition is passed, and all that lies below it where it is above the budget
-pub passes_did : (budget : ℤ) (v : Visit) (vs : List Visit) (t r : Standing) → vs ≡ v ∷ t.rest → v.sight ≡ Did
-    → t.path ≡ v.path → (b : Bool) → lt_z budget v.node.cost ≡ b → r ≡ cond b (pruned t) t
-    → Passes budget vs r.rest × (length r.rest < length vs)
-passes_did budget v vs t r e d p true h k =
-    let left : r.rest ≡ skip v.path t.rest = ap (λ s. s.rest) k ∙ ap (λ q. skip q t.rest) p in
-    subst (λ ws. Passes budget vs ws × (length ws < length vs)) (sym left)
-    (passes_below budget v vs t.rest e d (lt_z_yes (T_from_true (lt_z budget v.node.cost) h)))
-passes_did budget v vs t r e d p false h k =
-    subst (λ ws. Passes budget vs ws × (length ws < length vs)) (sym (ap (λ s. s.rest) k))
-    (passes_one budget v vs t.rest e (did_beyond budget v d))
-
--- a plan is passed or taken
-pub turned_plan : (budget : ℤ) (p : Progress) (v : Visit) (vs ws : List Visit) → vs ≡ v ∷ ws → Judges budget p v
-    → Turned budget p vs ws
-turned_plan budget progress.Passed v vs ws e h = passes_one budget v vs ws e h
-turned_plan budget (progress.Found f) v vs ws e h =
-    subst (λ l. MatchOption (next_of l) ⊥ (IsTaken budget f)) (sym e) h
-turned_plan budget progress.End v vs ws e h = absurd h
-
--- a fact of all the visits that are left holds of them where a part is left out
-pub at_left : (P : Visit → Type 0) (t r : Standing) (b : Bool) → r ≡ cond b (pruned t) t → All P t.rest → All P r.rest
-at_left P t r true k a =
-    let s = skips t.path t.rest in
-    subst (All P) (sym (ap (λ s. s.rest) k)) (all_right P s.below (skip t.path t.rest) (subst (All P) s.whole a))
-at_left P t r false k a = subst (All P) (sym (ap (λ s. s.rest) k)) a
+skip_falls : (p : List ℕ) (vs : List Visit) → NeverFalls vs → NeverFalls (skip p vs)
+skip_falls p [] h = h
+skip_falls p (v ∷ vs) h = by (begins p v.path) (skip_falls p vs (pairs_tail IsNoCheaper v vs h))
+  where
+    by : (b : Bool) → NeverFalls (skip p vs) → NeverFalls (cond b (skip p vs) (v ∷ vs))
+    by true k = k
+    by false k = h
 
 -- ---- the whole search
 
--- at first nothing is passed
-pub passes_none : (budget : ℤ) (vs : List Visit) → Passes budget vs vs
-passes_none budget vs = record { passed = []; whole = refl; beyond = λ h. All-nil (IsBeyond budget) }
+-- what is found is the first, where the same is found in what is left
+found_later : (budget : ℤ) (o : Option AffordablePlan) (vs ws : List Visit)
+    → find (is_affordable budget) vs ≡ find (is_affordable budget) ws → IsFirst budget o ws → IsFirst budget o vs
+found_later budget None vs ws e h = e ∙ h
+found_later budget (Some f) vs ws e h = subst (λ o. MatchOption o ⊥ (IsOf f)) (sym e) h
 
--- more is passed
-pub passes_on : (budget : ℤ) (all left more : List Visit) → Passes budget all left → Passes budget left more
-    → Passes budget all more
-passes_on budget all left more a b = record {
-  passed = a.passed ++ b.passed;
-  whole = a.whole ∙ (ap (λ l. a.passed ++ l) b.whole ∙ sym (append_assoc a.passed b.passed more));
-  beyond = λ h.
-      All-append (IsBeyond budget) a.passed b.passed (a.beyond h)
-      (b.beyond (pairs_right IsNoCheaper a.passed left (subst (AllPairs IsNoCheaper) a.whole h)));
-}
-
--- the first that passes a test is behind all that fail it
-find_behind : (budget : ℤ) (xs ys : List Visit) → All (IsBeyond budget) xs
-    → find (is_affordable budget) (xs ++ ys) ≡ find (is_affordable budget) ys
-find_behind budget [] ys a = refl
-find_behind budget (x ∷ xs) ys a =
-    let past : find (is_affordable budget) (x ∷ (xs ++ ys)) ≡ find (is_affordable budget) (xs ++ ys) =
-    rw (All-head (IsBeyond budget) x xs a) refl in
-    past ∙ find_behind budget xs ys (All-tail (IsBeyond budget) x xs a)
-
-find_left : (budget : ℤ) (all left : List Visit) → Passes budget all left → NeverFalls all
-    → find (is_affordable budget) all ≡ find (is_affordable budget) left
-find_left budget all left s h =
-    ap (find (is_affordable budget)) s.whole ∙ find_behind budget s.passed left (s.beyond h)
-
-first_here : (budget : ℤ) (f : AffordablePlan) (left : List Visit) → MatchOption (next_of left) ⊥ (IsTaken budget f)
-    → MatchOption (find (is_affordable budget) left) ⊥ (IsOf f)
-first_here budget f [] h = absurd h
-first_here budget f (v ∷ vs) h =
+-- a plan that is taken is the first
+taken_here : (budget : ℤ) (o : Option AffordablePlan) (v : Visit) (vs : List Visit)
+    → MatchOption o ⊥ (λ f. IsTaken budget f v) → IsFirst budget o (v ∷ vs)
+taken_here budget None v vs h = absurd h
+taken_here budget (Some f) v vs h =
     let here : find (is_affordable budget) (v ∷ vs) ≡ Some v = rw h.0 refl in
     subst (λ o. MatchOption o ⊥ (IsOf f)) (sym here) h.1
 
--- a plan that is taken behind all that is passed is the first
-pub first_found : (budget : ℤ) (f : AffordablePlan) (all left : List Visit) → Passes budget all left
-    → MatchOption (next_of left) ⊥ (IsTaken budget f) → NeverFalls all → IsFirst budget (Some f) all
-first_found budget f all left s h n =
-    subst (λ o. MatchOption o ⊥ (IsOf f)) (sym (find_left budget all left s n)) (first_here budget f left h)
+-- where costs never fall, a search that has found nothing yet finds the first
+pub finds_first : (s u : Affordable) (c e : Unit {0}) (vs : List Visit) (there : Standing) → s.found ≡ None
+    → Passes meets_affordable s c vs u e there → NeverFalls vs → IsFirst s.budget u.found vs
+finds_first _ _ _ _ _ _ none (AtEnd s c) h = subst (λ o. IsFirst s.budget o []) (sym none) refl
+finds_first _ _ _ _ _ _ none (GoesOn s t u c d e v vs there m rest) h =
+    let past : find (is_affordable s.budget) (v ∷ vs) ≡ find (is_affordable s.budget) vs = rw m.1 refl in
+    found_later s.budget u.found (v ∷ vs) vs past
+    (subst (λ x. IsFirst x.budget u.found vs) m.0
+    (finds_first t u d e vs there (ap (λ x. x.found) m.0 ∙ none) rest (pairs_tail IsNoCheaper v vs h)))
+finds_first _ _ _ _ _ _ none (LeavesOut s t u c d e v vs there m rest) h =
+    let over : is_affordable s.budget v ≡ false = dear s.budget v m.1 in
+    let past : find (is_affordable s.budget) (v ∷ vs) ≡ find (is_affordable s.budget) vs = rw over refl in
+    found_later s.budget u.found (v ∷ vs) (skip v.path vs)
+    (past ∙ not_below s.budget v vs m.1 (pairs_head IsNoCheaper v vs h))
+    (subst (λ x. IsFirst x.budget u.found (skip v.path vs)) m.0
+    (finds_first t u d e (skip v.path vs) there (ap (λ x. x.found) m.0 ∙ none) rest
+    (skip_falls v.path vs (pairs_tail IsNoCheaper v vs h))))
+finds_first _ _ _ _ _ _ none (Ends s t c d v vs m) h = taken_here s.budget t.found v vs m
 
--- it is one of all
-pub one_found : (budget : ℤ) (f : AffordablePlan) (all left : List Visit) → Passes budget all left
-    → MatchOption (next_of left) ⊥ (IsTaken budget f) → Any (IsTaken budget f) all
-one_found budget f all left s h =
-    subst (Any (IsTaken budget f)) (sym s.whole)
-    (any_right (IsTaken budget f) s.passed left (any_first (IsTaken budget f) left h))
+-- what a search finds is some plan within the budget
+pub finds_some : (s u : Affordable) (c e : Unit {0}) (vs : List Visit) (there : Standing) → s.found ≡ None
+    → Passes meets_affordable s c vs u e there → IfSome u.found (λ f. Any (IsTaken s.budget f) vs)
+finds_some _ _ _ _ _ _ none (AtEnd s c) =
+    subst (λ o. IfSome o (λ f. Any (IsTaken s.budget f) [])) (sym none) tt
+finds_some _ _ _ _ _ _ none (GoesOn s t u c d e v vs there m rest) =
+    by u.found
+    (subst (λ x. IfSome u.found (λ f. Any (IsTaken x.budget f) vs)) m.0
+    (finds_some t u d e vs there (ap (λ x. x.found) m.0 ∙ none) rest))
+  where
+    by : (o : Option AffordablePlan) → IfSome o (λ f. Any (IsTaken s.budget f) vs)
+        → IfSome o (λ f. Any (IsTaken s.budget f) (v ∷ vs))
+    by None k = tt
+    by (Some f) k = any_later (IsTaken s.budget f) v vs k
+finds_some _ _ _ _ _ _ none (LeavesOut s t u c d e v vs there m rest) =
+    by u.found
+    (subst (λ x. IfSome u.found (λ f. Any (IsTaken x.budget f) (skip v.path vs))) m.0
+    (finds_some t u d e (skip v.path vs) there (ap (λ x. x.found) m.0 ∙ none) rest))
+  where
+    by : (o : Option AffordablePlan) → IfSome o (λ f. Any (IsTaken s.budget f) (skip v.path vs))
+        → IfSome o (λ f. Any (IsTaken s.budget f) (v ∷ vs))
+    by None k = tt
+    by (Some f) k =
+        any_later (IsTaken s.budget f) v vs (any_skipped (IsTaken s.budget f) v.path vs k)
+finds_some _ _ _ _ _ _ none (Ends s t c d v vs m) = by t.found m
+  where
+    by : (o : Option AffordablePlan) → MatchOption o ⊥ (λ f. IsTaken s.budget f v)
+        → IfSome o (λ f. Any (IsTaken s.budget f) (v ∷ vs))
+    by None k = absurd k
+    by (Some f) k = any_first (IsTaken s.budget f) v vs k
 
--- where all is passed there is none
-pub none_found : (budget : ℤ) (all left : List Visit) → Passes budget all left → left ≡ [] → NeverFalls all
-    → IsFirst budget None all
-none_found budget all left s e n = find_left budget all left s n ∙ ap (find (is_affordable budget)) e
+-- ---- errors
 
--- a fault among what is left is one of all
-pub explained : (budget : ℤ) (e : SearchError) (all left : List Visit) → Passes budget all left → Explains e left
-    → Explains e all
-explained budget errors.NoMemory all left s h = tt
-explained budget (errors.Fault f) all left s h =
-    subst (Any (λ v. v.sight ≡ FaultHere f)) (sym s.whole) (any_right (λ v. v.sight ≡ FaultHere f) s.passed left h)
+pub explained_later : (x : SearchError) (v : Visit) (vs : List Visit) → Explains x vs → Explains x (v ∷ vs)
+explained_later errors.NoMemory v vs h = tt
+explained_later (errors.Fault f) v vs h = any_later (λ w. w.sight ≡ FaultHere f) v vs h
 
--- a fault that comes first is one of what is left
-pub fault_first : (P : Visit → Type 0) (vs ws : List Visit) (v : Visit) → vs ≡ v ∷ ws → P v → Any P vs
-fault_first P vs ws v e h = subst (Any P) (sym e) (any_first P (v ∷ ws) h)
+explained_skipped : (x : SearchError) (p : List ℕ) (vs : List Visit) → Explains x (skip p vs) → Explains x vs
+explained_skipped errors.NoMemory p vs h = tt
+explained_skipped (errors.Fault f) p vs h = any_skipped (λ w. w.sight ≡ FaultHere f) p vs h
+
+pub explained_here : (x : SearchError) (v : Visit) (vs : List Visit) → IsErrorAt x v → Explains x (v ∷ vs)
+explained_here errors.NoMemory v vs h = tt
+explained_here (errors.Fault f) v vs h = any_first (λ w. w.sight ≡ FaultHere f) v vs h
+
+-- why a search stops
+abbrev pub error_of : Stop SearchError → SearchError
+error_of stops.NoMemory = errors.NoMemory
+error_of (stops.Failed e) = e
+
+-- a search that stops at a fault has met it
+pub explained : (s : Affordable) (c e : Unit {0}) (vs : List Visit) (x : Stop SearchError)
+    → Stops meets_affordable fails_affordable s c vs x e → Explains (error_of x) vs
+explained _ _ _ _ _ (Between s c vs) = tt
+explained _ _ _ _ _ (Within s c d v vs x m) = explained_here x v vs m
+explained _ _ _ _ _ (AfterOne s t c d e v vs x m rest) =
+    explained_later (error_of x) v vs (explained t d e vs x rest)
+explained _ _ _ _ _ (AfterPart s t c d e v vs x m rest) =
+    explained_later (error_of x) v vs
+    (explained_skipped (error_of x) v.path vs (explained t d e (skip v.path vs) x rest))

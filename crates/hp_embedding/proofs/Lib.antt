@@ -1,1 +1,2 @@
 pub mod BudgetSteps
+pub mod LimitSteps

@@ -1,13 +1,13 @@
 -- The first plan of a walk within a budget.
-use Rattle.std.specs.Prelude.{◌≡◌, ◌<◌, Bool, true, false, ◌&&◌, ℤ, ◌≤ℤ◌, List, [], ◌++◌, length, Option, Some, None, MatchOption}
+use Rattle.std.specs.Prelude.{◌≡◌, Bool, true, false, ◌&&◌, ℤ, ◌≤ℤ◌, ◌<ℤ◌, List, Option, Some, None, MatchOption}
 use Rattle.std.specs.Int.Signed.{le_z}
-use Rattle.std.specs.List.{All, AllPairs, Any, find}
-use Rattle.hp_net.specs.Standings.{next_of}
+use Rattle.std.specs.List.{AllPairs, Any, find}
+use Rattle.hp_passes.specs.declared.passing.Turn.{Turn}
+use Rattle.hp_passes.specs.declared.passing.Turn.TheVariants.{On, Past, Last}
 use Rattle.hp_syntax.specs.Report.{told_plan, shown}
 use Rattle.hp_syntax.specs.Walk.{Visit, FaultHere, is_plan, begins, told}
+use Rattle.hp_embedding.specs.declared.budget.Affordable.{Affordable}
 use Rattle.hp_embedding.specs.declared.budget.AffordablePlan.{AffordablePlan}
-use Rattle.hp_embedding.specs.declared.budget.Progress.{Progress}
-use Rattle.hp_embedding.specs.declared.budget.Progress.TheVariants as progress
 use Rattle.hp_embedding.specs.declared.budget.SearchError.{SearchError}
 use Rattle.hp_embedding.specs.declared.budget.SearchError.TheVariants as errors
 
@@ -34,31 +34,27 @@ abbrev pub IsFirst : ℤ → Option AffordablePlan → List Visit → Type 0
 IsFirst budget None vs = find (is_affordable budget) vs ≡ None
 IsFirst budget (Some f) vs = MatchOption (find (is_affordable budget) vs) ⊥ (IsOf f)
 
+-- an error at a visit is a fault only where that was met
+abbrev pub IsErrorAt : SearchError → Visit → Type 0
+IsErrorAt errors.NoMemory v = Unit {0}
+IsErrorAt (errors.Fault f) v = v.sight ≡ FaultHere f
+
 -- a fault is told only where it was met
 abbrev pub Explains : SearchError → List Visit → Type 0
 Explains errors.NoMemory vs = Unit {0}
 Explains (errors.Fault f) vs = Any (λ v. v.sight ≡ FaultHere f) vs
 
--- ---- a search midway
+-- ---- the pass
 
--- no plan within a budget is here
-abbrev pub IsBeyond : ℤ → Visit → Type 0
-IsBeyond budget v = is_affordable budget v ≡ false
+-- a visit is no plan within the budget; or it costs more than that, and what lies below is left out; or its plan is
+-- taken
+abbrev pub Meets : Affordable → Visit → Turn → Affordable → Type 0
+Meets s v On t = (t ≡ s) × (is_affordable s.budget v ≡ false)
+Meets s v Past t = (t ≡ s) × (s.budget <ℤ v.node.cost)
+Meets s v Last t = MatchOption t.found ⊥ (λ f. IsTaken s.budget f v)
 
--- the first visits are passed, and where costs never fall none of them is a plan within a budget
-pub record Passes (budget : ℤ) (vs ws : List Visit) : Type 0 where
-  pub passed : List Visit
-  pub whole : vs ≡ passed ++ ws
-  pub beyond : NeverFalls vs → All (IsBeyond budget) passed
+abbrev pub meets_affordable : Affordable → Unit {0} → Visit → Turn → Affordable → Unit {0} → Type 0
+meets_affordable s c v x t d = Meets s v x t
 
--- a visit of a plan is passed, or the plan is taken
-abbrev pub Judges : ℤ → Progress → Visit → Type 0
-Judges budget progress.Passed v = IsBeyond budget v
-Judges budget (progress.Found f) v = IsTaken budget f v
-Judges budget progress.End v = ⊥
-
--- after one visit fewer are left, or its plan is taken, or none was left
-abbrev pub Turned : ℤ → Progress → List Visit → List Visit → Type 0
-Turned budget progress.Passed vs ws = Passes budget vs ws × (length ws < length vs)
-Turned budget (progress.Found f) vs ws = MatchOption (next_of vs) ⊥ (IsTaken budget f)
-Turned budget progress.End vs ws = vs ≡ []
+abbrev pub fails_affordable : Affordable → Unit {0} → Visit → SearchError → Unit {0} → Type 0
+fails_affordable s c v e d = IsErrorAt e v

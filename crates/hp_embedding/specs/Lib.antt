@@ -1,2 +1,3 @@
 pub mod Budgets
+pub mod Limits
 pub mod Shelves

@@ -1,14 +1,14 @@
-//! The first plan within a budget, by a walk that leaves out what costs too much already.
-ghost use Rattle.std.specs.Prelude.{◌≡◌, true, cond, IfOk, IfErr, IfSome, OnOk, MatchOption};
-ghost use Rattle.std.specs.Int.Signed.{lt_z};
+//! The first plan within a budget, by a pass that leaves out what costs too much already.
+ghost use Rattle.std.specs.Prelude.{◌≡◌, true, IfOk, IfErr, IfSome, MatchOption};
 ghost use Rattle.std.specs.List.{All, Any};
-ghost use Rattle.hp_net.specs.Standings.{node_reached, pruned, IsAtItsNode};
+ghost use Rattle.hp_net.specs.Standings.{node_reached, IsAtItsNode};
 ghost use Rattle.hp_syntax.specs.Walk.{Plan, visit};
-ghost use Rattle.hp_embedding.specs.Budgets.{NeverFalls, IsOf, IsTaken, IsFirst, Explains, Judges, Turned};
+ghost use Rattle.hp_embedding.specs.Budgets.{NeverFalls, IsOf, IsTaken, IsFirst, Explains};
 
 use crate::tray::Tray;
-use hp_net::{Step, Walk};
+use hp_net::Walk;
 use hp_out::Pen;
+use hp_passes::{Pass, Sight, Stop, Turn, go_through};
 use hp_syntax::RunFault;
 use std::alloc::{AllocError, Global};
 use thiserror::Error;
@@ -46,16 +46,6 @@ pub enum SearchError {
     Fault(RunFault),
 }
 
-/// What one visit of a search came to.
-#[derive(Drop)]
-enum Progress {
-    /// No plan within the budget is here, nor below what was left out.
-    Passed,
-    Found(AffordablePlan),
-    /// Nothing was left to visit.
-    End,
-}
-
 /// The plan that a walk stands at.
 fn reached<W: Walk>(alloc: Global, walk: &W) -> Result<AffordablePlan, AllocError>
     requires live { W.is_live walk.now ≡ true }
@@ -75,55 +65,36 @@ fn reached<W: Walk>(alloc: Global, walk: &W) -> Result<AffordablePlan, AllocErro
     }
 }
 
-/// Takes the plan that a walk stands at, where it costs no more than the budget.
-fn judge<W: Walk>(alloc: Global, walk: &W, budget: i128) -> Result<Progress, AllocError>
-    requires live { W.is_live walk.now ≡ true }
-    ensures { IfOk result (λ p. MatchOption (node_reached (W.tree walk.now) (W.stands walk.now)) ⊥
-        (λ n. Judges budget p (visit (W.stands walk.now).path n Plan))) }
-{
-    if walk.cost() <= budget {
-        Ok(Progress::Found(reached(alloc, walk)?))
-    } else {
-        Ok(Progress::Passed)
-    }
+/// A search for a plan within a budget.
+#[derive(Drop)]
+struct Affordable {
+    alloc: Global,
+    budget: i128,
+    found: Option<AffordablePlan>,
 }
 
-/// Leaves out what lies below the decomposition just made, where that costs more than the budget already.
-fn leave_out<W: Walk>(walk: &mut W, budget: i128)
-    requires live { W.is_live walk.old ≡ true }
-    requires did { (W.stands walk.old).at_did ≡ true }
-    ensures stands { MatchOption (node_reached (W.tree walk.old) (W.stands walk.old)) ⊥
-        (λ n. W.stands walk.new ≡ cond (lt_z budget n.cost) (pruned (W.stands walk.old)) (W.stands walk.old)) }
-    ensures tree { W.tree walk.new ≡ W.tree walk.old }
-    ensures live { W.is_live walk.new ≡ true }
-{
-    if walk.cost() > budget {
-        walk.prune();
-    }
-}
+impl<W: Walk> Pass<W, ()> for Affordable {
+    ghost use Rattle.hp_embedding.specs.Budgets.{meets_affordable, fails_affordable};
 
-/// Makes the next visit.
-fn go_on<W: Walk>(alloc: Global, walk: &mut W, budget: i128) -> Result<Progress, SearchError>
-    requires live { W.is_live walk.old ≡ true }
-    requires at { All (IsAtItsNode (W.tree walk.old)) (W.stands walk.old).rest }
-    ensures turned { IfOk result (λ p. Turned budget p (W.stands walk.old).rest (W.stands walk.new).rest) }
-    ensures at { OnOk result (All (IsAtItsNode (W.tree walk.new)) (W.stands walk.new).rest) }
-    ensures live { OnOk result (W.is_live walk.new ≡ true) }
-    ensures err { IfErr result (λ e. Explains e (W.stands walk.old).rest) }
-{
-    match walk.next() {
-        Err(_) => Err(SearchError::NoMemory),
-        Ok(Step::Did) => {
-            leave_out(walk, budget);
-            Ok(Progress::Passed)
+    type Error = SearchError;
+
+    ghost meets = { meets_affordable };
+
+    ghost fails = { fails_affordable };
+
+    fn meet(&mut self, walk: &W, _hand: &mut (), sight: Sight) -> Result<Turn, SearchError> {
+        match sight {
+            Sight::Did if walk.cost() > self.budget => Ok(Turn::Past),
+            Sight::Plan if walk.cost() <= self.budget => match reached(self.alloc, walk) {
+                Ok(plan) => {
+                    self.found = Some(plan);
+                    Ok(Turn::Last)
+                }
+                Err(_) => Err(SearchError::NoMemory),
+            },
+            Sight::Did | Sight::Plan | Sight::Cut => Ok(Turn::On),
+            Sight::Fault(fault) => Err(SearchError::Fault(fault)),
         }
-        Ok(Step::Plan) => match judge(alloc, walk, budget) {
-            Ok(progress) => Ok(progress),
-            Err(_) => Err(SearchError::NoMemory),
-        },
-        Ok(Step::Cut) => Ok(Progress::Passed),
-        Ok(Step::Fault(fault)) => Err(SearchError::Fault(fault)),
-        Ok(Step::End) => Ok(Progress::End),
     }
 }
 
@@ -144,12 +115,14 @@ pub fn within<W: Walk>(
     ensures plan { IfOk result (λ found. IfSome found (λ f. Any (IsTaken budget f) (W.stands walk.old).rest)) }
     ensures err { IfErr result (λ e. Explains e (W.stands walk.old).rest) }
 {
-    loop {
-        match go_on(alloc, walk, budget) {
-            Ok(Progress::Passed) => {}
-            Ok(Progress::Found(plan)) => return Ok(Some(plan)),
-            Ok(Progress::End) => return Ok(None),
-            Err(error) => return Err(error),
-        }
+    let mut search = Affordable {
+        alloc,
+        budget,
+        found: None,
+    };
+    match go_through(walk, &mut search, &mut ()) {
+        Ok(()) => Ok(search.found),
+        Err(Stop::NoMemory) => Err(SearchError::NoMemory),
+        Err(Stop::Failed(error)) => Err(error),
     }
 }

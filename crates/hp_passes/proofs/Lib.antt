@@ -1,1 +1,3 @@
 pub mod PassLemmas
+pub mod PassingLemmas
+pub mod PassingSteps

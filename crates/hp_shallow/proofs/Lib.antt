@@ -3,4 +3,3 @@ pub mod DepthLemmas
 pub mod EndLemmas
 pub mod LeastLemmas
 pub mod WalkSteps
-pub mod WholeWalks

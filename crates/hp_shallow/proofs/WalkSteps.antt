@@ -1,147 +1,115 @@
--- One visit of a walk to its first plan.
-use Rattle.std.proofs.Common.{◌≡◌, ℕ, ◌+◌, ◌-◌, ◌^◌, min, true, cond, nat_le, List, [], ◌∷◌, length, Option, Some, None, refl, sym, ap, ◌∙◌, subst, arith}
+-- Facts of a walk to its first plan.
+use Rattle.std.proofs.Common.{◌≡◌, ℕ, ◌+◌, Bool, true, false, nat_le, List, [], ◌∷◌, refl, sym, ap, ◌∙◌, arith}
 use Rattle.std.specs.List.{All}
 use Rattle.std.proofs.lemmas.Bool.{cond-true}
 use Rattle.std.proofs.lemmas.Bool.Decides.{nat_tests}
-use Rattle.std.proofs.lemmas.List.Elements.{All-head}
+use Rattle.std.proofs.lemmas.List.Elements.{All-head, All-tail}
 use Rattle.hp_net.proofs.Counts.{count_on}
-use Rattle.hp_net.proofs.NextVisits.{IsNext}
-use Rattle.hp_net.specs.Standings.{Tree, Standing, IsAtItsNode, arrived, gone_on, next_of, node_reached}
-use Rattle.hp_syntax.specs.declared.fault.RunFault.{RunFault}
-use Rattle.hp_syntax.specs.Report.{Tally, Ended, ended, Stopped, AtFault, end_of, quiet_ending, with_cut, with_did, with_plan}
-use Rattle.hp_syntax.specs.Walk.{Sight, Visit, Did, Plan, CutHere, FaultHere, count_told, node_at}
-use Rattle.hp_shallow.specs.declared.walking.Counts.{Counts}
-use Rattle.hp_shallow.specs.declared.walking.ShallowEnd.{ShallowEnd}
+use Rattle.hp_net.specs.Standings.{Tree, Standing, IsAtItsNode}
+use Rattle.hp_passes.specs.declared.passing.Turn.TheVariants.{On, Past, Last}
+use Rattle.hp_passes.specs.Passing.{Passes, AtEnd, GoesOn, LeavesOut, Ends, at_visit}
+use Rattle.hp_syntax.specs.Report.{Tally, Ended, ended, Stopped, end_of, quiet_ending, with_cut, with_did, with_plan}
+use Rattle.hp_syntax.specs.Walk.{Node, Sight, Visit, Did, Plan, CutHere, FaultHere, count_told, visit}
 use Rattle.hp_shallow.specs.declared.walking.ShallowEnd.TheVariants as ends
-use Rattle.hp_shallow.specs.LeastDepth.{StandsAtPlan, first_plan, shallow_end}
-use Rattle.hp_shallow.specs.Walking.{Counted, Goes, Closes}
-
--- ---- the visits from one on
+use Rattle.hp_shallow.specs.declared.walking.Walked.{Walked}
+use Rattle.hp_shallow.specs.LeastDepth.{StandsAtPlan, shallow_end}
+use Rattle.hp_shallow.specs.Walking.{meets_walked}
 
 -- the first plan that is met is the one that was asked
 pub one_asked : (n : ℕ) → n ≡ 0 → nat_le 1 (n + 1) ≡ true
 one_asked n e = grind (arith, nat_tests)
 
-module _ (t : Tally) (v : Visit) (vs : List Visit) where
-  end_did : v.sight ≡ Did → end_of 1 t (v ∷ vs) ≡ end_of 1 (with_did t) vs
-  end_did e = rw e refl
+quiet_no_plan : (b : Bool) → shallow_end (quiet_ending b) ≡ ends.Plan → ⊥
+quiet_no_plan true e = cc
+quiet_no_plan false e = cc
 
-  end_cut : v.sight ≡ CutHere → end_of 1 t (v ∷ vs) ≡ end_of 1 (with_cut t) vs
-  end_cut e = rw e refl
+-- a walk to its first plan midway has counted what a tally has, and answers by its cuts
+pub record Tallied (k : Tally) (s : Walked) : Type 0 where
+  pub plans : k.plans ≡ 0
+  pub expansions : s.expansions ≡ count_told k.expansions
+  pub answer : s.answer ≡ shallow_end (quiet_ending k.is_cut)
 
-  end_fault : (f : RunFault) → v.sight ≡ FaultHere f → end_of 1 t (v ∷ vs) ≡ ended (AtFault f) t
-  end_fault f e = rw e refl
+module _ (tree : Tree) where
+  -- in the end it answers how the visits that were left end, and stands at their first plan, or at the root
+  pub record Comes (k : Tally) (vs : List Visit) (u : Walked) (there : Standing) : Type 0 where
+    pub answer : u.answer ≡ shallow_end (end_of 1 k vs).ending
+    pub expansions : u.expansions ≡ count_told (end_of 1 k vs).tally.expansions
+    pub plan : u.answer ≡ ends.Plan → StandsAtPlan tree there vs
+    pub root : u.answer ≡ ends.Cut → there.path ≡ []
 
-  end_plan : t.plans ≡ 0 → v.sight ≡ Plan → end_of 1 t (v ∷ vs) ≡ ended Stopped (with_plan t)
-  end_plan none e =
-      let here : end_of 1 t (v ∷ vs)
-      ≡ cond (nat_le 1 (t.plans + 1)) (ended Stopped (with_plan t)) (end_of 1 (with_plan t) vs) = rw e refl in
-      here
-      ∙ cond-true (nat_le 1 (t.plans + 1)) (ended Stopped (with_plan t)) (end_of 1 (with_plan t) vs)
-      (one_asked t.plans none)
+  module _ (k : Tally) (q : List ℕ) (n : Node) (vs : List Visit) (s t : Walked) (tallied : Tallied k s) where
+    -- after a decomposition or a cut
+    comes_later : (x : Sight) (c d : Unit {0}) (u : Walked) (there : Standing)
+        → meets_walked s c (visit q n x) On t d → ((j : Tally) → Tallied j t → Comes j vs u there)
+        → Comes k (visit q n x ∷ vs) u there
+    comes_later Did c d u there m later =
+        let r = later (with_did k) (record {
+          plans = tallied.plans;
+          expansions = count_on t.expansions s.expansions k.expansions tallied.expansions m.2;
+          answer = m.1 ∙ tallied.answer;
+        }) in
+        record {
+          answer = r.answer;
+          expansions = r.expansions;
+          plan = λ e. let p = r.plan e in record { plan = p.plan; first = p.first; path = p.path; node = p.node };
+          root = r.root;
+        }
+    comes_later Plan c d u there m later = let f : On ≡ Last = m.0 in absurd (cc)
+    comes_later CutHere c d u there m later =
+        let r = later (with_cut k) (record {
+          plans = tallied.plans;
+          expansions = m.2 ∙ tallied.expansions;
+          answer = m.1;
+        }) in
+        record {
+          answer = r.answer;
+          expansions = r.expansions;
+          plan = λ e. let p = r.plan e in record { plan = p.plan; first = p.first; path = p.path; node = p.node };
+          root = r.root;
+        }
+    comes_later (FaultHere f) c d u there m later = let g : On ≡ Last = m.0 in absurd (cc)
 
-module _ (v : Visit) (vs : List Visit) where
-  -- the first plan from a visit on, by its sight
-  abbrev first_by : Sight → Option Visit
-  first_by x =
-      elim x [ Did ↦ first_plan vs | Plan ↦ Some v | CutHere ↦ first_plan vs | FaultHere f ↦ None ]
-
-  first_did : v.sight ≡ Did → first_plan (v ∷ vs) ≡ first_plan vs
-  first_did e = ap first_by e
-
-  first_cut : v.sight ≡ CutHere → first_plan (v ∷ vs) ≡ first_plan vs
-  first_cut e = ap first_by e
-
-  first_here : v.sight ≡ Plan → first_plan (v ∷ vs) ≡ Some v
-  first_here e = ap first_by e
-
--- ---- counts
-
-module _ (c d : Counts) (t : Tally) (counted : Counted c t) where
-  -- a decomposition is counted
-  pub counted_did : d.expansions ≡ min (c.expansions + 1) (2 ^ 64 - 1) → d.is_cut ≡ c.is_cut
-      → Counted d (with_did t)
-  counted_did n b = record {
-    plans = counted.plans;
-    expansions = count_on d.expansions c.expansions t.expansions counted.expansions n;
-    is_cut = b ∙ counted.is_cut;
-  }
-
-  -- a cut is kept in mind
-  pub counted_cut : d.expansions ≡ c.expansions → d.is_cut ≡ true → Counted d (with_cut t)
-  counted_cut n b = record { plans = counted.plans; expansions = n ∙ counted.expansions; is_cut = b }
-
--- ---- one visit
-
-module _ (c : Counts) (t : Tally) (v : Visit) (vs ws : List Visit) (e : vs ≡ v ∷ ws) where
-  -- a decomposition was visited
-  pub goes_did : v.sight ≡ Did → Counted c (with_did t) → Goes c t vs ws
-  goes_did seen counted = record {
-    next = with_did t;
-    counted = counted;
-    same = ap (end_of 1 t) e ∙ end_did t v ws seen;
-    plan = ap first_plan e ∙ first_did v ws seen;
-    shorter = omega (arith, ap length e);
-  }
-
-  -- a cut was visited
-  pub goes_cut : v.sight ≡ CutHere → Counted c (with_cut t) → Goes c t vs ws
-  goes_cut seen counted = record {
-    next = with_cut t;
-    counted = counted;
-    same = ap (end_of 1 t) e ∙ end_cut t v ws seen;
-    plan = ap first_plan e ∙ first_cut v ws seen;
-    shorter = omega (arith, ap length e);
-  }
-
--- visits that come to an ending are answered so, where as many decompositions were counted
-closes_with : (a : ShallowEnd) (c : Counts) (t : Tally) (vs : List Visit) (x : Ended) → end_of 1 t vs ≡ x
-    → a ≡ shallow_end x.ending → x.tally.expansions ≡ t.expansions → Counted c t → Closes a c t vs
-closes_with a c t vs x e answer same counted = record {
-  answer = answer ∙ ap (λ (z : Ended). shallow_end z.ending) (sym e);
-  expansions =
-      counted.expansions
-      ∙ (ap count_told (sym same) ∙ ap (λ (z : Ended). count_told z.tally.expansions) (sym e));
-}
-
-module _ (c : Counts) (t : Tally) (counted : Counted c t) where
-  -- the plan was visited
-  pub closes_plan : (v : Visit) (vs ws : List Visit) → vs ≡ v ∷ ws → v.sight ≡ Plan → Closes ends.Plan c t vs
-  closes_plan v vs ws e seen =
-      closes_with ends.Plan c t vs (ended Stopped (with_plan t))
-      (ap (end_of 1 t) e ∙ end_plan t v ws counted.plans seen) refl refl counted
-
-  -- a fault was visited
-  pub closes_fault : (f : RunFault) (v : Visit) (vs ws : List Visit) → vs ≡ v ∷ ws → v.sight ≡ FaultHere f
-      → Closes (ends.Fault f) c t vs
-  closes_fault f v vs ws e seen =
-      closes_with (ends.Fault f) c t vs (ended (AtFault f) t) (ap (end_of 1 t) e ∙ end_fault t v ws f seen) refl refl
-      counted
-
-  -- nothing was left
-  pub closes_end : (a : ShallowEnd) (vs : List Visit) → vs ≡ [] → a ≡ shallow_end (quiet_ending c.is_cut)
-      → Closes a c t vs
-  closes_end a vs e h =
-      closes_with a c t vs (ended (quiet_ending t.is_cut) t) (ap (end_of 1 t) e)
-      (h ∙ ap (λ b. shallow_end (quiet_ending b)) counted.is_cut) refl counted
-
--- what is left begins with a plan, so the walk stands at the first plan of it
-pub stands_here : (t u : Tree) (s r : Standing) (next : IsNext s r Plan) → u ≡ t → All (IsAtItsNode t) s.rest
-    → StandsAtPlan u r s.rest
-stands_here t u s r next same a =
-    let v = next.visit in
-    let at : IsAtItsNode t v = All-head (IsAtItsNode t) v r.rest (subst (All (IsAtItsNode t)) next.rest a) in
-    record {
-      plan = v;
-      first = ap first_plan next.rest ∙ first_here v r.rest next.sight;
-      path = next.path;
-      node =
-          ap (λ w. node_reached w r) same
-          ∙ (ap (λ p. node_at t.rules t.nest t.root p) next.path ∙ at);
+    -- at a plan or a fault
+    comes_here : (x : Sight) (c d : Unit {0}) → IsAtItsNode tree (visit q n x)
+        → meets_walked s c (visit q n x) Last t d → Comes k (visit q n x ∷ vs) t (at_visit (visit q n x) vs)
+    comes_here Did c d at m = let f : Last ≡ On = m.0 in absurd (cc)
+    comes_here Plan c d at m =
+        let all : end_of 1 k (visit q n Plan ∷ vs) ≡ ended Stopped (with_plan k) =
+        cond-true (nat_le 1 (k.plans + 1)) (ended Stopped (with_plan k)) (end_of 1 (with_plan k) vs)
+        (one_asked k.plans tallied.plans) in
+        record {
+          answer = m.1 ∙ ap (λ (z : Ended). shallow_end z.ending) (sym all);
+          expansions = m.2 ∙ (tallied.expansions ∙ ap (λ (z : Ended). count_told z.tally.expansions) (sym all));
+          plan = λ e. record { plan = visit q n Plan; first = refl; path = refl; node = at };
+          root = λ e. let f : ends.Plan ≡ ends.Cut = sym m.1 ∙ e in absurd (cc);
+        }
+    comes_here CutHere c d at m = let f : Last ≡ On = m.0 in absurd (cc)
+    comes_here (FaultHere f) c d at m = record {
+      answer = m.1;
+      expansions = m.2 ∙ tallied.expansions;
+      plan = λ e. let g : ends.Fault f ≡ ends.Plan = sym m.1 ∙ e in absurd (cc);
+      root = λ e. let g : ends.Fault f ≡ ends.Cut = sym m.1 ∙ e in absurd (cc);
     }
 
--- where nothing was left, the walk stands at its root
-pub at_root_then : (s r : Standing) → r ≡ gone_on s → s.rest ≡ [] → r.path ≡ []
-at_root_then s r gone e =
-    ap (λ (z : Standing). z.path) gone
-    ∙ ap (λ (vs : List Visit). (arrived [] (next_of vs) vs).path) e
+    -- nothing is left out
+    none_past : (x : Sight) (c d : Unit {0}) → meets_walked s c (visit q n x) Past t d → ⊥
+    none_past Did c d m = let f : Past ≡ On = m.0 in cc
+    none_past Plan c d m = let f : Past ≡ Last = m.0 in cc
+    none_past CutHere c d m = let f : Past ≡ On = m.0 in cc
+    none_past (FaultHere f) c d m = let g : Past ≡ Last = m.0 in cc
+
+  pub comes : (k : Tally) (vs : List Visit) (s u : Walked) (c e : Unit {0}) (there : Standing) → Tallied k s
+      → All (IsAtItsNode tree) vs → Passes meets_walked s c vs u e there → Comes k vs u there
+  comes k _ _ _ _ _ _ h at (AtEnd s c) = record {
+    answer = h.answer;
+    expansions = h.expansions;
+    plan = λ e. absurd (quiet_no_plan k.is_cut (sym h.answer ∙ e));
+    root = λ e. refl;
+  }
+  comes k _ _ _ _ _ _ h at (GoesOn s t u c d e v vs there m rest) =
+      comes_later k v.path v.node vs s t h v.sight c d u there m
+      (λ j tallied. comes j vs t u d e there tallied (All-tail (IsAtItsNode tree) v vs at) rest)
+  comes k _ _ _ _ _ _ h at (LeavesOut s t u c d e v vs there m rest) =
+      absurd (none_past k v.path v.node vs s t h v.sight c d m)
+  comes k _ _ _ _ _ _ h at (Ends s t c d v vs m) =
+      comes_here k v.path v.node vs s t h v.sight c d (All-head (IsAtItsNode tree) v vs at) m

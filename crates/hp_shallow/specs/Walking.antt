@@ -1,31 +1,17 @@
--- A walk to its first plan midway: what was counted, and what the visits that are left come to.
-use Rattle.std.specs.Prelude.{◌≡◌, ◌<◌, List, length, Option, Some, None}
-use Rattle.hp_syntax.specs.Report.{Tally, end_of}
-use Rattle.hp_syntax.specs.Walk.{Visit, count_told}
-use Rattle.hp_shallow.specs.declared.walking.Counts.{Counts}
-use Rattle.hp_shallow.specs.declared.walking.ShallowEnd.{ShallowEnd}
-use Rattle.hp_shallow.specs.LeastDepth.{first_plan, shallow_end}
+-- What one visit makes of a walk to its first plan.
+use Rattle.std.specs.Prelude.{◌≡◌, ◌+◌, ◌-◌, ◌^◌, min}
+use Rattle.hp_passes.specs.declared.passing.Turn.{Turn}
+use Rattle.hp_passes.specs.declared.passing.Turn.TheVariants.{On, Last}
+use Rattle.hp_syntax.specs.Walk.{Visit, Did, Plan, CutHere, FaultHere}
+use Rattle.hp_shallow.specs.declared.walking.ShallowEnd.TheVariants as ends
+use Rattle.hp_shallow.specs.declared.walking.Walked.{Walked}
 
--- the counts are those of a tally without plans
-pub record Counted (c : Counts) (t : Tally) : Type 0 where
-  pub plans : t.plans ≡ 0
-  pub expansions : c.expansions ≡ count_told t.expansions
-  pub is_cut : c.is_cut ≡ t.is_cut
-
--- after one visit fewer are left, and they come to the same
-pub record Goes (c : Counts) (t : Tally) (vs ws : List Visit) : Type 0 where
-  pub next : Tally
-  pub counted : Counted c next
-  pub same : end_of 1 t vs ≡ end_of 1 next ws
-  pub plan : first_plan vs ≡ first_plan ws
-  pub shorter : length ws < length vs
-
--- the visits that were left come to this answer, and so many decompositions were visited by then
-pub record Closes (a : ShallowEnd) (c : Counts) (t : Tally) (vs : List Visit) : Type 0 where
-  pub answer : a ≡ shallow_end (end_of 1 t vs).ending
-  pub expansions : c.expansions ≡ count_told (end_of 1 t vs).tally.expansions
-
--- after one visit the walk goes on, or it ends with an answer
-abbrev pub Turned : Option ShallowEnd → Counts → Tally → List Visit → List Visit → Type 0
-Turned None c t vs ws = Goes c t vs ws
-Turned (Some a) c t vs ws = Closes a c t vs
+-- a decomposition is counted, a cut is the answer so far, and a plan or a fault is the answer and the last visit
+abbrev pub meets_walked : Walked → Unit {0} → Visit → Turn → Walked → Unit {0} → Type 0
+meets_walked s c v x t d =
+    elim v.sight [
+      | Did ↦ (x ≡ On) × (t.answer ≡ s.answer) × (t.expansions ≡ min (s.expansions + 1) (2 ^ 64 - 1))
+      | Plan ↦ (x ≡ Last) × (t.answer ≡ ends.Plan) × (t.expansions ≡ s.expansions)
+      | CutHere ↦ (x ≡ On) × (t.answer ≡ ends.Cut) × (t.expansions ≡ s.expansions)
+      | FaultHere f ↦ (x ≡ Last) × (t.answer ≡ ends.Fault f) × (t.expansions ≡ s.expansions)
+    ]

@@ -1,13 +1,12 @@
 //! A walk up to its first plan.
-ghost use Rattle.std.specs.Prelude.{◌≡◌, [], true, Some, IfOk, OnOk};
+ghost use Rattle.std.specs.Prelude.{◌≡◌, [], true, IfOk, OnOk};
 ghost use Rattle.std.specs.List.{All};
 ghost use Rattle.hp_net.specs.Standings.{IsAtItsNode};
-ghost use Rattle.hp_syntax.specs.Report.{Tally, quiet_ending};
 ghost use Rattle.hp_syntax.specs.Walk.{count_told};
 ghost use Rattle.hp_shallow.specs.LeastDepth.{StandsAtPlan, first_end, shallow_end};
-ghost use Rattle.hp_shallow.specs.Walking.{Counted, Turned};
 
-use hp_net::{Step, Walk};
+use hp_net::Walk;
+use hp_passes::{Pass, Sight, Stop, Turn, go_through};
 use hp_syntax::RunFault;
 use std::alloc::AllocError;
 
@@ -27,49 +26,34 @@ pub struct Walked {
     pub expansions: u64,
 }
 
-/// What was counted so far, and whether a cut was seen.
-#[derive(Clone, Copy)]
-struct Counts {
-    expansions: u64,
-    is_cut: bool,
-}
+impl<W: Walk> Pass<W, ()> for Walked {
+    ghost use Rattle.hp_shallow.specs.Walking.{meets_walked};
 
-/// How a walk ends that came to no plan and no fault.
-fn quiet(is_cut: bool) -> ShallowEnd
-    ensures { result ≡ shallow_end (quiet_ending is_cut) }
-{
-    if is_cut {
-        ShallowEnd::Cut
-    } else {
-        ShallowEnd::End
-    }
-}
+    type Error = AllocError;
 
-/// Makes the next visit, and answers where the walk ends.
-fn go_on<W: Walk>(walk: &mut W, counts: &mut Counts) -> Result<Option<ShallowEnd>, AllocError>
-    requires live { W.is_live walk.old ≡ true }
-    requires at { All (IsAtItsNode (W.tree walk.old)) (W.stands walk.old).rest }
-    ensures turned { IfOk result (λ end. (seen : Tally) → Counted counts.old seen
-        → Turned end counts.new seen (W.stands walk.old).rest (W.stands walk.new).rest) }
-    ensures plan { IfOk result (λ end. end ≡ Some ShallowEnd.Plan
-        → StandsAtPlan (W.tree walk.new) (W.stands walk.new) (W.stands walk.old).rest) }
-    ensures root { IfOk result (λ end. end ≡ Some ShallowEnd.Cut → (W.stands walk.new).path ≡ []) }
-    ensures at { OnOk result (All (IsAtItsNode (W.tree walk.new)) (W.stands walk.new).rest) }
-    ensures tree { W.tree walk.new ≡ W.tree walk.old }
-    ensures live { OnOk result (W.is_live walk.new ≡ true) }
-{
-    match walk.next()? {
-        Step::Did => {
-            counts.expansions = counts.expansions.saturating_add(1);
-            Ok(None)
+    ghost meets = { meets_walked };
+
+    ghost fails = { λ s c v e d. ⊥ };
+
+    fn meet(&mut self, _walk: &W, _hand: &mut (), sight: Sight) -> Result<Turn, AllocError> {
+        match sight {
+            Sight::Did => {
+                self.expansions = self.expansions.saturating_add(1);
+                Ok(Turn::On)
+            }
+            Sight::Plan => {
+                self.answer = ShallowEnd::Plan;
+                Ok(Turn::Last)
+            }
+            Sight::Cut => {
+                self.answer = ShallowEnd::Cut;
+                Ok(Turn::On)
+            }
+            Sight::Fault(fault) => {
+                self.answer = ShallowEnd::Fault(fault);
+                Ok(Turn::Last)
+            }
         }
-        Step::Plan => Ok(Some(ShallowEnd::Plan)),
-        Step::Cut => {
-            counts.is_cut = true;
-            Ok(None)
-        }
-        Step::Fault(fault) => Ok(Some(ShallowEnd::Fault(fault))),
-        Step::End => Ok(Some(quiet(counts.is_cut))),
     }
 }
 
@@ -87,16 +71,13 @@ pub fn first_end<W: Walk>(walk: &mut W) -> Result<Walked, AllocError>
     ensures tree { W.tree walk.new ≡ W.tree walk.old }
     ensures live { OnOk result (W.is_live walk.new ≡ true) }
 {
-    let mut counts = Counts {
+    let mut walked = Walked {
+        answer: ShallowEnd::End,
         expansions: 0,
-        is_cut: false,
     };
-    loop {
-        if let Some(answer) = go_on(walk, &mut counts)? {
-            return Ok(Walked {
-                answer,
-                expansions: counts.expansions,
-            });
-        }
+    match go_through(walk, &mut walked, &mut ()) {
+        Ok(()) => Ok(walked),
+        Err(Stop::NoMemory) => Err(AllocError),
+        Err(Stop::Failed(error)) => Err(error),
     }
 }

@@ -3,12 +3,11 @@ use Rattle.std.proofs.Common.{◌≡◌, ℕ, Bool, true, false, List, [], ◌�
 use Rattle.std.specs.List.{All}
 use Rattle.std.proofs.lemmas.List.Elements.{All-nil, All-cons, All-head, All-tail}
 use Rattle.hp_best.specs.Bounded.{ChosenIsCheapest, bounded, bounded_turn, chosen_plan, last_of}
-use Rattle.hp_best.proofs.VisitSteps.{last_did, last_plan, last_cut}
 use Rattle.hp_laws.specs.TreeLaws.{IsFaultless}
 use Rattle.hp_passes.specs.Passes.{ComesFrom, Nothing, Takes, Leaves}
 use Rattle.hp_passes.proofs.PassLemmas.{made_from}
 use Rattle.hp_syntax.specs.Report.{Tally, ending_text, nothing_seen, quiet_ending, with_cut, with_did, with_plan}
-use Rattle.hp_syntax.specs.Walk.{Sight, Visit, Did, Plan, CutHere, FaultHere, count_told}
+use Rattle.hp_syntax.specs.Walk.{Node, Sight, Visit, Did, Plan, CutHere, FaultHere, count_told, visit}
 use Rattle.hp_telling.specs.BestReports.{TellsTheCheapest, chosen_text, unless_fault}
 
 -- a fact of all visits holds of those that come from them
@@ -24,22 +23,19 @@ quiet_keeps true text = refl
 quiet_keeps false text = refl
 
 -- the ending from a visit on is no fault, where none is there
-last_at : (text : List ℕ) (t : Tally) (v : Visit) (vs : List Visit)
-    → ((u : Tally) → unless_fault (last_of u vs).ending text ≡ text) → (x : Sight) → v.sight ≡ x → IsFaultless x
-    → unless_fault (last_of t (v ∷ vs)).ending text ≡ text
-last_at text t v vs others Did e h =
-    ap (λ z. unless_fault z.ending text) (last_did t v vs e) ∙ others (with_did t)
-last_at text t v vs others Plan e h =
-    ap (λ z. unless_fault z.ending text) (last_plan t v vs e) ∙ others (with_plan t)
-last_at text t v vs others CutHere e h =
-    ap (λ z. unless_fault z.ending text) (last_cut t v vs e) ∙ others (with_cut t)
-last_at text t v vs others (FaultHere f) e h = cc
+last_at : (text : List ℕ) (t : Tally) (q : List ℕ) (n : Node) (x : Sight) (vs : List Visit)
+    → ((u : Tally) → unless_fault (last_of u vs).ending text ≡ text) → IsFaultless x
+    → unless_fault (last_of t (visit q n x ∷ vs)).ending text ≡ text
+last_at text t q n Did vs others h = others (with_did t)
+last_at text t q n Plan vs others h = others (with_plan t)
+last_at text t q n CutHere vs others h = others (with_cut t)
+last_at text t q n (FaultHere f) vs others h = cc
 
 last_keeps : (text : List ℕ) (t : Tally) (vs : List Visit) → All (λ v. IsFaultless v.sight) vs
     → unless_fault (last_of t vs).ending text ≡ text
 last_keeps text t [] h = quiet_keeps t.is_cut text
 last_keeps text t (v ∷ vs) h =
-    last_at text t v vs (λ u. last_keeps text u vs (All-tail (λ w. IsFaultless w.sight) v vs h)) v.sight refl
+    last_at text t v.path v.node v.sight vs (λ u. last_keeps text u vs (All-tail (λ w. IsFaultless w.sight) v vs h))
     (All-head (λ w. IsFaultless w.sight) v vs h)
 
 -- what is told of a bounded walk over visits without a fault is the cheapest of their plans

@@ -47,6 +47,12 @@ pub told_by_parts : (a : Answer) (o : Result Status Halt) (r : SinkRun) → OnOk
 told_by_parts a (Ok s) r w e h = (e, w)
 told_by_parts a (Err halt) r w e h = h
 
+-- and the parts of an answer that was told
+pub parts_told : (a : Answer) (o : Result Status Halt) (r : SinkRun) → IsTold a o r
+    → OnOk o (Wrote a.0 r.before r.after) × IfOk o (λ s. s ≡ a.1) × IfErr o (λ h. Halts h a.0 r)
+parts_told a (Ok s) r h = (h.1, h.0, tt)
+parts_told a (Err halt) r h = (tt, tt, h)
+
 -- an answer that is told behind a text is told with that text before it
 pub told_behind : (x : List ℕ) (a : Answer) (o : Result Status Halt) (f g k : ℕ) (old mid new : Option (List ℕ)) → f ≤ g
     → Wrote x old mid → IsTold a o (sink_run g k mid new) → IsTold (behind x a) o (sink_run f k old new)

@@ -1,19 +1,17 @@
 //! The cheapest plan of a walk, told with how the search for it ended.
 
-ghost use Rattle.std.specs.Prelude.{◌≡◌, ◌≤◌, true, Bool, List, Option, map, IfErr, OnOk};
+ghost use Rattle.std.specs.Prelude.{◌≡◌, ◌≤◌, true, Bool, List, Option, IfErr, OnOk};
 ghost use Rattle.hp_best.specs.Bounded.{NeverFalls, IsChosen, IsFound, end_told};
 ghost use Rattle.hp_net.specs.Standings.{tree_visits};
 ghost use Rattle.hp_out.specs.Endings.{ending_of};
 ghost use Rattle.hp_out.specs.Writing.{Wrote, sink_run};
-ghost use Rattle.hp_syntax.specs.GroundViews.{ground_of};
-ghost use Rattle.hp_syntax.specs.Report.{best_text};
 ghost use Rattle.hp_syntax.specs.Walk.{Visit};
 ghost use Rattle.hp_telling.specs.BestReports.{best_report, chosen_text, unless_fault};
 ghost use Rattle.hp_telling.specs.Telling.{Halts, IsTold};
 
 use crate::halt::Halt;
 use crate::planning::{Progress, close};
-use hp_best::{BestEnd, Chosen, Found, best};
+use hp_best::{BestEnd, Found, best};
 use hp_io::Sink;
 use hp_net::Walk;
 use hp_out::{Ending, Pen};
@@ -31,21 +29,6 @@ fn ending_of(end: BestEnd) -> Ending
     }
 }
 
-/// Writes a plan that was chosen.
-fn write_chosen<K: Sink>(chosen: &Chosen, out: &mut K) -> Result<(), Halt>
-    ensures written { OnOk result (Wrote (best_text chosen.now.cost (map ground_of chosen.now.steps.items))
-        (K.bytes out.old) (K.bytes out.new)) }
-    ensures err { IfErr result (λ h. Halts h (best_text chosen.now.cost (map ground_of chosen.now.steps.items))
-        (sink_run (K.faults out.old) (K.faults out.new) (K.bytes out.old) (K.bytes out.new))) }
-    ensures later { K.faults out.old ≤ K.faults out.new }
-{
-    let mut pen = Pen::new(out);
-    match pen.best_lines(chosen.cost, chosen.steps.as_slice()) {
-        Ok(()) => Ok(()),
-        Err(_) => Err(Halt::Failed),
-    }
-}
-
 /// Writes the plan that was found, unless a fault ended the search.
 fn write_found<K: Sink>(found: &Found, out: &mut K) -> Result<(), Halt>
     ensures written { (chosen : Option Visit) → IsChosen found.now.best chosen → OnOk result
@@ -58,9 +41,13 @@ fn write_found<K: Sink>(found: &Found, out: &mut K) -> Result<(), Halt>
     if let BestEnd::Fault(_) = found.ending {
         return Ok(());
     }
-    match &found.best {
-        Some(chosen) => write_chosen(chosen, out),
-        None => Ok(()),
+    let Some(chosen) = &found.best else {
+        return Ok(());
+    };
+    let mut pen = Pen::new(out);
+    match pen.best_lines(chosen.cost, chosen.steps.as_slice()) {
+        Ok(()) => Ok(()),
+        Err(_) => Err(Halt::Failed),
     }
 }
 

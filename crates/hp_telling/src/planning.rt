@@ -1,19 +1,20 @@
 //! The walk of a problem, with each plan written as it is found.
 
-ghost use Rattle.std.specs.Prelude.{◌≡◌, ◌≤◌, ◌<◌, ◌+◌, true, false, MatchOption, IfOk, IfErr, OnOk, length};
+ghost use Rattle.std.specs.Prelude.{◌≡◌, ℕ, ◌≤◌, ◌<◌, true, MatchOption, IfOk, IfErr, OnOk};
 ghost use Rattle.std.specs.List.{All};
 ghost use Rattle.hp_net.specs.Standings.{node_reached, IsAtItsNode};
 ghost use Rattle.hp_out.specs.Endings.{ending_of};
 ghost use Rattle.hp_out.specs.Writing.{Wrote, sink_run};
-ghost use Rattle.hp_syntax.specs.Report.{ending_text, nothing_seen, plan_line, quiet_ending, report, shown, status_of, told_plan};
-ghost use Rattle.hp_syntax.specs.Walk.{Plan, visit};
-ghost use Rattle.hp_telling.specs.Telling.{Visited, Halts, counted, left, stop_at, telling};
+ghost use Rattle.hp_syntax.specs.Report.{AtFault, ending_text, nothing_seen, report, status_of};
+ghost use Rattle.hp_syntax.specs.Walk.{Plan, count_told, visit};
+ghost use Rattle.hp_telling.specs.Telling.{Halts, IsTold, telling};
 
 use crate::halt::Halt;
 use hp_io::Sink;
-use hp_net::{Step, Walk};
+use hp_net::Walk;
 use hp_out::{Ending, Pen};
-use hp_syntax::Status;
+use hp_passes::{Pass, Sight, Stop, Turn, go_through};
+use hp_syntax::{RunFault, Status};
 
 /// The detail in which a plan is told.
 #[derive(Clone, Copy)]
@@ -48,54 +49,6 @@ fn status_of(ending: Ending, plans: u64) -> Status
     }
 }
 
-/// How a walk ends that met no fault.
-fn quiet(is_cut: bool) -> Ending
-    ensures { ending_of result ≡ quiet_ending is_cut }
-{
-    if is_cut { Ending::Cut } else { Ending::End }
-}
-
-/// Writes the line of the plan of the node that is reached.
-fn write_line<W: Walk, K: Sink>(number: u64, walk: &W, out: &mut K) -> Result<(), Halt>
-    requires live { W.is_live walk.now ≡ true }
-    ensures written { MatchOption (node_reached (W.tree walk.now) (W.stands walk.now)) ⊥
-        (λ n. OnOk result (Wrote (plan_line number n.cost (length n.steps)) (K.bytes out.old) (K.bytes out.new))) }
-    ensures err { MatchOption (node_reached (W.tree walk.now) (W.stands walk.now)) ⊥
-        (λ n. IfErr result (λ h. Halts h (plan_line number n.cost (length n.steps))
-        (sink_run (K.faults out.old) (K.faults out.new) (K.bytes out.old) (K.bytes out.new)))) }
-    ensures later { K.faults out.old ≤ K.faults out.new }
-{
-    let mut pen = Pen::new(out);
-    match pen.plan_line(number, walk) {
-        Ok(()) => Ok(()),
-        Err(_) => Err(Halt::Failed),
-    }
-}
-
-/// Writes the plan of the node that is reached, with its steps and what else is shown of it.
-fn write_steps<W: Walk, K: Sink>(
-    number: u64,
-    walk: &W,
-    states: bool,
-    paths: bool,
-    out: &mut K,
-) -> Result<(), Halt>
-    requires live { W.is_live walk.now ≡ true }
-    ensures written { MatchOption (node_reached (W.tree walk.now) (W.stands walk.now)) ⊥
-        (λ n. OnOk result (Wrote (told_plan (shown states paths) number (W.stands walk.now).path n)
-        (K.bytes out.old) (K.bytes out.new))) }
-    ensures err { MatchOption (node_reached (W.tree walk.now) (W.stands walk.now)) ⊥
-        (λ n. IfErr result (λ h. Halts h (told_plan (shown states paths) number (W.stands walk.now).path n)
-        (sink_run (K.faults out.old) (K.faults out.new) (K.bytes out.old) (K.bytes out.new)))) }
-    ensures later { K.faults out.old ≤ K.faults out.new }
-{
-    let mut pen = Pen::new(out);
-    match pen.plan_lines(number, walk, states, paths) {
-        Ok(()) => Ok(()),
-        Err(_) => Err(Halt::Failed),
-    }
-}
-
 /// Writes what is told of the plan of the node that is reached.
 pub fn write_plan<W: Walk, K: Sink>(
     number: u64,
@@ -112,73 +65,64 @@ pub fn write_plan<W: Walk, K: Sink>(
         (sink_run (K.faults out.old) (K.faults out.new) (K.bytes out.old) (K.bytes out.new)))) }
     ensures later { K.faults out.old ≤ K.faults out.new }
 {
+    let mut pen = Pen::new(out);
     match detail {
-        Detail::Line => write_line(number, walk, out),
-        Detail::Steps { states, paths } => write_steps(number, walk, states, paths, out),
+        Detail::Line => match pen.plan_line(number, walk) {
+            Ok(()) => Ok(()),
+            Err(_) => Err(Halt::Failed),
+        },
+        Detail::Steps { states, paths } => match pen.plan_lines(number, walk, states, paths) {
+            Ok(()) => Ok(()),
+            Err(_) => Err(Halt::Failed),
+        },
     }
 }
 
-/// Counts and writes a plan, and answers the ending where it is the last that was asked.
-fn plan_found<W: Walk, K: Sink>(
-    walk: &W,
+/// A telling of so many plans of a walk in a detail: how far it is, and how it ends.
+#[derive(Drop)]
+struct Telling {
     plans: u64,
     detail: Detail,
-    progress: &mut Progress,
-    out: &mut K,
-) -> Result<Option<Ending>, Halt>
-    requires live { W.is_live walk.now ≡ true }
-    requires fewer { progress.old.plans < plans }
-    ensures written { MatchOption (node_reached (W.tree walk.now) (W.stands walk.now)) ⊥
-        (λ n. OnOk result (Wrote (telling detail (progress.old.plans + 1) (visit (W.stands walk.now).path n Plan))
-        (K.bytes out.old) (K.bytes out.new))) }
-    ensures counted { OnOk result (progress.new ≡ counted progress.old) }
-    ensures stops { IfOk result (λ o. o ≡ stop_at plans (progress.old.plans + 1)) }
-    ensures err { MatchOption (node_reached (W.tree walk.now) (W.stands walk.now)) ⊥
-        (λ n. IfErr result (λ h. Halts h
-        (telling detail (progress.old.plans + 1) (visit (W.stands walk.now).path n Plan))
-        (sink_run (K.faults out.old) (K.faults out.new) (K.bytes out.old) (K.bytes out.new)))) }
-    ensures later { K.faults out.old ≤ K.faults out.new }
-{
-    progress.plans += 1;
-    match write_plan(progress.plans, walk, detail, out) {
-        Ok(()) if progress.plans == plans => Ok(Some(Ending::Stopped)),
-        Ok(()) => Ok(None),
-        Err(halt) => Err(halt),
-    }
+    progress: Progress,
+    ending: Ending,
 }
 
-/// One visit: what is counted and written of it, and the ending where it is the last.
-fn visit<W: Walk, K: Sink>(
-    walk: &mut W,
-    plans: u64,
-    detail: Detail,
-    progress: &mut Progress,
-    out: &mut K,
-) -> Result<Option<Ending>, Halt>
-    requires live { W.is_live walk.old ≡ true }
-    requires at { All (IsAtItsNode (W.tree walk.old)) (W.stands walk.old).rest }
-    requires fewer { progress.old.plans < plans }
-    ensures visited { IfOk result (λ o. Visited o detail plans progress.old progress.new
-        (W.stands walk.old).rest (W.stands walk.new).rest (K.bytes out.old) (K.bytes out.new)) }
-    ensures at { OnOk result (All (IsAtItsNode (W.tree walk.new)) (W.stands walk.new).rest) }
-    ensures live { OnOk result (W.is_live walk.new ≡ true) }
-    ensures err { IfErr result (λ h. Halts h (left detail plans progress.old (W.stands walk.old).rest).0
-        (sink_run (K.faults out.old) (K.faults out.new) (K.bytes out.old) (K.bytes out.new))) }
-    ensures later { K.faults out.old ≤ K.faults out.new }
-{
-    match walk.next() {
-        Err(_) => Err(Halt::NoMemory),
-        Ok(Step::Did) => {
-            progress.expansions = progress.expansions.saturating_add(1);
-            Ok(None)
+impl<W: Walk, K: Sink> Pass<W, K> for Telling {
+    ghost use Rattle.hp_telling.specs.Telling.{StopsAt, Tells};
+
+    type Error = Halt;
+
+    ghost meets = { λ s c v t u d. Tells s v t u (sink_run (K.faults c) (K.faults d) (K.bytes c) (K.bytes d)) };
+
+    ghost fails = { λ s c v h d. StopsAt s v h (sink_run (K.faults c) (K.faults d) (K.bytes c) (K.bytes d)) };
+
+    fn meet(&mut self, walk: &W, out: &mut K, sight: Sight) -> Result<Turn, Halt> {
+        match sight {
+            Sight::Did => {
+                self.progress.expansions = self.progress.expansions.saturating_add(1);
+                Ok(Turn::On)
+            }
+            Sight::Plan => {
+                self.progress.plans = self.progress.plans.saturating_add(1);
+                match write_plan(self.progress.plans, walk, self.detail, out) {
+                    Ok(()) if self.progress.plans < self.plans => Ok(Turn::On),
+                    Ok(()) => {
+                        self.ending = Ending::Stopped;
+                        Ok(Turn::Last)
+                    }
+                    Err(halt) => Err(halt),
+                }
+            }
+            Sight::Cut => {
+                self.progress.is_cut = true;
+                self.ending = Ending::Cut;
+                Ok(Turn::On)
+            }
+            Sight::Fault(fault) => {
+                self.ending = Ending::Fault(fault);
+                Ok(Turn::Last)
+            }
         }
-        Ok(Step::Cut) => {
-            progress.is_cut = true;
-            Ok(None)
-        }
-        Ok(Step::Plan) => plan_found(walk, plans, detail, progress, out),
-        Ok(Step::Fault(fault)) => Ok(Some(Ending::Fault(fault))),
-        Ok(Step::End) => Ok(Some(quiet(progress.is_cut))),
     }
 }
 
@@ -198,6 +142,26 @@ pub fn close<K: Sink>(ending: Ending, progress: Progress, out: &mut K) -> Result
     }
 }
 
+/// Tells a fault that was met before any plan.
+#[tactic(auto, using(crate::proofs::ReportLemmas::ending_saturates))]
+pub(crate) fn tell_fault<K: Sink>(
+    fault: RunFault,
+    expansions: u64,
+    out: &mut K,
+) -> Result<Status, Halt>
+    ensures told { (n : ℕ) → expansions ≡ count_told n
+        → IsTold (ending_text (AtFault fault) 0 n, Status.RunFault) result
+        (sink_run (K.faults out.old) (K.faults out.new) (K.bytes out.old) (K.bytes out.new)) }
+    ensures later { K.faults out.old ≤ K.faults out.new }
+{
+    let progress = Progress {
+        plans: 0,
+        expansions,
+        is_cut: false,
+    };
+    close(Ending::Fault(fault), progress, out)
+}
+
 /// Writes the plans of a walk, as many as are asked, and the ending line.
 pub fn tell<W: Walk, K: Sink>(
     walk: &mut W,
@@ -215,16 +179,19 @@ pub fn tell<W: Walk, K: Sink>(
         (sink_run (K.faults out.old) (K.faults out.new) (K.bytes out.old) (K.bytes out.new))) }
     ensures later { K.faults out.old ≤ K.faults out.new }
 {
-    let mut progress = Progress {
-        plans: 0,
-        expansions: 0,
-        is_cut: false,
+    let mut telling = Telling {
+        plans,
+        detail,
+        progress: Progress {
+            plans: 0,
+            expansions: 0,
+            is_cut: false,
+        },
+        ending: Ending::End,
     };
-    loop {
-        match visit(walk, plans, detail, &mut progress, out) {
-            Ok(None) => {}
-            Ok(Some(ending)) => return close(ending, progress, out),
-            Err(halt) => return Err(halt),
-        }
+    match go_through(walk, &mut telling, out) {
+        Ok(()) => close(telling.ending, telling.progress, out),
+        Err(Stop::NoMemory) => Err(Halt::NoMemory),
+        Err(Stop::Failed(halt)) => Err(halt),
     }
 }

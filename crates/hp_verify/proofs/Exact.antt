@@ -10,8 +10,7 @@ use Rattle.hp_passes.specs.Passes.{pass, is_out, with_made}
 use Rattle.hp_syntax.specs.Terms.{Term}
 use Rattle.hp_syntax.specs.Walk.{Sight, Visit, Did, Plan, CutHere, FaultHere, begins, is_fault_here}
 use Rattle.hp_verify.specs.Kept.{HasPlan, IsDerived, Seen, StepsGrow, Told, answer_of, kept_turn, nothing, nothing_seen, steps_are, steps_begin, told_kept, told_of, with_cut, with_did}
-use Rattle.hp_verify.specs.Verifying.{left}
-use Rattle.hp_verify.proofs.KeptSteps.{did_made, left_cut, left_derived, left_plan}
+use Rattle.hp_verify.proofs.KeptSteps.{did_made, left, left_cut, left_derived, left_plan}
 use Rattle.hp_verify.proofs.StepLemmas.{are_sound, equal_are, never_quiet, prefix_begins}
 use Rattle.hp_verify.proofs.VisitSteps.{behind}
 

@@ -1,25 +1,33 @@
 -- One visit of a kept walk.
-use Rattle.std.proofs.Common.{◌≡◌, ◌+◌, ◌-◌, ◌^◌, ◌≤◌, min, Bool, true, false, cond, List, [], ◌∷◌, length, Option, Some, None, refl, sym, ap, ◌∙◌, subst, arith}
+use Rattle.std.proofs.Common.{◌≡◌, ℕ, ◌+◌, Bool, true, false, cond, List, [], ◌∷◌, Some, MatchOption, map, refl, sym, ap, ◌∙◌, subst}
 use Rattle.std.specs.List.{All}
-use Rattle.std.proofs.lemmas.List.Elements.{All-head}
+use Rattle.std.proofs.lemmas.List.Elements.{All-head, All-tail}
 use Rattle.hp_net.proofs.Counts.{count_on}
-use Rattle.hp_net.proofs.NextVisits.{IsNext}
-use Rattle.hp_best.proofs.BoundedSteps.{at_left, skip_shorter}
-use Rattle.hp_net.specs.Standings.{Tree, Standing, IsAtItsNode, node_reached, pruned}
+use Rattle.hp_net.specs.Standings.{Tree, Standing, IsAtItsNode, node_reached}
 use Rattle.hp_passes.proofs.PassLemmas.{skipped}
+use Rattle.hp_passes.proofs.PassingLemmas.{TurnsAs}
+use Rattle.hp_passes.proofs.PassingSteps.{skip_keeps}
+use Rattle.hp_passes.specs.declared.passing.Turn.TheVariants as turns
+use Rattle.hp_passes.specs.declared.passing.Turn as passing
 use Rattle.hp_passes.specs.Passes.{Turn, On, Past, Last}
+use Rattle.hp_passes.specs.Passing.{at_visit}
 use Rattle.hp_syntax.specs.declared.fault.RunFault.{RunFault}
+use Rattle.hp_syntax.specs.GroundViews.{ground_of}
 use Rattle.hp_syntax.specs.Terms.{Term}
-use Rattle.hp_syntax.specs.Walk.{Sight, Visit, Did, Plan, CutHere, FaultHere, node_at, skip}
-use Rattle.hp_verify.specs.declared.verifying.Answer.{Answer}
+use Rattle.hp_syntax.specs.Walk.{Sight, Visit, Did, Plan, CutHere, FaultHere, count_told, skip}
 use Rattle.hp_verify.specs.declared.verifying.Answer.TheVariants as answers
-use Rattle.hp_verify.specs.declared.verifying.Counts.{Counts}
-use Rattle.hp_verify.specs.Kept.{DerivedAt, Faulty, Nothing, Seen, StandsAt, Underived, answer_of, kept, kept_turn, nothing, steps_are, steps_begin, told, told_of, with_cut, with_did}
-use Rattle.hp_verify.specs.Verifying.{left, Counted, Goes, Closes, Turned}
-use Rattle.hp_verify.proofs.StepLemmas.{found_at}
+use Rattle.hp_verify.specs.declared.verifying.Keeping.{Keeping}
+use Rattle.hp_verify.specs.declared.verifying.Verdict.{Verdict}
+use Rattle.hp_verify.specs.Kept.{DerivedAt, Faulty, IsDerived, IsVerdict, Nothing, Said, Seen, StandsAt, Told, Underived, answer_of, kept, kept_turn, nothing, steps_are, steps_begin, told, told_kept, told_of, with_cut, with_did}
+use Rattle.hp_verify.specs.Verifying.{Comes, meets_keeping, plan_of}
+use Rattle.hp_verify.proofs.StepLemmas.{are_sound}
 use Rattle.hp_verify.proofs.VisitSteps.{behind, made_by, told_cut, told_did, told_fault, told_plan, turn_cut, turn_did, turn_fault, turn_plan}
 
 -- ---- what the visits that are left say
+
+-- what the kept walk says over the visits that are left, after what was seen
+abbrev pub left : List Term → Seen → List Visit → Told
+left p s vs = told_of p s (kept p vs)
 
 module _ (p : List Term) (s : Seen) (v : Visit) (vs : List Visit) where
   abbrev did_turn : Bool → Turn Nothing
@@ -64,112 +72,118 @@ module _ (p : List Term) (s : Seen) (v : Visit) (vs : List Visit) where
       → left p s (v ∷ vs) ≡ told (Faulty f) s.expansions
   left_fault f e = ap (told_of p s) (made_by p v vs (Last nothing) (turn_fault p v f e)) ∙ told_fault p s v [] f e
 
--- ---- counts
-
-module _ (c d : Counts) (s : Seen) (counted : Counted c s) where
-  -- a decomposition is counted
-  pub counted_did : d.expansions ≡ min (c.expansions + 1) (2 ^ 64 - 1) → d.is_cut ≡ c.is_cut
-      → Counted d (with_did s)
-  counted_did n b = record {
-    expansions = count_on d.expansions c.expansions s.expansions counted.expansions n;
-    is_cut = b ∙ counted.is_cut;
-  }
-
-  -- a cut is kept in mind
-  pub counted_cut : d.expansions ≡ c.expansions → d.is_cut ≡ true → Counted d (with_cut s)
-  counted_cut n b = record { expansions = n ∙ counted.expansions; is_cut = b }
-
 -- ---- one visit
 
--- a fact of all that is left goes on to hold, where a part is left out or isn't
-pub at_kept_left : (P : Visit → Type 0) (t r : Standing) (b : Bool) → r ≡ cond b t (pruned t) → All P t.rest
-    → All P r.rest
-at_kept_left P t r true k a = at_left P t r false k a
-at_kept_left P t r false k a = at_left P t r true k a
+-- a walk along a plan has come to what the kept walk says of all visits, and stands where that derives the plan
+pub record IsVerified (p : List Term) (t : Tree) (all : List Visit) (w : Verdict) (there : Standing) : Type 0 where
+  pub verdict : IsVerdict w p all
+  pub stands : StandsAt t there (told_kept p all).said
+  pub derived : IsDerived w.answer → MatchOption (node_reached t there) ⊥ (λ n. n.steps ≡ p)
 
--- a walk stands at the visit that was just made, where all that was left was at its node
-pub stands_there : (t u : Tree) (s r : Standing) (x : Sight) (next : IsNext s r x) → u ≡ t
-    → All (IsAtItsNode t) s.rest → StandsAt u r (DerivedAt next.visit)
-stands_there t u s r x next same a =
-    let at : IsAtItsNode t next.visit =
-    All-head (IsAtItsNode t) next.visit r.rest (subst (All (IsAtItsNode t)) next.rest a) in (
-      next.path,
-      ap (λ w. node_reached w r) same ∙ (ap (λ p. node_at t.rules t.nest t.root p) next.path ∙ at),
-    )
+-- a walk midway: the visits that are left say what all do
+pub record IsMidway (p : List Term) (t : Tree) (all : List Visit) (k : Nothing) (s : Keeping) (c : Unit {0})
+    (vs : List Visit) : Type 0 where
+  pub plan : plan_of s ≡ p
+  pub at : All (IsAtItsNode t) vs
+  pub seen : Seen
+  pub answer : s.verdict.answer ≡ answer_of (Underived seen.is_cut)
+  pub expansions : s.verdict.expansions ≡ count_told seen.expansions
+  pub same : left p seen vs ≡ told_kept p all
 
-module _ (p : List Term) (c : Counts) (s : Seen) where
-  -- a decomposition was visited, and what lies below it is left out where its steps don't begin the plan
-  pub goes_did : (v : Visit) (vs : List Visit) (t r : Standing) → vs ≡ v ∷ t.rest → v.sight ≡ Did
-      → t.path ≡ v.path → r ≡ cond (steps_begin v.node.steps p) t (pruned t) → Counted c (with_did s)
-      → Goes p c s vs r.rest
-  goes_did v vs t r e x q h counted =
-      let b = steps_begin v.node.steps p in
-      let rest : r.rest ≡ cond b t.rest (skip v.path t.rest) = ap (λ z. z.rest) h ∙ rest_by b in
-      record {
-        next = with_did s;
-        counted = counted;
-        same = ap (left p s) e ∙ (left_did p s v t.rest x b refl ∙ ap (left p (with_did s)) (sym rest));
-        shorter =
-            let shrunk = shorter_by b in omega (arith, ap length e, ap length rest);
-      }
-    where
-      rest_by : (b : Bool) → (cond b t (pruned t)).rest ≡ cond b t.rest (skip v.path t.rest)
-      rest_by true = refl
-      rest_by false = ap (λ w. skip w t.rest) q
-
-      shorter_by : (b : Bool) → length (cond b t.rest (skip v.path t.rest)) ≤ length t.rest
-      shorter_by true = omega arith
-      shorter_by false = skip_shorter v.path t.rest
-
-  -- a cut was visited
-  pub goes_cut : (v : Visit) (vs ws : List Visit) → vs ≡ v ∷ ws → v.sight ≡ CutHere → Counted c (with_cut s)
-      → Goes p c s vs ws
-  goes_cut v vs ws e x counted = record {
-    next = with_cut s;
-    counted = counted;
-    same = ap (left p s) e ∙ left_cut p s v ws x;
-    shorter = omega (arith, ap length e);
+module _ (p : List Term) (t : Tree) (all : List Visit) where
+  pub verified : (said : Said) (n : ℕ) (w : Verdict) (there : Standing) → told said n ≡ told_kept p all
+      → w.answer ≡ answer_of said → w.expansions ≡ count_told n → StandsAt t there said
+      → (IsDerived (answer_of said) → MatchOption (node_reached t there) ⊥ (λ n. n.steps ≡ p))
+      → IsVerified p t all w there
+  verified said n w there is answer expansions stands derived = record {
+    verdict =
+        record {
+          answer = answer ∙ ap (λ x. answer_of x.said) is;
+          expansions = expansions ∙ ap (λ x. count_told x.expansions) is;
+        };
+    stands = subst (λ x. StandsAt t there x.said) is stands;
+    derived = λ d. derived (sym answer ∙ d);
   }
 
-  module _ (counted : Counted c s) (vs : List Visit) (t : Tree) (r : Standing) where
-    -- a plan was visited, and the walk stands at it: the one that is looked for, or another
-    pub turned_plan : (end : Option Answer) (v : Visit) → vs ≡ v ∷ r.rest → v.sight ≡ Plan
-        → end ≡ found_at p v.node → StandsAt t r (DerivedAt v) → Turned p end c s vs t r
-    turned_plan end v e x h there =
-        subst (λ o. Turned p o c s vs t r) (sym h) (by (steps_are v.node.steps p) refl)
-      where
-        by : (b : Bool) → steps_are v.node.steps p ≡ b → Turned p (cond b (Some answers.Derived) None) c s vs t r
-        by true k = record {
-          said = DerivedAt v;
-          answer = refl;
-          counted = counted;
-          last = ap (left p s) e ∙ left_derived p s v r.rest x k;
-          stands = there;
-        }
-        by false k = record {
-          next = s;
-          counted = counted;
-          same = ap (left p s) e ∙ left_plan p s v r.rest x k;
-          shorter = omega (arith, ap length e);
-        }
+  -- after the last visit
+  abbrev pub IsOver : Nothing → Keeping → Unit {0} → Visit → Type 0
+  IsOver k s c v = (ws : List Visit) → IsVerified p t all s.verdict (at_visit v ws)
 
-    -- a fault was visited
-    pub closes_fault : (f : RunFault) (v : Visit) (ws : List Visit) → vs ≡ v ∷ ws → v.sight ≡ FaultHere f
-        → Closes p (answers.Fault f) c s vs t r
-    closes_fault f v ws e x = record {
-      said = Faulty f;
-      answer = refl;
-      counted = counted;
-      last = ap (left p s) e ∙ left_fault p s v ws f x;
-      stands = tt;
-    }
+  abbrev Turns : Turn Nothing → passing.Turn → Keeping → Unit {0} → Visit → List Visit → Type 0
+  Turns = TurnsAs meets_keeping (kept_turn p) (IsMidway p t all) IsOver
 
-    -- nothing was left
-    pub closes_end : (a : Answer) → vs ≡ [] → a ≡ answer_of (Underived c.is_cut) → Closes p a c s vs t r
-    closes_end a e h = record {
-      said = Underived s.is_cut;
-      answer = h ∙ ap (λ cut. answer_of (Underived cut)) counted.is_cut;
-      counted = counted;
-      last = ap (left p s) e;
-      stands = tt;
-    }
+  -- a walk turns as the kept one does
+  pub turns_so : (k : Nothing) (s u : Keeping) (c d : Unit {0}) (v : Visit) (vs : List Visit) (x : passing.Turn)
+      → IsMidway p t all k s c (v ∷ vs) → meets_keeping s c v x u d → Turns (kept_turn p k v) x u d v vs
+  turns_so k s u c d v vs x h m = by v.sight refl m.1
+    where
+      plan : plan_of u ≡ p
+      plan = ap (λ z. map ground_of z.now) m.0 ∙ h.plan
+
+      at : All (IsAtItsNode t) vs
+      at = All-tail (IsAtItsNode t) v vs h.at
+
+      turned : (j : Turn Nothing) (y : passing.Turn) → kept_turn p k v ≡ j → x ≡ y → Turns j y u d v vs
+          → Turns (kept_turn p k v) x u d v vs
+      turned j y a b e =
+          subst (λ z. Turns z x u d v vs) (sym a) (subst (λ z. Turns j z u d v vs) (sym b) e)
+
+      -- with these visits left, after what was seen
+      midway : (n : Seen) (ws : List Visit) → All (IsAtItsNode t) ws
+          → u.verdict.answer ≡ answer_of (Underived n.is_cut) → u.verdict.expansions ≡ count_told n.expansions
+          → left p h.seen (v ∷ vs) ≡ left p n ws → IsMidway p t all nothing u d ws
+      midway n ws at answer expansions same = record {
+        plan = plan;
+        at = at;
+        seen = n;
+        answer = answer;
+        expansions = expansions;
+        same = sym same ∙ h.same;
+      }
+
+      did : u.verdict.answer ≡ s.verdict.answer → u.verdict.expansions ≡ count_told (h.seen.expansions + 1)
+          → v.sight ≡ Did → (b : Bool) → steps_begin v.node.steps p ≡ b
+          → Turns (cond b (On nothing) (Past nothing)) (cond b turns.On turns.Past) u d v vs
+      did a e y true q = midway (with_did h.seen) vs at (a ∙ h.answer) e (left_did p h.seen v vs y true q)
+      did a e y false q =
+          midway (with_did h.seen) (skip v.path vs) (skip_keeps (IsAtItsNode t) v.path vs at) (a ∙ h.answer) e
+          (left_did p h.seen v vs y false q)
+
+      planned : v.sight ≡ Plan → (b : Bool) → steps_are v.node.steps p ≡ b
+          → u.verdict ≡ cond b (record s.verdict { answer = answers.Derived }) s.verdict
+          → Turns (cond b (Last nothing) (On nothing)) (cond b turns.Last turns.On) u d v vs
+      planned y true q e = λ ws.
+          let reached : node_reached t (at_visit v ws) ≡ Some v.node =
+          All-head (IsAtItsNode t) v vs h.at in
+          verified (DerivedAt v) h.seen.expansions u.verdict (at_visit v ws)
+          (sym (left_derived p h.seen v vs y q) ∙ h.same)
+          (ap (λ w. w.answer) e) (ap (λ w. w.expansions) e ∙ h.expansions) (refl, reached)
+          (λ d. subst (λ o. MatchOption o ⊥ (λ n. n.steps ≡ p)) (sym reached) (are_sound v.node.steps p q))
+      planned y false q e =
+          midway h.seen vs at (ap (λ w. w.answer) e ∙ h.answer) (ap (λ w. w.expansions) e ∙ h.expansions)
+          (left_plan p h.seen v vs y q)
+
+      by : (y : Sight) → v.sight ≡ y → Comes y s v x u.verdict → Turns (kept_turn p k v) x u d v vs
+      by Did y e =
+          let b = steps_begin v.node.steps p in
+          turned (cond b (On nothing) (Past nothing)) (cond b turns.On turns.Past) (turn_did p v y)
+          (e.0 ∙ ap (λ q. cond (steps_begin v.node.steps q) turns.On turns.Past) h.plan)
+          (did (ap (λ w. w.answer) e.1)
+          (count_on _ s.verdict.expansions h.seen.expansions h.expansions (ap (λ w. w.expansions) e.1)) y b refl)
+      by Plan y e =
+          let b = steps_are v.node.steps p in
+          turned (cond b (Last nothing) (On nothing)) (cond b turns.Last turns.On) (turn_plan p v y)
+          (e.0 ∙ ap (λ q. cond (steps_are v.node.steps q) turns.Last turns.On) h.plan)
+          (planned y b refl
+          (e.1 ∙ ap (λ q. cond (steps_are v.node.steps q) (record s.verdict { answer = answers.Derived }) s.verdict)
+          h.plan))
+      by CutHere y e =
+          turned (On nothing) turns.On (turn_cut p v y) e.0
+          (midway (with_cut h.seen) vs at (ap (λ w. w.answer) e.1) (ap (λ w. w.expansions) e.1 ∙ h.expansions)
+          (left_cut p h.seen v vs y))
+      by (FaultHere f) y e =
+          turned (Last nothing) turns.Last (turn_fault p v f y) e.0 (λ ws.
+          verified (Faulty f) h.seen.expansions u.verdict (at_visit v ws)
+          (sym (left_fault p h.seen v vs f y) ∙ h.same)
+          (ap (λ w. w.answer) e.1) (ap (λ w. w.expansions) e.1 ∙ h.expansions) tt
+          (λ d. let never : answers.Fault f ≡ answers.Derived = d in absurd (cc)))

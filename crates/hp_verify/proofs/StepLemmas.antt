@@ -1,11 +1,9 @@
 -- Steps that begin a plan, or are those of one.
-use Rattle.std.proofs.Common.{◌≡◌, Bool, true, false, ◌&&◌, cond, List, [], ◌∷◌, ◌++◌, length, Option, Some, None, MatchOption, refl, sym, ap, ap₂, ◌∙◌, subst, arith}
+use Rattle.std.proofs.Common.{◌≡◌, Bool, true, false, ◌&&◌, List, [], ◌∷◌, ◌++◌, length, refl, sym, ap, ap₂, subst, arith}
 use Rattle.std.proofs.lemmas.Bool.{false≢true, and_parts, and_from}
 use Rattle.hp_laws.specs.TreeLaws.{IsPrefix}
 use Rattle.hp_syntax.proofs.TermEquality.{same_self, same_sound}
 use Rattle.hp_syntax.specs.Terms.{Term, same_term}
-use Rattle.hp_syntax.specs.Walk.{Node}
-use Rattle.hp_verify.specs.declared.verifying.Answer.{Answer}
 use Rattle.hp_verify.specs.declared.verifying.Answer.TheVariants as answers
 use Rattle.hp_verify.specs.Kept.{Underived, answer_of, steps_begin, steps_are}
 
@@ -54,49 +52,7 @@ are_others ts ps n = by (steps_are ts ps) refl
 
 -- ---- answers
 
--- the answer at a node, by whether its steps are those of the plan
-abbrev pub found_at : List Term → Node → Option Answer
-found_at p n = cond (steps_are n.steps p) (Some answers.Derived) None
-
--- an answer is one only where the steps are those of the plan
-found_sound : (ts p : List Term) (end : Option Answer) → end ≡ cond (steps_are ts p) (Some answers.Derived) None
-    → end ≡ Some answers.Derived → steps_are ts p ≡ true
-found_sound ts p end h e = by (steps_are ts p) refl
-  where
-    by : (b : Bool) → steps_are ts p ≡ b → steps_are ts p ≡ true
-    by true k = k
-    by false k =
-        let none : end ≡ None = h ∙ ap (λ c. cond c (Some answers.Derived) None) k in
-        let never : None ≡ Some answers.Derived = sym none ∙ e in
-        absurd (cc)
-
--- so where a plan was found, the node that is reached has its steps
-pub found_there : (o : Option Node) (p : List Term) (end : Option Answer)
-    → MatchOption o ⊥ (λ n. end ≡ found_at p n) → end ≡ Some answers.Derived
-    → MatchOption o ⊥ (λ n. n.steps ≡ p)
-found_there None p end h e = h
-found_there (Some n) p end h e = are_sound n.steps p (found_sound n.steps p end h e)
-
 -- no walk that came to its end derived a plan
 pub never_quiet : (cut : Bool) → answer_of (Underived cut) ≡ answers.Derived → ⊥
 never_quiet true e = let k : answers.NoCut ≡ answers.Derived = e in cc
 never_quiet false e = let k : answers.NoEnd ≡ answers.Derived = e in cc
-
-pub never_at_end : (a : Answer) (cut : Bool) → a ≡ answer_of (Underived cut) → Some a ≡ Some answers.Derived → ⊥
-never_at_end a cut h e = let same : a ≡ answers.Derived = cc in never_quiet cut (sym h ∙ same)
-
--- ---- the node that is reached
-
--- what is said of the steps of cells is said of those of the node that is reached
-pub said_there : {X : Type 0} (o : Option Node) (ts : List Term) (f : List Term → X) (x : X) → x ≡ f ts
-    → MatchOption o ⊥ (λ n. ts ≡ n.steps) → MatchOption o ⊥ (λ n. x ≡ f n.steps)
-said_there None ts f x e h = h
-said_there (Some n) ts f x e h = e ∙ ap f h
-
--- the answer at the node that is reached is told by a comparison of the steps of cells
-pub found_told : (o : Option Node) (p ts : List Term) (b : Bool) → b ≡ steps_are ts p
-    → MatchOption o ⊥ (λ n. ts ≡ n.steps)
-    → MatchOption o ⊥ (λ n. cond b (Some answers.Derived) None ≡ found_at p n)
-found_told o p ts b h at =
-    said_there o ts (λ us. cond (steps_are us p) (Some answers.Derived) None) (cond b (Some answers.Derived) None)
-    (ap (λ c. cond c (Some answers.Derived) None) h) at

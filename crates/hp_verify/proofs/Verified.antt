@@ -1,57 +1,54 @@
 -- A whole walk along a plan.
-use Rattle.std.proofs.Common.{◌≡◌, List, Some, None, sym, ap, ◌∙◌, subst}
+use Rattle.std.proofs.Common.{◌≡◌, List, ap, subst, sym}
 use Rattle.std.specs.List.{All}
 use Rattle.std.specs.Prelude.{◌↔◌}
+use Rattle.hp_best.proofs.Cheapest.{at_nodes}
 use Rattle.hp_laws.specs.TreeLaws.{IsFaultless}
 use Rattle.hp_net.specs.Standings.{Tree, Standing, tree_visits}
+use Rattle.hp_passes.proofs.PassingLemmas.{IsEnd, Whole, Ended, passed}
+use Rattle.hp_passes.specs.Passing.{Passes}
 use Rattle.hp_syntax.specs.Terms.{Term}
-use Rattle.hp_syntax.specs.Walk.{Visit, count_told}
-use Rattle.hp_verify.specs.declared.verifying.Answer.{Answer}
-use Rattle.hp_verify.specs.declared.verifying.Counts.{Counts}
+use Rattle.hp_syntax.specs.Walk.{Visit}
+use Rattle.hp_verify.specs.declared.verifying.Answer.TheVariants as answers
+use Rattle.hp_verify.specs.declared.verifying.Keeping.{Keeping}
 use Rattle.hp_verify.specs.declared.verifying.Verdict.{Verdict}
-use Rattle.hp_verify.specs.Kept.{HasPlan, IsDerived, IsVerdict, Seen, StandsAt, answer_of, nothing_seen, told, told_kept}
-use Rattle.hp_verify.specs.Verifying.{left, Closes, Counted, Turned}
+use Rattle.hp_verify.specs.Kept.{HasPlan, IsDerived, IsVerdict, Nothing, Underived, kept_turn, nothing, nothing_seen}
+use Rattle.hp_verify.specs.Verifying.{meets_keeping, plan_of}
 use Rattle.hp_verify.proofs.Exact.{kept_exact}
 use Rattle.hp_verify.proofs.GrowthLemmas.{steps_grow}
+use Rattle.hp_verify.proofs.KeptSteps.{left, IsMidway, IsOver, IsVerified, turns_so, verified}
+use Rattle.hp_verify.proofs.StepLemmas.{never_quiet}
 
--- a walk midway, by all visits and those that are left
-pub record Walked (p : List Term) (c : Counts) (all rest : List Visit) : Type 0 where
-  pub so_far : Seen
-  pub counted : Counted c so_far
-  pub same : left p so_far rest ≡ told_kept p all
+-- where a walk stands in the end it is verified
+end_verified : (p : List Term) (t : Tree) (all : List Visit) (k : Nothing) (ws : List Visit) (s : Keeping)
+    (c : Unit {0}) (there : Standing)
+    → IsEnd meets_keeping (kept_turn p) (IsMidway p t all) (IsOver p t all) k ws s c there
+    → IsVerified p t all s.verdict there
+end_verified p t all _ _ _ _ _ (Whole k s c h) =
+    verified p t all (Underived h.seen.is_cut) h.seen.expansions s.verdict _ h.same h.answer h.expansions tt
+    (λ d. absurd (never_quiet h.seen.is_cut d))
+end_verified p t all _ _ _ _ _ (Ended k ws s c v h) = h ws
 
--- it begins where all visits of a tree are left
-pub walked_from : (p : List Term) (c : Counts) (all vs : List Visit) → vs ≡ all → Counted c nothing_seen
-    → Walked p c all vs
-walked_from p c all vs e counted =
-    record { so_far = nothing_seen; counted = counted; same = ap (left p nothing_seen) e }
-
-module _ (p : List Term) (c d : Counts) (all vs : List Visit) (t : Tree) (r : Standing) (w : Walked p c all vs) where
-  -- after one visit more
-  pub walked_on : ((s : Seen) → Counted c s → Turned p None d s vs t r) → Walked p d all r.rest
-  walked_on h =
-      let goes = h w.so_far w.counted in
-      record { so_far = goes.next; counted = goes.counted; same = sym goes.same ∙ w.same }
-
-  module _ (a : Answer) (h : (s : Seen) → Counted c s → Turned p (Some a) d s vs t r) where
-    -- at its end the visits that were left say what is answered
-    abbrev closes : Closes p a d w.so_far vs t r
-    closes = h w.so_far w.counted
-
-    -- so all visits say it
-    all_say : told closes.said w.so_far.expansions ≡ told_kept p all
-    all_say = sym closes.last ∙ w.same
-
-    -- the verdict is what the kept walk says
-    pub walk_told : (v : Verdict) → v.answer ≡ a → v.expansions ≡ d.expansions → IsVerdict v p all
-    walk_told v answer expansions = record {
-      answer = answer ∙ (closes.answer ∙ ap (λ x. answer_of x.said) all_say);
-      expansions = expansions ∙ (closes.counted.expansions ∙ ap (λ x. count_told x.expansions) all_say);
-    }
-
-    -- the walk stands where the kept walk derives the plan
-    pub walk_stands : StandsAt t r (told_kept p all).said
-    walk_stands = subst (λ x. StandsAt t r x.said) all_say closes.stands
+-- so a whole walk is
+pub walk_verified : (p : List Term) (t now : Tree) (s u : Keeping) (c e : Unit {0}) (vs : List Visit)
+    (there : Standing) → now ≡ t → vs ≡ tree_visits t → plan_of s ≡ p → s.verdict.answer ≡ answers.NoEnd
+    → s.verdict.expansions ≡ 0 → Passes meets_keeping s c vs u e there
+    → IsVerified p now (tree_visits t) u.verdict there
+walk_verified p t now s u c e vs there tree new plan answer expansions walk =
+    let all = tree_visits t in
+    let begun : IsMidway p t all nothing s c vs =
+    record {
+      plan = plan;
+      at = at_nodes t vs new;
+      seen = nothing_seen;
+      answer = answer;
+      expansions = expansions;
+      same = ap (left p nothing_seen) new;
+    } in
+    subst (λ b. IsVerified p b all u.verdict there) (sym tree)
+    (end_verified p t all _ _ _ _ _
+    (passed meets_keeping (kept_turn p) (IsMidway p t all) (IsOver p t all) (turns_so p t all) nothing s u c e vs there
+    begun walk).end)
 
 -- so where there is no fault in a tree, it is exact
 pub verdict_exact : (v : Verdict) (p : List Term) (t : Tree) → IsVerdict v p (tree_visits t)

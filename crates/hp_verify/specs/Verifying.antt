@@ -1,38 +1,35 @@
--- A kept walk midway: what was seen, and what the visits that are left say.
-use Rattle.std.specs.Prelude.{◌≡◌, ◌<◌, List, length, Option, Some, None}
-use Rattle.hp_net.specs.Standings.{Tree, Standing}
+-- One visit of a walk along a plan.
+use Rattle.std.specs.Prelude.{◌≡◌, ◌+◌, ◌-◌, ◌^◌, min, cond, List, map}
+use Rattle.std.specs.declared.convert.Infallible.{Infallible}
+use Rattle.hp_passes.specs.declared.passing.Turn.{Turn}
+use Rattle.hp_passes.specs.declared.passing.Turn.TheVariants.{On, Past, Last}
+use Rattle.hp_syntax.specs.GroundViews.{ground_of}
 use Rattle.hp_syntax.specs.Terms.{Term}
-use Rattle.hp_syntax.specs.Walk.{Visit, count_told}
-use Rattle.hp_verify.specs.Kept.{Said, Seen, StandsAt, Told, answer_of, kept, told, told_of}
-use Rattle.hp_verify.specs.declared.verifying.Answer.{Answer}
-use Rattle.hp_verify.specs.declared.verifying.Counts.{Counts}
+use Rattle.hp_syntax.specs.Walk.{Sight, Visit, Did, Plan, CutHere, FaultHere}
+use Rattle.hp_verify.specs.Kept.{steps_are, steps_begin}
+use Rattle.hp_verify.specs.declared.verifying.Answer.TheVariants as answers
+use Rattle.hp_verify.specs.declared.verifying.Keeping.{Keeping}
+use Rattle.hp_verify.specs.declared.verifying.Verdict.{Verdict}
 
--- what the kept walk says over the visits that are left, after what was seen
-abbrev pub left : List Term → Seen → List Visit → Told
-left p s vs = told_of p s (kept p vs)
+-- the plan that is looked for
+abbrev pub plan_of : Keeping → List Term
+plan_of s = map ground_of s.steps.now
 
--- the counts are those of what was seen
-pub record Counted (c : Counts) (s : Seen) : Type 0 where
-  pub expansions : c.expansions ≡ count_told s.expansions
-  pub is_cut : c.is_cut ≡ s.is_cut
+-- what a walk along a plan has come to after a visit, by its sight: a decomposition more, which it goes past where its
+-- steps don't begin the plan; a plan, which ends it where its steps are those; a cut; or a fault, which ends it
+abbrev pub Comes : Sight → Keeping → Visit → Turn → Verdict → Type 0
+Comes Did s v x w =
+    (x ≡ cond (steps_begin v.node.steps (plan_of s)) On Past)
+    × (w ≡ record s.verdict { expansions = min (s.verdict.expansions + 1) (2 ^ 64 - 1) })
+Comes Plan s v x w =
+    (x ≡ cond (steps_are v.node.steps (plan_of s)) Last On)
+    × (w ≡ cond (steps_are v.node.steps (plan_of s)) (record s.verdict { answer = answers.Derived }) s.verdict)
+Comes CutHere s v x w = (x ≡ On) × (w ≡ record s.verdict { answer = answers.NoCut })
+Comes (FaultHere f) s v x w = (x ≡ Last) × (w ≡ record s.verdict { answer = answers.Fault f })
 
--- after one visit fewer are left, and they say the same
-pub record Goes (p : List Term) (c : Counts) (s : Seen) (vs ws : List Visit) : Type 0 where
-  pub next : Seen
-  pub counted : Counted c next
-  pub same : left p s vs ≡ left p next ws
-  pub shorter : length ws < length vs
+abbrev pub meets_keeping : Keeping → Unit {0} → Visit → Turn → Keeping → Unit {0} → Type 0
+meets_keeping s c v x t d = (t.steps ≡ s.steps) × Comes v.sight s v x t.verdict
 
--- the visits that were left say what this answer tells
-pub record Closes (p : List Term) (a : Answer) (c : Counts) (s : Seen) (vs : List Visit) (t : Tree) (there : Standing)
-    : Type 0 where
-  pub said : Said
-  pub answer : a ≡ answer_of said
-  pub counted : Counted c s
-  pub last : left p s vs ≡ told said s.expansions
-  pub stands : StandsAt t there said
-
--- after one visit the walk goes on, or it ends with an answer
-abbrev pub Turned : List Term → Option Answer → Counts → Seen → List Visit → Tree → Standing → Type 0
-Turned p None c s vs t there = Goes p c s vs there.rest
-Turned p (Some a) c s vs t there = Closes p a c s vs t there
+-- no visit fails
+abbrev pub fails_keeping : Keeping → Unit {0} → Visit → Infallible → Unit {0} → Type 0
+fails_keeping s c v e d = ⊥

@@ -1,16 +1,17 @@
 //! Whether a plan is one of a tree, by a walk that leaves out what the plan doesn't begin with.
-ghost use Rattle.std.specs.Prelude.{◌≡◌, ◌↔◌, true, cond, map, Some, None, IfOk, OnOk, MatchOption};
+ghost use Rattle.std.specs.Prelude.{◌≡◌, ◌↔◌, true, map, IfOk, OnOk, MatchOption};
 ghost use Rattle.std.specs.List.{All};
 ghost use Rattle.hp_laws.specs.TreeLaws.{IsFaultless};
-ghost use Rattle.hp_net.specs.Standings.{node_reached, pruned, IsAtItsNode, tree_visits};
+ghost use Rattle.hp_net.specs.Standings.{node_reached, tree_visits};
 ghost use Rattle.hp_syntax.specs.GroundViews.{ground_of};
-ghost use Rattle.hp_verify.specs.Kept.{HasPlan, IsDerived, IsVerdict, Seen, StandsAt, Underived, answer_of, steps_are, steps_begin, told_kept};
-ghost use Rattle.hp_verify.specs.Verifying.{Counted, Turned};
+ghost use Rattle.hp_verify.specs.Kept.{HasPlan, IsDerived, IsVerdict, StandsAt, steps_are, steps_begin, told_kept};
 
 use crate::comparing::{are_those, begin};
-use hp_net::{Step, Walk};
+use hp_net::Walk;
+use hp_passes::{Pass, Sight, Turn, go_through};
 use hp_syntax::{Ground, RunFault};
 use std::alloc::AllocError;
+use std::convert::Infallible;
 
 /// Whether a plan is one of the tree. Where it wasn't found, a limit may have cut the tree somewhere on the way, or a
 /// fault ended the walk.
@@ -29,20 +30,6 @@ pub struct Verdict {
     pub expansions: u64,
 }
 
-/// What was counted so far, and whether a cut was seen.
-#[derive(Clone, Copy)]
-struct Counts {
-    expansions: u64,
-    is_cut: bool,
-}
-
-/// The answer of a walk that came to its end.
-fn quiet(is_cut: bool) -> Answer
-    ensures { result ≡ answer_of (Underived is_cut) }
-{
-    if is_cut { Answer::NoCut } else { Answer::NoEnd }
-}
-
 /// Whether the steps so far begin the plan.
 fn leads_on<W: Walk>(walk: &W, steps: &[Ground]) -> bool
     requires live { W.is_live walk.now ≡ true }
@@ -52,65 +39,58 @@ fn leads_on<W: Walk>(walk: &W, steps: &[Ground]) -> bool
     begin(walk.cells(), walk.plan(), steps)
 }
 
-/// Leaves out what lies below the decomposition just made, where its steps don't begin the plan.
-fn leave_out<W: Walk>(walk: &mut W, steps: &[Ground])
-    requires live { W.is_live walk.old ≡ true }
-    requires did { (W.stands walk.old).at_did ≡ true }
-    ensures stands { MatchOption (node_reached (W.tree walk.old) (W.stands walk.old)) ⊥
-        (λ n. W.stands walk.new ≡ cond (steps_begin n.steps (map ground_of steps.now)) (W.stands walk.old)
-        (pruned (W.stands walk.old))) }
-    ensures tree { W.tree walk.new ≡ W.tree walk.old }
-    ensures live { W.is_live walk.new ≡ true }
-{
-    if !leads_on(walk, steps) {
-        walk.prune();
-    }
-}
-
-/// The answer at a plan of the tree, if it is the one that is looked for.
-fn found<W: Walk>(walk: &W, steps: &[Ground]) -> Option<Answer>
+/// Whether the steps so far are those of the plan.
+fn are_steps<W: Walk>(walk: &W, steps: &[Ground]) -> bool
     requires live { W.is_live walk.now ≡ true }
     ensures { MatchOption (node_reached (W.tree walk.now) (W.stands walk.now)) ⊥
-        (λ n. result ≡ cond (steps_are n.steps (map ground_of steps.now)) (Some Answer.Derived) None) }
+        (λ n. result ≡ steps_are n.steps (map ground_of steps.now)) }
 {
-    if are_those(walk.cells(), walk.plan(), steps) {
-        Some(Answer::Derived)
-    } else {
-        None
-    }
+    are_those(walk.cells(), walk.plan(), steps)
 }
 
-/// Makes the next visit, and answers where the walk ends.
-fn go_on<W: Walk>(
-    walk: &mut W,
-    steps: &[Ground],
-    counts: &mut Counts,
-) -> Result<Option<Answer>, AllocError>
-    requires live { W.is_live walk.old ≡ true }
-    requires at { All (IsAtItsNode (W.tree walk.old)) (W.stands walk.old).rest }
-    ensures turned { IfOk result (λ end. (seen : Seen) → Counted counts.old seen
-        → Turned (map ground_of steps.now) end counts.new seen (W.stands walk.old).rest (W.tree walk.new)
-        (W.stands walk.new)) }
-    ensures derived { IfOk result (λ end. end ≡ Some Answer.Derived
-        → MatchOption (node_reached (W.tree walk.new) (W.stands walk.new)) ⊥
-        (λ n. n.steps ≡ map ground_of steps.now)) }
-    ensures at { OnOk result (All (IsAtItsNode (W.tree walk.new)) (W.stands walk.new).rest) }
-    ensures tree { W.tree walk.new ≡ W.tree walk.old }
-    ensures live { OnOk result (W.is_live walk.new ≡ true) }
-{
-    match walk.next()? {
-        Step::Did => {
-            counts.expansions = counts.expansions.saturating_add(1);
-            leave_out(walk, steps);
-            Ok(None)
+/// A walk along a plan, with what it has come to so far.
+#[derive(Drop)]
+struct Keeping<'a> {
+    steps: &'a [Ground],
+    verdict: Verdict,
+}
+
+impl<'a, W: Walk> Pass<W, ()> for Keeping<'a> {
+    ghost use Rattle.hp_verify.specs.Verifying.{meets_keeping, fails_keeping};
+
+    type Error = Infallible;
+
+    ghost meets = { meets_keeping };
+
+    ghost fails = { fails_keeping };
+
+    fn meet(&mut self, walk: &W, _hand: &mut (), sight: Sight) -> Result<Turn, Infallible> {
+        match sight {
+            Sight::Did => {
+                self.verdict.expansions = self.verdict.expansions.saturating_add(1);
+                if leads_on(walk, self.steps) {
+                    Ok(Turn::On)
+                } else {
+                    Ok(Turn::Past)
+                }
+            }
+            Sight::Plan => {
+                if are_steps(walk, self.steps) {
+                    self.verdict.answer = Answer::Derived;
+                    Ok(Turn::Last)
+                } else {
+                    Ok(Turn::On)
+                }
+            }
+            Sight::Cut => {
+                self.verdict.answer = Answer::NoCut;
+                Ok(Turn::On)
+            }
+            Sight::Fault(fault) => {
+                self.verdict.answer = Answer::Fault(fault);
+                Ok(Turn::Last)
+            }
         }
-        Step::Plan => Ok(found(walk, steps)),
-        Step::Cut => {
-            counts.is_cut = true;
-            Ok(None)
-        }
-        Step::Fault(fault) => Ok(Some(Answer::Fault(fault))),
-        Step::End => Ok(Some(quiet(counts.is_cut))),
     }
 }
 
@@ -131,16 +111,15 @@ pub fn verify<W: Walk>(walk: &mut W, steps: &[Ground]) -> Result<Verdict, AllocE
     ensures tree { W.tree walk.new ≡ W.tree walk.old }
     ensures live { OnOk result (W.is_live walk.new ≡ true) }
 {
-    let mut counts = Counts {
-        expansions: 0,
-        is_cut: false,
+    let mut keeping = Keeping {
+        steps,
+        verdict: Verdict {
+            answer: Answer::NoEnd,
+            expansions: 0,
+        },
     };
-    loop {
-        if let Some(answer) = go_on(walk, steps, &mut counts)? {
-            return Ok(Verdict {
-                answer,
-                expansions: counts.expansions,
-            });
-        }
+    match go_through(walk, &mut keeping, &mut ()) {
+        Ok(()) => Ok(keeping.verdict),
+        Err(_) => Err(AllocError),
     }
 }

@@ -1,38 +1,35 @@
-use Rattle.std.proofs.Common.{arith, subst}
-use Rattle.hp_telling.specs.Telling.{Visited}
-use Rattle.hp_telling.proofs.PlanningSteps.{goes_through, goes_to_close, halted_midway, halted_at_end}
+use Rattle.std.proofs.Common.{refl, arith}
+use Rattle.hp_telling.proofs.PlanningSteps.{passed_told, stopped_told}
+use Rattle.hp_telling.proofs.TellingLemmas.{parts_told, told_by_parts}
 use Rattle.hp_telling.proofs.planning.tell.Goals as goal
 
-pub loop-ending-preserved : goal.loop-ending-preserved
-loop-ending-preserved g c =
-    let v = subst
-    (λ o. Visited o c.args.detail c.args.plans c.loop-ending.progress c.visit.new.progress
-    (g.W.Walk.stands c.loop-ending.walk).rest (g.W.Walk.stands c.visit.new.walk).rest
-    (g.K.Sink.bytes c.loop-ending.out) (g.K.Sink.bytes c.visit.new.out))
-    c.in-Ok-None.field-0-is c.in-Ok-None.ensures.visited in
+pub returns-in-Ok : goal.returns-in-Ok
+returns-in-Ok g c =
+    let told =
+    passed_told g.K.Sink.bytes g.K.Sink.faults _ c.go_through.new.pass 0 _ _ c.close.new.out _ _ c.close.result
+    (record { fewer = c.requires.plans; small = omega arith; counted = refl; quiet = refl }) c.in-Ok.ensures.passes in
+    let parts =
+    parts_told _ c.close.result _
+    (told.1 (told_by_parts _ c.close.result _ c.close.ensures.written c.close.ensures.status c.close.ensures.err)) in
     record {
-      gone =
-          goes_through c.args.detail c.args.plans _ _ _ _ _ _ _ _ _ c.loop-ending.invariant.gone
-          v.0;
-      fewer = v.1;
-      later = omega (arith, c.loop-ending.invariant.later, c.visit.ensures.later);
-      live = c.in-Ok-None.ensures.live;
-      at = c.in-Ok-None.ensures.at;
+      written = parts.0;
+      status = parts.1;
+      err = parts.2;
+      later = omega (arith, told.0, c.close.ensures.later);
     }
 
-pub returns-in-Ok-Some-clause-err : goal.returns-in-Ok-Some-clause-err
-returns-in-Ok-Some-clause-err g c =
-    let v = subst
-    (λ o. Visited o c.args.detail c.args.plans c.loop-ending.progress c.visit.new.progress
-    (g.W.Walk.stands c.loop-ending.walk).rest (g.W.Walk.stands c.visit.new.walk).rest
-    (g.K.Sink.bytes c.loop-ending.out) (g.K.Sink.bytes c.visit.new.out))
-    c.in-Ok-Some.field-0-is c.in-Ok-Some.ensures.visited in
-    halted_at_end c.args.detail c.args.plans _ _ _ c.in-Ok-Some.ending c.close.result _ _ _ _ _ _
-    (omega (arith, c.loop-ending.invariant.later, c.visit.ensures.later))
-    (goes_to_close c.args.detail c.args.plans _ _ _ _ _ _ _ _ _ c.loop-ending.invariant.gone v)
-    c.close.ensures.err
+pub returns-in-Err-NoMemory : goal.returns-in-Err-NoMemory
+returns-in-Err-NoMemory g c =
+    let told =
+    stopped_told g.K.Sink.bytes g.K.Sink.faults _ 0 _ c.go_through.new.hand _ _
+    (record { fewer = c.requires.plans; small = omega arith; counted = refl; quiet = refl })
+    (rw c.in-Err-NoMemory.field-0-is at c.in-Err-NoMemory.ensures.stops) in
+    record { written = tt; status = tt; err = told.1; later = told.0 }
 
-pub returns-in-Err-clause-err : goal.returns-in-Err-clause-err
-returns-in-Err-clause-err g c =
-    halted_midway c.args.detail c.args.plans _ _ _ _ c.in-Err.halt _ _ _ _ _ _
-    c.loop-ending.invariant.later c.loop-ending.invariant.gone c.in-Err.ensures.err
+pub returns-in-Err-Failed : goal.returns-in-Err-Failed
+returns-in-Err-Failed g c =
+    let told =
+    stopped_told g.K.Sink.bytes g.K.Sink.faults _ 0 _ c.go_through.new.hand _ _
+    (record { fewer = c.requires.plans; small = omega arith; counted = refl; quiet = refl })
+    (rw c.in-Err-Failed.field-0-is at c.in-Err-Failed.ensures.stops) in
+    record { written = tt; status = tt; err = rw c.in-Err-Failed.field-0-is told.1; later = told.0 }

@@ -1,5 +1,0 @@
-use Rattle.hp_passes.proofs.PassLemmas.{skipped}
-use Rattle.hp_passes.proofs.what_is_left_out_is_skipped.Goals as goal
-
-pub returns : goal.returns
-returns g c = λ turn p s vs. skipped turn p s vs
