@@ -1,0 +1,25 @@
+use Rattle.std.proofs.Common.{refl}
+use Rattle.std.proofs.lemmas.Result.{IfOk-weaker}
+use Rattle.hp_after.proofs.Arrivals.{tree_at}
+use Rattle.hp_dead_ends.proofs.FindSteps.{found_by, furthest_in, reached_root, tells_root}
+use Rattle.hp_dead_ends.proofs.MeetSteps.{many_steps}
+use Rattle.hp_dead_ends.proofs.searching.find.Goals as goal
+
+pub go_through-requires-clause-at : goal.go_through-requires-clause-at
+go_through-requires-clause-at g c = tree_at (g.W.Walk.tree c.args.walk.now) _ c.requires.new
+
+pub returns-in-Ok-clause-found : goal.returns-in-Ok-clause-found
+returns-in-Ok-clause-found g c =
+    let t = g.W.Walk.tree c.args.walk.now in
+    let steps = many_steps (g.W.Walk.terms c.args.walk.now) c.plan.result.now _ t.root
+    (reached_root t (g.W.Walk.stands c.args.walk.now) c.requires.at_root) c.plan.ensures.steps in
+    IfOk-weaker c.finish.result _ _
+    (λ f h. found_by t _ c.go_through.new.pass _ _ _ _ c.requires.depth
+    (tells_root _ t.root c.new.ensures.items steps refl refl c.new-2.ensures.items refl refl refl refl refl refl)
+    c.requires.new c.in-Ok.ensures.passes f h)
+    c.finish.ensures
+
+pub returns-in-Ok-clause-dead : goal.returns-in-Ok-clause-dead
+returns-in-Ok-clause-dead g c =
+    IfOk-weaker c.finish.result _ _ (λ f h. furthest_in (g.W.Walk.tree c.args.walk.now) c.args.most f h)
+    (returns-in-Ok-clause-found g c)

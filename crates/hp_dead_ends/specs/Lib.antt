@@ -1,0 +1,4 @@
+pub mod DeadEnds
+pub mod Finding
+pub mod Samples
+pub mod Searching
