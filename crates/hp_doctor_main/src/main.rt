@@ -1,15 +1,17 @@
 //! The program: the command line, real files, standard input and output round the doctor's calls.
 #![tactic(auto)]
 
+ghost use Rattle.hp_doctor_tree.specs.TreeTold.{HasSmallNumbers};
+
 mod arguments;
 mod tree_words;
 
 use crate::arguments::{Asked, command, request};
-use crate::tree_words::TreeWords;
+use crate::tree_words::{PlanWords, TreeWords};
 use clap::Error;
 use clap::error::ErrorKind;
 use hp_doctor::{HostPieces, Names, Texts, explain, lint};
-use hp_doctor_tree::{Asked as AskedTree, tree};
+use hp_doctor_tree::{Asked as AskedTree, Wanted, tree};
 use hp_doctor_why::why;
 use hp_io::{Failed, HostFolder, HostSink};
 use hp_out::Paged;
@@ -56,22 +58,37 @@ fn lint_files(rt: &HostRuntime, names: Names) -> Status {
     close(status, flushed)
 }
 
-/// Tells how the plan at a path came about.
+/// Tells how the plan that is asked for came about.
 fn tree_of_files(rt: &HostRuntime, words: TreeWords) -> Status {
-    if !is_path(words.path) || words.depth > GREATEST_DEPTH || words.nest > MOST_LEVELS {
+    match words.plan {
+        PlanWords::Path(word) => tree_at_path(rt, words, word),
+        PlanWords::Number(number) => tell_tree(rt, words, Wanted::Nth(number)),
+    }
+}
+
+/// Tells how the plan at a path came about, by the word of the path.
+fn tree_at_path(rt: &HostRuntime, words: TreeWords, word: &str) -> Status {
+    if !is_path(word) {
         return Status::Usage;
     }
-    let Ok(path) = path(rt.alloc(), words.path) else {
+    let Ok(path) = path(rt.alloc(), word) else {
         return Status::NoMemory;
     };
+    tell_tree(rt, words, Wanted::At(path.as_slice()))
+}
+
+/// Tells how a plan came about. The command line lets no greater numbers through.
+fn tell_tree(rt: &HostRuntime, words: TreeWords, wanted: Wanted) -> Status
+    requires { HasSmallNumbers wanted }
+{
     let Ok(texts) = Texts::read(rt.alloc(), &mut HostFolder::new(rt), words.names) else {
         return Status::NoMemory;
     };
     let asked = AskedTree {
-        depth: words.depth,
-        nest: words.nest,
+        depth: words.depth.min(GREATEST_DEPTH),
+        nest: words.nest.min(MOST_LEVELS),
         pair: words.pair,
-        path: path.as_slice(),
+        wanted,
         dot: words.dot,
     };
     let mut out = Paged::<Brand, _>::new(HostSink::new(rt));
@@ -79,6 +96,14 @@ fn tree_of_files(rt: &HostRuntime, words: TreeWords) -> Status {
     let flushed = out.flush();
     drop(out.into_sink());
     close(status, flushed)
+}
+
+/// Whether the word of a path is one, where there is such a word.
+fn has_path(plan: PlanWords) -> bool {
+    match plan {
+        PlanWords::Path(word) => is_path(word),
+        PlanWords::Number(_) => true,
+    }
 }
 
 /// The words of a path that are none.
@@ -117,7 +142,7 @@ fn run(rt: &HostRuntime, words: &[String]) -> Result<u8, Error> {
     let status = match request(&matches) {
         Some(Asked::Where(names)) => explain_input(rt, names),
         Some(Asked::Lint(names)) => lint_files(rt, names),
-        Some(Asked::Tree(words)) if !is_path(words.path) => return Err(no_path(rt.alloc())?),
+        Some(Asked::Tree(words)) if !has_path(words.plan) => return Err(no_path(rt.alloc())?),
         Some(Asked::Tree(words)) => tree_of_files(rt, words),
         Some(Asked::Why { names, depth, nest }) => tell_why(rt, names, depth, nest),
         None => Status::Usage,

@@ -5,6 +5,15 @@ use hp_doctor::Names;
 use hp_syntax::limits::{GREATEST_DEPTH, MOST_LEVELS, USUAL_LEVELS};
 use std::alloc::{AllocError, Global};
 
+/// Which plan the words of `tree` ask for.
+#[derive(Clone, Copy)]
+pub enum PlanWords<'a> {
+    /// The one at a path, by its word.
+    Path(&'a str),
+    /// The one of a number, from 1 on.
+    Number(u64),
+}
+
 /// What the words of `tree` ask for.
 #[derive(Clone, Copy)]
 pub struct TreeWords<'a> {
@@ -14,8 +23,8 @@ pub struct TreeWords<'a> {
     pub nest: u32,
     /// The number of the pair, from 1 on.
     pub pair: u64,
-    /// The word of the path.
-    pub path: &'a str,
+    /// Which of its plans.
+    pub plan: PlanWords<'a>,
     /// A graph is wanted in place of lines.
     pub dot: bool,
 }
@@ -31,18 +40,28 @@ pub fn tree_command<'a>(alloc: Global) -> Result<Command<'a>, AllocError> {
         .required(true)
         .value_parser(value_parser!(u32).range(0..=i64::from(GREATEST_DEPTH)))
         .help("How many decompositions a plan may have at most");
-    let path = Arg::new(alloc, "PATH")
-        .required(true)
-        .help("The plan's path, as `gudsjilp plan --paths` tells it");
+    let path = Arg::new(alloc, "PATH").help(
+        "The plan's path, as `gudsjilp plan --paths` tells it; without it the first plan is taken",
+    );
     Command::new(alloc, "tree")
         .about("Tells how a plan came about: each task below the one that it came from")
         .arg(domain)?
         .arg(problem)?
         .arg(depth)?
         .arg(path)?
+        .arg(plan_option(alloc)?)?
         .arg(nest_option(alloc))?
         .arg(pair_option(alloc))?
         .arg(dot_option(alloc))
+}
+
+fn plan_option<'a>(alloc: Global) -> Result<Arg<'a>, AllocError> {
+    Arg::new(alloc, "plan")
+        .long("plan")
+        .value_name("I")
+        .value_parser(value_parser!(u64).range(1..))
+        .help("The plan that `gudsjilp plan` writes as the I-th, in place of PATH")
+        .conflicts_with("PATH")
 }
 
 fn nest_option<'a>(alloc: Global) -> Arg<'a> {
@@ -71,7 +90,11 @@ fn dot_option<'a>(alloc: Global) -> Arg<'a> {
 /// What the words of `tree` ask for, behind the names of the files.
 pub fn asked_tree<'a>(words: &ArgMatches<'a>, names: Names<'a>) -> Option<TreeWords<'a>> {
     let depth = words.get_one::<u32>("DEPTH")?;
-    let path = words.get_str("PATH")?;
+    let number = words.get_one::<u64>("plan").unwrap_or(1);
+    let plan = match words.get_str("PATH") {
+        Some(path) => PlanWords::Path(path),
+        None => PlanWords::Number(number),
+    };
     let nest = words.get_one::<u32>("nest").unwrap_or(USUAL_LEVELS);
     let pair = words.get_one::<u64>("pair").unwrap_or(1);
     Some(TreeWords {
@@ -79,7 +102,7 @@ pub fn asked_tree<'a>(words: &ArgMatches<'a>, names: Names<'a>) -> Option<TreeWo
         depth,
         nest,
         pair,
-        path,
+        plan,
         dot: words.get_flag("dot"),
     })
 }

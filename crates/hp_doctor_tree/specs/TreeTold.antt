@@ -1,5 +1,6 @@
--- What `tree` writes of two files and a path: what the files are refused for, or what stands at the path.
-use Rattle.std.specs.Prelude.{◌≡◌, ℕ, zero, suc, Bool, List, [], ◌++◌, length, map, slice_get, Option, Some, None, codes}
+-- What `tree` writes of two files: what they are refused for, or how the plan that is asked for came about.
+use Rattle.std.specs.Prelude.{◌≡◌, ◌<◌, ◌-◌, ◌^◌, ℕ, zero, suc, Bool, List, [], ◌++◌, length, map, slice_get, Option, Some, None, codes, decimal}
+use Rattle.std.specs.List.{All}
 use Rattle.hp_code.specs.Lowered.{lowered_rules}
 use Rattle.hp_derivation.specs.declared.roll.Stood.{Stood}
 use Rattle.hp_derivation.specs.Derived.{derived}
@@ -14,8 +15,8 @@ use Rattle.hp_syntax.specs.declared.status.Status.TheVariants as status
 use Rattle.hp_syntax.specs.PlaceTexts.{at_span}
 use Rattle.hp_syntax.specs.Report.{Answer, fault_word}
 use Rattle.hp_syntax.specs.Syntax.{Domain, Pair, Problem, Rule}
-use Rattle.hp_syntax.specs.Walk.{root}
-use Rattle.hp_way.specs.Ways.{Deed, IsWay, deed_of}
+use Rattle.hp_syntax.specs.Walk.{Node, root}
+use Rattle.hp_way.specs.Ways.{Deed, IsWay, IsWayOfPlan, deed_of}
 use Rattle.hp_way.specs.declared.ways.Way.{Way}
 use Rattle.hp_way.specs.declared.ways.Way.TheVariants as ways
 use Rattle.hp_doctor.specs.Accepting.{AreRefused, IsAccepted, refusal_status}
@@ -24,10 +25,22 @@ use Rattle.hp_doctor.specs.Linted.{Tells}
 use Rattle.hp_doctor.specs.Sentences.{fault_sentence}
 use Rattle.hp_doctor.specs.Texts.{File, Texts, chosen}
 use Rattle.hp_doctor_tree.specs.declared.trees.Asked.{Asked}
+use Rattle.hp_doctor_tree.specs.declared.trees.Wanted.{Wanted}
+use Rattle.hp_doctor_tree.specs.declared.trees.Wanted.TheVariants as wanted
 use Rattle.hp_doctor_tree.specs.Deeds.{steps_from}
 use Rattle.hp_doctor_tree.specs.Drawings.{drawing_text}
 
--- ---- what stands at a path
+-- ---- the plan that is asked for
+
+-- no number of a path is the greatest
+abbrev pub HasSmallNumbers : Wanted → Type 0
+HasSmallNumbers (wanted.At path) = All (λ i. i < 2 ^ 64 - 1) path.now
+HasSmallNumbers (wanted.Nth number) = Unit {0}
+
+-- a way leads to the plan at the path, or to that of the number
+abbrev pub IsWantedWay : List Rule → ℕ → Node → Wanted → Way → Type 0
+IsWantedWay rules nest root (wanted.At path) way = IsWay rules nest root path.now way
+IsWantedWay rules nest root (wanted.Nth number) way = IsWayOfPlan rules nest root number way
 
 -- a plan: all tasks on its way, and nothing where deeds have no derivation
 abbrev pub parts_or_none : Option (List Stood × List ℕ) → List Stood × List ℕ
@@ -43,9 +56,11 @@ parts_text f rules ds dot parts =
 abbrev pub plan_text : File → List Rule → Pair → List Deed → Bool → List ℕ
 plan_text f rules pair ds dot = parts_text f rules ds dot (parts_or_none (derived rules pair ds))
 
--- nothing, in the planner's words
-abbrev pub absent_text : List ℕ
-absent_text = codes "no plan at path\n"
+-- there is no such plan; at a path in the planner's words
+abbrev pub absent_text : Wanted → ℕ → List ℕ
+absent_text (wanted.At path) depth = codes "no plan at path\n"
+absent_text (wanted.Nth number) depth =
+    codes "no plan " ++ decimal number ++ codes " within depth " ++ decimal depth ++ codes "\n"
 
 -- a fault comes before: the planner's words for it, and what it means
 abbrev pub fault_text : Texts → RunFault → List ℕ
@@ -53,16 +68,17 @@ fault_text t f =
     codes "fault " ++ at_span (fault_word f.kind) f.span ++ codes "\n"
     ++ told_in (chosen t inputs.Domain) (Some f.span) (fault_sentence f.kind)
 
-abbrev pub way_answer : Texts → List Rule → Pair → Bool → Way → Answer
-way_answer t rules pair dot (ways.Plan ds) = (plan_text t.domain rules pair (map deed_of ds.items) dot, status.Done)
-way_answer t rules pair dot ways.Absent = (absent_text, status.NoSuchPath)
-way_answer t rules pair dot (ways.Fault f) = (fault_text t f, status.RunFault)
+abbrev pub way_answer : Texts → Asked → List Rule → Pair → Way → Answer
+way_answer t a rules pair (ways.Plan ds) = (plan_text t.domain rules pair (map deed_of ds.items) a.dot, status.Done)
+way_answer t a rules pair ways.Absent = (absent_text a.wanted a.depth, status.NoSuchPath)
+way_answer t a rules pair (ways.Fault f) = (fault_text t f, status.RunFault)
 
--- what is told of a pair: that of the way to the path, in the tree of the lowered rules, which is that of the rules
+-- what is told of a pair: that of the way to the plan that is asked for, in the tree of the lowered rules, which is that
+-- of the rules
 pub record IsTreeOf (t : Texts) (a : Asked) (rules : List Rule) (pair : Pair) (answer : Answer) : Type 0 where
   pub way : Way
-  pub there : IsWay (lowered_rules rules) a.nest (root pair a.depth) a.path.now way
-  pub is : answer ≡ way_answer t rules pair a.dot way
+  pub there : IsWantedWay (lowered_rules rules) a.nest (root pair a.depth) a.wanted way
+  pub is : answer ≡ way_answer t a rules pair way
 
 -- ---- what is told of the files
 

@@ -8,4 +8,4 @@ mod telling;
 mod trees;
 mod words;
 
-pub use trees::{Asked, tree};
+pub use trees::{Asked, Wanted, tree};

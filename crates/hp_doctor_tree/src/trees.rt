@@ -1,7 +1,8 @@
 //! Telling how a plan came about.
 
-ghost use Rattle.std.specs.List.{All};
-ghost use Rattle.std.specs.Prelude.{◌≡◌, ◌≤◌, ◌<◌, ◌-◌, ◌^◌, ◌++◌, None, OnOk, IfErr, codes, map, option_map};
+ghost use Rattle.std.specs.Prelude.{◌≡◌, ◌≤◌, ◌++◌, None, IfOk, OnOk, IfErr, codes, decimal, map, option_map};
+ghost use Rattle.hp_code.specs.CodeViews.{rules_in};
+ghost use Rattle.hp_code.specs.Codes.{code_of};
 ghost use Rattle.hp_doctor.specs.Accepting.{IsAccepted};
 ghost use Rattle.hp_doctor.specs.Linted.{Tells};
 ghost use Rattle.hp_doctor.specs.Telling.{Halts};
@@ -14,15 +15,16 @@ ghost use Rattle.hp_syntax.specs.Numbered.{IsNumberedDomain};
 ghost use Rattle.hp_syntax.specs.PlaceTexts.{at_span};
 ghost use Rattle.hp_syntax.specs.Report.{fault_word};
 ghost use Rattle.hp_syntax.specs.Views.{domain_of, pair_of, problem_of};
+ghost use Rattle.hp_syntax.specs.Walk.{root};
 ghost use Rattle.hp_way.specs.Ways.{deed_of};
 ghost use Rattle.hp_derivation.specs.Goings.{parts_of};
-ghost use Rattle.hp_doctor_tree.specs.TreeTold.{IsTreeOf, TellsOf, TellsTree, absent_text, fault_text, pair_at, parts_or_none, plan_text, way_answer};
+ghost use Rattle.hp_doctor_tree.specs.TreeTold.{HasSmallNumbers, IsTreeOf, IsWantedWay, TellsOf, TellsTree, absent_text, fault_text, pair_at, parts_or_none, plan_text, way_answer};
 
 use crate::deeds::steps;
 use crate::drawing::Drawing;
 use crate::telling::tell_drawing;
 use hp_code::laws::compiled_rules_are_a_code;
-use hp_code::lower;
+use hp_code::{Code, lower};
 use hp_derivation::{Derivation, Stood, derivation_of};
 use hp_doctor::{
     Accepted, Finding, Halt, Stop, Text, Texts, accept, push_in, refuse, sentence, status_told,
@@ -33,9 +35,18 @@ use hp_laws::pair_laws::{accepted_domains_are_checked, accepted_pairs_are_ground
 use hp_out::Refusal;
 use hp_syntax::laws::forms_are_numbered;
 use hp_syntax::{Domain, FaultKind, Pair, RunFault, Status};
-use hp_way::{Deed, Way, way_to};
+use hp_way::{Deed, Way, way_to, way_to_plan};
 use itoa::Buffer;
 use std::alloc::{AllocError, Global};
+
+/// Which plan of a pair is asked for.
+#[derive(Clone, Copy)]
+pub enum Wanted<'a> {
+    /// The one at a path.
+    At(&'a [u64]),
+    /// The one of a number, from 1 on.
+    Nth(u64),
+}
 
 /// What is asked of the tree of a pair.
 #[derive(Clone, Copy)]
@@ -45,8 +56,8 @@ pub struct Asked<'a> {
     pub nest: u32,
     /// The number of the pair, from 1 on.
     pub pair: u64,
-    /// The path of the plan.
-    pub path: &'a [u64],
+    /// Which of its plans.
+    pub wanted: Wanted<'a>,
     /// A graph is wanted in place of lines.
     pub dot: bool,
 }
@@ -99,6 +110,43 @@ fn tell_plan<K: Sink>(
 }
 
 // ---- no plan
+
+/// That there is no plan of a number within a depth.
+fn push_no_plan(out: &mut Vec<u8>, number: u64, depth: u32) -> Result<(), AllocError>
+    ensures { OnOk result (out.new.items ≡ out.old.items ++ codes "no plan " ++ decimal number
+        ++ codes " within depth " ++ decimal depth ++ codes "\n") }
+{
+    let mut buffer = Buffer::new();
+    out.extend_from_slice(b"no plan ")?;
+    out.extend_from_slice(buffer.format(number).as_bytes())?;
+    out.extend_from_slice(b" within depth ")?;
+    out.extend_from_slice(buffer.format(depth).as_bytes())?;
+    out.extend_from_slice(b"\n")
+}
+
+/// That there is no plan such as is asked for.
+fn push_absent(out: &mut Vec<u8>, wanted: Wanted, depth: u32) -> Result<(), AllocError>
+    ensures { OnOk result (out.new.items ≡ out.old.items ++ absent_text wanted depth) }
+{
+    match wanted {
+        Wanted::At(_) => out.extend_from_slice(b"no plan at path\n"),
+        Wanted::Nth(number) => push_no_plan(out, number, depth),
+    }
+}
+
+/// Writes that there is no plan such as is asked for.
+fn tell_absent<K: Sink>(alloc: Global, wanted: Wanted, depth: u32, out: &mut K) -> Result<(), Halt>
+    ensures ok { OnOk result (Wrote (absent_text wanted depth) (K.bytes out.old) (K.bytes out.new)) }
+    ensures err { IfErr result (λ h. Halts h (absent_text wanted depth)
+        (sink_run (K.faults out.old) (K.faults out.new) (K.bytes out.old) (K.bytes out.new))) }
+    ensures later { K.faults out.old ≤ K.faults out.new }
+{
+    let mut text = Vec::new(alloc);
+    match push_absent(&mut text, wanted, depth) {
+        Ok(()) => write(out, text.as_slice()),
+        Err(_) => Err(Halt::NoMemory),
+    }
+}
 
 fn fault_word(kind: FaultKind) -> &'static [u8]
     ensures { result.now ≡ fault_word kind }
@@ -158,7 +206,7 @@ fn tell_fault<K: Sink>(
     }
 }
 
-// ---- what stands at a path
+// ---- the plan that is asked for
 
 /// Writes a plan, and answers the status.
 fn answer_plan<K: Sink>(
@@ -182,13 +230,13 @@ fn answer_plan<K: Sink>(
     status_told(told, Status::Done)
 }
 
-/// Writes that there is no plan, and answers the status.
-fn answer_absent<K: Sink>(out: &mut K) -> Status
-    ensures tells { Tells (absent_text, Status.NoSuchPath) result
+/// Writes that there is no plan such as is asked for, and answers the status.
+fn answer_absent<K: Sink>(alloc: Global, wanted: Wanted, depth: u32, out: &mut K) -> Status
+    ensures tells { Tells (absent_text wanted depth, Status.NoSuchPath) result
         (sink_run (K.faults out.old) (K.faults out.new) (K.bytes out.old) (K.bytes out.new)) }
     ensures later { K.faults out.old ≤ K.faults out.new }
 {
-    let told = write(out, b"no plan at path\n");
+    let told = tell_absent(alloc, wanted, depth, out);
     status_told(told, Status::NoSuchPath)
 }
 
@@ -202,31 +250,47 @@ fn answer_fault<K: Sink>(alloc: Global, files: &Texts, fault: RunFault, out: &mu
     status_told(told, Status::RunFault)
 }
 
-/// Writes what stands at a path of a pair, and answers the status.
+/// Writes where the way to the plan that is asked for leads, and answers the status.
 fn answer_way<K: Sink>(
     alloc: Global,
     files: &Texts,
     domain: &Domain,
     pair: &Pair,
     way: &Way,
-    dot: bool,
+    asked: &Asked,
     out: &mut K,
 ) -> Status
-    ensures tells { Tells (way_answer (texts_of files.now) (domain_of domain.now).rules (pair_of pair.now) dot way.now)
+    ensures tells { Tells (way_answer (texts_of files.now) asked.now (domain_of domain.now).rules (pair_of pair.now) way.now)
         result (sink_run (K.faults out.old) (K.faults out.new) (K.bytes out.old) (K.bytes out.new)) }
     ensures later { K.faults out.old ≤ K.faults out.new }
 {
     match way {
         Way::Plan(deeds) => {
             let deeds = deeds.as_slice();
-            answer_plan(alloc, &files.domain, domain, pair, deeds, dot, out)
+            answer_plan(alloc, &files.domain, domain, pair, deeds, asked.dot, out)
         }
-        Way::Absent => answer_absent(out),
+        Way::Absent => answer_absent(alloc, asked.wanted, asked.depth, out),
         Way::Fault(fault) => answer_fault(alloc, files, *fault, out),
     }
 }
 
-/// Goes to the path of a pair, and writes what stands there.
+/// The way to the plan that is asked for.
+fn wanted_way(alloc: Global, code: &Code, pair: &Pair, asked: &Asked) -> Result<Way, AllocError>
+    requires pair { IsGroundPair (pair_of pair.now) }
+    requires depth { asked.now.depth ≤ GREATEST_DEPTH }
+    requires nest { asked.now.nest ≤ MOST_LEVELS }
+    requires small { HasSmallNumbers asked.now.wanted }
+    ensures { IfOk result (λ w. IsWantedWay (rules_in (code_of code.now)) asked.now.nest
+        (root (pair_of pair.now) asked.now.depth) asked.now.wanted w) }
+{
+    let (depth, nest) = (asked.depth, asked.nest);
+    match asked.wanted {
+        Wanted::At(path) => way_to(alloc, code, pair, depth, nest, path),
+        Wanted::Nth(number) => way_to_plan(alloc, code, pair, depth, nest, number),
+    }
+}
+
+/// Goes to the plan of a pair that is asked for, and writes what stands there.
 fn answer_pair<K: Sink>(
     alloc: Global,
     files: &Texts,
@@ -240,7 +304,7 @@ fn answer_pair<K: Sink>(
     requires pair { IsGroundPair (pair_of pair.now) }
     requires depth { asked.now.depth ≤ GREATEST_DEPTH }
     requires nest { asked.now.nest ≤ MOST_LEVELS }
-    requires small { All (λ i. i < 2 ^ 64 - 1) asked.now.path.now }
+    requires small { HasSmallNumbers asked.now.wanted }
     ensures tells { TellsOf (IsTreeOf (texts_of files.now) asked.now (domain_of domain.now).rules (pair_of pair.now))
         result (sink_run (K.faults out.old) (K.faults out.new) (K.bytes out.old) (K.bytes out.new)) }
     ensures later { K.faults out.old ≤ K.faults out.new }
@@ -250,8 +314,8 @@ fn answer_pair<K: Sink>(
     let Ok(code) = lower(alloc, domain) else {
         return Status::NoMemory;
     };
-    match way_to(alloc, &code, pair, asked.depth, asked.nest, asked.path) {
-        Ok(way) => answer_way(alloc, files, domain, pair, &way, asked.dot, out),
+    match wanted_way(alloc, &code, pair, asked) {
+        Ok(way) => answer_way(alloc, files, domain, pair, &way, asked, out),
         Err(_) => Status::NoMemory,
     }
 }
@@ -280,7 +344,7 @@ fn answer_accepted<K: Sink>(
         (problem_of accepted.now.problem) }
     requires depth { asked.now.depth ≤ GREATEST_DEPTH }
     requires nest { asked.now.nest ≤ MOST_LEVELS }
-    requires small { All (λ i. i < 2 ^ 64 - 1) asked.now.path.now }
+    requires small { HasSmallNumbers asked.now.wanted }
     ensures tells { TellsTree (texts_of files.now) asked.now result
         (sink_run (K.faults out.old) (K.faults out.new) (K.bytes out.old) (K.bytes out.new)) }
     ensures later { K.faults out.old ≤ K.faults out.new }
@@ -299,14 +363,14 @@ fn answer_accepted<K: Sink>(
     }
 }
 
-/// Reads and checks a domain and a problem as the planner does, goes to the plan at a path of one of its pairs, and
-/// writes all tasks on its way: each below the one that it came from, with where its rule is, or as a graph. Where no
-/// plan stands there, or a fault comes before it, that is written. Where the planner would refuse the files, its line
-/// is written with what it means. The status is the planner's.
+/// Reads and checks a domain and a problem as the planner does, goes to the plan that is asked for in the tree of one of
+/// its pairs, and writes all tasks on its way: each below the one that it came from, with where its rule is, or as a
+/// graph. Where there is no such plan, or a fault comes before it, that is written. Where the planner would refuse the
+/// files, its line is written with what it means. The status is the planner's.
 pub fn tree<K: Sink>(alloc: Global, files: &Texts, asked: &Asked, out: &mut K) -> Status
     requires depth { asked.now.depth ≤ GREATEST_DEPTH }
     requires nest { asked.now.nest ≤ MOST_LEVELS }
-    requires small { All (λ i. i < 2 ^ 64 - 1) asked.now.path.now }
+    requires small { HasSmallNumbers asked.now.wanted }
     // All that there is to tell was written, or, after want of memory, a prefix of it, and after a fault of the sink a
     // proper one. There is no other status than that of what is told and those two.
     ensures tells { TellsTree (texts_of files.now) asked.now result

@@ -1,3 +1,4 @@
 pub mod ChildPaths
+pub mod PlanSteps
 pub mod StateSteps
 pub mod WaySteps

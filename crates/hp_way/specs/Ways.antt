@@ -9,6 +9,7 @@ use Rattle.hp_laws.specs.Derivations.{IsNext, Leads, situation_at}
 use Rattle.hp_choice.specs.Served.{ServesBy}
 use Rattle.hp_after.specs.declared.reaching.Reached.TheVariants as reached
 use Rattle.hp_after.specs.Reach.{reaching}
+use Rattle.hp_way.specs.Counting.{HasFaultFirst, LacksPlan, plan_numbered}
 use Rattle.hp_way.specs.declared.ways.Deed as made
 use Rattle.hp_way.specs.declared.ways.Way.{Way}
 use Rattle.hp_way.specs.declared.ways.Way.TheVariants as ways
@@ -68,6 +69,19 @@ IsWay rules nest root path (ways.Plan ds) = LeadToPlan rules nest root path (map
 IsWay rules nest root path ways.Absent = (reaching path (visits rules nest root [])).knows.answer ≡ reached.Absent
 IsWay rules nest root path (ways.Fault f) =
     (reaching path (visits rules nest root [])).knows.answer ≡ reached.Fault f
+
+-- these deeds lead from the root to the plan of a number
+pub record LeadToNumbered (rules : List Rule) (nest : ℕ) (root : Node) (number : ℕ) (ds : List Deed) : Type 0 where
+  pub plan : Visit
+  pub is : plan_numbered number (visits rules nest root []) ≡ Some plan
+  pub lead : LeadAlong rules nest ds plan.path root plan.node
+
+-- the plan of a number, from 1 on, with the deeds that lead to it; or there are fewer plans, and no fault; or a fault
+-- comes before it, and this is the first one
+abbrev pub IsWayOfPlan : List Rule → ℕ → Node → ℕ → Way → Type 0
+IsWayOfPlan rules nest root number (ways.Plan ds) = LeadToNumbered rules nest root number (map deed_of ds.items)
+IsWayOfPlan rules nest root number ways.Absent = LacksPlan number (visits rules nest root [])
+IsWayOfPlan rules nest root number (ways.Fault f) = HasFaultFirst number f (visits rules nest root [])
 
 -- a walk stands at the path where the way leads to a plan
 abbrev pub StandsThere : Way → List ℕ → List ℕ → Type 0

@@ -6,25 +6,24 @@ use Rattle.hp_doctor.specs.Texts.{texts_of}
 use Rattle.hp_syntax.specs.Syntax.{Rule}
 use Rattle.hp_syntax.specs.Views.{domain_of, pair_of}
 use Rattle.hp_syntax.specs.Walk.{root}
-use Rattle.hp_way.specs.Ways.{IsWay}
-use Rattle.hp_doctor_tree.specs.TreeTold.{Told, way_answer}
+use Rattle.hp_doctor_tree.specs.TreeTold.{IsWantedWay, Told, way_answer}
 use Rattle.hp_doctor_tree.proofs.TreeSteps.{rules_known}
 use Rattle.hp_doctor_tree.proofs.trees.answer_pair.Goals as goal
 
-pub returns-in-Ok-way_to-clause-tells : goal.returns-in-Ok-way_to-clause-tells
-returns-in-Ok-way_to-clause-tells g c =
+pub returns-in-Ok-wanted_way-clause-tells : goal.returns-in-Ok-wanted_way-clause-tells
+returns-in-Ok-wanted_way-clause-tells g c =
     let asked = c.args.asked.now in
     let rules = (domain_of c.args.domain.now).rules in
     let pair = pair_of c.args.pair.now in
     let code = code_of c.in-Ok.code in
-    let way = c.in-Ok-way_to.way in
-    Told (way_answer (texts_of c.args.files.now) rules pair asked.dot way)
+    let way = c.in-Ok-wanted_way.way in
+    Told (way_answer (texts_of c.args.files.now) asked rules pair way)
     (record {
       way = way;
       there =
-          subst (λ (rs : List Rule). IsWay rs asked.nest (root pair asked.depth) asked.path.now way)
+          subst (λ (rs : List Rule). IsWantedWay rs asked.nest (root pair asked.depth) asked.wanted way)
           (rules_known code (lowered_rules rules)
           (c.compiled_rules_are_a_code.ensures.reads rules code c.in-Ok.ensures))
-          c.in-Ok-way_to.ensures;
+          c.in-Ok-wanted_way.ensures;
       is = refl;
     }) c.answer_way.ensures.tells

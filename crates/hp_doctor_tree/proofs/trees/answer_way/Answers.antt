@@ -15,7 +15,7 @@ returns-in-Plan-clause-tells g c =
     let pair = pair_of c.args.pair.now in
     let run = sink_run (g.K.Sink.faults c.args.out.now) (g.K.Sink.faults c.answer_plan.new.out)
     (g.K.Sink.bytes c.args.out.now) (g.K.Sink.bytes c.answer_plan.new.out) in
-    subst (λ w. Tells (way_answer t rules pair c.args.dot w) c.answer_plan.result run) (sym c.in-Plan.is)
+    subst (λ w. Tells (way_answer t c.args.asked.now rules pair w) c.answer_plan.result run) (sym c.in-Plan.is)
     (subst
-    (λ ds. Tells (plan_text t.domain rules pair (map deed_of ds) c.args.dot, status.Done) c.answer_plan.result run)
+    (λ ds. Tells (plan_text t.domain rules pair (map deed_of ds) c.args.asked.now.dot, status.Done) c.answer_plan.result run)
     c.as_slice-deeds.ensures.value c.answer_plan.ensures.tells)

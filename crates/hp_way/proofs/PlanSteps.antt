@@ -1,0 +1,129 @@
+-- Facts of a walk to the plan of a number, and the deeds that lead to that plan.
+use Rattle.std.proofs.Common.{◌≡◌, ◌≢◌, ℕ, zero, suc, ◌-◌, false, List, [], ◌∷◌, Some, None, MatchOption, length, take, refl, sym, ap, ◌∙◌, subst, arith}
+use Rattle.std.specs.List.{All, find}
+use Rattle.std.proofs.Math.Seq.{take-length}
+use Rattle.std.proofs.lemmas.List.Elements.{All-head, All-tail}
+use Rattle.std.proofs.lemmas.Option.{same_Some}
+use Rattle.hp_after.specs.declared.reaching.Reached.{Reached}
+use Rattle.hp_after.specs.declared.reaching.Reached.TheVariants as reached
+use Rattle.hp_net.specs.Standings.{Tree, Standing, IsAtItsNode, tree_visits}
+use Rattle.hp_passes.specs.Passing.{Passes, AtEnd, GoesOn, LeavesOut, Ends, at_end, at_visit}
+use Rattle.hp_search.specs.Planned.{Planned, stands_planned, tree_planned}
+use Rattle.hp_syntax.specs.declared.fault.RunFault.{RunFault}
+use Rattle.hp_syntax.specs.Walk.{Sight, Visit, Did, Plan, CutHere, FaultHere, is_fault_here, is_plan, node_at}
+use Rattle.hp_way.specs.declared.plans.Counting.{Counting}
+use Rattle.hp_way.specs.Along.{LeadSoFar}
+use Rattle.hp_way.specs.Counting as counting
+use Rattle.hp_way.specs.Counting.{ComesTo, IsLast, StandsAtPlan, meets_counting, plan_numbered}
+use Rattle.hp_way.specs.Ways.{Deed, LeadAlong, LeadToNumbered}
+
+-- ---- numbers of plans
+
+none_numbered : (n : ℕ) → plan_numbered n [] ≡ None
+none_numbered zero = refl
+none_numbered (suc i) = refl
+
+-- a visit that is neither a plan nor a fault counts for nothing
+others_numbered : (n : ℕ) (v : Visit) (vs : List Visit) → is_plan v.sight ≡ false → is_fault_here v.sight ≡ false
+    → plan_numbered n (v ∷ vs) ≡ plan_numbered n vs
+others_numbered zero v vs plan fault = refl
+others_numbered (suc i) v vs plan fault = rw (fault, plan) refl
+
+-- the plan of a number is the one before it among those that come after a plan
+later_numbered : (n : ℕ) (v : Visit) (vs : List Visit) → v.sight ≡ Plan → n ≢ 1
+    → plan_numbered n (v ∷ vs) ≡ plan_numbered (n - 1) vs
+later_numbered zero v vs e other = refl
+later_numbered (suc zero) v vs e other = absurd (other refl)
+later_numbered (suc (suc i)) v vs e other =
+    let less : suc i ≡ suc (suc i) - 1 = omega arith in
+    let here : plan_numbered (suc (suc i)) (v ∷ vs) ≡ plan_numbered (suc i) vs = rw e refl in
+    here ∙ ap (λ k. plan_numbered k vs) less
+
+first_numbered : (v : Visit) (vs : List Visit) → v.sight ≡ Plan → plan_numbered 1 (v ∷ vs) ≡ Some v
+first_numbered v vs e = rw e refl
+
+-- after a fault no plan is counted
+faulty_numbered : (n : ℕ) (v : Visit) (vs : List Visit) (f : RunFault) → v.sight ≡ FaultHere f
+    → plan_numbered n (v ∷ vs) ≡ None
+faulty_numbered zero v vs f e = refl
+faulty_numbered (suc i) v vs f e = rw e refl
+
+-- ---- the whole walk
+
+-- a walk comes to what it does over the later visits, where the first one is no fault
+comes_later : (a : Reached) (t : Tree) (there : Standing) (n m : ℕ) (v : Visit) (vs : List Visit)
+    → is_fault_here v.sight ≡ false → plan_numbered n (v ∷ vs) ≡ plan_numbered m vs → ComesTo a t there m vs
+    → ComesTo a t there n (v ∷ vs)
+comes_later a t there n m v vs faultless e h = by a h
+  where
+    found : find (λ w. is_fault_here w.sight) (v ∷ vs) ≡ find (λ w. is_fault_here w.sight) vs
+    found = rw faultless refl
+
+    by : (b : Reached) → ComesTo b t there m vs → ComesTo b t there n (v ∷ vs)
+    by reached.At k = record { plan = k.plan; is = e ∙ k.is; path = k.path; node = k.node }
+    by reached.Absent k = (e ∙ k.0, found ∙ k.1)
+    by (reached.Fault f) k =
+        (e ∙ k.0, subst (λ o. MatchOption o ⊥ (λ w. w.sight ≡ FaultHere f)) (sym found) k.1)
+
+-- a walk comes to what its last visit is
+comes_here : (a : Reached) (t : Tree) (n : ℕ) (v : Visit) (vs : List Visit) → IsAtItsNode t v → IsLast n v a
+    → ComesTo a t (at_visit v vs) n (v ∷ vs)
+comes_here reached.At t n v vs at h = record {
+  plan = v;
+  is = subst (λ k. plan_numbered k (v ∷ vs) ≡ Some v) (sym h.1) (first_numbered v vs h.0);
+  path = refl;
+  node = at;
+}
+comes_here reached.Absent t n v vs at h = absurd h
+comes_here (reached.Fault f) t n v vs at h =
+    let found : find (λ w. is_fault_here w.sight) (v ∷ vs) ≡ Some v = rw h refl in
+    (faulty_numbered n v vs f h, subst (λ o. MatchOption o ⊥ (λ w. w.sight ≡ FaultHere f)) (sym found) h)
+
+-- a walk that has counted so far comes to the plan of the number that is left
+pub comes_so : (n : ℕ) (t : Tree) (s u : Counting) (c e : Unit {0}) (vs : List Visit) (there : Standing)
+    → s.left ≡ n → s.answer ≡ reached.Absent → All (IsAtItsNode t) vs → Passes meets_counting s c vs u e there
+    → ComesTo u.answer t there n vs
+comes_so n t _ _ _ _ _ _ left none all (AtEnd s c) =
+    subst (λ x. ComesTo x t at_end n []) (sym none) (none_numbered n, refl)
+comes_so n t _ _ _ _ _ _ left none all (GoesOn s r u c d e v vs there m rest) =
+    by v.sight refl m (λ k l h. comes_so k t r u d e vs there l h (All-tail (IsAtItsNode t) v vs all) rest)
+  where
+    by : (x : Sight) → v.sight ≡ x → counting.GoesOn s x r
+        → ((k : ℕ) → r.left ≡ k → r.answer ≡ reached.Absent → ComesTo u.answer t there k vs)
+        → ComesTo u.answer t there n (v ∷ vs)
+    by Did h k later =
+        comes_later u.answer t there n n v vs (rw h refl) (others_numbered n v vs (rw h refl) (rw h refl))
+        (later n (ap (λ z. z.left) k ∙ left) (ap (λ z. z.answer) k ∙ none))
+    by Plan h k later =
+        comes_later u.answer t there n (n - 1) v vs (rw h refl)
+        (later_numbered n v vs h (λ one. k.0 (left ∙ one)))
+        (later (n - 1) (k.1 ∙ ap (λ i. i - 1) left) (k.2 ∙ none))
+    by CutHere h k later =
+        comes_later u.answer t there n n v vs (rw h refl) (others_numbered n v vs (rw h refl) (rw h refl))
+        (later n (ap (λ z. z.left) k ∙ left) (ap (λ z. z.answer) k ∙ none))
+    by (FaultHere f) h k later = absurd k
+comes_so n t _ _ _ _ _ _ left none all (LeavesOut s r u c d e v vs there m rest) = absurd m
+comes_so n t _ _ _ _ _ _ left none all (Ends s r c d v vs m) =
+    comes_here r.answer t n v vs (All-head (IsAtItsNode t) v vs all) (subst (λ k. IsLast k v r.answer) left m)
+
+-- ---- at the plan
+
+-- where the walk came to the plan of a number, the deeds of its whole path lead to it
+pub leads_to_numbered : (t : Tree) (p : Planned) (number : ℕ) (ds : List Deed) → tree_planned p ≡ t
+    → StandsAtPlan t (stands_planned p) number (tree_visits t)
+    → LeadSoFar p (length (stands_planned p).path) ds → LeadToNumbered t.rules t.nest t.root number ds
+leads_to_numbered t p number ds same there far =
+    let own = tree_planned p in
+    let walked = (stands_planned p).path in
+    let node : far.node ≡ there.plan.node =
+    same_Some far.node there.plan.node
+    (sym far.there ∙ (ap (node_at own.rules own.nest own.root) (take-length walked)
+    ∙ (ap (λ (x : Tree). node_at x.rules x.nest x.root walked) same ∙ there.node))) in
+    record {
+      plan = there.plan;
+      is = there.is;
+      lead =
+          subst (λ (x : Tree). LeadAlong x.rules x.nest ds there.plan.path x.root there.plan.node) same
+          (subst (λ q. LeadAlong own.rules own.nest ds q own.root there.plan.node) (take-length walked ∙ there.path)
+          (subst (LeadAlong own.rules own.nest ds (take (length walked) walked) own.root) node far.lead));
+    }
