@@ -77,16 +77,19 @@ fn tree_at_path(rt: &HostRuntime, words: TreeWords, word: &str) -> Status {
     tell_tree(rt, words, Wanted::At(path.as_slice()))
 }
 
-/// Tells how a plan came about. The command line lets no greater numbers through.
+/// Tells how a plan came about.
 fn tell_tree(rt: &HostRuntime, words: TreeWords, wanted: Wanted) -> Status
     requires { HasSmallNumbers wanted }
 {
+    if words.depth > GREATEST_DEPTH || words.nest > MOST_LEVELS {
+        return Status::Usage;
+    }
     let Ok(texts) = Texts::read(rt.alloc(), &mut HostFolder::new(rt), words.names) else {
         return Status::NoMemory;
     };
     let asked = AskedTree {
-        depth: words.depth.min(GREATEST_DEPTH),
-        nest: words.nest.min(MOST_LEVELS),
+        depth: words.depth,
+        nest: words.nest,
         pair: words.pair,
         wanted,
         dot: words.dot,

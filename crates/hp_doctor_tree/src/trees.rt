@@ -125,24 +125,24 @@ fn push_no_plan(out: &mut Vec<u8>, number: u64, depth: u32) -> Result<(), AllocE
 }
 
 /// That there is no plan such as is asked for.
-fn push_absent(out: &mut Vec<u8>, wanted: Wanted, depth: u32) -> Result<(), AllocError>
-    ensures { OnOk result (out.new.items ≡ out.old.items ++ absent_text wanted depth) }
+fn push_absent(out: &mut Vec<u8>, asked: &Asked) -> Result<(), AllocError>
+    ensures { OnOk result (out.new.items ≡ out.old.items ++ absent_text asked.now.wanted asked.now.depth) }
 {
-    match wanted {
+    match asked.wanted {
         Wanted::At(_) => out.extend_from_slice(b"no plan at path\n"),
-        Wanted::Nth(number) => push_no_plan(out, number, depth),
+        Wanted::Nth(number) => push_no_plan(out, number, asked.depth),
     }
 }
 
 /// Writes that there is no plan such as is asked for.
-fn tell_absent<K: Sink>(alloc: Global, wanted: Wanted, depth: u32, out: &mut K) -> Result<(), Halt>
-    ensures ok { OnOk result (Wrote (absent_text wanted depth) (K.bytes out.old) (K.bytes out.new)) }
-    ensures err { IfErr result (λ h. Halts h (absent_text wanted depth)
+fn tell_absent<K: Sink>(alloc: Global, asked: &Asked, out: &mut K) -> Result<(), Halt>
+    ensures ok { OnOk result (Wrote (absent_text asked.now.wanted asked.now.depth) (K.bytes out.old) (K.bytes out.new)) }
+    ensures err { IfErr result (λ h. Halts h (absent_text asked.now.wanted asked.now.depth)
         (sink_run (K.faults out.old) (K.faults out.new) (K.bytes out.old) (K.bytes out.new))) }
     ensures later { K.faults out.old ≤ K.faults out.new }
 {
     let mut text = Vec::new(alloc);
-    match push_absent(&mut text, wanted, depth) {
+    match push_absent(&mut text, asked) {
         Ok(()) => write(out, text.as_slice()),
         Err(_) => Err(Halt::NoMemory),
     }
@@ -231,12 +231,12 @@ fn answer_plan<K: Sink>(
 }
 
 /// Writes that there is no plan such as is asked for, and answers the status.
-fn answer_absent<K: Sink>(alloc: Global, wanted: Wanted, depth: u32, out: &mut K) -> Status
-    ensures tells { Tells (absent_text wanted depth, Status.NoSuchPath) result
+fn answer_absent<K: Sink>(alloc: Global, asked: &Asked, out: &mut K) -> Status
+    ensures tells { Tells (absent_text asked.now.wanted asked.now.depth, Status.NoSuchPath) result
         (sink_run (K.faults out.old) (K.faults out.new) (K.bytes out.old) (K.bytes out.new)) }
     ensures later { K.faults out.old ≤ K.faults out.new }
 {
-    let told = tell_absent(alloc, wanted, depth, out);
+    let told = tell_absent(alloc, asked, out);
     status_told(told, Status::NoSuchPath)
 }
 
@@ -269,7 +269,7 @@ fn answer_way<K: Sink>(
             let deeds = deeds.as_slice();
             answer_plan(alloc, &files.domain, domain, pair, deeds, asked.dot, out)
         }
-        Way::Absent => answer_absent(alloc, asked.wanted, asked.depth, out),
+        Way::Absent => answer_absent(alloc, asked, out),
         Way::Fault(fault) => answer_fault(alloc, files, *fault, out),
     }
 }
