@@ -1,13 +1,13 @@
 -- What stands at a place, and steps that are counted.
 use Rattle.std.proofs.Common.{◌≡◌, ℕ, ◌+◌, ◌<◌, ◌≤◌, List, [], ◌∷◌, ◌++◌, length, map, drop, get_or, Option, Some, None, option_map, slice_get, ap, sym, ◌∙◌, append_assoc}
-use Rattle.std.proofs.lemmas.List.{drop_all, drop_more}
+use Rattle.std.proofs.lemmas.List.{drop_more}
 use Rattle.std.proofs.lemmas.Option.{slice_get-get_or, slice_get-map, slice_get_past}
 use Rattle.std.specs.Borrow.{Bor}
 use Rattle.std.specs.Slice.{IsItemAt}
 use Rattle.hp_syntax.specs.Syntax.{Rule}
 use Rattle.hp_way.specs.declared.ways.Deed as made
 use Rattle.hp_way.specs.Ways.{deed_of}
-use Rattle.hp_doctor_tree.specs.Deeds.{count_on, is_step, last_of, steps_from}
+use Rattle.hp_doctor_tree.specs.Deeds.{count_on, is_step, steps_from}
 
 module _ {X Y : Type 0} (view : X → Y) (xs : List X) (i : ℕ) where
   -- an item that is lent is the one at its place

@@ -1,8 +1,8 @@
 -- Texts of numbers that are written one after the other.
-use Rattle.std.proofs.Common.{◌≡◌, ℕ, ◌+◌, ◌<◌, ◌≤◌, List, ◌++◌, length, map, take, slice_index_or, Option, ap, sym, subst, ◌∙◌}
+use Rattle.std.proofs.Common.{◌≡◌, ℕ, ◌+◌, ◌<◌, ◌≤◌, List, length, map, take, slice_index_or, Option, sym, subst}
 use Rattle.std.proofs.lemmas.List.Folds.{flat_map-map}
 use Rattle.std.specs.List.{flat_map}
-use Rattle.hp_out.specs.Writing.{SinkRun, sink_run, Wrote}
+use Rattle.hp_out.specs.Writing.{sink_run, Wrote}
 use Rattle.hp_doctor.specs.declared.telling.Halt.{Halt}
 use Rattle.hp_doctor.specs.Telling.{Halts}
 use Rattle.hp_doctor.proofs.RemarkSteps.{halts_at, wrote_at}

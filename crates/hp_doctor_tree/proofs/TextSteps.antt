@@ -1,5 +1,5 @@
 -- The texts of the parts of a list, put behind other bytes one after the other.
-use Rattle.std.proofs.Common.{◌≡◌, ℕ, ℤ, ◌+◌, ◌<◌, ◌≤◌, ◌/◌, ◌%◌, List, [], ◌++◌, length, get_or, cond, if◌then◌else◌, is_ok, OnOk, Result, Ok, Err, pos, codes, ap, ap₂, sym, ◌∙◌, append_assoc}
+use Rattle.std.proofs.Common.{◌≡◌, ℕ, ℤ, ◌+◌, ◌<◌, ◌≤◌, ◌/◌, ◌%◌, List, [], ◌++◌, length, get_or, cond, if◌then◌else◌, is_ok, OnOk, Result, Ok, Err, pos, codes, ap, ap₂, ◌∙◌, append_assoc}
 use Rattle.std.specs.Prelude.{decimal, int_lt, unsigned_abs}
 use Rattle.hp_out.proofs.GroundSteps.{bracket_left, part_and_others, rest_from}
 use Rattle.hp_syntax.specs.declared.pattern.Ground.{Ground}

@@ -1,21 +1,16 @@
--- Facts of a walk to the plan of a number, and the deeds that lead to that plan.
-use Rattle.std.proofs.Common.{◌≡◌, ◌≢◌, ℕ, zero, suc, ◌-◌, false, List, [], ◌∷◌, Some, None, MatchOption, length, take, refl, sym, ap, ◌∙◌, subst, arith}
+-- Facts of a walk to the plan of a number.
+use Rattle.std.proofs.Common.{◌≡◌, ◌≢◌, ℕ, zero, suc, ◌-◌, false, List, [], ◌∷◌, Some, None, MatchOption, refl, sym, ap, ◌∙◌, subst, arith}
 use Rattle.std.specs.List.{All, find}
-use Rattle.std.proofs.Math.Seq.{take-length}
 use Rattle.std.proofs.lemmas.List.Elements.{All-head, All-tail}
-use Rattle.std.proofs.lemmas.Option.{same_Some}
 use Rattle.hp_after.specs.declared.reaching.Reached.{Reached}
 use Rattle.hp_after.specs.declared.reaching.Reached.TheVariants as reached
-use Rattle.hp_net.specs.Standings.{Tree, Standing, IsAtItsNode, tree_visits}
+use Rattle.hp_net.specs.Standings.{Tree, Standing, IsAtItsNode}
 use Rattle.hp_passes.specs.Passing.{Passes, AtEnd, GoesOn, LeavesOut, Ends, at_end, at_visit}
-use Rattle.hp_search.specs.Planned.{Planned, stands_planned, tree_planned}
 use Rattle.hp_syntax.specs.declared.fault.RunFault.{RunFault}
-use Rattle.hp_syntax.specs.Walk.{Sight, Visit, Did, Plan, CutHere, FaultHere, is_fault_here, is_plan, node_at}
+use Rattle.hp_syntax.specs.Walk.{Sight, Visit, Did, Plan, CutHere, FaultHere, is_fault_here, is_plan}
 use Rattle.hp_way.specs.declared.plans.Counting.{Counting}
-use Rattle.hp_way.specs.Along.{LeadSoFar}
 use Rattle.hp_way.specs.Counting as counting
 use Rattle.hp_way.specs.Counting.{ComesTo, IsLast, StandsAtPlan, meets_counting, plan_numbered}
-use Rattle.hp_way.specs.Ways.{Deed, LeadAlong, LeadToNumbered}
 
 -- ---- numbers of plans
 
@@ -105,25 +100,3 @@ comes_so n t _ _ _ _ _ _ left none all (GoesOn s r u c d e v vs there m rest) =
 comes_so n t _ _ _ _ _ _ left none all (LeavesOut s r u c d e v vs there m rest) = absurd m
 comes_so n t _ _ _ _ _ _ left none all (Ends s r c d v vs m) =
     comes_here r.answer t n v vs (All-head (IsAtItsNode t) v vs all) (subst (λ k. IsLast k v r.answer) left m)
-
--- ---- at the plan
-
--- where the walk came to the plan of a number, the deeds of its whole path lead to it
-pub leads_to_numbered : (t : Tree) (p : Planned) (number : ℕ) (ds : List Deed) → tree_planned p ≡ t
-    → StandsAtPlan t (stands_planned p) number (tree_visits t)
-    → LeadSoFar p (length (stands_planned p).path) ds → LeadToNumbered t.rules t.nest t.root number ds
-leads_to_numbered t p number ds same there far =
-    let own = tree_planned p in
-    let walked = (stands_planned p).path in
-    let node : far.node ≡ there.plan.node =
-    same_Some far.node there.plan.node
-    (sym far.there ∙ (ap (node_at own.rules own.nest own.root) (take-length walked)
-    ∙ (ap (λ (x : Tree). node_at x.rules x.nest x.root walked) same ∙ there.node))) in
-    record {
-      plan = there.plan;
-      is = there.is;
-      lead =
-          subst (λ (x : Tree). LeadAlong x.rules x.nest ds there.plan.path x.root there.plan.node) same
-          (subst (λ q. LeadAlong own.rules own.nest ds q own.root there.plan.node) (take-length walked ∙ there.path)
-          (subst (LeadAlong own.rules own.nest ds (take (length walked) walked) own.root) node far.lead));
-    }

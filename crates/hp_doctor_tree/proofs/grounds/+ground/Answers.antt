@@ -1,9 +1,9 @@
-use Rattle.std.proofs.Common.{◌≡◌, ◌<◌, ◌++◌, FitsSigned, to_z, of_z, ap, arith, codes, refl, rules, sym, ◌∙◌, append_assoc}
+use Rattle.std.proofs.Common.{◌≡◌, FitsSigned, to_z, of_z, ap, refl, rules, ◌∙◌}
 use Rattle.std.specs.Int.{w128}
 use Rattle.std.proofs.lemmas.Int.{to_z-of_z}
-use Rattle.hp_out.proofs.GroundSteps.{call-smaller, first_and_others, ground-smaller, ground_parts-smaller, list_text, number_text, rest_from, symbol_text, term_size, terms_size}
-use Rattle.hp_syntax.specs.GroundViews.{ground_of, grounds_of}
-use Rattle.hp_syntax.specs.TermTexts.{num_text, term_text, terms_text}
+use Rattle.hp_out.proofs.GroundSteps.{call-smaller, ground-smaller, ground_parts-smaller, list_text, number_text, symbol_text, terms_size}
+use Rattle.hp_syntax.specs.GroundViews.{grounds_of}
+use Rattle.hp_syntax.specs.TermTexts.{num_text}
 use Rattle.hp_doctor_tree.proofs.TextSteps.{extended, part_pushed, put_same}
 use Rattle.hp_doctor_tree.proofs.grounds.+ground.Goals as goal
 

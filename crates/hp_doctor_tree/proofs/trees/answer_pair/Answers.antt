@@ -1,6 +1,5 @@
 use Rattle.std.proofs.Common.{List, refl, subst}
 use Rattle.hp_code.specs.Codes.{code_of}
-use Rattle.hp_code.specs.CodeViews.{rules_in}
 use Rattle.hp_code.specs.Lowered.{lowered_rules}
 use Rattle.hp_doctor.specs.Texts.{texts_of}
 use Rattle.hp_syntax.specs.Syntax.{Rule}

@@ -1,5 +1,5 @@
 use Rattle.std.proofs.Common.{length, map, ap, arith}
-use Rattle.hp_search.specs.Planned.{stands_planned, tree_planned}
+use Rattle.hp_search.specs.Planned.{tree_planned}
 use Rattle.hp_syntax.specs.GroundViews.{ground_of}
 use Rattle.hp_after.proofs.TurnSteps.{not_fault}
 use Rattle.hp_after.specs.declared.reaching.Reached.TheVariants as reached

@@ -1,4 +1,4 @@
-use Rattle.std.proofs.Common.{FitsSigned, ℤ, ◌≡◌, ◌∙◌, List, length, ap, subst, sym, arith, rules}
+use Rattle.std.proofs.Common.{FitsSigned, ℤ, ◌∙◌, List, length, ap, subst, sym, arith, rules}
 use Rattle.std.specs.Int.{w128}
 use Rattle.std.proofs.lemmas.Int.{to_z-of_z}
 use Rattle.hp_eval.specs.GoalViews.{term_at}
