@@ -55,6 +55,14 @@ module _ (s : Scene) (c d : List Term) (e : Slotted) (v : View) (ready : IsReady
   pub left_before : left (setting_of s c) e v ≡ left (setting_of s d) e v
   left_before = left_grows (setting_of s c) d grown ready.atoms (code_in s) (length e.trail) v e fits ready.bindings
 
+  -- an event that is given is the first of what was left
+  pub event_given : (x : Event) (f : Slotted) (u : View) → GivesOver s d f x (λ w. left w e v) (λ w. left w f u)
+      → (y : Event) → x ≡ y → Gives y (bindings_of d f) (left (setting_of s c) e v) (left (setting_of s d) f u)
+  event_given x f u gives y is =
+      let after = left (setting_of s d) f u in
+      subst (λ xs. Gives y (bindings_of d f) xs after) (sym left_before)
+      (subst (λ z. Gives z (bindings_of d f) (left (setting_of s d) e v) after) is (gives d (grows_self d)))
+
   module _ (b : Bool) (x : Event) (f : Slotted) (u : View)
       (gives : GivesOver s d f x (λ w. left w e v) (λ w. left w f u)) where
     abbrev before : List PlainEvent
@@ -63,11 +71,8 @@ module _ (s : Scene) (c d : List Term) (e : Slotted) (v : View) (ready : IsReady
     abbrev after : List PlainEvent
     after = left (setting_of s d) f u
 
-    -- an event that is given is the first that was left
     given : (y : Event) → x ≡ y → Gives y (bindings_of d f) before after
-    given y is =
-        subst (λ xs. Gives y (bindings_of d f) xs after) (sym left_before)
-        (subst (λ z. Gives z (bindings_of d f) (left (setting_of s d) e v) after) is (gives d (grows_self d)))
+    given = event_given x f u gives
 
     -- a satisfier is what is found, behind a cut too
     pub next_sat : x ≡ public_events.Sat → behind b (finding before) ≡ Satisfied

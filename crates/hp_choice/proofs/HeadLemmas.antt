@@ -1,17 +1,19 @@
 -- A head that matches a task, or doesn't.
-use Rattle.std.proofs.Common.{◌≡◌, ℕ, zero, suc, Bool, true, false, length, List, ◌∷◌, Option, Some, None, refl, sym, ◌∙◌, ap, ap₂}
+use Rattle.std.proofs.Common.{◌≡◌, ℕ, zero, suc, Bool, true, false, length, List, ◌∷◌, Option, Some, None, IfSome, option_map, refl, sym, ◌∙◌, ap, ap₂}
 use Rattle.std.proofs.lemmas.List.{length-replicate}
 use Rattle.hp_syntax.specs.Matching.{match_atom}
 use Rattle.hp_syntax.specs.Syntax.{Atom, Rule}
 use Rattle.hp_syntax.specs.Terms.{Term}
-use Rattle.hp_syntax.specs.Values.{unbound}
+use Rattle.hp_syntax.specs.Values.{Bindings, unbound}
+use Rattle.hp_answers.specs.AnswerViews.{MeetsHead}
 use Rattle.hp_nodes.specs.Compiled.{vars_of}
 use Rattle.hp_code.specs.CodeViews.{CodeView, IsCode, beside, rule_nodes, rules_in, vars_at}
 use Rattle.hp_code.proofs.CodeLemmas.{vars_found}
 use Rattle.hp_eval.specs.GoalViews.{term_at}
-use Rattle.hp_eval.specs.Slotted.{Slotted, Matched, bindings_of, no_bindings}
+use Rattle.hp_eval.specs.Slotted.{Slotted, AreBelow, Matched, bindings_of, no_bindings}
 use Rattle.hp_eval.proofs.SlotLemmas.{binds_vars, match_failed, match_made}
-use Rattle.hp_choice.specs.Asking.{head_of}
+use Rattle.hp_choice.specs.declared.asking.Conjuncts.{Conjuncts}
+use Rattle.hp_choice.specs.Asking.{IsBoundByTask, head_of}
 
 -- free slots bind none of their variables
 none_bound : (terms : List Term) (n : ℕ) → bindings_of terms (no_bindings n) ≡ unbound n
@@ -49,3 +51,23 @@ rule_matches c code i r found vars named head is said told same =
     let many = ap length (named ∙ vars_found c code i r found) in
     ap (λ x. match_atom (head_of r) x (unbound (length (vars_of r)))) (sym same)
     ∙ ap₂ (λ a k. match_atom a told (unbound k)) (sym is) (sym many)
+
+-- slots that meet a head hold the bindings under which it matches, and cells alone
+head_bound : (terms : List Term) (vars : ℕ) (o : Option Slotted) (found : Option Bindings) → MeetsHead terms vars o found
+    → (found ≡ option_map (bindings_of terms) o) × IfSome o (AreBelow (length terms))
+head_bound terms vars None found met = (met, tt)
+head_bound terms vars (Some slots) found met = (met.0, met.2)
+
+-- where they meet the head of the rule of parts, they are bound by the task
+pub bound_by_head : (c : CodeView) → IsCode c → (x : Conjuncts) (said : Term) (terms : List Term) (vars : List (List ℕ))
+    → vars ≡ vars_at c x.rule → (head : Atom)
+    → ((r : Rule) → beside x.rule (rule_nodes c) (rules_in c) ≡ Some r → head ≡ head_of r) → (told : Term)
+    → told ≡ said → (o : Option Slotted)
+    → MeetsHead terms (length vars) o (match_atom head told (unbound (length vars))) → IsBoundByTask c x said terms o
+bound_by_head c code x said terms vars named head is told same o met =
+    let bound = head_bound terms (length vars) o (match_atom head told (unbound (length vars))) met in
+    record {
+      matches =
+          λ r found. rule_matches c code x.rule r found vars named head (is r found) said told same ∙ bound.0;
+      below = bound.1;
+    }

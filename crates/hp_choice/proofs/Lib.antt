@@ -9,4 +9,5 @@ pub mod NextSteps
 pub mod FindingLemmas
 pub mod AskingSteps
 pub mod AlongSteps
+pub mod FirstSteps
 pub mod AlongLaws

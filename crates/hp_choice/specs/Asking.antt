@@ -13,6 +13,7 @@ use Rattle.hp_syntax.specs.Views.{as_expressions}
 use Rattle.hp_nodes.specs.Compiled.{vars_of}
 use Rattle.hp_nodes.specs.Trees.{Laid}
 use Rattle.hp_code.specs.CodeViews.{CodeView, beside, rule_nodes, rules_in}
+use Rattle.hp_eval.specs.Slotted.{Slotted, AreBelow, bindings_of}
 use Rattle.hp_suspended.specs.Fitting.{AreExpressionsIn}
 use Rattle.hp_suspended.specs.Nodes.{expressions_in}
 use Rattle.hp_choice.specs.declared.asking.Conjuncts.{Conjuncts}
@@ -53,6 +54,14 @@ pub record AreConjuncts (c : CodeView) (x : Conjuncts) : Type 0 where
   pub rule : Rule
   pub is : beside x.rule (rule_nodes c) (rules_in c) ≡ Some rule
   pub parts : AreExpressionsIn c x.first x.end
+
+-- slots hold the bindings under which the head of the rule of parts matches a task, and cells alone; there are none where
+-- the head doesn't match
+pub record IsBoundByTask (c : CodeView) (x : Conjuncts) (t : Term) (terms : List Term) (o : Option Slotted)
+    : Type 0 where
+  pub matches : (r : Rule) → beside x.rule (rule_nodes c) (rules_in c) ≡ Some r
+      → match_atom (head_of r) t (unbound (length (vars_of r))) ≡ option_map (bindings_of terms) o
+  pub below : IfSome o (AreBelow (length terms))
 
 -- all of them together come to this for a task
 abbrev pub Finds : CodeView → ℕ → State → Conjuncts → Term → Finding → Type 0

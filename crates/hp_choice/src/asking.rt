@@ -20,7 +20,7 @@ ghost use Rattle.hp_suspended.specs.SceneViews.{IsReady, code_in, setting_of};
 ghost use Rattle.hp_suspended.specs.Settings.{node_events, state_in};
 ghost use Rattle.hp_suspended.specs.Views as names;
 ghost use Rattle.hp_suspended.specs.Views.{view};
-ghost use Rattle.hp_choice.specs.Asking.{AreConjuncts, Finds, GoesAlong, GoesBy, along, behind, finding_of, head_of, past};
+ghost use Rattle.hp_choice.specs.Asking.{AreConjuncts, Finds, GoesAlong, GoesBy, IsBoundByTask, along, behind, finding_of, head_of, past};
 
 use crate::opening::{matched, node_at};
 use hp_cells::Cells;
@@ -59,7 +59,7 @@ pub struct Prefix {
 }
 
 /// All satisfiers of parts together, which are begun at the first.
-fn begun(
+pub(crate) fn begun(
     alloc: Global,
     nest: u32,
     first: usize,
@@ -156,6 +156,25 @@ fn head_of<'s>(rule: usize, scene: &'s Scene<'_>) -> &'s AtomPat
     }
 }
 
+/// The bindings under which the head of the rule of parts matches a task, if it does. The task is an atom without
+/// variables and calls. Only cells are added.
+pub(crate) fn bound_by_task(
+    alloc: Global,
+    scene: &Scene<'_>,
+    asked: Conjuncts,
+    task: &AtomPat,
+    cells: &mut Cells,
+) -> Result<Option<Slots>, AllocError>
+    requires asked { AreConjuncts (code_in scene.now) asked }
+    requires task { IsGroundAtom (atom_of task.now) }
+    ensures bound { IfOk result (IsBoundByTask (code_in scene.now) asked (atom_said (atom_of task.now)) cells.new) }
+    ensures cells { Grows cells.old cells.new }
+{
+    let cell = ground_atom(alloc, task, cells)?;
+    let vars = scene.code.vars(asked.rule).len();
+    matched(alloc, head_of(asked.rule, scene), vars, cell, cells)
+}
+
 /// What parts of a conjunction come to together for a task in a scene, where the head of their rule matches it, with
 /// so many axiom levels, at most 128; where the head doesn't match, there is nothing. The task is an atom without
 /// variables and calls. Only cells are added.
@@ -176,9 +195,7 @@ pub fn ask(
         (atom_said (atom_of task.now))) }
     ensures cells { Grows cells.old cells.new }
 {
-    let cell = ground_atom(alloc, task, cells)?;
-    let vars = scene.code.vars(asked.rule).len();
-    match matched(alloc, head_of(asked.rule, scene), vars, cell, cells)? {
+    match bound_by_task(alloc, scene, asked, task, cells)? {
         Some(mut slots) => found_under(alloc, scene, nest, asked, &mut slots, cells),
         None => Ok(Finding::Nothing),
     }
@@ -258,9 +275,7 @@ pub fn ask_along(
         (atom_said (atom_of task.now))) }
     ensures cells { Grows cells.old cells.new }
 {
-    let cell = ground_atom(alloc, task, cells)?;
-    let vars = scene.code.vars(asked.rule).len();
-    match matched(alloc, head_of(asked.rule, scene), vars, cell, cells)? {
+    match bound_by_task(alloc, scene, asked, task, cells)? {
         Some(mut slots) => {
             let prefix = satisfied_along(alloc, scene, nest, asked, &mut slots, cells)?;
             Ok(Some(prefix))

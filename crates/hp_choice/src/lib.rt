@@ -3,11 +3,13 @@
 
 mod asking;
 mod choice;
+mod first;
 pub mod laws;
 mod opening;
 mod rooms;
 
 pub use asking::{Conjuncts, Finding, Prefix, ask, ask_along};
 pub use choice::{Choice, Deed, Given};
+pub use first::first_satisfier;
 pub use opening::open;
 pub use rooms::Rooms;

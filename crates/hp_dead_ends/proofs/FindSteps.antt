@@ -14,11 +14,13 @@ use Rattle.hp_dead_ends.specs.declared.searching.DeadEnd.{DeadEnd}
 use Rattle.hp_dead_ends.specs.declared.searching.DeadEnds.{DeadEnds}
 use Rattle.hp_dead_ends.specs.declared.searching.Seeking.{Seeking}
 use Rattle.hp_dead_ends.specs.declared.searching.SearchEnd.TheVariants as ends
+use Rattle.hp_dead_ends.specs.Arriving.{IsHeld}
 use Rattle.hp_dead_ends.specs.DeadEnds.{IsDeadEnd, Rank, rank, rank_of, comes_further, dead_ends, decompositions_of, ends_at, furthest, is_further, until_plan, with_root}
 use Rattle.hp_dead_ends.specs.Finding.{IsFoundIn, IsFurthest, ends_of, items_of, path_told, told_at, told_of}
 use Rattle.hp_dead_ends.specs.Searching.{Fits, Known, MeetsSeeking, Tells, TellsFound, after, after_all, as_rank, at_root, closed, noted, turn_at}
 use Rattle.hp_dead_ends.proofs.DeadLemmas.{all_dead, tree_tells_until}
 use Rattle.hp_dead_ends.proofs.FitLemmas.{AllFit, tree_fits}
+use Rattle.hp_dead_ends.proofs.HeldLemmas.{HeldAt, with_root_held}
 use Rattle.hp_dead_ends.proofs.KeepSteps.{take_none}
 use Rattle.hp_dead_ends.proofs.KnownLemmas.{depth_cut_all, end_all, ends_all, expansions_all, level_cut_all}
 
@@ -209,11 +211,13 @@ module _ (t : Tree) where
     end : IsEndOf v
     most : All (λ w. length w.node.steps ≤ length v.node.steps) (ends_of t)
 
+  pub seen_at : All (IsAtItsNode t) (with_root t.root (until_plan (tree_visits t)))
+  seen_at =
+      All-cons (IsAtItsNode t) (visit [] t.root Did) (until_plan (tree_visits t)) (root_at t)
+      (all_until (IsAtItsNode t) (tree_visits t) (visits_in_tree t.rules t.nest t.root))
+
   all_at : All (IsAtItsNode t) (ends_of t)
-  all_at =
-      all_ends (IsAtItsNode t) (with_root t.root (until_plan (tree_visits t)))
-      (All-cons (IsAtItsNode t) (visit [] t.root Did) (until_plan (tree_visits t)) (root_at t)
-      (all_until (IsAtItsNode t) (tree_visits t) (visits_in_tree t.rules t.nest t.root)))
+  all_at = all_ends (IsAtItsNode t) (with_root t.root (until_plan (tree_visits t))) seen_at
 
   all_ends_of : All IsEndOf (ends_of t)
   all_ends_of = λ k d l. record {
@@ -228,16 +232,20 @@ module _ (t : Tree) where
       all_passing (λ v. list_all (λ w. not (comes_further w v)) (ends_of t)) IsEndOf IsTopOf
       (λ v h e. record { end = h; most = all_no_more v (ends_of t) e }) (ends_of t) all_ends_of
 
-  told_ends : (es : List DeadEnd) (vs : List Visit) → map told_of es ≡ map told_at vs → All IsTopOf vs
-      → All (IsFurthest t) es
-  told_ends [] vs e a = All-nil (IsFurthest t)
-  told_ends (x ∷ es) [] e a = absurd (cc)
-  told_ends (x ∷ es) (v ∷ vs) e a =
-      let top = All-head IsTopOf v vs a in
+  -- where a fact of a visit gives one of the dead end that reports it, all visits give it of all that is reported
+  told_all : (P : Visit → Type 0) (Q : DeadEnd → Type 0)
+      → ((e : DeadEnd) (v : Visit) → told_of e ≡ told_at v → P v → Q e) → (es : List DeadEnd) (vs : List Visit)
+      → map told_of es ≡ map told_at vs → All P vs → All Q es
+  told_all P Q h [] vs e a = All-nil Q
+  told_all P Q h (x ∷ es) [] e a = absurd (cc)
+  told_all P Q h (x ∷ es) (v ∷ vs) e a =
       let here : told_of x ≡ told_at v = cc in
+      All-cons Q x es (h x v here (All-head P v vs a)) (told_all P Q h es vs (cc) (All-tail P v vs a))
+
+  top_told : (x : DeadEnd) (v : Visit) → told_of x ≡ told_at v → IsTopOf v → IsFurthest t x
+  top_told x v here top =
       let steps : x.steps ≡ length v.node.steps = ap (λ y. y.rank.steps) here in
-      All-cons (IsFurthest t) x es
-      (record {
+      record {
         path = v.path;
         node = v.node;
         is_told = ap (λ y. y.path) here;
@@ -246,10 +254,18 @@ module _ (t : Tree) where
         at_node = top.end.at_node;
         dead = top.end.dead;
         most = subst (λ n. All (λ w. length w.node.steps ≤ n) (ends_of t)) (sym steps) top.most;
-      })
-      (told_ends es vs (cc) (All-tail IsTopOf v vs a))
+      }
 
   pub furthest_in : (most : ℕ) (f : DeadEnds) → IsFoundIn t most f → All (IsFurthest t) f.furthest.items
   furthest_in most f h =
-      told_ends f.furthest.items (take most (furthest (ends_of t))) h.furthest
+      told_all IsTopOf (IsFurthest t) top_told f.furthest.items (take most (furthest (ends_of t))) h.furthest
       (All-take IsTopOf most (furthest (ends_of t)) all_top)
+
+  -- its path is that of a decomposition before the first plan or fault
+  pub held_in : (most : ℕ) (f : DeadEnds) → IsFoundIn t most f → All (λ e. IsHeld t e.path.items) f.furthest.items
+  held_in most f h =
+      told_all (HeldAt t) (λ e. IsHeld t e.path.items) (λ e v here k. subst (IsHeld t) (sym (ap (λ y. y.path) here)) k)
+      f.furthest.items (take most (furthest (ends_of t))) h.furthest
+      (All-take (HeldAt t) most (furthest (ends_of t))
+      (all_passing (λ v. list_all (λ w. not (comes_further w v)) (ends_of t)) (HeldAt t) (HeldAt t) (λ v k e. k) (ends_of t)
+      (all_ends (HeldAt t) (with_root t.root (until_plan (tree_visits t))) (with_root_held t))))

@@ -45,7 +45,7 @@ other_later v e w order f same =
     (order (is_reached v.sight e) (is_reached w.sight f))
 
 -- a path is a beginning of itself
-whole_beginning : (p : List ℕ) → IsBeginning p p
+pub whole_beginning : (p : List ℕ) → IsBeginning p p
 whole_beginning p = record { behind = []; whole = sym (append-nil p) }
 
 beginning_of : (x : Sight) (q p : List ℕ) → is_did x ≡ false → Follows x q p → IsBeginning q p

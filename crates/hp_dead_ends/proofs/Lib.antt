@@ -1,6 +1,8 @@
+pub mod ArrivingSteps
 pub mod DeadLemmas
 pub mod FindSteps
 pub mod FitLemmas
+pub mod HeldLemmas
 pub mod KeepSteps
 pub mod KnownLemmas
 pub mod MeetSteps

@@ -29,7 +29,7 @@ lt_no : (a b : ℕ) → b ≤ a → nat_lt a b ≡ false
 lt_no a b h = grind (arith, nat_tests)
 
 -- what a path begins goes on from it
-rest_of : (p q : List ℕ) → begins p q ≡ true → (r : List ℕ) × (q ≡ p ++ r)
+pub rest_of : (p q : List ℕ) → begins p q ≡ true → (r : List ℕ) × (q ≡ p ++ r)
 rest_of [] q h = (q, refl)
 rest_of (i ∷ p) [] h = absurd (cc)
 rest_of (i ∷ p) (j ∷ q) h = by (i == j) refl h (rest_of p q)

@@ -1,3 +1,4 @@
+pub mod Arriving
 pub mod DeadEnds
 pub mod Finding
 pub mod Samples

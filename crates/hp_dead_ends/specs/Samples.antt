@@ -1,10 +1,11 @@
 -- The definitions of dead ends, computed on a few visits.
-use Rattle.std.specs.Prelude.{◌≡◌, ℕ, pos, false, List, [], ◌∷◌, ◌++◌, map, Some, None, option_map}
+use Rattle.std.specs.Prelude.{◌≡◌, ℕ, ◌-◌, ◌^◌, pos, true, false, List, [], ◌∷◌, ◌++◌, map, Some, None, option_map}
 use Rattle.std.specs.List.{find}
 use Rattle.hp_syntax.specs.Networks.{Network, Empty, Task}
 use Rattle.hp_syntax.specs.Terms.{Term, Symbol}
 use Rattle.hp_syntax.specs.Walk.{Node, Visit, Did, Plan, CutHere, visit}
 use Rattle.hp_dead_ends.specs.declared.searching.SearchEnd.TheVariants as ends
+use Rattle.hp_dead_ends.specs.Arriving.{is_small}
 use Rattle.hp_dead_ends.specs.DeadEnds as definitions
 use Rattle.hp_dead_ends.specs.DeadEnds.{IsDeadEnd, dead_ends, decompositions_of, ending, is_depth_cut, is_level_cut, until_plan, with_root}
 
@@ -77,6 +78,8 @@ pub record SampleComputes : Type 0 where
   pub plan : ending ends.Whole (early ++ (found ++ late)) ≡ ends.Plan
   pub whole : ending ends.Whole [] ≡ ends.Whole
   pub expansions : decompositions_of (early ++ found) ≡ 8
+  pub small : is_small (0 ∷ (2 ^ 64 - 2) ∷ []) ≡ true
+  pub great : is_small (0 ∷ (2 ^ 64 - 1) ∷ []) ≡ false
   pub dead_end : IsDeadEnd [] 0 root
   pub no_plan : IsDeadEnd [] 0 (node Empty one 2) → ⊥
   pub no_cut : IsDeadEnd [] 0 (node task one 0) → ⊥

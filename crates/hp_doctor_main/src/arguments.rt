@@ -3,6 +3,7 @@
 use crate::tree_words::{TreeWords, asked_tree, tree_command};
 use clap::{Arg, ArgMatches, Command, value_parser};
 use hp_doctor::Names;
+use hp_doctor_why::Limits;
 use hp_syntax::limits::{GREATEST_DEPTH, MOST_LEVELS, USUAL_LEVELS};
 use std::alloc::{AllocError, Global};
 
@@ -15,12 +16,8 @@ pub enum Asked<'a> {
     Lint(Names<'a>),
     /// How a plan of these files came about is to be told.
     Tree(TreeWords<'a>),
-    /// Why there is no plan of these files within a depth, where axioms may call one another so deep, is to be told.
-    Why {
-        names: Names<'a>,
-        depth: u32,
-        nest: u32,
-    },
+    /// Why there is no plan of these files is to be told.
+    Why { names: Names<'a>, limits: Limits },
 }
 
 /// The command line: a subcommand for each thing that the doctor does.
@@ -82,21 +79,29 @@ fn why_command<'a>(alloc: Global) -> Result<Command<'a>, AllocError> {
         .value_name("N")
         .value_parser(value_parser!(u32).range(0..=i64::from(MOST_LEVELS)))
         .help("How deep axioms may call one another, 64 where it isn't given");
+    let ends = Arg::new(alloc, "ends")
+        .long("ends")
+        .value_name("M")
+        .value_parser(value_parser!(u32).range(1..))
+        .help("How many of the furthest dead ends are shown at most, 1 where it isn't given");
     Command::new(alloc, "why")
         .about(
-            "Says why a problem has no plan: the fewest preconditions that must be given up for one",
+            "Says why a problem has no plan: how far the search came, and what keeps the tasks there from being done",
         )
         .arg(domain)?
         .arg(problem)?
         .arg(depth)?
-        .arg(nest)
+        .arg(nest)?
+        .arg(ends)
 }
 
 /// What the words ask for, where they ask why there is no plan.
 fn why_asked<'a>(words: &ArgMatches<'a>, names: Names<'a>) -> Option<Asked<'a>> {
     let depth = words.get_one::<u32>("DEPTH")?;
     let nest = words.get_one::<u32>("nest").unwrap_or(USUAL_LEVELS);
-    Some(Asked::Why { names, depth, nest })
+    let ends = words.get_one::<u32>("ends").unwrap_or(1) as usize;
+    let limits = Limits { depth, nest, ends };
+    Some(Asked::Why { names, limits })
 }
 
 /// What the words ask for.

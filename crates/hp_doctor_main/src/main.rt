@@ -12,7 +12,7 @@ use clap::Error;
 use clap::error::ErrorKind;
 use hp_doctor::{HostPieces, Names, Texts, explain, lint};
 use hp_doctor_tree::{Asked as AskedTree, Wanted, tree};
-use hp_doctor_why::why;
+use hp_doctor_why::{Limits, why};
 use hp_io::{Failed, HostFolder, HostSink};
 use hp_out::Paged;
 use hp_syntax::Status;
@@ -115,16 +115,18 @@ fn no_path(alloc: Global) -> Result<Error, Error> {
     Ok(command(alloc)?.error(ErrorKind::ValueValidation, says)?)
 }
 
-/// Tells why there is no plan of these files within a depth, where axioms may call one another so deep. The command
-/// line lets no greater numbers through.
-fn tell_why(rt: &HostRuntime, names: Names, depth: u32, nest: u32) -> Status {
+/// Tells why there is no plan of these files. The command line lets no number beyond the limits through.
+fn tell_why(rt: &HostRuntime, names: Names, asked: Limits) -> Status {
     let Ok(texts) = Texts::read(rt.alloc(), &mut HostFolder::new(rt), names) else {
         return Status::NoMemory;
     };
     let mut out = Paged::<Brand, _>::new(HostSink::new(rt));
-    let depth = depth.min(GREATEST_DEPTH);
-    let nest = nest.min(MOST_LEVELS);
-    let status = why(rt.alloc(), &texts, depth, nest, &mut out);
+    let limits = Limits {
+        depth: asked.depth.min(GREATEST_DEPTH),
+        nest: asked.nest.min(MOST_LEVELS),
+        ends: asked.ends,
+    };
+    let status = why(rt.alloc(), &texts, limits, &mut out);
     let flushed = out.flush();
     drop(out.into_sink());
     close(status, flushed)
@@ -147,7 +149,7 @@ fn run(rt: &HostRuntime, words: &[String]) -> Result<u8, Error> {
         Some(Asked::Lint(names)) => lint_files(rt, names),
         Some(Asked::Tree(words)) if !has_path(words.plan) => return Err(no_path(rt.alloc())?),
         Some(Asked::Tree(words)) => tree_of_files(rt, words),
-        Some(Asked::Why { names, depth, nest }) => tell_why(rt, names, depth, nest),
+        Some(Asked::Why { names, limits }) => tell_why(rt, names, limits),
         None => Status::Usage,
     };
     Ok(status.code())

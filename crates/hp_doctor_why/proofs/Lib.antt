@@ -1,1 +1,6 @@
-pub mod PairSteps
+mod BesideSteps
+mod FurtherSteps
+mod PairSteps
+mod ReasonSteps
+mod RecurSteps
+mod StepSteps

@@ -1,4 +1,4 @@
--- What is told of pairs, one behind the other.
+-- What is told of pairs, one after the other.
 use Rattle.std.proofs.Common.{◌≡◌, ℕ, ◌+◌, ◌<◌, ◌≤◌, List, [], ◌∷◌, ◌++◌, length, map, slice_get, Some, Option, Result, Ok, Err, OnOk, IfErr, get_or, arith, refl, sym, ◌∙◌, ap, subst, inl, inr, append-nil}
 use Rattle.std.specs.Prelude.{Contains, zero, suc, None, option_map}
 use Rattle.std.proofs.lemmas.Option.{same_Some}
@@ -27,8 +27,7 @@ use Rattle.hp_doctor.specs.Linted.{Whole, WithoutMemory, Unwritten, status_told}
 use Rattle.hp_doctor.specs.Telling.{Halts}
 use Rattle.hp_doctor.specs.Texts.{Texts}
 use Rattle.hp_doctor.proofs.RemarkSteps.{halts_after}
-use Rattle.hp_why.specs.Whys.{Asked, asked}
-use Rattle.hp_doctor_why.specs.Told.{NoPair, OnePair, StopsAmong, StopsAt, TellsAll, TellsFirst, TellsPair, TellsWhy, Told}
+use Rattle.hp_doctor_why.specs.Told.{Asked, NoPair, OnePair, StopsAmong, StopsAt, TellsAll, TellsFirst, TellsPair, TellsWhy, Told}
 
 -- ---- what is accepted
 
@@ -80,67 +79,74 @@ stopped_nothing : (b : Option (List ℕ)) → WrotePrefix [] b b
 stopped_nothing None = refl
 stopped_nothing (Some x) = (0, omega arith, ap Some (sym (append-nil x)))
 
-module _ (t : Texts) (a : Asked) (number count : ℕ) where
+module _ (t : Texts) (a : Asked) (pair : Pair) (number count : ℕ) where
   -- the text of a pair was written, or the writing stopped in it
   pub text_told : {A : Type 0} (r : Result A Halt) (text : List ℕ) (b c : Option (List ℕ))
-      → TellsPair t a number count text → OnOk r (Wrote text b c)
-      → OnOk r ((x : List ℕ) × TellsPair t a number count x × Wrote x b c)
+      → TellsPair t a pair number count text → OnOk r (Wrote text b c)
+      → OnOk r ((x : List ℕ) × TellsPair t a pair number count x × Wrote x b c)
   text_told (Ok x) text b c told w = (text, told, w)
   text_told (Err e) text b c told w = tt
 
   pub text_stopped : {A : Type 0} (r : Result A Halt) (text : List ℕ) (run : SinkRun)
-      → TellsPair t a number count text → IfErr r (λ h. Halts h text run) → IfErr r (StopsAt t a number count run)
+      → TellsPair t a pair number count text → IfErr r (λ h. Halts h text run) → IfErr r (StopsAt t a pair number count run)
   text_stopped (Ok x) text run told h = tt
   text_stopped (Err e) text run told h = (text, inr told, h)
 
-  -- or memory was wanting before anything was known of it
-  pub nothing_told : (f : ℕ) (b : Option (List ℕ)) → StopsAt t a number count (sink_run f f b b) NoMemory
+  -- or memory ran out before anything was known of it
+  pub nothing_told : (f : ℕ) (b : Option (List ℕ)) → StopsAt t a pair number count (sink_run f f b b) NoMemory
   nothing_told f b = ([], inl refl, stopped_nothing b)
 
 -- ---- all pairs
 
-module _ (t : Texts) (d : Domain) (p : Problem) (depth nest : ℕ) where
+module _ (t : Texts) (a : Asked) where
   -- so many pairs were told by now
   abbrev pub ToldSoFar : ℕ → Option (List ℕ) → Option (List ℕ) → Type 0
-  ToldSoFar k before after = (text : List ℕ) × TellsFirst t d p depth nest k text × Wrote text before after
+  ToldSoFar k before after = (text : List ℕ) × TellsFirst t a k text × Wrote text before after
 
   pub none_told : (bytes : Option (List ℕ)) → ToldSoFar 0 bytes bytes
   none_told bytes = ([], NoPair, wrote_nothing bytes)
 
   -- one more pair was told
-  pub one_told : (k : ℕ) (pair : Pair) (a b c : Option (List ℕ)) → slice_get p.pairs k ≡ Some pair
-      → ToldSoFar k a b
-      → (text : List ℕ) × TellsPair t (asked d p pair depth nest) (k + 1) (length p.pairs) text × Wrote text b c
-      → ToldSoFar (k + 1) a c
-  one_told k pair a b c at (text, told, wrote) (more, one, put) =
-      (text ++ more, OnePair k text more pair told at one, wrote_both text more a b c wrote put)
+  pub one_told : (k : ℕ) (pair : Pair) (x y z : Option (List ℕ)) → slice_get a.problem.pairs k ≡ Some pair
+      → ToldSoFar k x y
+      → (text : List ℕ) × TellsPair t a pair (k + 1) (length a.problem.pairs) text × Wrote text y z
+      → ToldSoFar (k + 1) x z
+  one_told k pair x y z at (text, told, wrote) (more, one, put) =
+      (text ++ more, OnePair k text more pair told at one, wrote_both text more x y z wrote put)
 
   -- or the telling stopped there
-  pub stopped_there : (k : ℕ) (pair : Pair) (f g i : ℕ) (a b c : Option (List ℕ)) (h : Halt) → f ≤ g
-      → slice_get p.pairs k ≡ Some pair → ToldSoFar k a b
-      → StopsAt t (asked d p pair depth nest) (k + 1) (length p.pairs) (sink_run g i b c) h
-      → StopsAmong t d p depth nest (sink_run f i a c) h
-  stopped_there k pair f g i a b c h l at (text, told, wrote) (more, inl none, stop) = (
+  pub stopped_there : (k : ℕ) (pair : Pair) (f g i : ℕ) (x y z : Option (List ℕ)) (h : Halt) → f ≤ g
+      → slice_get a.problem.pairs k ≡ Some pair → ToldSoFar k x y
+      → StopsAt t a pair (k + 1) (length a.problem.pairs) (sink_run g i y z) h
+      → StopsAmong t a (sink_run f i x z) h
+  stopped_there k pair f g i x y z h l at (text, told, wrote) (more, inl none, stop) = (
     k,
     text,
     told,
-    subst (λ x. Halts h x (sink_run f i a c)) (ap (λ x. text ++ x) none ∙ append-nil text)
-        (halts_after h text more f g i a b c l wrote stop),
+    subst (λ q. Halts h q (sink_run f i x z)) (ap (λ q. text ++ q) none ∙ append-nil text)
+        (halts_after h text more f g i x y z l wrote stop),
   )
-  stopped_there k pair f g i a b c h l at (text, told, wrote) (more, inr one, stop) = (
+  stopped_there k pair f g i x y z h l at (text, told, wrote) (more, inr one, stop) = (
     k + 1,
     text ++ more,
     OnePair k text more pair told at one,
-    halts_after h text more f g i a b c l wrote stop,
+    halts_after h text more f g i x y z l wrote stop,
   )
 
   -- what was told of all pairs, or of some, is what `why` has to write
-  pub why_told : (r : Result (Unit {0}) Halt) (run : SinkRun) → IsAccepted t d p
-      → OnOk r (TellsAll t d p depth nest run) → IfErr r (StopsAmong t d p depth nest run)
-      → TellsWhy t depth nest (status_told r status.Done) run
+  pub why_told : (r : Result (Unit {0}) Halt) (run : SinkRun) → IsAccepted t a.domain a.problem
+      → OnOk r (TellsAll t a run) → IfErr r (StopsAmong t a run)
+      → TellsWhy t a.limits (status_told r status.Done) run
   why_told (Ok x) run is (text, told, wrote) stop =
-      Told d p (length p.pairs) text is told (λ e. refl) (Whole refl wrote)
+      Told a (length a.problem.pairs) text is refl told (λ e. refl) (Whole refl wrote)
   why_told (Err NoMemory) run is w (k, text, told, stop) =
-      Told d p k text is told (λ e. absurd cc) (WithoutMemory refl stop)
+      Told a k text is refl told (λ e. absurd cc) (WithoutMemory refl stop)
   why_told (Err Failed) run is w (k, text, told, stop) =
-      Told d p k text is told (λ e. absurd cc) (Unwritten refl stop.0 stop.1)
+      Told a k text is refl told (λ e. absurd cc) (Unwritten refl stop.0 stop.1)
+
+-- ---- a text
+
+-- what is put after a header that is put first is after it
+pub after_header : (one two old mid new : List ℕ) → old ≡ [] → mid ≡ old ++ one → new ≡ mid ++ two → new ≡ one ++ two
+after_header one two old mid new none first then =
+    then ∙ ap (λ xs. xs ++ two) (first ∙ ap (λ xs. xs ++ one) none)

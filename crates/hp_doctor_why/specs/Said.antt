@@ -1,8 +1,10 @@
--- What is said of a pair that has no plan, or has one.
-use Rattle.std.specs.Prelude.{ℕ, ◌==◌, Bool, true, false, cond, List, [], ◌++◌, length, map, slice_get, Option, Some, None, option_map, is_some, codes, decimal}
-use Rattle.std.specs.List.{flat_map}
+-- What is said of a pair: how the search for its plan ended, and what keeps the furthest dead ends from going on.
+use Rattle.std.specs.Prelude.{ℕ, ◌-◌, ◌==◌, nat_lt, Bool, true, false, cond, List, [], ◌∷◌, ◌++◌, length, map, filter, drop, take, zip, slice_get, Option, Some, None, option_map, bytes_eq, codes, decimal}
+use Rattle.std.specs.List.{flat_map, list_any}
 use Rattle.std.specs.Option.{option_and_then}
+use Rattle.hp_syntax.specs.declared.limits.TheConstants.{USUAL_LEVELS}
 use Rattle.hp_syntax.specs.declared.pattern.Span.{Span}
+use Rattle.hp_syntax.specs.Report.{path_text}
 use Rattle.hp_syntax.specs.Syntax.{Domain, Problem, Rule, Does, Refines, Concludes}
 use Rattle.hp_syntax.specs.Terms.{Term}
 use Rattle.hp_syntax.specs.TermTexts.{term_text}
@@ -11,6 +13,10 @@ use Rattle.hp_lint.specs.declared.report.Concern.TheVariants as concerns
 use Rattle.hp_lint.specs.Branches.{expression_span, precondition_span}
 use Rattle.hp_lint.specs.Remarked.{Remark}
 use Rattle.hp_lint.specs.Remarks.{remarks}
+use Rattle.hp_dead_ends.specs.declared.searching.DeadEnd.{DeadEnd}
+use Rattle.hp_dead_ends.specs.declared.searching.DeadEnds.{DeadEnds}
+use Rattle.hp_dead_ends.specs.declared.searching.SearchEnd.{SearchEnd}
+use Rattle.hp_dead_ends.specs.declared.searching.SearchEnd.TheVariants as search_ends
 use Rattle.hp_doctor.specs.declared.finding.Finding.TheVariants.{Met}
 use Rattle.hp_doctor.specs.Explained.{finding_text, told_in}
 use Rattle.hp_doctor.specs.Linted.{remark_text}
@@ -18,12 +24,15 @@ use Rattle.hp_doctor.specs.Texts.{Texts}
 use Rattle.hp_unmet.specs.Conjunctions.{part_at}
 use Rattle.hp_unmet.specs.declared.unmet.Unmet.{Unmet}
 use Rattle.hp_unmet.specs.declared.unmet.Unmet.TheVariants as unmets
-use Rattle.hp_why.specs.declared.verdict.Verdict.{Verdict}
-use Rattle.hp_why.specs.declared.verdict.Verdict.TheVariants as verdicts
-use Rattle.hp_why.specs.Whys.{Reason, reason_of, terms_of}
-use Rattle.hp_doctor_why.specs.declared.saying.TheConstants as says
+use Rattle.hp_obstacles.specs.Facts.{Facts}
+use Rattle.hp_obstacles.specs.Obstacles.{Obstacle, Stuck, name_unmet, task_name}
+use Rattle.hp_doctor_why.specs.declared.ends.TheConstants.{STEPS_SHOWN}
+use Rattle.hp_doctor_why.specs.declared.cuts.TheConstants.{TASKS_SHOWN}
+use Rattle.hp_doctor_why.specs.declared.reasons.Why.{Why}
+use Rattle.hp_doctor_why.specs.declared.phrases.TheConstants as says
+use Rattle.hp_doctor_why.specs.Whys.{Cut, Reason, cut_of, kept}
 
--- ---- what is given up
+-- ---- places
 
 -- where the precondition of a rule begins and ends, of a method that of a branch
 abbrev pub span_in : ℕ → Rule → Option Span
@@ -34,40 +43,216 @@ span_in branch (Concludes x) = None
 abbrev pub span_at : Domain → ℕ → ℕ → Option Span
 span_at d rule branch = option_and_then (span_in branch) (slice_get d.rules rule)
 
-abbrev pub reason_sentence : Term → List ℕ
-reason_sentence t = says.TO_DO.now ++ term_text t ++ says.GIVEN_UP.now
-
--- that nothing satisfies the part at a place of it, of the first part without a word of those before it
-abbrev pub part_sentence : ℕ → List ℕ
-part_sentence place = cond (place == 0) says.FIRST_UNMET.now says.LATER_UNMET.now
-
 -- where a part of it begins and ends
 abbrev pub part_span_at : Domain → ℕ → ℕ → ℕ → Option Span
 part_span_at d rule branch place = option_map expression_span (part_at d.rules rule branch place)
 
--- the sentence at the first part that nothing satisfies; where none is known there is no such sentence
-abbrev pub unmet_text : Texts → Domain → ℕ → ℕ → Unmet → List ℕ
-unmet_text t d rule branch unmets.None = []
-unmet_text t d rule branch (unmets.Part place) =
+-- where the head of a rule begins and ends
+abbrev pub head_span : Rule → Span
+head_span (Does o) = o.head.span
+head_span (Refines m) = m.head.span
+head_span (Concludes x) = x.head.span
+
+abbrev pub head_span_at : Domain → ℕ → Option Span
+head_span_at d rule = option_map head_span (slice_get d.rules rule)
+
+-- ---- tasks
+
+abbrev pub spaced : Term → List ℕ
+spaced t = codes " " ++ term_text t
+
+abbrev pub more_text : ℕ → List ℕ
+more_text n = cond (n == 0) [] (codes " and " ++ decimal n ++ codes " more")
+
+-- some facts of a name, and how many more there are
+abbrev pub some_facts_line : List Term → ℕ → List ℕ
+some_facts_line first more = says.FACTS.now ++ flat_map spaced first ++ more_text more ++ codes "\n"
+
+abbrev pub more_facts : Facts → ℕ
+more_facts f = f.count - length f.first
+
+-- the facts of a name that are there
+abbrev pub facts_line : Facts → List ℕ
+facts_line f = cond (f.count == 0) says.NO_FACT.now (some_facts_line f.first (more_facts f))
+
+abbrev pub facts_text : Option Facts → List ℕ
+facts_text None = []
+facts_text (Some f) = facts_line f
+
+-- an axiom that concludes atoms of a name, at its head
+abbrev pub axiom_text : Texts → List ℕ → Rule → List ℕ
+axiom_text t name (Does o) = []
+axiom_text t name (Refines m) = []
+axiom_text t name (Concludes x) =
+    cond (bytes_eq x.head.name name) (told_in (Some t.domain) (Some x.head.span) says.NOT_CONCLUDED.now) []
+
+-- the axioms that conclude atoms of the name for which a part asks, where it asks for an atom
+abbrev pub axioms_text : Texts → Domain → Option (List ℕ) → List ℕ
+axioms_text t d None = []
+axioms_text t d (Some name) = flat_map (axiom_text t name) d.rules
+
+-- that nothing satisfies the part at a place, of the first part without a word of those before it
+abbrev pub part_sentence : ℕ → List ℕ
+part_sentence place = cond (place == 0) says.FIRST_UNMET.now says.LATER_UNMET.now
+
+-- what keeps an operator or a branch from doing a task, at its place in the domain; that a head doesn't match is said
+-- once of a method
+abbrev pub obstacle_by : Texts → Domain → ℕ → ℕ → Option Facts → Unmet → List ℕ
+obstacle_by t d rule branch facts unmets.None = told_in (Some t.domain) (head_span_at d rule) says.PROTECTED.now
+obstacle_by t d rule branch facts unmets.Head =
+    cond (branch == 0) (told_in (Some t.domain) (head_span_at d rule) says.NO_MATCH.now) []
+obstacle_by t d rule branch facts (unmets.Part place) =
     told_in (Some t.domain) (part_span_at d rule branch place) (part_sentence place)
-unmet_text t d rule branch unmets.Unknown = []
+    ++ facts_text facts ++ axioms_text t d (name_unmet d.rules rule branch (unmets.Part place))
+obstacle_by t d rule branch facts unmets.Unknown = told_in (Some t.domain) (span_at d rule branch) says.UNKNOWN.now
 
--- the sentence at the precondition in the domain's file, and what of it is satisfied
-abbrev pub reason_text : Texts → Domain → Reason → List ℕ
-reason_text t d r =
-    told_in (Some t.domain) (span_at d r.rule r.branch) (reason_sentence r.task)
-    ++ unmet_text t d r.rule r.branch r.unmet
+abbrev pub obstacle_text : Texts → Domain → Obstacle → List ℕ
+obstacle_text t d o = obstacle_by t d o.rule o.branch o.facts o.unmet
 
-abbrev pub cut_word : Bool → List ℕ
-cut_word is_cut = cond is_cut (codes " cut") []
+-- where no operator and no method has the task's name, that is said
+abbrev pub obstacles_text : Texts → Domain → List Obstacle → List ℕ
+obstacles_text t d [] = says.NO_RULE.now
+obstacles_text t d (o ∷ os) = flat_map (obstacle_text t d) (o ∷ os)
 
-abbrev pub given_line : ℕ → Bool → List ℕ
-given_line count is_cut = codes "given up " ++ decimal count ++ cut_word is_cut ++ codes "\n"
+abbrev pub stuck_line : Term → List ℕ
+stuck_line t = says.NOTHING_DOES.now ++ term_text t ++ codes " here\n"
 
-abbrev pub given_text : Texts → Domain → List Reason → Bool → List ℕ
-given_text t d rs is_cut = flat_map (reason_text t d) rs ++ given_line (length rs) is_cut
+abbrev pub stuck_text : Texts → Domain → Stuck → List ℕ
+stuck_text t d s = stuck_line s.task ++ obstacles_text t d s.obstacles
 
--- ---- where nothing helps
+-- ---- dead ends
+
+-- the last of some steps, at most so many as are shown
+abbrev pub last_steps : List Term → List Term
+last_steps ts = drop (length ts - STEPS_SHOWN) ts
+
+abbrev pub last_line : List Term → List ℕ
+last_line ts = says.LAST_STEPS.now ++ flat_map spaced ts ++ codes "\n"
+
+abbrev pub steps_line : List Term → List ℕ
+steps_line ts = cond (length ts == 0) says.NO_STEP.now (last_line (last_steps ts))
+
+abbrev pub known_text : Texts → Domain → Reason → List ℕ
+known_text t d r = steps_line r.steps ++ flat_map (stuck_text t d) r.tasks
+
+abbrev pub reason_text : Texts → Domain → Option Reason → List ℕ
+reason_text t d None = says.TOO_WIDE.now
+reason_text t d (Some r) = known_text t d r
+
+-- how far a dead end came
+abbrev pub decompositions_text : ℕ → List ℕ
+decompositions_text n = says.DECOMPOSITIONS.now ++ decimal n ++ codes "\n"
+
+abbrev pub far_text : ℕ → ℕ → List ℕ
+far_text steps decompositions = codes ": steps " ++ decimal steps ++ decompositions_text decompositions
+
+abbrev pub end_line : DeadEnd → List ℕ
+end_line e = says.DEAD_END.now ++ path_text e.path.items ++ far_text e.steps e.decompositions
+
+abbrev pub end_text : Texts → Domain → DeadEnd × Option Reason → List ℕ
+end_text t d (e, r) = end_line e ++ reason_text t d r
+
+-- how many there are, and how many of these came furthest
+abbrev pub count_line : DeadEnds → List ℕ
+count_line f =
+    cond (f.all == 0) []
+    (codes "dead ends " ++ decimal f.all ++ codes " furthest " ++ decimal f.as_far ++ codes "\n")
+
+-- ---- tasks that recur
+
+abbrev pub has_name : List ℕ → Option (List ℕ) → Bool
+has_name name None = false
+has_name name (Some own) = bytes_eq own name
+
+abbrev pub is_named : List ℕ → Term → Bool
+is_named name t = has_name name (task_name t)
+
+abbrev pub times : List ℕ → List Term → ℕ
+times name ts = length (filter (is_named name) ts)
+
+abbrev pub count_text : List ℕ → ℕ → List ℕ
+count_text name n = cond (nat_lt n 2) [] (codes " " ++ name ++ codes " (" ++ decimal n ++ codes " times)")
+
+-- a name that no task before has, and how many of all tasks have it, where several have
+abbrev pub recurring_name : List Term → List Term → Option (List ℕ) → List ℕ
+recurring_name all before None = []
+recurring_name all before (Some name) = cond (list_any (is_named name) before) [] (count_text name (times name all))
+
+-- the names that several of all tasks have, of those after some
+abbrev pub recurring_after : List Term → List Term → List Term → List ℕ
+recurring_after all before [] = []
+recurring_after all before (t ∷ ts) =
+    recurring_name all before (task_name t) ++ recurring_after all (before ++ t ∷ []) ts
+
+abbrev pub recurring : List Term → List ℕ
+recurring ts = recurring_after ts [] ts
+
+abbrev pub recurring_line : List ℕ → List ℕ
+recurring_line [] = []
+recurring_line (b ∷ bs) = says.RECUR.now ++ (b ∷ bs) ++ codes "\n"
+
+-- ---- cuts
+
+-- the first of some tasks, at most so many as are shown
+abbrev pub first_tasks : List Term → List Term
+first_tasks ts = take TASKS_SHOWN ts
+
+abbrev pub others : ℕ → ℕ
+others n = n - TASKS_SHOWN
+
+-- the tasks that are left to do
+abbrev pub left_line : List Term → List ℕ
+left_line ts = says.LEFT.now ++ flat_map spaced (first_tasks ts) ++ more_text (others (length ts)) ++ codes "\n"
+
+abbrev pub known_cut : Cut → List ℕ
+known_cut c = recurring_line (recurring c.way) ++ left_line c.left
+
+abbrev pub cut_text : Option Cut → List ℕ
+cut_text None = []
+cut_text (Some c) = known_cut c
+
+-- ---- how the search ended
+
+abbrev pub expansions_text : ℕ → List ℕ
+expansions_text n = codes ", after " ++ decimal n ++ codes " expansions\n"
+
+abbrev pub nest_option : ℕ → List ℕ
+nest_option nest = cond (nest == USUAL_LEVELS) [] (codes " --nest " ++ decimal nest)
+
+abbrev pub files_text : Texts → List ℕ
+files_text t = t.domain.name ++ codes " " ++ t.problem.name
+
+abbrev pub first_plan_text : ℕ → ℕ → List ℕ
+first_plan_text depth nest = codes " 1 " ++ decimal depth ++ nest_option nest
+
+-- the command that prints the plan
+abbrev pub plan_line : Texts → ℕ → ℕ → List ℕ
+plan_line t depth nest = says.PLAN.now ++ files_text t ++ first_plan_text depth nest ++ codes "\n"
+
+abbrev pub cut_by_depth : Option (List ℕ) → ℕ → List ℕ
+cut_by_depth None depth = []
+cut_by_depth (Some p) depth =
+    codes "depth " ++ decimal depth ++ says.DEPTH_CUT.now ++ path_text p
+    ++ says.DEEPER.now
+
+abbrev pub cut_by_levels : Option (List ℕ) → ℕ → List ℕ
+cut_by_levels None nest = []
+cut_by_levels (Some p) nest =
+    decimal nest ++ says.LEVEL_CUT.now ++ path_text p
+    ++ says.MORE_LEVELS.now
+
+abbrev pub within_depth : ℕ → List ℕ
+within_depth depth = says.NO_PLAN_WITHIN.now ++ decimal depth
+
+-- where all of the tree was searched there is none at any depth
+abbrev pub ending_text : Texts → ℕ → ℕ → SearchEnd → ℕ → List ℕ
+ending_text t depth nest search_ends.Plan n = plan_line t depth nest
+ending_text t depth nest search_ends.Whole n = says.NO_PLAN.now ++ expansions_text n
+ending_text t depth nest search_ends.Cut n = within_depth depth ++ expansions_text n
+ending_text t depth nest (search_ends.Fault f) n =
+    says.FAULT_WITHIN.now ++ decimal depth ++ expansions_text n ++ finding_text t (Met f)
+
+-- ---- tasks that no rule does
 
 -- a remark tells of a task that no rule does
 abbrev pub is_unserved : Concern → Bool
@@ -82,24 +267,43 @@ is_unserved concerns.NeverAsked = false
 abbrev pub unserved_text : Texts → Remark → List ℕ
 unserved_text t r = cond (is_unserved r.concern) (remark_text t r) []
 
-abbrev pub spaced : Term → List ℕ
-spaced t = codes " " ++ term_text t
+-- no operator and no method has the name of a task
+abbrev pub lacks_rules : Stuck → Bool
+lacks_rules s = length s.obstacles == 0
 
-abbrev pub left_line : Option (List Term) → List ℕ
-left_line None = []
-left_line (Some ts) = says.LEFT.now ++ flat_map spaced ts ++ codes "\n"
+-- so it is of some task among those of some dead end
+abbrev pub has_unserved : Option Reason → Bool
+has_unserved None = false
+has_unserved (Some r) = list_any lacks_rules r.tasks
 
-abbrev pub nothing_text : Texts → Domain → Problem → Option (List Term) → List ℕ
-nothing_text t d p left =
-    flat_map (unserved_text t) (remarks d p) ++ left_line left ++ says.NOTHING.now ++ cut_word (is_some left)
-    ++ codes "\n"
+abbrev pub all_unserved : Texts → Domain → Problem → List ℕ
+all_unserved t d p = flat_map (unserved_text t) (remarks d p)
 
--- ---- all verdicts
+-- ---- a pair
 
-abbrev pub verdict_text : Texts → Domain → Problem → Verdict → List ℕ
-verdict_text t d p verdicts.Plan = says.PLAN.now
-verdict_text t d p (verdicts.Fault f) = finding_text t (Met f) ++ says.FAULT.now
-verdict_text t d p (verdicts.GivenUp reasons is_cut) = given_text t d (map reason_of reasons.items) is_cut
-verdict_text t d p (verdicts.Nothing left) = nothing_text t d p (terms_of left)
-verdict_text t d p (verdicts.TwinFault f) = finding_text t (Met f) ++ says.TWIN_FAULT.now
-verdict_text t d p verdicts.Lost = says.LOST.now
+abbrev pub cuts_text : Why → ℕ → ℕ → List ℕ
+cuts_text w depth nest =
+    cut_by_depth (option_map (λ p. p.items) w.found.depth_cut) depth ++ cut_text (option_map cut_of w.cut)
+    ++ cut_by_levels (option_map (λ p. p.items) w.found.level_cut) nest
+
+abbrev pub ends_text : Texts → Domain → Why → List ℕ
+ends_text t d w =
+    count_line w.found ++ flat_map (end_text t d) (zip w.found.furthest.items (map (option_map kept) w.reasons.items))
+
+-- where no operator and no method has the name of a task there, all such tasks of both files are shown at their places
+abbrev pub rules_text : Texts → Domain → Problem → List (Option Reason) → List ℕ
+rules_text t d p rs = cond (list_any has_unserved rs) (all_unserved t d p) []
+
+abbrev pub no_plan_text : Texts → Domain → Problem → ℕ → ℕ → Why → List ℕ
+no_plan_text t d p depth nest w = cuts_text w depth nest ++ ends_text t d w ++ rules_text t d p (map (option_map kept) w.reasons.items)
+
+-- where there is a plan, nothing else is said
+abbrev pub others_text : Texts → Domain → Problem → ℕ → ℕ → Why → SearchEnd → List ℕ
+others_text t d p depth nest w search_ends.Plan = []
+others_text t d p depth nest w search_ends.Whole = no_plan_text t d p depth nest w
+others_text t d p depth nest w search_ends.Cut = no_plan_text t d p depth nest w
+others_text t d p depth nest w (search_ends.Fault f) = no_plan_text t d p depth nest w
+
+abbrev pub why_text : Texts → Domain → Problem → ℕ → ℕ → Why → List ℕ
+why_text t d p depth nest w =
+    ending_text t depth nest w.found.end w.found.expansions ++ others_text t d p depth nest w w.found.end

@@ -3,19 +3,19 @@ use Rattle.std.proofs.Common.{◌≡◌, ℕ, ◌-◌, ◌^◌, ◌<◌, ◌≤�
 use Rattle.std.proofs.Common.{reverse, take, None, refl, sym, ◌∙◌, ap, ap₂, subst, arith}
 use Rattle.std.specs.Prelude.{Vec}
 use Rattle.std.specs.Global.{Global}
-use Rattle.std.proofs.lemmas.List.{length-append, length-map, length-reverse, map-append, reverse-append}
+use Rattle.std.proofs.lemmas.List.{length-append, map-append, reverse-append}
 use Rattle.std.proofs.Common.{inl, inr, length-take-le, take-take}
 use Rattle.std.proofs.lemmas.Bool.{cases_lt}
 use Rattle.std.proofs.Math.Seq.{take-append_seam}
 use Rattle.std.proofs.lemmas.List.Elements.{All-head, All-same, All-weaker}
 use Rattle.hp_laws.proofs.JoinLemmas.{all_left, all_right}
 use Rattle.hp_syntax.specs.Terms.{Term}
-use Rattle.hp_net.specs.Standings.{Standing, gone_back, next_below, pruned}
+use Rattle.hp_net.specs.Standings.{gone_back, next_below, pruned}
 use Rattle.hp_syntax.specs.Walk.{DidChild, told}
 use Rattle.hp_tree.specs.Successors.{dids_in}
-use Rattle.hp_tree.specs.Stacks.{Level, Stack, given_at, path_to, root_of, standing_of, with_left, IsStack}
+use Rattle.hp_tree.specs.Stacks.{Stack, given_at, path_to, root_of, standing_of, with_left, IsStack}
 use Rattle.hp_tree.specs.SearchNodes.{HeldNode, IsHeldNode, node_of}
-use Rattle.hp_tree.proofs.StackLemmas.{Leads, back_to, pruned_to}
+use Rattle.hp_tree.proofs.StackLemmas.{back_to, pruned_to}
 use Rattle.hp_site.specs.declared.mark.Mark.{Mark}
 use Rattle.hp_site.specs.declared.site.Site.{Site}
 use Rattle.hp_site.specs.Sites.{AtomsWithin, IsMark, IsSite, Keeps, held_at, held_now}
@@ -33,12 +33,12 @@ use Rattle.hp_agenda.specs.declared.frame.Frame.{Frame}
 use Rattle.hp_agenda.specs.Begun.{AreFirst, HasLast}
 use Rattle.hp_agenda.specs.Frames.{CameTo, IsFrame, LeadTo, left_of, level_of, rules_at}
 use Rattle.hp_search.specs.declared.search.Search.{Search}
-use Rattle.hp_search.specs.Searches.{Goes, HasCell, HasLeft, IsCleared, IsSearch, IsRisen, StandsAbove, levels_of}
-use Rattle.hp_search.specs.Searches.{root_base, rules_in_search, stack_of, stands_in, tree_in}
+use Rattle.hp_search.specs.Searches.{Goes, HasCell, IsCleared, IsSearch, IsRisen, levels_of, root_base, rules_in_search}
+use Rattle.hp_search.specs.Searches.{stack_of, stands_in, tree_in}
 use Rattle.hp_agenda.proofs.AgreeSteps.{agenda_within}
 use Rattle.hp_agenda.proofs.BegunLemmas.{has_last_agrees, has_last_at, has_settled, none_open}
 use Rattle.hp_agenda.proofs.LevelLemmas.{came_kept, cleared_agenda, cleared_left, frame_kept, lead_kept}
-use Rattle.hp_search.proofs.FrameLevels.{level_by, stack_by, levels_push, path_length, root_node, base_alike, base_pushed}
+use Rattle.hp_search.proofs.FrameLevels.{level_by, stack_by, levels_push, root_node, base_alike, base_pushed}
 
 -- ---- where nothing more comes
 
@@ -301,19 +301,9 @@ module _ (s : Search) (h : IsSearch s) (f : Frame) (fs : List Frame) (above : Ve
       (live_atoms (past_at (history_in new.site.scene.world) m).places) (pasts m))
       (risen.knows s.cells h.site.knows) risen.stood
 
-  abbrev own_level : Level
-  own_level = level_of s.site s.nest s.cells f
-
-  abbrev levels_above : List Level
-  levels_above = levels_of s.site s.nest s.cells fs
-
-  levels_split : (stack_of s).above ≡ own_level ∷ levels_above
-  levels_split = ap (levels_of s.site s.nest s.cells) pushed ∙ levels_push s.site s.nest s.cells fs f
-
-  -- its levels are those above the node reached, wherever these lead
-  goes_up : (to : Standing)
-      → Leads (rules_in_search s) s.nest to (stack_of s) (stack_by own_level levels_above false s.over) → Goes s to new
-  goes_up to leads =
+  -- its levels are those above the node reached
+  pub goes_back : next_below (stands_in s).path (stands_in s).rest ≡ None → Goes s (gone_back (stands_in s)) new
+  goes_back e =
       let rules = rules_in_search s in
       let after : Search = record s {
         site = new.site;
@@ -323,17 +313,21 @@ module _ (s : Search) (h : IsSearch s) (f : Frame) (fs : List Frame) (above : Ve
         path = new.path;
         at_did = false;
       } in
-      let l = own_level in
-      let ls = levels_above in
+      let l = level_of s.site s.nest s.cells f in
+      let ls = levels_of s.site s.nest s.cells fs in
+      let split : (stack_of s).above ≡ l ∷ ls =
+      ap (levels_of s.site s.nest s.cells) pushed ∙ levels_push s.site s.nest s.cells fs f in
+      let leads = back_to rules s.nest (stack_of s).top l ls s.at_did s.over (stack_of s)
+      (ap (λ ks. stack_by (stack_of s).top ks s.at_did s.over) split) h.stack e in
       let same : levels_of new.site s.nest (take f.floor s.cells) above.items ≡ ls =
       ap (levels_of new.site s.nest (take f.floor s.cells)) is ∙ back_lead.0 in
       let stack : stack_of after ≡ stack_by l ls false s.over =
       ap₂ (λ k ks. stack_by k ks false s.over) back_frame.0 same in
       let rules_are : rules_at new.site ≡ rules =
       ap (λ c. rules_at (record s.site { scene = record s.site.scene { code = c } })) risen.keeps.code in
-      let told_is = h.path ∙ (ap (λ ks. told (path_to rules s.nest ks)) levels_split
+      let told_is = h.path ∙ (ap (λ ks. told (path_to rules s.nest ks)) split
       ∙ map-append (λ i. min i (2 ^ 64 - 1)) (path_to rules s.nest ls) ((given_at rules s.nest l - 1) ∷ [])) in
-      subst (Goes s to) (sym risen.same)
+      subst (Goes s (gone_back (stands_in s))) (sym risen.same)
       (record {
         stands = ap₂ (λ rs k. standing_of rs s.nest k) rules_are stack ∙ sym leads.stands;
         tree =
@@ -370,58 +364,6 @@ module _ (s : Search) (h : IsSearch s) (f : Frame) (fs : List Frame) (above : Ve
           levels = h.levels;
         };
       })
-
-  pub goes_back : next_below (stands_in s).path (stands_in s).rest ≡ None → Goes s (gone_back (stands_in s)) new
-  goes_back e =
-      goes_up (gone_back (stands_in s))
-      (back_to (rules_in_search s) s.nest (stack_of s).top own_level levels_above s.at_did s.over (stack_of s)
-      (ap (λ ks. stack_by (stack_of s).top ks s.at_did s.over) levels_split) h.stack e)
-
-  -- the path to the frame above is that to the node reached without its last number
-  path_up : path_to (rules_in_search s) s.nest levels_above ≡ take (length fs) (stands_in s).path
-  path_up =
-      let rules = rules_in_search s in
-      let up = path_to rules s.nest levels_above in
-      let last = (given_at rules s.nest own_level - 1) ∷ [] in
-      let count : length up ≡ length fs =
-      path_length rules s.nest levels_above
-      ∙ (length-map (reverse fs) (level_of s.site s.nest s.cells) ∙ length-reverse fs) in
-      sym (ap (λ ls. take (length fs) (path_to rules s.nest ls)) levels_split
-      ∙ (ap (λ n. take n (up ++ last)) (sym count) ∙ take-append_seam up last))
-
-  -- whatever is left at the node reached, it is a search of the same tree, which stands there
-  rises : StandsAbove (length fs) s new
-  rises =
-      let rules = rules_in_search s in
-      let whole = subst (IsStack rules s.nest) (ap (λ ks. stack_by (stack_of s).top ks s.at_did s.over) levels_split)
-      h.stack in
-      let up = stack_by own_level levels_above false s.over in
-      let goes = goes_up (standing_of rules s.nest up) (record {
-        stands = refl;
-        stack = record {
-          top = whole.above.0;
-          above = whole.above.2;
-          fresh = λ k. absurd (let never : false ≡ true = k in cc);
-        };
-        root = sym (ap (root_of (stack_of s).top) levels_split);
-      }) in
-      record {
-        search = goes.search;
-        tree = goes.tree;
-        path = ap (λ (x : Standing). x.path) goes.stands ∙ path_up;
-      }
-
-  -- with one frame less above it
-  pub left : HasLeft s new
-  left =
-      let above_is : new.above.items ≡ fs = ap (λ (x : Search). x.above.items) risen.same ∙ is in
-      let many = length-append fs (f ∷ []) in
-      let less = ap length pushed in
-      let few = ap length above_is in
-      record {
-        stands = subst (λ n. StandsAbove n s new) (sym few) rises;
-        fewer = omega (arith, many, less, few);
-      }
 
 -- at the root there is no frame above
 pub back_at_root : (s : Search) → s.above.items ≡ [] → (stands_in s).path ≡ []

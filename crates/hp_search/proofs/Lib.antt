@@ -7,4 +7,3 @@ pub mod SearchSteps
 mod LedSteps
 mod PathFrames
 mod LedLemmas
-mod RisingSteps

@@ -89,19 +89,6 @@ pub record Goes (old : Search) (to : Standing) (new : Search) : Type 0 where
   pub base : base_in new ≡ base_in old
   pub search : IsSearch new
 
--- ---- going up
-
--- a search stands at the node that so many of the first numbers of the path reach
-pub record StandsAbove (level : ℕ) (old new : Search) : Type 0 where
-  pub search : IsSearch new
-  pub tree : tree_in new ≡ tree_in old
-  pub path : (stands_in new).path ≡ take level (stands_in old).path
-
--- a search stands at the parent, with one node less above it
-pub record HasLeft (old new : Search) : Type 0 where
-  pub stands : StandsAbove (length new.above.items) old new
-  pub fewer : length new.above.items + 1 ≡ length old.above.items
-
 -- ---- taking a successor
 
 -- a frame has let all its successors go

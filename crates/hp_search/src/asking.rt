@@ -1,7 +1,8 @@
-//! What parts of a conjunction of another code find in the state of the node reached, and how many of the first are
-//! satisfied one after another.
+//! What parts of a conjunction of another code find in the state of the node reached, how many of the first are
+//! satisfied one after another, and the values by the first satisfier of all.
 ghost use Rattle.std.specs.Prelude.{◌≡◌, IfOk};
 ghost use Rattle.hp_choice.specs.Asking.{AreConjuncts, Finds, GoesAlong};
+ghost use Rattle.hp_choice.specs.FirstSatisfier.{GivesFirst};
 ghost use Rattle.hp_code.specs.Codes.{code_of};
 ghost use Rattle.hp_search.specs.Searches.{IsSearch};
 ghost use Rattle.hp_site.specs.Sites.{held_now};
@@ -10,10 +11,10 @@ ghost use Rattle.hp_syntax.specs.Views.{atom_of};
 ghost use Rattle.hp_tree.specs.SearchNodes.{node_of};
 
 use crate::search::Search;
-use hp_choice::{Conjuncts, Finding, Prefix, ask, ask_along};
+use hp_choice::{Conjuncts, Finding, Prefix, ask, ask_along, first_satisfier};
 use hp_code::Code;
 use hp_gen::Scene;
-use hp_syntax::AtomPat;
+use hp_syntax::{AtomPat, Ground};
 use hp_world::World;
 use std::alloc::AllocError;
 use std::mem;
@@ -65,5 +66,29 @@ impl Search<'_> {
         mem::swap(&mut self.site.scene.world, &mut scene.world);
         self.cells.give_back(floor);
         prefix
+    }
+
+    /// The values of the variables of a rule by the first satisfier of parts of its conjunction together for a task in
+    /// the world as it stands, which is lent out and taken back, with the cells that there were.
+    pub(crate) fn first_satisfier(
+        &mut self,
+        code: &Code,
+        asked: Conjuncts,
+        task: &AtomPat,
+    ) -> Result<Option<Vec<Option<Ground>>>, AllocError>
+        requires search { IsSearch self.old }
+        requires asked { AreConjuncts (code_of code.now) asked }
+        requires task { IsGroundAtom (atom_of task.now) }
+        ensures values { IfOk result (GivesFirst (code_of code.now) self.old.nest
+            (node_of self.old.cells (held_now self.old.site)).state asked (atom_said (atom_of task.now))) }
+        ensures same { self.new ≡ self.old }
+    {
+        let floor = self.cells.len();
+        let world = mem::replace(&mut self.site.scene.world, World::new(self.alloc));
+        let mut scene = Scene { world, code };
+        let values = first_satisfier(self.alloc, &scene, self.nest, asked, task, &mut self.cells);
+        mem::swap(&mut self.site.scene.world, &mut scene.world);
+        self.cells.give_back(floor);
+        values
     }
 }

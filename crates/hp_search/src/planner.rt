@@ -7,7 +7,7 @@ use hp_code::{Code, asked_parts};
 use hp_gen::Scene;
 use hp_net::{Net, Step, Walk};
 use hp_site::Site;
-use hp_syntax::{AtomPat, Pair};
+use hp_syntax::{AtomPat, Ground, Pair};
 use hp_tree::root::Root;
 use hp_world::World;
 use std::alloc::{AllocError, Global};
@@ -44,13 +44,14 @@ impl<'a> Model for Planner<'a> {
 }
 
 impl<'a> Planner<'a> {
-    ghost use Rattle.std.specs.Prelude.{◌≡◌, ◌≤◌, ◌<◌, [], Some, true, false, pos, IfOk, MatchOption, OnErr, OnOk, is_some, length, take};
+    ghost use Rattle.std.specs.Prelude.{◌≡◌, ◌≤◌, ◌<◌, [], Some, true, false, pos, IfOk, MatchOption, OnErr, OnOk, length};
     ghost use Rattle.hp_syntax.specs.declared.limits.TheConstants.{GREATEST_DEPTH, MOST_LEVELS};
     ghost use Rattle.hp_syntax.specs.GroundPatterns.{IsGroundAtom, IsGroundPair, atom_said};
     ghost use Rattle.hp_syntax.specs.Views.{atom_of, pair_of};
     ghost use Rattle.hp_syntax.specs.Walk.{root, visits};
     ghost use Rattle.hp_code.specs.Codes.{code_of};
     ghost use Rattle.hp_choice.specs.Asking.{AreConjuncts, Finds, GoesAlong};
+    ghost use Rattle.hp_choice.specs.FirstSatisfier.{GivesFirst};
     ghost use Rattle.hp_code.specs.CodeViews.{rules_in};
     ghost use Rattle.hp_links.specs.Linked.{PartBelow, focused};
     ghost use Rattle.hp_net.specs.Standings.{node_reached, standing, tree_visits};
@@ -119,37 +120,6 @@ impl<'a> Planner<'a> {
         Ok(())
     }
 
-    /// Walks the tree of the same root once more, as `begin_again` does, from wherever the walk stands. Terms that the
-    /// root's successors asked for may stay.
-    pub fn restart(&mut self, depth: u32) -> Result<(), AllocError>
-        requires live { self.old.live ≡ true }
-        requires cost { (tree_planned self.old).root.cost ≡ pos 0 }
-        requires depth { depth ≤ GREATEST_DEPTH }
-        ensures tree { OnOk result (tree_planned self.new ≡ with_depth depth (tree_planned self.old)) }
-        ensures stands { OnOk result (stands_planned self.new
-            ≡ standing [] (tree_visits (with_depth depth (tree_planned self.old))) false) }
-        ensures live { OnOk result (self.new.live ≡ true) }
-        ensures dead { OnErr result (self.new.live ≡ false) }
-    {
-        self.live = false;
-        self.search.restart(&mut self.rooms, depth)?;
-        self.live = true;
-        Ok(())
-    }
-
-    /// Goes back to the node which so many of the path's first numbers reach, whatever is left on the way. It takes no
-    /// memory. What is left there no clause says: the walk may begin once more by `restart`.
-    pub fn rise_to(&mut self, level: usize)
-        requires live { self.old.live ≡ true }
-        requires level { level ≤ length (stands_planned self.old).path }
-        ensures tree { tree_planned self.new ≡ tree_planned self.old }
-        ensures path { (stands_planned self.new).path ≡ take level (stands_planned self.old).path }
-        ensures node { is_some (node_reached (tree_planned self.new) (stands_planned self.new)) ≡ true }
-        ensures live { self.new.live ≡ true }
-    {
-        self.search.rise_to(&mut self.rooms, level);
-    }
-
     /// What parts of a conjunction of any code come to together in the state of the node reached, where the head of
     /// their rule matches a task; where it doesn't, there is nothing. The parts are told by nodes of that code, and the
     /// task is an atom without variables and calls. The walk stays as it is, after an error too.
@@ -187,6 +157,26 @@ impl<'a> Planner<'a> {
         ensures same { self.new ≡ self.old }
     {
         self.search.ask_along(code, asked, task)
+    }
+
+    /// The values of the variables of a rule by the first satisfier of parts of its conjunction together, in the state
+    /// of the node reached, where the head of the rule matches a task. There are none where no satisfier comes before a
+    /// fault, and where the head doesn't match. The parts and the task are given as for `ask`. The walk stays as it is,
+    /// after an error too.
+    pub fn first_satisfier(
+        &mut self,
+        code: &Code,
+        asked: Conjuncts,
+        task: &AtomPat,
+    ) -> Result<Option<Vec<Option<Ground>>>, AllocError>
+        requires live { self.old.live ≡ true }
+        requires asked { AreConjuncts (code_of code.now) asked }
+        requires task { IsGroundAtom (atom_of task.now) }
+        ensures values { IfOk result (λ o. MatchOption (node_reached (tree_planned self.old) (stands_planned self.old)) ⊥
+            (λ n. GivesFirst (code_of code.now) self.old.nest n.state asked (atom_said (atom_of task.now)) o)) }
+        ensures same { self.new ≡ self.old }
+    {
+        self.search.first_satisfier(code, asked, task)
     }
 
     /// The network of the node reached, with its focus. Its pasts at the moments of the path are the networks of the

@@ -6,8 +6,8 @@ ghost use Rattle.hp_site.specs.Sites.{IsMark, IsSite, held_now};
 ghost use Rattle.hp_tree.specs.SearchNodes.{node_of};
 ghost use Rattle.hp_agenda.specs.Frames.{rules_at};
 ghost use Rattle.hp_search.specs.Planned.{DropsFloor, StepCells, planned};
-ghost use Rattle.hp_search.specs.Searches.{BeginsAt, GivesBack, Goes, HasLeft, IsEntered, IsRested, IsRisen, IsSearch, IsTaken};
-ghost use Rattle.hp_search.specs.Searches.{Moves, StandsAbove, base_in, rules_in_search, stands_in, tree_in};
+ghost use Rattle.hp_search.specs.Searches.{BeginsAt, GivesBack, Goes, IsEntered, IsRested, IsRisen, IsSearch, IsTaken};
+ghost use Rattle.hp_search.specs.Searches.{Moves, base_in, rules_in_search, stands_in, tree_in};
 
 use hp_agenda::{Frame, Successor};
 use hp_cells::Cells;
@@ -96,42 +96,6 @@ impl<'a> Search<'a> {
         self.at_did = false;
         self.over = false;
         Ok(())
-    }
-
-    // Goes to the parent, whatever is left at the node reached and below it.
-    fn leave(&mut self, rooms: &mut Rooms)
-        requires search { IsSearch self.old }
-        requires below { 0 < length self.old.above.items }
-        ensures { HasLeft self.old self.new }
-    {
-        match self.above.pop() {
-            Some(frame) => self.rise(rooms, frame),
-            // Some node is above.
-            None => unreachable!(),
-        }
-    }
-
-    /// Goes back to the node that so many of the first numbers of the path reach, whatever is left on the way.
-    pub(crate) fn rise_to(&mut self, rooms: &mut Rooms, level: usize)
-        requires search { IsSearch self.old }
-        requires level { level ≤ length self.old.above.items }
-        ensures { StandsAbove level self.old self.new }
-    {
-        while level < self.above.len() {
-            self.leave(rooms);
-        }
-    }
-
-    /// Begins again at the root, as `begin_again` does, from wherever it stands.
-    pub(crate) fn restart(&mut self, rooms: &mut Rooms, depth: u32) -> Result<(), AllocError>
-        requires search { IsSearch self.old }
-        requires cost { (tree_in self.old).root.cost ≡ pos 0 }
-        requires depth { depth ≤ GREATEST_DEPTH }
-        ensures begins { OnOk result (BeginsAt (rules_in_search self.old) self.old.nest
-            (record (tree_in self.old).root { depth = depth }) self.new) }
-    {
-        self.rise_to(rooms, 0);
-        self.begin_again(rooms, depth)
     }
 
     // Nothing more comes at the node reached: what was made for its successors is given back.

@@ -1,13 +1,12 @@
 -- The answer, by what is found with all parts and with some.
 use Rattle.std.proofs.Common.{◌≡◌, ◌≢◌, ℕ, zero, suc, ◌+◌, ◌<◌, ◌≤◌, true, false, List, length, Option, Some, None, refl, sym, ap, ◌∙◌, arith, ⊎_elim}
-use Rattle.std.specs.Prelude.{nat_lt}
-use Rattle.std.proofs.lemmas.Bool.Decides.{nat_tests}
-use Rattle.std.proofs.lemmas.Bool.{cases_lt, cond-true, cond-false, le-ltb, lt-ltb}
+use Rattle.std.proofs.lemmas.Bool.{cases_lt}
 use Rattle.hp_syntax.specs.Events.{Finding, Satisfied, Faulty, Undecided, Nothing, State}
 use Rattle.hp_syntax.specs.Syntax as syntax
-use Rattle.hp_syntax.specs.Terms.{Term}
+use Rattle.hp_syntax.specs.Terms.{Term, Symbol, Number, Listed, NoTerm, More}
 use Rattle.hp_syntax.specs.Values.{Bindings}
-use Rattle.hp_unmet.specs.Conjunctions.{Conjunction, answer_by, answer_from, answer_if, answer_of, answer_where, found, has_several, matched}
+use Rattle.hp_unmet.specs.Conjunctions.{Conjunction, answer_by, answer_from, answer_if, answer_where, found, matched}
+use Rattle.hp_unmet.specs.Said.{is_atom}
 use Rattle.hp_unmet.specs.Trials.{IsFirstMissing, is_in_doubt, is_satisfied}
 use Rattle.hp_unmet.specs.declared.unmet.Unmet.{Unmet}
 use Rattle.hp_unmet.specs.declared.unmet.Unmet.TheVariants as unmets
@@ -46,7 +45,7 @@ module _ (found : ℕ → Finding)
   goes_on : (n left : ℕ) → found (n + 1) ≡ Satisfied → answer_from found n (suc left) ≡ answer_from found (n + 1) left
   goes_on n left e = ap (λ x. answer_by x n (answer_from found (n + 1) left)) e
 
-  -- where all parts are satisfied none is told apart
+  -- where all parts are satisfied no part is the answer
   pub all_met : (n left : ℕ) → found (n + left) ≡ Satisfied → answer_from found n left ≡ unmets.None
   all_met n zero e = refl
   all_met n (suc left) e =
@@ -116,19 +115,6 @@ module _ (rules : List syntax.Rule) (nest : ℕ) (state : State) (c : Conjunctio
       → u ≡ answered (matched c task)
   answered_by b u is e = sym (ap answered is ∙ (ap (answer_from own 0) all ∙ e))
 
-  -- of fewer than two parts none is told
-  pub few_parts : count < 2 → unmets.None ≡ answer_of rules nest state task c
-  few_parts h =
-      sym (cond-true (nat_lt (length c.parts) 2) unmets.None (answered (matched c task))
-      (lt-ltb (length c.parts) 2 (omega arith)))
-
-  -- and of more the answer is that where the head matches
-  pub many_parts : (u : Unmet) → 2 ≤ count → u ≡ answered (matched c task) → u ≡ answer_of rules nest state task c
-  many_parts u h e =
-      e
-      ∙ sym (cond-false (nat_lt (length c.parts) 2) unmets.None (answered (matched c task))
-      (le-ltb (length c.parts) 2 (omega arith)))
-
   -- all parts are satisfied
   pub none_unmet : own count ≡ Satisfied → unmets.None ≡ answered (matched c task)
   none_unmet e =
@@ -163,12 +149,23 @@ module _ (rules : List syntax.Rule) (nest : ℕ) (state : State) (c : Conjunctio
   unknown_with j within doubt =
       unknown_unmet (ap is_in_doubt (own_keeps j count within (in_doubt (own j) doubt)) ∙ doubt)
 
--- ---- fewer than two parts
+-- ---- tasks that are no atoms
 
-module _ (rules : List syntax.Rule) (nest : ℕ) (state : State) (task : Term) where
-  -- where parts aren't told apart, none is told
-  pub not_apart : (o : Option Conjunction) → has_several o ≡ false → unmets.None ≡ answer_if rules nest state task o
-  not_apart None h = refl
-  not_apart (Some c) h =
-      few_parts rules nest state c task (length c.parts) refl
-      (grind (arith, nat_tests))
+no_match : (c : Conjunction) (t : Term) → is_atom t ≡ false → matched c t ≡ None
+no_match c (Symbol name) h = refl
+no_match c (Number n) h = refl
+no_match c (Listed NoTerm) h = refl
+no_match c (Listed (More (Symbol name) ts)) h = absurd (let k : true ≡ false = h in cc)
+no_match c (Listed (More (Number n) ts)) h = refl
+no_match c (Listed (More (Listed us) ts)) h = refl
+
+module _ (rules : List syntax.Rule) (nest : ℕ) (state : State) (t : Term) where
+  -- no head matches one
+  pub unmatched_head : (o : Option Conjunction) (c : Conjunction) → Some c ≡ o → is_atom t ≡ false
+      → unmets.Head ≡ answer_if rules nest state t o
+  unmatched_head o c is h =
+      sym (ap (answer_if rules nest state t) (sym is)
+      ∙ ap (answer_where rules nest state c t) (no_match c t h))
+
+  pub unasked : (o : Option Conjunction) → None ≡ o → unmets.None ≡ answer_if rules nest state t o
+  unasked o is = ap (answer_if rules nest state t) is

@@ -1,11 +1,10 @@
 -- The rule at a place of a domain, and the one in a code that asks for what it does.
-use Rattle.std.proofs.Common.{◌≡◌, ℕ, ◌≤◌, true, List, length, map, Option, Some, None, get_or, refl, sym, ap, ◌∙◌, subst, arith}
-use Rattle.std.specs.Prelude.{nat_le, option_map, slice_get}
+use Rattle.std.proofs.Common.{◌≡◌, ℕ, List, map, Option, Some, None, get_or, refl, sym, ap, ◌∙◌, subst, arith}
+use Rattle.std.specs.Prelude.{option_map, slice_get}
 use Rattle.std.specs.Option.{option_and_then}
 use Rattle.std.specs.Ordering.{nat_cmp}
 use Rattle.std.specs.declared.cmp.Ordering.TheVariants.{Equal}
 use Rattle.std.proofs.lemmas.Bool.Decides.{nat_tests}
-use Rattle.std.proofs.lemmas.List.{length-map}
 use Rattle.std.proofs.lemmas.Option.{get_or_from_slice_get, slice_get-map, slice_get_within}
 use Rattle.hp_choice.specs.declared.asking.Conjuncts.{Conjuncts}
 use Rattle.hp_choice.specs.Asking.{head_of}
@@ -13,9 +12,8 @@ use Rattle.hp_code.specs.CodeViews.{CodeView, beside, rule_nodes, rules_in}
 use Rattle.hp_code.specs.Lowered.{lowered, lowered_branch, lowered_precondition, lowered_rule}
 use Rattle.hp_code.proofs.LookUpSteps.{place_found}
 use Rattle.hp_nodes.specs.Compiled.{vars_of}
-use Rattle.hp_relaxed.specs.Giving.{body_of}
 use Rattle.hp_syntax.specs.Syntax as syntax
-use Rattle.hp_unmet.specs.Conjunctions.{Conjunction, asked_by, asked_in, conjuncts, conjunction, has_several, in_branch, is_told_apart}
+use Rattle.hp_unmet.specs.Conjunctions.{Conjunction, asked_by, asked_in, body_of, conjuncts, conjunction, in_branch}
 use Rattle.hp_unmet.specs.PartNodes.{AsksAlike, AsksFor, ServesFor, StandBetween, StandIn, precondition_by}
 use Rattle.hp_unmet.proofs.LoweredParts.{asked_lowered, parts_lowered, rules_there}
 
@@ -137,27 +135,20 @@ module _ (rules : List syntax.Rule) (rule : ℕ) (code : CodeView) (node : ℕ)
         (alike_asks branch serves.own serves.other c serves.alike
         (rule_asks branch serves.own c (ap (option_and_then (asked_by branch)) (sym serves.own_at) ∙ asked)))
 
-    -- where the parts are told apart there are some of them
-    some_parts : is_told_apart rules rule branch ≡ true → 1 ≤ length c.parts
-    some_parts apart =
-        let several : nat_le 2 (length c.parts) ≡ true = sym (ap has_several asked) ∙ apart in
-        grind (arith, nat_tests)
-
-    -- there it asks for them, lowered
-    pub asks_there : is_told_apart rules rule branch ≡ true → AsksFor code node branch (map lowered c.parts)
-    asks_there apart = record {
+    -- there it asks for the parts, lowered
+    pub asks_there : AsksFor code node branch (map lowered c.parts)
+    asks_there = record {
       pre = asks.pre;
       has = record { rule = lowered_rule serves.other; is = beside_node; own = asks.own };
       are = asks.are;
-      some = subst (λ n. 1 ≤ n) (sym (length-map c.parts lowered)) (some_parts apart);
     }
 
     -- where what it asks for stands between nodes, there stand the parts
-    pub stand_there : is_told_apart rules rule branch ≡ true → (x : Conjuncts) → x.rule ≡ node
+    pub stand_there : (x : Conjuncts) → x.rule ≡ node
         → ((parts : List syntax.Expression) → AsksFor code node branch parts → StandBetween code x.first x.end parts)
         → StandIn rules code c x
-    stand_there apart x same between =
-        let stand = between (map lowered c.parts) (asks_there apart) in
+    stand_there x same between =
+        let stand = between (map lowered c.parts) asks_there in
         record {
           others = serves.others;
           of = serves.code;

@@ -1,10 +1,13 @@
--- The nodes of the parts of a conjunction, by the node of the precondition that asks for them.
-use Rattle.std.proofs.Common.{◌≡◌, ℕ, suc, ◌+◌, ◌<◌, ◌≤◌, List, [], ◌∷◌, length, slice_get, Option, Some, None, is_some, option_map, option_and_then, refl, ap, sym, subst, ◌∙◌, arith}
+-- The nodes of the parts of a precondition, by the node of the precondition that asks for them.
+use Rattle.std.proofs.Common.{◌≡◌, ℕ, suc, ◌+◌, ◌<◌, [], ◌∷◌, length, slice_get, Option, Some, None, is_some, option_map, option_and_then, refl, ap, ap₂, sym, subst, ◌∙◌, arith}
 use Rattle.std.proofs.lemmas.Option.{same_Some}
 use Rattle.hp_syntax.specs.declared.pattern.Span.{Span}
 use Rattle.hp_syntax.specs.Syntax as syntax
 use Rattle.hp_syntax.specs.Syntax.{Expression, Expressions, Precondition}
 use Rattle.hp_syntax.specs.Views.{as_expressions}
+use Rattle.hp_nodes.specs.declared.node.Op.{Op}
+use Rattle.hp_nodes.specs.declared.node.Op.TheVariants as ops
+use Rattle.hp_nodes.specs.NodeViews.{operation_of}
 use Rattle.hp_nodes.specs.Trees as trees
 use Rattle.hp_nodes.specs.Trees.{Laid, Operation, More, Node, NoTree, Tree, Trees, trees_between, tree_at}
 use Rattle.hp_code.specs.CodeViews.{CodeView, IsCode}
@@ -15,9 +18,10 @@ use Rattle.hp_suspended.proofs.NodeRanges.{below_ends, ends_within, node_of_tree
 use Rattle.hp_suspended.proofs.NodeReadings.{expression_within}
 use Rattle.hp_suspended.proofs.RangeLemmas.{code_laid, expression_of}
 use Rattle.hp_precondition.specs.PreconditionNodes.{precondition_at}
-use Rattle.hp_relaxed.specs.Giving.{body_of, listed}
-use Rattle.hp_unmet.specs.Conjunctions.{conjuncts}
+use Rattle.hp_unmet.specs.Conjunctions.{body_of, conjuncts}
 use Rattle.hp_unmet.specs.PartNodes.{StandBetween}
+use Rattle.hp_unmet.proofs.PartLemmas.{listed_again}
+use Rattle.hp_unmet.proofs.PrefixSteps.{grown, none_at, range_of_none}
 
 -- ---- the expression of a precondition
 
@@ -80,25 +84,47 @@ body_within c code i p e = expression_within c (i + 1) (ap is_some (body_behind 
 
 -- ---- the parts of a conjunction
 
--- an expression is the conjunction of these parts
-record IsConjunction (e : Expression) (parts : List Expression) : Type 0 where
-  span : Span
-  all : Expressions
-  is : e ≡ syntax.And span all
-  are : all ≡ as_expressions parts
+-- what is made of parts as a conjunction has these parts
+parts_made : (s : Span) (x : Option Expressions) (e : Expression) → option_map (syntax.And s) x ≡ Some e
+    → x ≡ Some (as_expressions (conjuncts e))
+parts_made s None e h = absurd cc
+parts_made s (Some es) e h =
+    ap Some (sym (listed_again es) ∙ ap (λ y. as_expressions (conjuncts y)) (same_Some (syntax.And s es) e h))
 
--- what is listed of expressions is all of them
-pub listed_again : (es : Expressions) → as_expressions (listed es) ≡ es
-listed_again syntax.NoExpression = refl
-listed_again (syntax.Also e es) = ap (λ xs. syntax.Also e xs) (listed_again es)
+-- below the node of a conjunction stand its parts
+parts_below : (s : Span) (ts : Trees) (e : Expression) → expression_read (Node trees.And s ts) ≡ Some e
+    → expressions_read ts ≡ Some (as_expressions (conjuncts e))
+unfolding expression_read
+parts_below s ts e h = parts_made s (expressions_read ts) e h
 
--- where there are parts that are told apart the expression is the conjunction of them
-is_conjunction : (e : Expression) (parts : List Expression) → conjuncts e ≡ parts → 1 ≤ length parts
-    → IsConjunction e parts
-is_conjunction (syntax.And s es) parts same some =
-    record { span = s; all = es; is = refl; are = sym (listed_again es) ∙ ap as_expressions same }
-is_conjunction _ [] same some = absurd (omega (arith, some))
-is_conjunction _ (p ∷ ps) same some = absurd cc
+module _ (c : CodeView) (code : IsCode c) (i : ℕ) (e : Expression) (read : expression_at c i ≡ Some e)
+    (l : Laid) (there : slice_get c.nodes i ≡ Some l) where
+  abbrev below : Trees
+  below = trees_between c.nodes (suc i) l.to
+
+  -- the tree of the node reads back as the expression
+  own_tree : expression_read (Node l.op l.span below) ≡ Some e
+  own_tree = sym (expression_of c i (Node l.op l.span below) (node_there c.nodes i l there)) ∙ read
+
+  -- between a conjunction's node and where the nodes below it end stand its parts
+  pub parts_after : l.op ≡ trees.And → StandBetween c (i + 1) l.to (conjuncts e)
+  unfolding expressions_in
+  parts_after is =
+      let down = code_laid c code in
+      let are : expressions_in c (suc i) l.to ≡ Some (as_expressions (conjuncts e)) =
+      parts_below l.span below e (ap (λ op. expression_read (Node op l.span below)) (sym is) ∙ own_tree) in
+      let next : suc i ≡ i + 1 = omega arith in
+      subst (λ k. StandBetween c k l.to (conjuncts e)) next
+      (record {
+        range = record {
+          read = ap is_some are;
+          whole = below_ends c.nodes down i l there;
+          within = ends_within c.nodes down i l there;
+        };
+        are = are;
+      })
+
+-- ---- any other expression
 
 -- what is made of another expression is no conjunction
 other_made : {A : Type 0} (make : A → Expression) (s : Span) (es : Expressions)
@@ -113,56 +139,55 @@ other_made_of : {A B : Type 0} (make : A → B → Expression) (s : Span) (es : 
 other_made_of make s es other None y e = cc
 other_made_of make s es other (Some a) y e = other_made (make a) s es (other a) y e
 
--- what is made of parts is the conjunction of these
-parts_made : (s t : Span) (x : Option Expressions) (es : Expressions)
-    → option_map (syntax.And s) x ≡ Some (syntax.And t es) → x ≡ Some es
-parts_made s t None es e = absurd cc
-parts_made s t (Some a) es e = let same = same_Some (syntax.And s a) (syntax.And t es) e in cc
-
--- a tree that reads back as a conjunction has its parts below it
-parts_below : (op : Operation) (s : Span) (ts : Trees) (t : Span) (es : Expressions)
-    → expression_read (Node op s ts) ≡ Some (syntax.And t es) → expressions_read ts ≡ Some es
+-- a tree that reads back as a conjunction is one
+and_alone : (op : Operation) (s : Span) (ts : Trees) (t : Span) (es : Expressions)
+    → expression_read (Node op s ts) ≡ Some (syntax.And t es) → op ≡ trees.And
 unfolding expression_read
-parts_below trees.And s ts t es e = parts_made s t (expressions_read ts) es e
-parts_below trees.Or s ts t es e =
+and_alone trees.And s ts t es e = refl
+and_alone trees.Or s ts t es e =
     absurd (other_made (syntax.Or s) t es (λ a h. cc) (expressions_read ts) e)
-parts_below trees.Not s NoTree t es e = absurd cc
-parts_below trees.Not s (More u NoTree) t es e =
+and_alone trees.Not s NoTree t es e = absurd cc
+and_alone trees.Not s (More u NoTree) t es e =
     absurd (other_made (syntax.Not s) t es (λ a h. cc) (expression_read u) e)
-parts_below trees.Not s (More u (More v vs)) t es e = absurd cc
-parts_below trees.Forall s NoTree t es e = absurd cc
-parts_below trees.Forall s (More u NoTree) t es e = absurd cc
-parts_below trees.Forall s (More u (More v NoTree)) t es e =
+and_alone trees.Not s (More u (More v vs)) t es e = absurd cc
+and_alone trees.Forall s NoTree t es e = absurd cc
+and_alone trees.Forall s (More u NoTree) t es e = absurd cc
+and_alone trees.Forall s (More u (More v NoTree)) t es e =
     absurd (other_made_of (syntax.Forall s []) t es (λ a b h. cc) (expression_read u) (expression_read v) e)
-parts_below trees.Forall s (More u (More v (More w ws))) t es e = absurd cc
-parts_below (trees.Holds a) s NoTree t es e = absurd cc
-parts_below (trees.Holds a) s (More u us) t es e = absurd cc
-parts_below (trees.Assign v p) s NoTree t es e = absurd cc
-parts_below (trees.Assign v p) s (More u us) t es e = absurd cc
-parts_below (trees.Test p) s NoTree t es e = absurd cc
-parts_below (trees.Test p) s (More u us) t es e = absurd cc
-parts_below _ s ts t es e = absurd cc
+and_alone trees.Forall s (More u (More v (More w ws))) t es e = absurd cc
+and_alone (trees.Holds a) s NoTree t es e = absurd cc
+and_alone (trees.Holds a) s (More u us) t es e = absurd cc
+and_alone (trees.Assign v p) s NoTree t es e = absurd cc
+and_alone (trees.Assign v p) s (More u us) t es e = absurd cc
+and_alone (trees.Test p) s NoTree t es e = absurd cc
+and_alone (trees.Test p) s (More u us) t es e = absurd cc
+and_alone _ s ts t es e = absurd cc
 
--- between a conjunction's node and where the nodes below it end stand its parts
-pub parts_behind : (c : CodeView) → IsCode c → (i : ℕ) (e : Expression) (parts : List Expression)
-    → expression_at c i ≡ Some e → conjuncts e ≡ parts → 1 ≤ length parts → (l : Laid) → slice_get c.nodes i ≡ Some l
-    → StandBetween c (i + 1) l.to parts
-unfolding expressions_in
-parts_behind c code i e parts read same some l there =
-    let down = code_laid c code in
-    let h = is_conjunction e parts same some in
-    let below = trees_between c.nodes (suc i) l.to in
-    let own : expression_read (Node l.op l.span below) ≡ Some (syntax.And h.span h.all) =
-    sym (expression_of c i (Node l.op l.span below) (node_there c.nodes i l there)) ∙ read ∙ ap Some h.is in
-    let are : expressions_in c (suc i) l.to ≡ Some (as_expressions parts) =
-    parts_below l.op l.span below h.span h.all own ∙ ap Some h.are in
-    let next : suc i ≡ i + 1 = omega arith in
-    subst (λ k. StandBetween c k l.to parts) next
-    (record {
-      range = record {
-        read = ap is_some are;
-        whole = below_ends c.nodes down i l there;
-        within = ends_within c.nodes down i l there;
-      };
-      are = are;
-    })
+-- so an expression that reads back of another node is its only part
+is_only_part : (op : Operation) (s : Span) (ts : Trees) (e : Expression) → expression_read (Node op s ts) ≡ Some e
+    → (op ≡ trees.And → ⊥) → conjuncts e ≡ e ∷ []
+is_only_part op s ts (syntax.And t es) read other = absurd (other (and_alone op s ts t es read))
+is_only_part op s ts _ read other = refl
+
+-- a node's operation that isn't a conjunction does nothing that one does
+pub no_conjunction : (op : Op) → (op ≡ ops.And → ⊥) → operation_of op ≡ trees.And → ⊥
+no_conjunction ops.And other e = other refl
+no_conjunction _ other e = cc
+
+module _ (c : CodeView) (code : IsCode c) (i : ℕ) (e : Expression) (read : expression_at c i ≡ Some e)
+    (l : Laid) (there : slice_get c.nodes i ≡ Some l) (other : l.op ≡ trees.And → ⊥) where
+  one_alone : conjuncts e ≡ e ∷ []
+  one_alone =
+      is_only_part l.op l.span (trees_between c.nodes (suc i) l.to) e (own_tree c code i e read l there) other
+
+  -- from its node to where its tree ends it stands alone
+  pub part_alone : StandBetween c i l.to (conjuncts e)
+  part_alone =
+      let none = range_of_none c l.to (ends_within c.nodes (code_laid c code) i l there) in
+      let g = grown c code i l.to l there (ap is_some read) none in
+      record {
+        range = g.are;
+        are =
+            g.parts ∙ ap₂ (made_of syntax.Also) read (none_at c l.to)
+            ∙ ap (λ es. Some (as_expressions es)) (sym one_alone);
+      }

@@ -8,6 +8,8 @@ use Rattle.hp_syntax.specs.Preconditions.{heard, precondition_events}
 use Rattle.hp_syntax.specs.Syntax as syntax
 use Rattle.hp_syntax.specs.Values.{Bindings}
 use Rattle.hp_syntax.specs.Views.{as_expressions}
+use Rattle.hp_unmet.specs.Conjunctions.{conjuncts}
+use Rattle.hp_unmet.proofs.PartLemmas.{listed_again}
 
 -- ---- events
 
@@ -26,6 +28,13 @@ through_finding (Sat e ∷ xs) f unmet = absurd (unmet refl)
 through_finding (Cut ∷ xs) f unmet =
     ap (finding_with Cut) (through_finding xs f (λ e. unmet (ap (finding_with Cut) e)))
 through_finding (Fault x ∷ xs) f unmet = refl
+
+-- events with each satisfier in its own place are these events
+through_same : (xs : List Event) → through xs (λ b. Sat b ∷ []) ≡ xs
+through_same [] = refl
+through_same (Sat e ∷ xs) = ap (λ ys. Sat e ∷ ys) (through_same xs)
+through_same (Cut ∷ xs) = ap (λ ys. Cut ∷ ys) (through_same xs)
+through_same (Fault x ∷ xs) = ap (λ ys. Fault x ∷ ys) (through_same xs)
 
 -- events in the place of events in the place of satisfiers
 through_through : (f g : Bindings → List Event) (xs : List Event)
@@ -63,6 +72,22 @@ module _ (atoms : syntax.Atom → Bindings → List Event) where
   unfolding events events_of_all
   no_parts e = refl
 
+  -- the events of one part alone are its own
+  one_part : (p : syntax.Expression) (e : Bindings) → of_parts (p ∷ []) e ≡ events atoms p e
+  unfolding events_of_all
+  one_part p e = through_same (events atoms p e)
+
+  -- the events of the parts of an expression are those of the expression
+  of_conjuncts : (E : syntax.Expression) (e : Bindings) → of_parts (conjuncts E) e ≡ events atoms E e
+  unfolding events events_of_all
+  of_conjuncts (syntax.And s es) e = ap (λ xs. events_of_all atoms xs e) (listed_again es)
+  of_conjuncts (syntax.Holds s a) e = one_part (syntax.Holds s a) e
+  of_conjuncts (syntax.Or s es) e = one_part (syntax.Or s es) e
+  of_conjuncts (syntax.Not s p) e = one_part (syntax.Not s p) e
+  of_conjuncts (syntax.Forall s vs y z) e = one_part (syntax.Forall s vs y z) e
+  of_conjuncts (syntax.Assign s v p) e = one_part (syntax.Assign s v p) e
+  of_conjuncts (syntax.Test s p) e = one_part (syntax.Test s p) e
+
 -- ---- preconditions
 
 module _ (axioms : List syntax.Axiom) (state : State) (s : Span) where
@@ -75,13 +100,18 @@ module _ (axioms : List syntax.Axiom) (state : State) (s : Span) where
   abbrev pub asks : List syntax.Expression → syntax.Precondition
   asks ps = syntax.Plain (syntax.And s (as_expressions ps))
 
-  -- what is found of it is found of the parts
+  -- what is found of a precondition is found of its expression
+  found_of_plain : (nest : ℕ) (E : syntax.Expression) (e : Bindings)
+      → finding (precondition_events axioms nest state (syntax.Plain E) e) ≡ finding (events (atoms_with nest) E e)
+  unfolding precondition_events sat
+  found_of_plain zero E e = heard_finding (events (atom_events axioms None state) E e)
+  found_of_plain (suc n) E e = heard_finding (events (atom_events axioms (Some (sat axioms n state)) state) E e)
+
+  -- and so it is found of the parts
   found_of_parts : (nest : ℕ) (ps : List syntax.Expression) (e : Bindings)
       → finding (precondition_events axioms nest state (asks ps) e) ≡ finding (of_parts (atoms_with nest) ps e)
-  unfolding precondition_events sat events events_of_all
-  found_of_parts zero ps e = heard_finding (events_of_all (atom_events axioms None state) (as_expressions ps) e)
-  found_of_parts (suc n) ps e =
-      heard_finding (events_of_all (atom_events axioms (Some (sat axioms n state)) state) (as_expressions ps) e)
+  unfolding events events_of_all
+  found_of_parts nest ps e = found_of_plain nest (syntax.And s (as_expressions ps)) e
 
   module _ (nest : ℕ) (e : Bindings) where
     -- what is found of the precondition of some parts
@@ -100,8 +130,9 @@ module _ (axioms : List syntax.Axiom) (state : State) (s : Span) where
     pub found_with_none : found_asking [] ≡ Satisfied
     found_with_none = found_of_parts nest [] e ∙ no_parts (atoms_with nest) e
 
--- what is found doesn't depend on where the conjunction stands
-pub found_alike : (axioms : List syntax.Axiom) (state : State) (s t : Span) (nest : ℕ) (e : Bindings)
-    (ps : List syntax.Expression) → found_asking axioms state s nest e ps ≡ found_asking axioms state t nest e ps
-found_alike axioms state s t nest e ps =
-    found_of_parts axioms state s nest ps e ∙ sym (found_of_parts axioms state t nest ps e)
+    -- what is found of the parts of an expression, together, is found of the expression
+    pub found_of_all : (E : syntax.Expression)
+        → found_asking (conjuncts E) ≡ finding (precondition_events axioms nest state (syntax.Plain E) e)
+    found_of_all E =
+        found_of_parts nest (conjuncts E) e
+        ∙ (ap finding (of_conjuncts (atoms_with nest) E e) ∙ sym (found_of_plain nest E e))

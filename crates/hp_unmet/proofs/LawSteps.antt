@@ -1,22 +1,18 @@
 -- What the answer says of each number of first parts.
-use Rattle.std.proofs.Common.{◌≡◌, ◌≢◌, ℕ, zero, suc, ◌+◌, ◌<◌, ◌≤◌, Bool, true, false, cond, List, [], ◌∷◌, length, take, Option, Some, None, refl, sym, ap, ◌∙◌, arith}
-use Rattle.std.specs.Prelude.{nat_lt}
-use Rattle.std.proofs.lemmas.Bool.{le-ltb}
+use Rattle.std.proofs.Common.{◌≡◌, ◌≢◌, ◌↔◌, ℕ, zero, suc, ◌+◌, ◌<◌, ◌≤◌, Bool, true, false, cond, ℤ, List, [], ◌∷◌, ◌++◌, length, map, take, Option, Some, None, refl, sym, ap, ◌∙◌, arith}
 use Rattle.std.proofs.lemmas.List.{take_all}
 use Rattle.hp_syntax.specs.declared.pattern.Span.{Span}
 use Rattle.hp_syntax.specs.Events.{Event, Sat, Cut, Fault, Finding, Satisfied, Faulty, Undecided, Nothing, State, finding, finding_with}
-use Rattle.hp_syntax.specs.Preconditions.{precondition_events, up_to_sat}
+use Rattle.hp_syntax.specs.Preconditions.{Keyed, Keys, NoKey, cut_with, keyed, keyed_by, precondition_events, put_in, sorted, sorted_events, sorts_before, up_to_sat}
 use Rattle.hp_syntax.specs.Syntax as syntax
-use Rattle.hp_syntax.specs.Terms.{Term}
-use Rattle.hp_syntax.specs.Values.{Bindings}
-use Rattle.hp_syntax.specs.Views.{as_expressions}
-use Rattle.hp_relaxed.specs.Giving.{listed}
-use Rattle.hp_unmet.specs.Conjunctions.{Conjunction, answer_by, answer_from, answer_of, answer_where, first_events, found, matched}
+use Rattle.hp_syntax.specs.Terms.{Term, Symbol, Number, Listed}
+use Rattle.hp_syntax.specs.Values.{Bindings, bound}
+use Rattle.hp_unmet.specs.Conjunctions.{Conjunction, answer_by, answer_from, answer_of, answer_where, conjuncts, first_events, found, matched}
 use Rattle.hp_unmet.specs.FirstUnmet.{IsFirstUnmet}
+use Rattle.hp_unmet.specs.declared.unmet.Unmet.{Unmet}
 use Rattle.hp_unmet.specs.declared.unmet.Unmet.TheVariants as unmets
-use Rattle.hp_unmet.proofs.AnswerLemmas.{many_parts, met_before, part_unmet}
-use Rattle.hp_unmet.proofs.ConjunctionNodes.{listed_again}
-use Rattle.hp_unmet.proofs.FindingLemmas.{asks, found_alike}
+use Rattle.hp_unmet.proofs.AnswerLemmas.{met_before, part_unmet}
+use Rattle.hp_unmet.proofs.FindingLemmas.{asks, found_of_all}
 use Rattle.hp_unmet.proofs.FoundLemmas.{found_where, keeps_where, none_where}
 
 -- ---- events
@@ -91,6 +87,18 @@ module _ (found : ℕ → Finding) where
 
 -- ---- the laws
 
+-- where the head matches, the answer isn't that it doesn't
+never_by : (x : Finding) (n : ℕ) (behind : Unmet) → (behind ≡ unmets.Head → ⊥) → answer_by x n behind ≡ unmets.Head → ⊥
+never_by Satisfied n behind never h = never h
+never_by Nothing n behind never h = let k : unmets.Part n ≡ unmets.Head = h in cc
+never_by (Faulty f) n behind never h = let k : unmets.Unknown ≡ unmets.Head = h in cc
+never_by Undecided n behind never h = let k : unmets.Unknown ≡ unmets.Head = h in cc
+
+never_head : (found : ℕ → Finding) (n left : ℕ) → answer_from found n left ≡ unmets.Head → ⊥
+never_head found n zero h = let k : unmets.None ≡ unmets.Head = h in cc
+never_head found n (suc left) h =
+    never_by (found (n + 1)) n (answer_from found (n + 1) left) (never_head found (n + 1) left) h
+
 module _ (rules : List syntax.Rule) (nest : ℕ) (state : State) (task : Term) (c : Conjunction) where
   abbrev own : Bindings → ℕ → Finding
   own e = found_where rules nest state c (Some e)
@@ -118,53 +126,48 @@ module _ (rules : List syntax.Rule) (nest : ℕ) (state : State) (task : Term) (
 
   first_by_match : (place : ℕ) (o : Option Bindings) → matched c task ≡ o
       → answer_where rules nest state c task o ≡ unmets.Part place → IsFirstUnmet rules nest state task c place
-  first_by_match place None is h = absurd (let never : unmets.None ≡ unmets.Part place = h in cc)
+  first_by_match place None is h = absurd (let never : unmets.Head ≡ unmets.Part place = h in cc)
   first_by_match place (Some e) is h =
       is_first place e is
       (is_told (own e) 0 (length c.parts) place (none_where rules nest state c e)
       (ap (λ f. answer_from f 0 (length c.parts)) (sym (same_found e is)) ∙ h))
 
-  first_by_count : (place : ℕ) (b : Bool)
-      → cond b unmets.None (answer_where rules nest state c task (matched c task)) ≡ unmets.Part place
-      → IsFirstUnmet rules nest state task c place
-  first_by_count place true h = absurd (let never : unmets.None ≡ unmets.Part place = h in cc)
-  first_by_count place false h = first_by_match place (matched c task) refl h
-
   -- a part that is told is the first that is unmet
   pub told_is_first : (place : ℕ) → answer_of rules nest state task c ≡ unmets.Part place
       → IsFirstUnmet rules nest state task c place
-  told_is_first place h = first_by_count place (nat_lt (length c.parts) 2) h
+  told_is_first place h = first_by_match place (matched c task) refl h
 
   -- and the first that is unmet is told
-  pub first_is_told : (place : ℕ) → 2 ≤ length c.parts → IsFirstUnmet rules nest state task c place
+  pub first_is_told : (place : ℕ) → IsFirstUnmet rules nest state task c place
       → answer_of rules nest state task c ≡ unmets.Part place
-  first_is_told place many h =
+  first_is_told place h =
       let same = same_found h.bindings h.matches in
       let missing : own h.bindings (place + 1) ≡ Nothing = ap finding (h.more (place + 1) (omega arith)) in
-      sym (many_parts rules nest state c task (length c.parts) refl (unmets.Part place) many
-      (part_unmet rules nest state c task (length c.parts) refl place
+      sym (part_unmet rules nest state c task (length c.parts) refl place
       (record {
         within = h.within;
         met = ap (λ f. f place) same ∙ h.fewer place (omega arith);
         missing = ap (λ f. f (place + 1)) same ∙ missing;
-      })))
+      }))
 
-  satisfied_by_count : (e : Bindings) (b : Bool) → b ≡ false → matched c task ≡ Some e
-      → cond b unmets.None (answer_where rules nest state c task (matched c task)) ≡ unmets.None
+  -- where none is told all are satisfied
+  pub none_is_satisfied : (e : Bindings) → matched c task ≡ Some e → answer_of rules nest state task c ≡ unmets.None
       → own e (length c.parts) ≡ Satisfied
-  satisfied_by_count e true many is h = absurd (let never : true ≡ false = many in cc)
-  satisfied_by_count e false many is h =
+  none_is_satisfied e is h =
       let here : 0 + length c.parts ≡ length c.parts = omega arith in
       ap (own e) (sym here)
       ∙ all_satisfied (own e) 0 (length c.parts) (none_where rules nest state c e)
       (ap (λ f. answer_from f 0 (length c.parts)) (sym (same_found e is))
       ∙ (sym (ap (λ o. answer_where rules nest state c task o) is) ∙ h))
 
-  -- where none is told all are satisfied
-  pub none_is_satisfied : (e : Bindings) → 2 ≤ length c.parts → matched c task ≡ Some e
-      → answer_of rules nest state task c ≡ unmets.None → own e (length c.parts) ≡ Satisfied
-  none_is_satisfied e many is h =
-      satisfied_by_count e (nat_lt (length c.parts) 2) (le-ltb (length c.parts) 2 many) is h
+  -- the answer is that of a head that doesn't match exactly where it doesn't
+  pub head_by : (o : Option Bindings) → matched c task ≡ o → (x : Unmet) → answer_where rules nest state c task o ≡ x
+      → (x ≡ unmets.Head) ↔ (o ≡ None)
+  head_by None is x e = (λ h. refl, λ h. sym e)
+  head_by (Some b) is x e = (λ h. absurd (never_head (found rules nest state c task) 0 (length c.parts) (e ∙ h)), λ h. absurd (cc))
+
+  pub head_alone : (answer_of rules nest state task c ≡ unmets.Head) ↔ (matched c task ≡ None)
+  head_alone = head_by (matched c task) refl (answer_of rules nest state task c) refl
 
 -- ---- all parts
 
@@ -175,24 +178,84 @@ up_to_sat_finding (Sat e ∷ xs) = refl
 up_to_sat_finding (Cut ∷ xs) = ap (finding_with Cut) (up_to_sat_finding xs)
 up_to_sat_finding (Fault f ∷ xs) = refl
 
-module _ (axioms : List syntax.Axiom) (nest : ℕ) (state : State) (s t : Span) (es : syntax.Expressions)
-    (e : Bindings) where
+-- ---- sorted events
+
+-- where no event is sorted there is none
+sorted_nothing : (k : syntax.Key) (xs : List Event) → finding xs ≡ Nothing
+    → finding (sorted_events k.order (keyed k xs)) ≡ Nothing
+sorted_nothing k xs h = ap (λ ys. finding (sorted_events k.order (keyed k ys))) (no_event xs h)
+
+-- where a satisfier is put among others there is one
+put_found : (before : ℤ → ℤ → Bool) (x : ℤ × Bindings) (ys : List (ℤ × Bindings)) (zs : List Event)
+    → finding (map (λ y. Sat y.1) (put_in before x ys) ++ zs) ≡ Satisfied
+put_found before x [] zs = refl
+put_found before x (y ∷ ys) zs = by (before y.0 x.0)
+  where
+    by : (b : Bool) → finding (map (λ z. Sat z.1) (cond b (y ∷ put_in before x ys) (x ∷ y ∷ ys)) ++ zs) ≡ Satisfied
+    by true = refl
+    by false = refl
+
+-- nothing is found of sorted events only where there are none to be sorted, and no cut
+no_keys : (order : syntax.Order) (y : Keyed) → finding (sorted_events order y) ≡ Nothing → y ≡ Keys [] false
+no_keys order (NoKey f) h = absurd (let never : Faulty f ≡ Nothing = h in cc)
+no_keys order (Keys [] true) h = absurd (let never : Undecided ≡ Nothing = h in cc)
+no_keys order (Keys [] false) h = refl
+no_keys order (Keys (x ∷ xs) cut) h =
+    let before = sorts_before order in
+    let some = put_found before x (sorted before xs) (cond cut (Cut ∷ []) []) in
+    absurd (let never : Satisfied ≡ Nothing = sym some ∙ h in cc)
+
+-- one that is to be sorted is one of some
+sat_keyed : (s : Span) (o : Option Term) (e : Bindings) (rest : Keyed) → keyed_by s o e rest ≡ Keys [] false → ⊥
+sat_keyed s None e rest h = cc
+sat_keyed s (Some (Symbol name)) e rest h = cc
+sat_keyed s (Some (Listed ts)) e rest h = cc
+sat_keyed s (Some (Number n)) e (NoKey f) h = cc
+sat_keyed s (Some (Number n)) e (Keys xs cut) h = cc
+
+-- and a cut is kept
+cut_keyed : (rest : Keyed) → cut_with rest ≡ Keys [] false → ⊥
+cut_keyed (NoKey f) h = cc
+cut_keyed (Keys xs cut) h = cc
+
+no_keyed : (k : syntax.Key) (xs : List Event) → keyed k xs ≡ Keys [] false → finding xs ≡ Nothing
+no_keyed k [] h = refl
+no_keyed k (Sat e ∷ xs) h = absurd (sat_keyed k.span (bound e k.var) e (keyed k xs) h)
+no_keyed k (Cut ∷ xs) h = absurd (cut_keyed (keyed k xs) h)
+no_keyed k (Fault f ∷ xs) h = absurd cc
+
+-- so where nothing is found once they are sorted, there is no event
+nothing_sorted : (k : syntax.Key) (xs : List Event) → finding (sorted_events k.order (keyed k xs)) ≡ Nothing
+    → finding xs ≡ Nothing
+nothing_sorted k xs h = no_keyed k xs (no_keys k.order (keyed k xs) h)
+
+-- ---- all parts of a precondition
+
+module _ (axioms : List syntax.Axiom) (nest : ℕ) (state : State) (s : Span) (E : syntax.Expression) (e : Bindings) where
   abbrev found_of : syntax.Precondition → Finding
   found_of pre = finding (precondition_events axioms nest state pre e)
 
-  abbrev all_parts : List syntax.Expression
-  all_parts = take (length (listed es)) (listed es)
+  -- all parts of an expression, together
+  abbrev all_parts : syntax.Precondition
+  all_parts = asks axioms state s (take (length (conjuncts E)) (conjuncts E))
 
-  -- a conjunction
-  pub all_plain : found_of (asks axioms state t all_parts) ≡ found_of (syntax.Plain (syntax.And s es))
+  -- what is found with them is found of the expression
+  pub all_plain : found_of all_parts ≡ found_of (syntax.Plain E)
   all_plain =
-      found_alike axioms state t s nest e all_parts
-      ∙ ap (λ xs. found_of (syntax.Plain (syntax.And s xs)))
-      (ap as_expressions (take_all (length (listed es)) (listed es) (omega arith)) ∙ listed_again es)
+      ap (λ ps. found_of (asks axioms state s ps)) (take_all (length (conjuncts E)) (conjuncts E) (omega arith))
+      ∙ found_of_all axioms state s nest e E
 
-  -- and the first satisfier of one
-  pub all_first : found_of (asks axioms state t all_parts) ≡ found_of (syntax.First (syntax.And s es))
+  -- and of its first satisfier
+  pub all_first : found_of all_parts ≡ found_of (syntax.First E)
   unfolding precondition_events
-  all_first =
-      all_plain
-      ∙ sym (up_to_sat_finding (precondition_events axioms nest state (syntax.Plain (syntax.And s es)) e))
+  all_first = all_plain ∙ sym (up_to_sat_finding (precondition_events axioms nest state (syntax.Plain E) e))
+
+  -- with them nothing is found where nothing is found of a sorted precondition, and the other way round
+  pub all_sorted : (k : syntax.Key) → found_of all_parts ≡ Nothing → found_of (syntax.Sorted k E) ≡ Nothing
+  unfolding precondition_events
+  all_sorted k h =
+      sorted_nothing k (precondition_events axioms nest state (syntax.Plain E) e) (sym all_plain ∙ h)
+
+  pub sorted_all : (k : syntax.Key) → found_of (syntax.Sorted k E) ≡ Nothing → found_of all_parts ≡ Nothing
+  unfolding precondition_events
+  sorted_all k h = all_plain ∙ nothing_sorted k (precondition_events axioms nest state (syntax.Plain E) e) h

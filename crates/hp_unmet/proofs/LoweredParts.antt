@@ -7,7 +7,6 @@ use Rattle.hp_code.specs.Lowered.{all_lowered, lowered, lowered_axiom, lowered_p
 use Rattle.hp_code.proofs.CodeLemmas.{code_reads}
 use Rattle.hp_code.proofs.LoweredLemmas.{axioms_lowered, sat_same}
 use Rattle.hp_nodes.specs.Compiled.{vars_of}
-use Rattle.hp_relaxed.specs.Giving.{body_of, listed}
 use Rattle.hp_syntax.specs.Events.{State, axioms_of, finding, sat}
 use Rattle.hp_syntax.specs.Matching.{match_atom}
 use Rattle.hp_syntax.specs.Preconditions.{precondition_events}
@@ -15,7 +14,7 @@ use Rattle.hp_syntax.specs.Syntax as syntax
 use Rattle.hp_syntax.specs.Terms.{Term}
 use Rattle.hp_syntax.specs.Values.{Bindings, unbound}
 use Rattle.hp_syntax.specs.Views.{as_expressions}
-use Rattle.hp_unmet.specs.Conjunctions.{Conjunction, conjuncts, first_events, found, matched}
+use Rattle.hp_unmet.specs.Conjunctions.{Conjunction, body_of, conjuncts, first_events, found, listed, matched}
 use Rattle.hp_unmet.proofs.FindingLemmas.{heard_finding}
 
 -- ---- parts

@@ -87,9 +87,9 @@ module _ (c : CodeView) (code : IsCode c) (first end : ℕ) (are : AreExpression
   ]
 
 -- a first expression before those of a range
-record Grown (c : CodeView) (first to end : ℕ) : Type 0 where
-  are : AreExpressionsIn c first end
-  parts : expressions_in c first end ≡ made_of Also (expression_at c first) (expressions_in c to end)
+pub record Grown (c : CodeView) (first to end : ℕ) : Type 0 where
+  pub are : AreExpressionsIn c first end
+  pub parts : expressions_in c first end ≡ made_of Also (expression_at c first) (expressions_in c to end)
 
 -- where a first one and others are there, they are there together
 both_made : (x : Option Expression) (y : Option Expressions) → is_some x ≡ true → is_some y ≡ true
@@ -99,7 +99,7 @@ both_made (Some a) None h k = absurd cc
 both_made (Some a) (Some b) h k = refl
 
 -- where a node is an expression's, it stands before a range that begins where its tree ends
-grown : (c : CodeView) → IsCode c → (first end : ℕ) (l : Laid) → slice_get c.nodes first ≡ Some l
+pub grown : (c : CodeView) → IsCode c → (first end : ℕ) (l : Laid) → slice_get c.nodes first ≡ Some l
     → IsExpressionAt c first → AreExpressionsIn c l.to end → Grown c first l.to end
 unfolding expressions_in expressions_read size sizes
 grown c code first end l there is are =
@@ -132,12 +132,12 @@ pub record PrefixAt (c : CodeView) (first end n : ℕ) (es : List Expression) : 
   pub others : expressions_in c (past c.nodes first n) end ≡ Some (as_expressions (drop n es))
 
 -- between an index and itself there are none
-none_at : (c : CodeView) (first : ℕ) → expressions_in c first first ≡ Some NoExpression
+pub none_at : (c : CodeView) (first : ℕ) → expressions_in c first first ≡ Some NoExpression
 unfolding expressions_in expressions_read
 none_at c first = ap expressions_read (none_between c.nodes first)
 
 -- which is a range of expressions
-range_of_none : (c : CodeView) (first : ℕ) → first ≤ length c.nodes → AreExpressionsIn c first first
+pub range_of_none : (c : CodeView) (first : ℕ) → first ≤ length c.nodes → AreExpressionsIn c first first
 unfolding sizes
 range_of_none c first within =
     let none = ap sizes (none_between c.nodes first) in

@@ -1,5 +1,5 @@
--- The first part of a conjunction that nothing satisfies together with those before it.
-use Rattle.std.specs.Prelude.{ℕ, ◌+◌, zero, suc, Bool, false, cond, nat_le, nat_lt, List, [], length, take, slice_get, Option, None, Some, option_map}
+-- The first part of a precondition that nothing satisfies together with those before it.
+use Rattle.std.specs.Prelude.{ℕ, ◌+◌, zero, suc, List, [], ◌∷◌, length, take, slice_get, Option, None, Some, option_map}
 use Rattle.std.specs.Option.{option_and_then}
 use Rattle.hp_syntax.specs.declared.pattern.Span.{Span}
 use Rattle.hp_syntax.specs.Events.{Event, Finding, Satisfied, Faulty, Undecided, Nothing, State, axioms_of, finding}
@@ -9,21 +9,30 @@ use Rattle.hp_syntax.specs.Syntax as syntax
 use Rattle.hp_syntax.specs.Terms.{Term}
 use Rattle.hp_syntax.specs.Values.{Bindings, unbound}
 use Rattle.hp_syntax.specs.Views.{as_expressions}
-use Rattle.hp_relaxed.specs.Giving.{body_of, listed}
 use Rattle.hp_unmet.specs.declared.unmet.Unmet.{Unmet}
 use Rattle.hp_unmet.specs.declared.unmet.Unmet.TheVariants as unmets
 
 -- ---- the parts of a precondition
 
--- the parts of a conjunction; in any other expression none are told apart
+-- the expression of a precondition
+abbrev pub body_of : syntax.Precondition → syntax.Expression
+body_of (syntax.Plain e) = e
+body_of (syntax.First e) = e
+body_of (syntax.Sorted key e) = e
+
+abbrev pub listed : syntax.Expressions → List syntax.Expression
+listed syntax.NoExpression = []
+listed (syntax.Also e es) = e ∷ listed es
+
+-- the parts of a conjunction; any other expression is its only part
 abbrev pub conjuncts : syntax.Expression → List syntax.Expression
-conjuncts (syntax.Holds s a) = []
+conjuncts (syntax.Holds s a) = syntax.Holds s a ∷ []
 conjuncts (syntax.And s parts) = listed parts
-conjuncts (syntax.Or s parts) = []
-conjuncts (syntax.Not s part) = []
-conjuncts (syntax.Forall s vars range body) = []
-conjuncts (syntax.Assign s v value) = []
-conjuncts (syntax.Test s call) = []
+conjuncts (syntax.Or s parts) = syntax.Or s parts ∷ []
+conjuncts (syntax.Not s part) = syntax.Not s part ∷ []
+conjuncts (syntax.Forall s vars range body) = syntax.Forall s vars range body ∷ []
+conjuncts (syntax.Assign s v value) = syntax.Assign s v value ∷ []
+conjuncts (syntax.Test s call) = syntax.Test s call ∷ []
 
 -- the parts of a precondition, with the span, the variables and the head of its rule
 pub record Conjunction : Type 0 where
@@ -48,14 +57,6 @@ asked_by branch (syntax.Concludes x) = None
 -- that of the rule of a number
 abbrev pub asked_in : List syntax.Rule → ℕ → ℕ → Option Conjunction
 asked_in rules rule branch = option_and_then (asked_by branch) (slice_get rules rule)
-
--- of two parts and more one may be told
-abbrev pub has_several : Option Conjunction → Bool
-has_several None = false
-has_several (Some c) = nat_le 2 (length c.parts)
-
-abbrev pub is_told_apart : List syntax.Rule → ℕ → ℕ → Bool
-is_told_apart rules rule branch = has_several (asked_in rules rule branch)
 
 -- the part at a place among them
 abbrev pub part_at : List syntax.Rule → ℕ → ℕ → ℕ → Option syntax.Expression
@@ -94,14 +95,13 @@ module _ (rules : List syntax.Rule) (nest : ℕ) (state : State) where
   abbrev pub found : Conjunction → Term → ℕ → Finding
   found c task n = finding (first_events c (matched c task) n)
 
-  -- where the head doesn't match the task nothing is asked
+  -- where the head doesn't match the task, that is the answer
   abbrev pub answer_where : Conjunction → Term → Option Bindings → Unmet
-  answer_where c task None = unmets.None
+  answer_where c task None = unmets.Head
   answer_where c task (Some e) = answer_from (found c task) 0 (length c.parts)
 
-  -- where there are fewer than two parts none is told apart
   abbrev pub answer_of : Term → Conjunction → Unmet
-  answer_of task c = cond (nat_lt (length c.parts) 2) unmets.None (answer_where c task (matched c task))
+  answer_of task c = answer_where c task (matched c task)
 
   abbrev pub answer_if : Term → Option Conjunction → Unmet
   answer_if task None = unmets.None

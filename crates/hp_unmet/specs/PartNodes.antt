@@ -1,5 +1,5 @@
 -- Where the parts of preconditions stand in a code.
-use Rattle.std.specs.Prelude.{◌≡◌, ◌≤◌, ℕ, List, length, slice_get, Option, Some, None}
+use Rattle.std.specs.Prelude.{◌≡◌, ℕ, List, slice_get, Option, Some, None}
 use Rattle.std.specs.Option.{option_map}
 use Rattle.hp_syntax.specs.Events.{axioms_of}
 use Rattle.hp_syntax.specs.Syntax as syntax
@@ -11,8 +11,7 @@ use Rattle.hp_suspended.specs.Fitting.{AreExpressionsIn}
 use Rattle.hp_suspended.specs.Nodes.{expressions_in}
 use Rattle.hp_choice.specs.declared.asking.Conjuncts.{Conjuncts}
 use Rattle.hp_choice.specs.Asking.{head_of}
-use Rattle.hp_relaxed.specs.Giving.{body_of}
-use Rattle.hp_unmet.specs.Conjunctions.{Conjunction, conjuncts}
+use Rattle.hp_unmet.specs.Conjunctions.{Conjunction, body_of, conjuncts}
 
 -- the precondition of an operator, or of the branch of a method that has this number
 abbrev pub precondition_by : ℕ → syntax.Rule → Option syntax.Precondition
@@ -45,19 +44,18 @@ pub record HasPrecondition (c : CodeView) (i branch : ℕ) (p : syntax.Precondit
   pub is : beside i (rule_nodes c) (rules_in c) ≡ Some rule
   pub own : precondition_by branch rule ≡ Some p
 
--- and asks by it for these together, of which there are some
+-- and asks by it for these together
 pub record AsksFor (c : CodeView) (i branch : ℕ) (parts : List syntax.Expression) : Type 0 where
   pub pre : syntax.Precondition
   pub has : HasPrecondition c i branch pre
   pub are : conjuncts (body_of pre) ≡ parts
-  pub some : 1 ≤ length parts
 
 -- expressions stand below nodes from one index up to another
 pub record StandBetween (c : CodeView) (first end : ℕ) (parts : List syntax.Expression) : Type 0 where
   pub range : AreExpressionsIn c first end
   pub are : expressions_in c first end ≡ Some (as_expressions parts)
 
--- the parts of a conjunction stand in a code of rules with the same axioms, as it holds them, and so does its head
+-- the parts of a precondition stand in a code of rules with the same axioms, as it holds them, and so does its head
 pub record StandIn (rules : List syntax.Rule) (code : CodeView) (c : Conjunction) (x : Conjuncts) : Type 0 where
   pub others : List syntax.Rule
   pub of : IsCodeOf others code

@@ -8,7 +8,7 @@ use Rattle.hp_syntax.specs.Views.{atom_of, domain_of, expression_of}
 use Rattle.hp_code.specs.Codes.{code_of}
 use Rattle.hp_choice.specs.Asking.{past}
 use Rattle.hp_choice.specs.declared.asking.Prefix.{Prefix}
-use Rattle.hp_unmet.specs.Conjunctions.{Conjunction, answer_of, answer_where, found, matched}
+use Rattle.hp_unmet.specs.Conjunctions.{Conjunction, answer_of, found}
 use Rattle.hp_unmet.specs.PartNodes.{StandIn}
 use Rattle.hp_unmet.specs.declared.parts.Parts.{Parts}
 use Rattle.hp_unmet.specs.declared.trial.Trial.{Trial}
@@ -42,11 +42,6 @@ pub record IsPrefix (t : Trial) (p : Prefix) : Type 0 where
 -- what is found with so many of the first parts, with so many axiom levels in a state
 abbrev pub tried : Trial → ℕ → State → ℕ → Finding
 tried t nest state n = found (rules_tried t) nest state (conjunction_of t.asked) (task_tried t) n
-
-abbrev pub answer_matched : Trial → ℕ → State → Unmet
-answer_matched t nest state =
-    answer_where (rules_tried t) nest state (conjunction_of t.asked) (task_tried t)
-    (matched (conjunction_of t.asked) (task_tried t))
 
 abbrev pub answer_tried : Trial → ℕ → State → Unmet
 answer_tried t nest state = answer_of (rules_tried t) nest state (task_tried t) (conjunction_of t.asked)

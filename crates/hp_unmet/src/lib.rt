@@ -9,4 +9,4 @@ mod trial;
 mod unmet;
 
 pub use parts::part_at;
-pub use unmet::{Unmet, first_unmet, is_told_apart};
+pub use unmet::{Unmet, first_unmet};

@@ -4,7 +4,9 @@ ghost use Rattle.hp_choice.specs.Asking as plain;
 ghost use Rattle.hp_code.specs.Codes.{code_of};
 ghost use Rattle.hp_nodes.specs.NodeViews.{laid_of};
 ghost use Rattle.hp_precondition.specs.PreconditionNodes.{precondition_at};
+ghost use Rattle.hp_suspended.specs.Nodes.{expression_at};
 ghost use Rattle.hp_syntax.specs.Syntax.{Expression, Precondition};
+ghost use Rattle.hp_unmet.specs.Conjunctions.{conjuncts};
 ghost use Rattle.hp_unmet.specs.PartNodes.{AsksFor, HasPrecondition, StandBetween};
 
 use hp_choice::Conjuncts;
@@ -52,6 +54,29 @@ fn precondition_node(code: &Code, rule: usize, branch: usize) -> usize
     }
 }
 
+/// The nodes of the parts of an expression, by its node, for a rule.
+fn parts_at(code: &Code, rule: usize, expression: usize) -> Conjuncts
+    requires { (e : Expression) × (expression_at (code_of code.now) expression ≡ Some e) }
+    ensures parts { (e : Expression) → expression_at (code_of code.now) expression ≡ Some e
+        → StandBetween (code_of code.now) result.first result.end (conjuncts e) }
+    ensures rule { result.rule ≡ rule }
+{
+    let own = node_at(code, expression);
+    match &own.op {
+        // The parts of a conjunction stand after its own node.
+        Op::And => Conjuncts {
+            rule,
+            first: expression + 1,
+            end: own.to,
+        },
+        _ => Conjuncts {
+            rule,
+            first: expression,
+            end: own.to,
+        },
+    }
+}
+
 /// The nodes of the parts for which an operator, or a branch of a method, asks together.
 pub fn parts_asked(code: &Code, rule: usize, branch: usize) -> Conjuncts
     requires { (parts : List Expression) × AsksFor (code_of code.now) rule branch parts }
@@ -59,11 +84,7 @@ pub fn parts_asked(code: &Code, rule: usize, branch: usize) -> Conjuncts
         → StandBetween (code_of code.now) result.first result.end parts }
     ensures rule { result.rule ≡ rule }
 {
-    // The expression stands behind the node of its precondition, and its parts behind its own.
+    // The expression stands after the node of its precondition.
     let expression = precondition_node(code, rule, branch) + 1;
-    Conjuncts {
-        rule,
-        first: expression + 1,
-        end: node_at(code, expression).to,
-    }
+    parts_at(code, rule, expression)
 }

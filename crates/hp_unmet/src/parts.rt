@@ -1,12 +1,11 @@
 //! The parts of the preconditions of a domain.
 ghost use Rattle.std.specs.Prelude.{◌≡◌, map, option_map};
 ghost use Rattle.hp_syntax.specs.Views.{branch_of, domain_of, expression_of, method_of, operator_of, precondition_of, rule_of};
-ghost use Rattle.hp_relaxed.specs.Giving.{body_of};
 ghost use Rattle.hp_unmet.specs.Conjunctions as plain;
 ghost use Rattle.hp_unmet.specs.Trials.{conjunction_of};
 
-use hp_relaxed::body_of;
 use hp_syntax::{AtomPat, Branch, Domain, Expr, ExprKind, Method, Name, Operator, Pre, Rule, Span};
+use std::slice;
 
 /// The parts of a precondition, with the span, the variables and the head of its rule.
 #[derive(Clone, Copy)]
@@ -17,19 +16,29 @@ pub struct Parts<'a> {
     pub parts: &'a [Expr],
 }
 
-/// The parts of a conjunction, and none of another precondition.
-fn conjuncts(pre: &Pre) -> &[Expr]
-    ensures { map expression_of result.now ≡ plain.conjuncts (body_of (precondition_of pre.now)) }
+/// The expression of a precondition.
+fn body_of(pre: &Pre) -> &Expr
+    ensures { expression_of result.now ≡ plain.body_of (precondition_of pre.now) }
 {
-    let body = body_of(pre);
+    match pre {
+        Pre::Plain(body) => body,
+        Pre::First(body) => body,
+        Pre::Sorted(_, body) => body,
+    }
+}
+
+/// The parts of a conjunction; any other expression is its only part.
+fn conjuncts(body: &Expr) -> &[Expr]
+    ensures { map expression_of result.now ≡ plain.conjuncts (expression_of body.now) }
+{
     match &body.kind {
         ExprKind::And(parts) => parts.as_slice(),
-        ExprKind::Atom(_) => &[],
-        ExprKind::Or(_) => &[],
-        ExprKind::Not(_) => &[],
-        ExprKind::Forall(_, _, _) => &[],
-        ExprKind::Assign(_, _) => &[],
-        ExprKind::Call(_) => &[],
+        ExprKind::Atom(_) => slice::from_ref(body),
+        ExprKind::Or(_) => slice::from_ref(body),
+        ExprKind::Not(_) => slice::from_ref(body),
+        ExprKind::Forall(_, _, _) => slice::from_ref(body),
+        ExprKind::Assign(_, _) => slice::from_ref(body),
+        ExprKind::Call(_) => slice::from_ref(body),
     }
 }
 
@@ -41,7 +50,7 @@ fn of_operator(operator: &Operator) -> Parts<'_>
         span: operator.span,
         vars: operator.vars.as_slice(),
         head: &operator.head,
-        parts: conjuncts(&operator.pre),
+        parts: conjuncts(body_of(&operator.pre)),
     }
 }
 
@@ -52,7 +61,7 @@ fn of_branch<'a>(method: &'a Method, branch: &'a Branch) -> Parts<'a>
         span: method.span,
         vars: method.vars.as_slice(),
         head: &method.head,
-        parts: conjuncts(&branch.pre),
+        parts: conjuncts(body_of(&branch.pre)),
     }
 }
 
@@ -79,7 +88,7 @@ pub fn asked_in(domain: &Domain, rule: usize, branch: usize) -> Option<Parts<'_>
     }
 }
 
-/// The part of a conjunction that stands at a place, of the precondition of an operator or of a branch of a method.
+/// The part that stands at a place, of the precondition of an operator or of a branch of a method.
 pub fn part_at(domain: &Domain, rule: usize, branch: usize, place: usize) -> Option<&Expr>
     ensures { option_map (λ e. expression_of e.now) result
         ≡ plain.part_at (domain_of domain.now).rules rule branch place }

@@ -1,15 +1,17 @@
 //! The first part that nothing satisfies.
-ghost use Rattle.std.specs.Prelude.{◌≡◌, ◌+◌, ◌-◌, ◌<◌, ◌≤◌, true, IfOk, length};
+ghost use Rattle.std.specs.Prelude.{◌≡◌, ◌+◌, ◌-◌, ◌<◌, ◌≤◌, ℕ, true, false, IfOk, length};
 ghost use Rattle.hp_code.specs.Codes.{code_of};
-ghost use Rattle.hp_syntax.specs.Events.{Satisfied, Nothing};
+ghost use Rattle.hp_syntax.specs.Events.{Satisfied, Nothing, State};
 ghost use Rattle.hp_syntax.specs.GroundPatterns.{IsGroundAtom, atom_said};
 ghost use Rattle.hp_syntax.specs.GroundViews.{ground_of};
+ghost use Rattle.hp_syntax.specs.Terms.{Term};
 ghost use Rattle.hp_syntax.specs.Views.{atom_of, domain_of};
-ghost use Rattle.hp_unmet.specs.Conjunctions.{first_unmet, is_told_apart};
+ghost use Rattle.hp_unmet.specs.Conjunctions.{first_unmet};
 ghost use Rattle.hp_unmet.specs.Halving.{IsBetween};
 ghost use Rattle.hp_unmet.specs.PartNodes.{ServesFor};
+ghost use Rattle.hp_unmet.specs.Said.{is_atom};
 ghost use Rattle.hp_unmet.specs.States.{InStateOf};
-ghost use Rattle.hp_unmet.specs.Trials.{CanBeTried, IsFirstMissing, IsPrefix, answer_matched, answer_tried, tried};
+ghost use Rattle.hp_unmet.specs.Trials.{CanBeTried, IsFirstMissing, IsPrefix, answer_tried, tried};
 
 use crate::nodes::parts_asked;
 use crate::parts::asked_in;
@@ -21,15 +23,14 @@ use hp_search::Planner;
 use hp_syntax::{AtomPat, Domain, Ground};
 use std::alloc::{AllocError, Global};
 
-// Where there are fewer parts, none is told apart.
-const FEWEST_PARTS: usize = 2;
-
-/// What of a precondition is satisfied in a state, by the parts of its conjunction from the first on.
+/// What of a precondition is satisfied in a state, by its parts from the first on.
 #[derive(Clone, Copy, Debug, PartialEq, Eq)]
 pub enum Unmet {
-    /// All parts together have a satisfier, or there are fewer than two, or nothing is asked: there is no such operator
-    /// or branch, or its head doesn't match the task.
+    /// All parts together have a satisfier before any fault, and so it is where there are no parts. Or there is no such
+    /// operator or branch.
     None,
+    /// The head of the rule doesn't match the task.
+    Head,
     /// The parts before this one, by its place, have a satisfier together; with this one there is none, and no limit of
     /// nesting and no fault is met.
     Part(usize),
@@ -127,7 +128,7 @@ impl Trial<'_> {
         requires live { walk.old.live ≡ true }
         requires prefix { IsPrefix self.now met }
         requires met { InStateOf walk.old (λ nest state. tried self.now nest state met.count ≡ Satisfied) }
-        ensures answer { IfOk result (λ u. InStateOf walk.old (λ nest state. u ≡ answer_matched self.now nest state)) }
+        ensures answer { IfOk result (λ u. InStateOf walk.old (λ nest state. u ≡ answer_tried self.now nest state)) }
         ensures same { walk.new ≡ walk.old }
     {
         match self.found(walk, self.all())? {
@@ -148,7 +149,7 @@ impl Trial<'_> {
         requires prefix { IsPrefix self.now met }
         requires met { InStateOf walk.old (λ nest state. tried self.now nest state met.count ≡ Satisfied) }
         requires fewer { met.count < length self.now.asked.parts.now }
-        ensures answer { IfOk result (λ u. InStateOf walk.old (λ nest state. u ≡ answer_matched self.now nest state)) }
+        ensures answer { IfOk result (λ u. InStateOf walk.old (λ nest state. u ≡ answer_tried self.now nest state)) }
         ensures same { walk.new ≡ walk.old }
     {
         let next = self.more(met, 1);
@@ -160,41 +161,17 @@ impl Trial<'_> {
         }
     }
 
-    /// The answer where two parts and more are asked for.
-    fn answer_of_parts(&self, walk: &mut Planner<'_>) -> Result<Unmet, AllocError>
-        requires can { CanBeTried self.now }
-        requires live { walk.old.live ≡ true }
-        ensures answer { IfOk result (λ u. InStateOf walk.old (λ nest state. u ≡ answer_matched self.now nest state)) }
-        ensures same { walk.new ≡ walk.old }
-    {
-        match self.along(walk)? {
-            Some(met) if met.count < self.asked.parts.len() => self.answer_behind(walk, met),
-            Some(_) => Ok(Unmet::None),
-            None => Ok(Unmet::None),
-        }
-    }
-
     fn answer(&self, walk: &mut Planner<'_>) -> Result<Unmet, AllocError>
         requires can { CanBeTried self.now }
         requires live { walk.old.live ≡ true }
         ensures answer { IfOk result (λ u. InStateOf walk.old (λ nest state. u ≡ answer_tried self.now nest state)) }
         ensures same { walk.new ≡ walk.old }
     {
-        if self.asked.parts.len() < FEWEST_PARTS {
-            Ok(Unmet::None)
-        } else {
-            self.answer_of_parts(walk)
+        match self.along(walk)? {
+            Some(met) if met.count < self.asked.parts.len() => self.answer_behind(walk, met),
+            Some(_) => Ok(Unmet::None),
+            None => Ok(Unmet::Head),
         }
-    }
-}
-
-/// Whether parts of a precondition are told apart: two of them and more.
-pub fn is_told_apart(domain: &Domain, rule: usize, branch: usize) -> bool
-    ensures { result ≡ is_told_apart (domain_of domain.now).rules rule branch }
-{
-    match asked_in(domain, rule, branch) {
-        Some(asked) => FEWEST_PARTS <= asked.parts.len(),
-        None => false,
     }
 }
 
@@ -208,7 +185,6 @@ fn unmet_in(
     task: &AtomPat,
 ) -> Result<Unmet, AllocError>
     requires code { ServesFor (domain_of domain.now).rules rule (code_of code.now) node }
-    requires apart { is_told_apart (domain_of domain.now).rules rule branch ≡ true }
     requires live { walk.old.live ≡ true }
     requires ground { IsGroundAtom (atom_of task.now) }
     ensures unmet { IfOk result (λ u. InStateOf walk.old (λ nest state. u
@@ -231,15 +207,26 @@ fn unmet_in(
     }
 }
 
+/// The answer for a task that is no atom, which no head matches.
+fn unmatched(domain: &Domain, rule: usize, branch: usize) -> Unmet
+    ensures { (nest : ℕ) (state : State) (task : Term) → is_atom task ≡ false
+        → result ≡ first_unmet (domain_of domain.now).rules nest state task rule branch }
+{
+    match asked_in(domain, rule, branch) {
+        Some(_) => Unmet::Head,
+        None => Unmet::None,
+    }
+}
+
 /// What of the precondition of an operator, or of a branch of a method, is satisfied where the head matches a task, in
 /// the state of the node at which a walk stands: the rule and the branch are told by their places in the domain. It is
 /// asked by the nodes of a code that serves for the domain's: its rule of that node asks for what the domain's does,
 /// and its axioms are the domain's. Axioms may call one another as deep as in the walk, which stays as it is, after an
 /// error too.
 ///
-/// Where parts are told apart, the walk goes along them once, each by its first satisfier, and then it is asked for one
-/// part more: mostly that tells the answer. Where these are satisfied too it is asked for all of them, for twice as
-/// many more again and again, and for numbers between.
+/// The walk goes along the parts once, each by its first satisfier, and then it is asked for one part more. Mostly that
+/// tells the answer. Where these are satisfied too it is asked for all of them, for twice as many more again and again,
+/// and for numbers between.
 pub fn first_unmet(
     alloc: Global,
     domain: &Domain,
@@ -256,11 +243,8 @@ pub fn first_unmet(
         (λ nest state. u ≡ first_unmet (domain_of domain.now).rules nest state (ground_of task.now) rule branch)) }
     ensures same { walk.new ≡ walk.old }
 {
-    if !is_told_apart(domain, rule, branch) {
-        return Ok(Unmet::None);
-    }
     match to_atom(alloc, task)? {
         Some(atom) => unmet_in(domain, code, node, rule, branch, walk, &atom),
-        None => Ok(Unmet::None),
+        None => Ok(unmatched(domain, rule, branch)),
     }
 }

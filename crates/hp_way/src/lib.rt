@@ -7,4 +7,4 @@ mod ways;
 
 pub use plans::way_to_plan;
 pub use states::state_on_the_way;
-pub use ways::{Deed, Way, way_by, way_to};
+pub use ways::{Deed, Way, deeds_of, way_by, way_to};

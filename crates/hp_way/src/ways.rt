@@ -91,7 +91,7 @@ fn deed_at(alloc: Global, planner: &Planner<'_>, level: usize) -> Result<Deed, A
 }
 
 /// The decompositions that led a walk to where it stands.
-pub(crate) fn deeds_of(alloc: Global, planner: &Planner<'_>) -> Result<Vec<Deed>, AllocError>
+pub fn deeds_of(alloc: Global, planner: &Planner<'_>) -> Result<Vec<Deed>, AllocError>
     requires { planner.now.live ≡ true }
     ensures { IfOk result (λ v.
         LeadSoFar planner.now (length (stands_planned planner.now).path) (map deed_of v.items)) }

@@ -40,7 +40,7 @@ fn show_visits(
     Ok(())
 }
 
-// Begins again at a depth, by the call for a walk that stands elsewhere if it does, and makes so many visits.
+// Begins again at a depth, where the walk stands at its root, and makes so many visits.
 fn show_again(
     page: &mut Page,
     alloc: Global,
@@ -56,9 +56,8 @@ fn show_again(
 {
     page.line("depth", &depth);
     if !walk.path().is_empty() {
-        page.title("  from below the root");
-        walk.restart(depth)?;
-        return show_visits(page, alloc, walk, visits);
+        page.title("  it stands elsewhere");
+        return Ok(());
     }
     walk.begin_again(depth)?;
     show_visits(page, alloc, walk, visits)

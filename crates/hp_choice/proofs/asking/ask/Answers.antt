@@ -1,43 +1,31 @@
-use Rattle.std.proofs.Common.{◌≤◌, Option, Some, length, ap, sym, subst, ◌∙◌}
+use Rattle.std.proofs.Common.{Option, Some, ap, sym, subst, ◌∙◌}
 use Rattle.std.proofs.lemmas.Result.{IfOk-weaker}
-use Rattle.hp_syntax.specs.declared.limits.TheConstants.{MOST_VARIABLES}
 use Rattle.hp_syntax.specs.Events.{State, finding}
-use Rattle.hp_syntax.specs.Matching.{match_atom}
+use Rattle.hp_syntax.specs.GroundPatterns.{atom_said}
 use Rattle.hp_syntax.specs.Syntax.{And}
-use Rattle.hp_syntax.specs.Values.{Bindings, unbound}
+use Rattle.hp_syntax.specs.Values.{Bindings}
 use Rattle.hp_syntax.specs.Views.{atom_of}
-use Rattle.hp_answers.specs.AnswerViews.{MeetsHead}
 use Rattle.hp_code.specs.CodeViews.{rules_in}
-use Rattle.hp_eval.specs.GoalViews.{term_at}
 use Rattle.hp_eval.specs.Slotted.{bindings_of}
 use Rattle.hp_eval.proofs.GrowthLemmas.{terms_stay}
 use Rattle.hp_suspended.specs.SceneViews.{code_in, setting_of}
 use Rattle.hp_suspended.specs.Settings.{state_in}
 use Rattle.hp_suspended.proofs.CallLemmas.{atoms_grow, knows_grow}
 use Rattle.hp_world.specs.Stages.{live_atoms}
-use Rattle.hp_choice.specs.Asking.{events_under}
-use Rattle.hp_choice.proofs.HeadLemmas.{rule_matches}
-use Rattle.hp_choice.proofs.RuleReadings.{few_of_rule}
+use Rattle.hp_choice.specs.Asking.{IsBoundByTask, events_under}
 use Rattle.hp_choice.proofs.asking.ask.Goals as goal
-
-pub matched-requires-clause-few : goal.matched-requires-clause-few
-matched-requires-clause-few c =
-    let s = c.args.scene.now in
-    subst (λ vs. length vs ≤ MOST_VARIABLES) (sym c.vars-vars.ensures)
-    (few_of_rule (code_in s) s.code.now.kept c.args.asked.rule c.requires.asked.rule c.requires.asked.is)
 
 pub found_under-requires-clause-ready : goal.found_under-requires-clause-ready
 found_under-requires-clause-ready c =
     let s = c.args.scene.now in
     let old = c.args.cells.now in
-    let new = c.ground_atom.new.cells in
-    let vars = length c.vars-vars.result.now in
-    let found = match_atom (atom_of c.head_of.result.now) (term_at new c.in_ok-cell.cell) (unbound vars) in
-    let met = subst (λ x. MeetsHead new vars x found) c.in-Some.is c.in_ok-slots.ensures in
+    let new = c.bound_by_task.new.cells in
+    let bound = subst (IsBoundByTask (code_in s) c.args.asked (atom_said (atom_of c.args.task.now)) new) c.in-Some.is
+    c.in_ok-slots.ensures.bound in
     record {
-      atoms = atoms_grow s old new c.in_ok-cell.ensures.cells c.requires.atoms;
-      knows = knows_grow s old new c.in_ok-cell.ensures.cells c.requires.knows;
-      bindings = met.2;
+      atoms = atoms_grow s old new c.in_ok-slots.ensures.cells c.requires.atoms;
+      knows = knows_grow s old new c.in_ok-slots.ensures.cells c.requires.knows;
+      bindings = bound.below;
     }
 
 pub returns-in-Some-clause-found : goal.returns-in-Some-clause-found
@@ -45,36 +33,24 @@ returns-in-Some-clause-found c =
     let s = c.args.scene.now in
     let code = code_in s in
     let old = c.args.cells.now in
-    let new = c.ground_atom.new.cells in
-    let vars = c.vars-vars.result.now in
-    let t = term_at new c.in_ok-cell.cell in
-    let head = atom_of c.head_of.result.now in
-    let met = subst (λ x. MeetsHead new (length vars) x (match_atom head t (unbound (length vars)))) c.in-Some.is
-    c.in_ok-slots.ensures in
+    let new = c.bound_by_task.new.cells in
+    let bound = subst (IsBoundByTask code c.args.asked (atom_said (atom_of c.args.task.now)) new) c.in-Some.is
+    c.in_ok-slots.ensures.bound in
     let e = bindings_of new c.in-Some.slots in
-    let stay = terms_stay old new c.in_ok-cell.ensures.cells (live_atoms s.world.now.places) c.requires.atoms in
+    let stay = terms_stay old new c.in_ok-slots.ensures.cells (live_atoms s.world.now.places) c.requires.atoms in
     IfOk-weaker c.found_under.result _ _
     (λ f own r span ps found is.
-    let matches = rule_matches code s.code.now.kept c.args.asked.rule r found vars c.vars-vars.ensures head
-    (c.head_of.ensures r found) _ t c.in_ok-cell.ensures.term ∙ met.0 in
     own span ps is
     ∙ ap (λ (st : State). finding (events_under (rules_in code) c.args.nest st (And span ps) (Some e))) stay
     ∙ ap (λ (o : Option Bindings). finding (events_under (rules_in code) c.args.nest (state_in (setting_of s old))
-    (And span ps) o)) (sym matches))
+    (And span ps) o)) (sym (bound.matches r found)))
     c.found_under.ensures.found
 
 pub returns-in-None-clause-found : goal.returns-in-None-clause-found
 returns-in-None-clause-found c = λ r span ps found is.
     let s = c.args.scene.now in
     let code = code_in s in
-    let old = c.args.cells.now in
-    let new = c.ground_atom.new.cells in
-    let vars = c.vars-vars.result.now in
-    let t = term_at new c.in_ok-cell.cell in
-    let head = atom_of c.head_of.result.now in
-    let met = subst (λ x. MeetsHead new (length vars) x (match_atom head t (unbound (length vars)))) c.in-None.is
-    c.in_ok-slots.ensures in
-    let matches = rule_matches code s.code.now.kept c.args.asked.rule r found vars c.vars-vars.ensures head
-    (c.head_of.ensures r found) _ t c.in_ok-cell.ensures.term ∙ met in
-    ap (λ (o : Option Bindings). finding (events_under (rules_in code) c.args.nest (state_in (setting_of s old))
-    (And span ps) o)) (sym matches)
+    let bound = subst (IsBoundByTask code c.args.asked (atom_said (atom_of c.args.task.now)) c.bound_by_task.new.cells)
+    c.in-None.is c.in_ok-slots.ensures.bound in
+    ap (λ (o : Option Bindings). finding (events_under (rules_in code) c.args.nest
+    (state_in (setting_of s c.args.cells.now)) (And span ps) o)) (sym (bound.matches r found))

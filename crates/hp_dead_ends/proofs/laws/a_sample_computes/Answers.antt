@@ -22,6 +22,8 @@ returns c = record {
   plan = refl;
   whole = refl;
   expansions = refl;
+  small = refl;
+  great = refl;
   dead_end = root_is_one;
   no_plan = λ h. let k = h.tasks in cc;
   no_cut = λ h. h.depth refl;

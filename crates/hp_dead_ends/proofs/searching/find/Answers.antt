@@ -1,7 +1,8 @@
 use Rattle.std.proofs.Common.{refl}
 use Rattle.std.proofs.lemmas.Result.{IfOk-weaker}
 use Rattle.hp_after.proofs.Arrivals.{tree_at}
-use Rattle.hp_dead_ends.proofs.FindSteps.{found_by, furthest_in, reached_root, tells_root}
+use Rattle.hp_dead_ends.proofs.FindSteps.{found_by, furthest_in, held_in, reached_root, tells_root}
+use Rattle.hp_dead_ends.proofs.HeldLemmas.{cuts_held}
 use Rattle.hp_dead_ends.proofs.MeetSteps.{many_steps}
 use Rattle.hp_dead_ends.proofs.searching.find.Goals as goal
 
@@ -22,4 +23,14 @@ returns-in-Ok-clause-found g c =
 pub returns-in-Ok-clause-dead : goal.returns-in-Ok-clause-dead
 returns-in-Ok-clause-dead g c =
     IfOk-weaker c.finish.result _ _ (λ f h. furthest_in (g.W.Walk.tree c.args.walk.now) c.args.most f h)
+    (returns-in-Ok-clause-found g c)
+
+pub returns-in-Ok-clause-held : goal.returns-in-Ok-clause-held
+returns-in-Ok-clause-held g c =
+    IfOk-weaker c.finish.result _ _ (λ f h. held_in (g.W.Walk.tree c.args.walk.now) c.args.most f h)
+    (returns-in-Ok-clause-found g c)
+
+pub returns-in-Ok-clause-cuts : goal.returns-in-Ok-clause-cuts
+returns-in-Ok-clause-cuts g c =
+    IfOk-weaker c.finish.result _ _ (λ f h. cuts_held (g.W.Walk.tree c.args.walk.now) c.args.most f h)
     (returns-in-Ok-clause-found g c)

@@ -12,7 +12,7 @@ parts_asked-nodes-requires c =
     let asked = conjunction_of c.in-Some.asked in (
       map lowered asked.parts,
       asks_there (domain_of c.args.domain.now).rules c.args.rule (code_of c.args.code.now) c.args.node c.requires.code
-          c.args.branch asked (sym c.asked_in.ensures ∙ ap (option_map conjunction_of) c.in-Some.is) c.requires.apart,
+          c.args.branch asked (sym c.asked_in.ensures ∙ ap (option_map conjunction_of) c.in-Some.is),
     )
 
 pub answer-requires-clause-can : goal.answer-requires-clause-can
@@ -20,7 +20,7 @@ answer-requires-clause-can c = record {
   stand =
       stand_there (domain_of c.args.domain.now).rules c.args.rule (code_of c.args.code.now) c.args.node c.requires.code
       c.args.branch (conjunction_of c.in-Some.asked)
-      (sym c.asked_in.ensures ∙ ap (option_map conjunction_of) c.in-Some.is) c.requires.apart
-      c.parts_asked-nodes.result c.parts_asked-nodes.ensures.rule c.parts_asked-nodes.ensures.parts;
+      (sym c.asked_in.ensures ∙ ap (option_map conjunction_of) c.in-Some.is) c.parts_asked-nodes.result
+      c.parts_asked-nodes.ensures.rule c.parts_asked-nodes.ensures.parts;
   ground = c.requires.ground;
 }

@@ -1,0 +1,55 @@
+//! The phrases of which the texts are made.
+
+/// What is said of the first part of a precondition that nothing satisfies, and of a later one.
+pub const FIRST_UNMET: &[u8] = b"nothing satisfies this part of the precondition";
+
+pub const LATER_UNMET: &[u8] = b"nothing satisfies this part together with those before it";
+
+pub const NO_MATCH: &[u8] = b"this head doesn't match the task";
+
+pub const PROTECTED: &[u8] =
+    b"the precondition is satisfied, but a protected atom would be deleted";
+
+pub const UNKNOWN: &[u8] = b"the levels of axioms, or a fault, hide which part nothing satisfies";
+
+pub const NOTHING_DOES: &[u8] = b"nothing does ";
+
+pub const NO_RULE: &[u8] = b"no operator and no method has this name\n";
+
+pub const NO_FACT: &[u8] = b"no fact has this name here\n";
+
+pub const FACTS: &[u8] = b"facts with this name here:";
+
+pub const NOT_CONCLUDED: &[u8] = b"this axiom concludes none that fits here";
+
+pub const LEFT: &[u8] = b"left to do there:";
+
+pub const NO_STEP: &[u8] = b"no step was done before\n";
+
+pub const LAST_STEPS: &[u8] = b"the last steps before:";
+
+pub const TOO_WIDE: &[u8] = b"its path is too wide to be followed\n";
+
+pub const DEAD_END: &[u8] = b"dead end at path ";
+
+pub const DECOMPOSITIONS: &[u8] = b", decompositions ";
+
+pub const RECUR: &[u8] = b"done several times on the way there:";
+
+/// How a search ended, before the numbers that belong to it.
+pub const PLAN: &[u8] = b"there is a plan: gudsjilp plan ";
+
+pub const NO_PLAN: &[u8] = b"there is no plan at any depth";
+
+pub const NO_PLAN_WITHIN: &[u8] = b"there is no plan within depth ";
+
+pub const FAULT_WITHIN: &[u8] = b"a fault ended the search within depth ";
+
+/// What cut the tree, before its path and after it.
+pub const DEPTH_CUT: &[u8] = b" cut the tree first at path ";
+
+pub const DEEPER: &[u8] = b": a greater depth may have a plan\n";
+
+pub const LEVEL_CUT: &[u8] = b" levels of axioms cut the tree first at path ";
+
+pub const MORE_LEVELS: &[u8] = b": a greater --nest may have a plan\n";

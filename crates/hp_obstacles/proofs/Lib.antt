@@ -1,0 +1,4 @@
+pub mod FactSteps
+pub mod NodeSteps
+pub mod ObstacleSteps
+pub mod TaskSteps

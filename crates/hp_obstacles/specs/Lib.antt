@@ -1,0 +1,4 @@
+pub mod Facts
+pub mod Obstacles
+pub mod Questions
+pub mod Tasks

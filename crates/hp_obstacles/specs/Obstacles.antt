@@ -1,0 +1,117 @@
+-- What keeps the tasks that may be done next at a node from being done.
+use Rattle.std.specs.Prelude.{ℕ, ◌+◌, zero, suc, cond, List, [], ◌∷◌, ◌++◌, length, map, Option, Some, None, option_map, bytes_eq}
+use Rattle.std.specs.Option.{option_and_then}
+use Rattle.hp_syntax.specs.Events.{State}
+use Rattle.hp_syntax.specs.GroundViews.{ground_of}
+use Rattle.hp_syntax.specs.Syntax as syntax
+use Rattle.hp_syntax.specs.Syntax.{Expression, Rule, Does, Refines, Concludes}
+use Rattle.hp_syntax.specs.Terms.{Term, Listed, NoTerm, More, Number, Symbol}
+use Rattle.hp_syntax.specs.Walk.{Node}
+use Rattle.hp_unmet.specs.declared.unmet.Unmet.{Unmet}
+use Rattle.hp_unmet.specs.declared.unmet.Unmet.TheVariants as unmets
+use Rattle.hp_unmet.specs.Conjunctions.{first_unmet, part_at}
+use Rattle.hp_obstacles.specs.declared.obstacles.Obstacle as made
+use Rattle.hp_obstacles.specs.declared.obstacles.Stuck as stuck
+use Rattle.hp_obstacles.specs.Facts as facts
+use Rattle.hp_obstacles.specs.Facts.{Facts, facts_of, shown}
+use Rattle.hp_obstacles.specs.Tasks.{next_tasks}
+
+-- ---- one branch
+
+-- the name of the atom that a part asks for, where it is one
+abbrev pub name_in : Expression → Option (List ℕ)
+name_in (syntax.Holds s a) = Some a.name
+name_in (syntax.And s parts) = None
+name_in (syntax.Or s parts) = None
+name_in (syntax.Not s part) = None
+name_in (syntax.Forall s vars range body) = None
+name_in (syntax.Assign s v value) = None
+name_in (syntax.Test s call) = None
+
+-- the name of the atom that the first unmet part of a precondition asks for
+abbrev pub name_unmet : List Rule → ℕ → ℕ → Unmet → Option (List ℕ)
+name_unmet rules rule branch unmets.None = None
+name_unmet rules rule branch unmets.Head = None
+name_unmet rules rule branch (unmets.Part place) = option_and_then name_in (part_at rules rule branch place)
+name_unmet rules rule branch unmets.Unknown = None
+
+-- what keeps an operator, or a branch of a method, from doing a task: by their places, the first part of the
+-- precondition that is unmet, and the facts of the name that it asks for
+pub record Obstacle : Type 0 where
+  pub rule : ℕ
+  pub branch : ℕ
+  pub unmet : Unmet
+  pub facts : Option Facts
+
+module _ (rules : List Rule) (nest : ℕ) (s : State) where
+  abbrev pub obstacle_by : ℕ → ℕ → Unmet → Obstacle
+  obstacle_by rule branch u = record {
+    rule = rule;
+    branch = branch;
+    unmet = u;
+    facts = option_map (λ name. shown (facts_of name s)) (name_unmet rules rule branch u);
+  }
+
+  abbrev pub obstacle : Term → ℕ → ℕ → Obstacle
+  obstacle t rule branch = obstacle_by rule branch (first_unmet rules nest s t rule branch)
+
+  -- ---- all branches of all rules
+
+  -- of so many branches, from one of a number on
+  abbrev pub at_branches : Term → ℕ → ℕ → ℕ → List Obstacle
+  at_branches t rule branch zero = []
+  at_branches t rule branch (suc left) = obstacle t rule branch ∷ at_branches t rule (branch + 1) left
+
+-- how many branches of a rule are for tasks of a name: an operator counts as one
+abbrev pub branches_for : List ℕ → Rule → ℕ
+branches_for name (Does o) = cond (bytes_eq o.head.name name) 1 0
+branches_for name (Refines m) = cond (bytes_eq m.head.name name) (length m.branches) 0
+branches_for name (Concludes x) = 0
+
+module _ (all : List Rule) (nest : ℕ) (s : State) where
+  -- of the rules for tasks of a name, among some of which the first has this number
+  abbrev pub at_rules : Term → List ℕ → ℕ → List Rule → List Obstacle
+  at_rules t name rule [] = []
+  at_rules t name rule (r ∷ rs) = at_branches all nest s t rule 0 (branches_for name r) ++ at_rules t name (rule + 1) rs
+
+-- the name of a symbol
+abbrev pub symbol_name : Term → Option (List ℕ)
+symbol_name (Symbol name) = Some name
+symbol_name (Number n) = None
+symbol_name (Listed ts) = None
+
+-- the name of a task
+abbrev pub task_name : Term → Option (List ℕ)
+task_name (Symbol name) = None
+task_name (Number n) = None
+task_name (Listed NoTerm) = None
+task_name (Listed (More t ts)) = symbol_name t
+
+abbrev pub obstacles_named : List Rule → ℕ → State → Term → Option (List ℕ) → List Obstacle
+obstacles_named rules nest s t None = []
+obstacles_named rules nest s t (Some name) = at_rules rules nest s t name 0 rules
+
+abbrev pub obstacles : List Rule → ℕ → State → Term → List Obstacle
+obstacles rules nest s t = obstacles_named rules nest s t (task_name t)
+
+-- ---- a node
+
+-- a task, and what keeps it from being done
+pub record Stuck : Type 0 where
+  pub task : Term
+  pub obstacles : List Obstacle
+
+abbrev pub stuck_by : List Rule → ℕ → State → Term → Stuck
+stuck_by rules nest s t = record { task = t; obstacles = obstacles rules nest s t }
+
+-- of each task that may be done next
+abbrev pub all_stuck : List Rule → ℕ → Node → List Stuck
+all_stuck rules nest n = map (stuck_by rules nest n.state) (next_tasks n)
+
+-- ---- as they are kept
+
+abbrev pub obstacle_of : made.Obstacle → Obstacle
+obstacle_of o = record { rule = o.rule; branch = o.branch; unmet = o.unmet; facts = option_map facts.kept o.facts }
+
+abbrev pub stuck_of : stuck.Stuck → Stuck
+stuck_of s = record { task = ground_of s.task; obstacles = map obstacle_of s.obstacles.items }

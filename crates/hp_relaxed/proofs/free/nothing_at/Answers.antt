@@ -1,7 +1,0 @@
-use Rattle.std.proofs.Common.{refl}
-use Rattle.std.specs.Prelude.{pos}
-use Rattle.hp_syntax.specs.ViewLaws.{pattern_of-num}
-use Rattle.hp_relaxed.proofs.free.nothing_at.Goals as goal
-
-pub returns : goal.returns
-returns c = pattern_of-num _ (pos 0) refl
