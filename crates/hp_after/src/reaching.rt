@@ -68,7 +68,7 @@ impl<W: Walk> Pass<W, ()> for Reaching<'_> {
 
     type Error = AllocError;
 
-    ghost meets = { MeetsReaching };
+    ghost meets = { λ tree. MeetsReaching };
 
     ghost fails = { λ s c v e d. ⊥ };
 

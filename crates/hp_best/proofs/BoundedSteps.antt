@@ -1,10 +1,7 @@
 -- One visit of a bounded walk.
-use Rattle.std.proofs.Common.{◌≡◌, ℕ, ◌≤◌, Bool, true, false, ◌&&◌, cond, ℤ, List, [], ◌∷◌, length, Option, Some, None, refl, sym, ap, ap₂, ◌∙◌, subst}
-use Rattle.std.specs.List.{All}
+use Rattle.std.proofs.Common.{◌≡◌, ℕ, Bool, true, false, ◌&&◌, cond, ℤ, List, [], ◌∷◌, Option, Some, None, refl, sym, ap, ap₂, ◌∙◌, subst}
 use Rattle.hp_net.proofs.Counts.{count_on}
-use Rattle.hp_net.specs.Standings.{Standing, pruned}
 use Rattle.hp_passes.proofs.PassingLemmas.{Meets, MetNone, MetOne, MetLast, TurnsAs}
-use Rattle.hp_passes.proofs.PassingSteps as passing
 use Rattle.hp_passes.specs.declared.passing.Turn.{Turn}
 use Rattle.hp_passes.specs.declared.passing.Turn.TheVariants.{On, Past, Last}
 use Rattle.hp_passes.specs.Passes as passes
@@ -17,17 +14,6 @@ use Rattle.hp_best.specs.Bounded.{reaches, lower, bounded_turn, chosen_cost, cho
 use Rattle.hp_best.specs.Searching.{Finds, meets_bounding}
 use Rattle.hp_best.proofs.ChoiceLemmas.{cost_lower}
 use Rattle.hp_best.proofs.VisitSteps.{chosen_at, chosen_past, last_cut, last_did, last_fault, last_plan, turn_cut, turn_did, turn_fault, turn_plan}
-
--- ---- what is left
-
-pub skip_shorter : (p : List ℕ) (vs : List Visit) → length (skip p vs) ≤ length vs
-skip_shorter p vs = passing.skip_shorter p vs
-
--- it holds of all that is left where a part is left out
-pub at_left : (P : Visit → Type 0) (t r : Standing) (b : Bool) → r ≡ cond b (pruned t) t → All P t.rest → All P r.rest
-at_left P t r true k a =
-    subst (All P) (sym (ap (λ s. s.rest) k)) (passing.skip_keeps P t.path t.rest a)
-at_left P t r false k a = subst (All P) (sym (ap (λ s. s.rest) k)) a
 
 -- ---- turns
 

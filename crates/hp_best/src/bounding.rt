@@ -124,7 +124,7 @@ impl<W: Walk> Pass<W, ()> for Bounding {
 
     type Error = AllocError;
 
-    ghost meets = { meets_bounding };
+    ghost meets = { λ tree. meets_bounding };
 
     ghost fails = { fails_bounding };
 

@@ -3,18 +3,17 @@ ghost use Rattle.std.specs.Prelude.{◌≡◌, ℕ, List, [], ◌∷◌, None, I
 ghost use Rattle.hp_syntax.specs.Checks.{first_of, domain_faults};
 ghost use Rattle.hp_syntax.specs.Numbered.{IsNumberedDomain};
 ghost use Rattle.hp_syntax.specs.Syntax as plain;
-ghost use Rattle.hp_syntax.specs.Views.{branch_of, domain_of, method_of, operator_of, pattern_of, precondition_of, rule_of, tasks_of};
+ghost use Rattle.hp_syntax.specs.Views.{domain_of, rule_of};
 ghost use Rattle.hp_tables.specs.Tables.{places_in};
 ghost use Rattle.hp_nodes.specs.Compiled.{vars_of};
 ghost use Rattle.hp_nodes.specs.NodeViews.{laid_of};
-ghost use Rattle.hp_nodes.specs.Varied.{branch_behind, method_with, operator_with};
 ghost use Rattle.hp_code.specs.Codes.{code_of};
 ghost use Rattle.hp_code.specs.CodeViews.{IsCodeOf, concluded_in, concludes};
 ghost use Rattle.hp_code.specs.Lowerings.{Begins, CanBeCode, Extends, Holds};
 
 use crate::code::Code;
-use hp_nodes::{CodeNode, Op, lay_method_with, lay_operator_with, lay_rule};
-use hp_syntax::{Branch, Domain, Method, Name, NetPat, Operator, Pat, Pre, Rule};
+use hp_nodes::{CodeNode, Op, lay_rule};
+use hp_syntax::{Domain, Name, Rule};
 use hp_tables::{Kind, Table};
 use std::alloc::{AllocError, Global};
 
@@ -64,8 +63,7 @@ fn concluded_in(
     Ok(all)
 }
 
-/// A code in the making: rules are compiled one after another, also such as are told by their parts and never made.
-/// After want of memory it is of no use.
+/// A code in the making: rules are compiled one after another. After an out-of-memory error it is of no use.
 pub struct Lowering {
     nodes: Vec<CodeNode>,
     /// The indices of the rules' nodes.
@@ -132,43 +130,6 @@ impl Lowering {
         self.task_rules.add_rule(alloc, Kind::Task, rule, node)?;
         self.axiom_rules.add_rule(alloc, Kind::Axiom, rule, node)?;
         lay_rule(&mut self.nodes, alloc, rule)
-    }
-
-    /// Adds an operator with another precondition and another cost.
-    pub fn operator_with(
-        &mut self,
-        alloc: Global,
-        operator: &Operator,
-        pre: &Pre,
-        cost: &Pat,
-    ) -> Result<(), AllocError>
-        ensures { OnOk result (Extends (plain.Does
-            (operator_with (operator_of operator.now) (precondition_of pre.now) (pattern_of cost.now)) ∷ [])
-            self.old self.new) }
-    {
-        let node = self.nodes.len();
-        self.begin(alloc, node, operator.vars.as_slice())?;
-        self.task_rules.add(alloc, &operator.head.name, node)?;
-        lay_operator_with(&mut self.nodes, alloc, operator, pre, cost)
-    }
-
-    /// Adds a method with a single branch: one of its own with another precondition, whose tasks stand behind others.
-    pub fn method_with(
-        &mut self,
-        alloc: Global,
-        method: &Method,
-        first: &NetPat,
-        branch: &Branch,
-        pre: &Pre,
-    ) -> Result<(), AllocError>
-        ensures { OnOk result (Extends (plain.Refines (method_with (method_of method.now)
-            (branch_behind (tasks_of first.now) (branch_of branch.now) (precondition_of pre.now))) ∷ [])
-            self.old self.new) }
-    {
-        let node = self.nodes.len();
-        self.begin(alloc, node, method.vars.as_slice())?;
-        self.task_rules.add(alloc, &method.head.name, node)?;
-        lay_method_with(&mut self.nodes, alloc, method, first, branch, pre)
     }
 
     /// The code of the rules.

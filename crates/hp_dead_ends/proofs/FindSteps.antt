@@ -13,9 +13,10 @@ use Rattle.hp_syntax.specs.Walk.{Node, Sight, Did, Plan, CutHere, FaultHere, Vis
 use Rattle.hp_dead_ends.specs.declared.searching.DeadEnd.{DeadEnd}
 use Rattle.hp_dead_ends.specs.declared.searching.DeadEnds.{DeadEnds}
 use Rattle.hp_dead_ends.specs.declared.searching.Seeking.{Seeking}
+use Rattle.hp_dead_ends.specs.declared.searching.SearchEnd.{SearchEnd}
 use Rattle.hp_dead_ends.specs.declared.searching.SearchEnd.TheVariants as ends
 use Rattle.hp_dead_ends.specs.Arriving.{IsHeld}
-use Rattle.hp_dead_ends.specs.DeadEnds.{IsDeadEnd, Rank, rank, rank_of, comes_further, dead_ends, decompositions_of, ends_at, furthest, is_further, until_plan, with_root}
+use Rattle.hp_dead_ends.specs.DeadEnds.{IsDeadEnd, Rank, rank, rank_of, comes_further, dead_ends, decompositions_of, ending, ends_at, furthest, is_further, is_stopped, until_plan, with_root}
 use Rattle.hp_dead_ends.specs.Finding.{IsFoundIn, IsFurthest, ends_of, items_of, path_told, told_at, told_of}
 use Rattle.hp_dead_ends.specs.Searching.{Fits, Known, MeetsSeeking, Tells, TellsFound, after, after_all, as_rank, at_root, closed, noted, turn_at}
 use Rattle.hp_dead_ends.proofs.DeadLemmas.{all_dead, tree_tells_until}
@@ -82,6 +83,39 @@ tells_then d _ _ _ _ _ _ k same (Ends s t c a v vs m) fit h =
           subst (λ b. Tells t (after_all (after k v) (cond b [] (until_plan vs)))) (sym (goes_last v.sight m.turn))
           (m.goes.tells k fits h);
     }
+
+-- ---- where a pass leaves the walk
+
+-- a visit after which a pass goes on leaves another end before the others
+ends_on : (x : Sight) (v : Visit) → v.sight ≡ x → turns.On ≡ turn_at x → (e : SearchEnd) (ws : List Visit)
+    → (z : SearchEnd) × (ending e (v ∷ ws) ≡ ending z ws)
+ends_on Did v h a e ws = (e, rw h refl)
+ends_on Plan v h a e ws = absurd (cc)
+ends_on CutHere v h a e ws = (ends.Cut, rw h refl)
+ends_on (FaultHere f) v h a e ws = absurd (cc)
+
+-- at its last visit a search is stopped
+stops_at : (x : Sight) (v : Visit) → v.sight ≡ x → turns.Last ≡ turn_at x → (e : SearchEnd) (ws : List Visit)
+    → is_stopped (ending e (v ∷ ws)) ≡ true
+stops_at Did v h a e ws = absurd (cc)
+stops_at Plan v h a e ws = rw h refl
+stops_at CutHere v h a e ws = absurd (cc)
+stops_at (FaultHere f) v h a e ws = rw h refl
+
+-- where a search isn't stopped, its walk is at the root again
+pub over_by : (s u : Seeking) (c e : Unit {0}) (vs : List Visit) (there : Standing) (x : SearchEnd)
+    → Passes MeetsSeeking s c vs u e there → is_stopped (ending x (until_plan vs)) ≡ false → there.path ≡ []
+over_by _ _ _ _ _ _ x (AtEnd s c) h = refl
+over_by _ _ _ _ _ _ x (GoesOn s t u c a e v vs there m rest) h =
+    let left = cond (is_plan v.sight || is_fault_here v.sight) [] (until_plan vs) in
+    let o = ends_on v.sight v refl m.turn x left in
+    over_by t u a e vs there o.0 rest
+    (subst (λ b. is_stopped (ending o.0 (cond b [] (until_plan vs))) ≡ false) (goes_on v.sight m.turn)
+    (sym (ap is_stopped o.1) ∙ h))
+over_by _ _ _ _ _ _ x (LeavesOut s t u c a e v vs there m rest) h = absurd (goes_past v.sight m.turn)
+over_by _ _ _ _ _ _ x (Ends s t c a v vs m) h =
+    let left = cond (is_plan v.sight || is_fault_here v.sight) [] (until_plan vs) in
+    absurd (let f : true ≡ false = sym (stops_at v.sight v refl m.turn x left) ∙ h in cc)
 
 -- ---- what was found
 

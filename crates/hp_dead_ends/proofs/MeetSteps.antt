@@ -85,7 +85,7 @@ over_other p q s true h =
     lt_no (length q) (length p) (omega (arith, ap length r.1, length-append p r.0))
 over_other p q s false h = lt_yes (length q) (length p) (shorter p q s h)
 
-over_by : (p q : List ℕ) (x : Sight) → Follows x q p → (x ≡ Did → q ≡ p → ⊥)
+pub over_by : (p q : List ℕ) (x : Sight) → Follows x q p → (x ≡ Did → q ≡ p → ⊥)
     → is_over x (length q) (length p) ≡ not (begins p q)
 over_by p q Did s n = over_did p q s (n refl) (begins p q) refl
 over_by p q Plan s n = over_other p q s (begins p q) refl

@@ -86,6 +86,13 @@ ending e (v ∷ vs) =
       | FaultHere f ↦ ends.Fault f
     ]
 
+-- a search ended at a plan or a fault, before its walk was over
+abbrev pub is_stopped : SearchEnd → Bool
+is_stopped ends.Plan = true
+is_stopped ends.Whole = false
+is_stopped ends.Cut = false
+is_stopped (ends.Fault f) = true
+
 -- how many decompositions were visited
 abbrev pub decompositions_of : List Visit → ℕ
 decompositions_of vs = length (filter (λ v. is_did v.sight) vs)

@@ -9,7 +9,7 @@ use hp_passes::{Pass, Sight, Stop, Turn, go_through};
 use std::alloc::AllocError;
 
 /// Whether no number of a path is 2^64 - 1.
-fn is_small(path: &[u64]) -> bool
+pub fn is_small(path: &[u64]) -> bool
     ensures { result ≡ is_small path.now }
 {
     path.iter().all(|number| *number < u64::MAX)
@@ -17,7 +17,7 @@ fn is_small(path: &[u64]) -> bool
 
 /// How a walk to a path goes on after a decomposition: on above the path, no further at it, and without what lies
 /// below any other.
-fn turn_after(path: &[u64], target: &[u64]) -> Turn
+pub fn turn_after(path: &[u64], target: &[u64]) -> Turn
     ensures { (q : List ℕ) → path.now ≡ told q → is_small target.now ≡ true → result ≡ did_turn target.now q }
 {
     if !target.starts_with(path) {
@@ -41,7 +41,7 @@ impl<W: Walk> Pass<W, ()> for Arriving<'_> {
 
     type Error = AllocError;
 
-    ghost meets = { MeetsArriving };
+    ghost meets = { λ tree. MeetsArriving };
 
     ghost fails = { λ s c v e d. ⊥ };
 

@@ -9,5 +9,5 @@ mod arriving;
 pub mod laws;
 mod searching;
 
-pub use arriving::go_to;
+pub use arriving::{go_to, is_small, turn_after};
 pub use searching::{DeadEnd, DeadEnds, SearchEnd, find};

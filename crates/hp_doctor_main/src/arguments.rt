@@ -1,5 +1,7 @@
 //! The command line.
 
+use crate::derive_words::{DeriveWords, asked_derive, derive_command};
+use crate::trace_words::{TraceWords, asked_trace, trace_command};
 use crate::tree_words::{TreeWords, asked_tree, tree_command};
 use clap::{Arg, ArgMatches, Command, value_parser};
 use hp_doctor::Names;
@@ -16,8 +18,12 @@ pub enum Asked<'a> {
     Lint(Names<'a>),
     /// How a plan of these files came about is to be told.
     Tree(TreeWords<'a>),
+    /// The search for the plans of these files is to be told.
+    Trace(TraceWords<'a>),
     /// Why there is no plan of these files is to be told.
     Why { names: Names<'a>, limits: Limits },
+    /// Where a plan of these files stops to be derived is to be told.
+    Derive(DeriveWords<'a>),
 }
 
 /// The command line: a subcommand for each thing that the doctor does.
@@ -30,7 +36,9 @@ pub fn command<'a>(alloc: Global) -> Result<Command<'a>, AllocError> {
         .subcommand(where_command(alloc)?)?
         .subcommand(lint_command(alloc)?)?
         .subcommand(tree_command(alloc)?)?
-        .subcommand(why_command(alloc)?)
+        .subcommand(trace_command(alloc)?)?
+        .subcommand(why_command(alloc)?)?
+        .subcommand(derive_command(alloc)?)
 }
 
 fn lint_command<'a>(alloc: Global) -> Result<Command<'a>, AllocError> {
@@ -124,6 +132,14 @@ pub fn request<'a>(matches: &ArgMatches<'a>) -> Option<Asked<'a>> {
         };
         return Some(Asked::Tree(asked_tree(words, names)?));
     }
+    if name == "trace" {
+        let names = Names {
+            domain,
+            problem,
+            plan: None,
+        };
+        return Some(Asked::Trace(asked_trace(words, names)?));
+    }
     if name == "why" {
         let names = Names {
             domain,
@@ -131,6 +147,14 @@ pub fn request<'a>(matches: &ArgMatches<'a>) -> Option<Asked<'a>> {
             plan: None,
         };
         return why_asked(words, names);
+    }
+    if name == "derive" {
+        let names = Names {
+            domain,
+            problem,
+            plan: None,
+        };
+        return Some(Asked::Derive(asked_derive(words, names)?));
     }
     if name != "where" {
         return None;

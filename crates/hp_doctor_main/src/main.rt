@@ -1,16 +1,24 @@
 //! The program: the command line, real files, standard input and output round the doctor's calls.
 #![tactic(auto)]
 
+ghost use Rattle.std.specs.Prelude.{◌<◌, ◌-◌, ◌^◌};
+ghost use Rattle.std.specs.List.{All};
 ghost use Rattle.hp_doctor_tree.specs.TreeTold.{HasSmallNumbers};
 
 mod arguments;
+mod derive_words;
+mod trace_words;
 mod tree_words;
 
 use crate::arguments::{Asked, command, request};
+use crate::derive_words::DeriveWords;
+use crate::trace_words::TraceWords;
 use crate::tree_words::{PlanWords, TreeWords};
 use clap::Error;
 use clap::error::ErrorKind;
 use hp_doctor::{HostPieces, Names, Texts, explain, lint};
+use hp_doctor_derive::{Asked as AskedDerive, derive};
+use hp_doctor_trace::{Asked as AskedTrace, trace};
 use hp_doctor_tree::{Asked as AskedTree, Wanted, tree};
 use hp_doctor_why::{Limits, why};
 use hp_io::{Failed, HostFolder, HostSink};
@@ -93,6 +101,7 @@ fn tell_tree(rt: &HostRuntime, words: TreeWords, wanted: Wanted) -> Status
         pair: words.pair,
         wanted,
         dot: words.dot,
+        changes: words.changes,
     };
     let mut out = Paged::<Brand, _>::new(HostSink::new(rt));
     let status = tree(rt.alloc(), &texts, &asked, &mut out);
@@ -115,6 +124,57 @@ fn no_path(alloc: Global) -> Result<Error, Error> {
     Ok(command(alloc)?.error(ErrorKind::ValueValidation, says)?)
 }
 
+/// Tells the search for the plans of these files.
+fn trace_of_files(rt: &HostRuntime, words: TraceWords) -> Status {
+    match words.from {
+        Some(word) => trace_from(rt, words, word),
+        None => tell_trace(rt, words, &[]),
+    }
+}
+
+/// Tells the search from a path on, by the word of the path.
+fn trace_from(rt: &HostRuntime, words: TraceWords, word: &str) -> Status {
+    if !is_path(word) {
+        return Status::Usage;
+    }
+    let Ok(path) = path(rt.alloc(), word) else {
+        return Status::NoMemory;
+    };
+    tell_trace(rt, words, path.as_slice())
+}
+
+/// Tells the search from a path on.
+fn tell_trace(rt: &HostRuntime, words: TraceWords, from: &[u64]) -> Status
+    requires { All (λ i. i < 2 ^ 64 - 1) from.now }
+{
+    if words.depth > GREATEST_DEPTH || words.nest > MOST_LEVELS {
+        return Status::Usage;
+    }
+    let Ok(texts) = Texts::read(rt.alloc(), &mut HostFolder::new(rt), words.names) else {
+        return Status::NoMemory;
+    };
+    let asked = AskedTrace {
+        depth: words.depth,
+        nest: words.nest,
+        pair: words.pair,
+        from,
+        most: words.most,
+    };
+    let mut out = Paged::<Brand, _>::new(HostSink::new(rt));
+    let status = trace(rt.alloc(), &texts, &asked, &mut out);
+    let flushed = out.flush();
+    drop(out.into_sink());
+    close(status, flushed)
+}
+
+/// Whether the word of a path from which on visits are shown is one, where there is such a word.
+fn has_from(words: TraceWords) -> bool {
+    match words.from {
+        Some(word) => is_path(word),
+        None => true,
+    }
+}
+
 /// Tells why there is no plan of these files. The command line lets no number beyond the limits through.
 fn tell_why(rt: &HostRuntime, names: Names, asked: Limits) -> Status {
     let Ok(texts) = Texts::read(rt.alloc(), &mut HostFolder::new(rt), names) else {
@@ -127,6 +187,23 @@ fn tell_why(rt: &HostRuntime, names: Names, asked: Limits) -> Status {
         ends: asked.ends,
     };
     let status = why(rt.alloc(), &texts, limits, &mut out);
+    let flushed = out.flush();
+    drop(out.into_sink());
+    close(status, flushed)
+}
+
+/// Tells where a plan stops to be derived. The command line lets no number beyond the limits through.
+fn tell_derive(rt: &HostRuntime, words: DeriveWords) -> Status {
+    let Ok(texts) = Texts::read(rt.alloc(), &mut HostFolder::new(rt), words.names) else {
+        return Status::NoMemory;
+    };
+    let mut out = Paged::<Brand, _>::new(HostSink::new(rt));
+    let asked = AskedDerive {
+        depth: words.asked.depth.min(GREATEST_DEPTH),
+        nest: words.asked.nest.min(MOST_LEVELS),
+        pair: words.asked.pair,
+    };
+    let status = derive(rt.alloc(), &texts, asked, &mut out);
     let flushed = out.flush();
     drop(out.into_sink());
     close(status, flushed)
@@ -149,7 +226,10 @@ fn run(rt: &HostRuntime, words: &[String]) -> Result<u8, Error> {
         Some(Asked::Lint(names)) => lint_files(rt, names),
         Some(Asked::Tree(words)) if !has_path(words.plan) => return Err(no_path(rt.alloc())?),
         Some(Asked::Tree(words)) => tree_of_files(rt, words),
+        Some(Asked::Trace(words)) if !has_from(words) => return Err(no_path(rt.alloc())?),
+        Some(Asked::Trace(words)) => trace_of_files(rt, words),
         Some(Asked::Why { names, limits }) => tell_why(rt, names, limits),
+        Some(Asked::Derive(words)) => tell_derive(rt, words),
         None => Status::Usage,
     };
     Ok(status.code())

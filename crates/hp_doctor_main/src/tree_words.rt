@@ -27,6 +27,8 @@ pub struct TreeWords<'a> {
     pub plan: PlanWords<'a>,
     /// A graph is wanted in place of lines.
     pub dot: bool,
+    /// What each step changes is wanted behind its line.
+    pub changes: bool,
 }
 
 pub fn tree_command<'a>(alloc: Global) -> Result<Command<'a>, AllocError> {
@@ -52,7 +54,8 @@ pub fn tree_command<'a>(alloc: Global) -> Result<Command<'a>, AllocError> {
         .arg(plan_option(alloc)?)?
         .arg(nest_option(alloc))?
         .arg(pair_option(alloc))?
-        .arg(dot_option(alloc))
+        .arg(dot_option(alloc))?
+        .arg(changes_option(alloc)?)
 }
 
 fn plan_option<'a>(alloc: Global) -> Result<Arg<'a>, AllocError> {
@@ -64,7 +67,7 @@ fn plan_option<'a>(alloc: Global) -> Result<Arg<'a>, AllocError> {
         .conflicts_with("PATH")
 }
 
-fn nest_option<'a>(alloc: Global) -> Arg<'a> {
+pub fn nest_option<'a>(alloc: Global) -> Arg<'a> {
     Arg::new(alloc, "nest")
         .long("nest")
         .value_name("N")
@@ -72,7 +75,7 @@ fn nest_option<'a>(alloc: Global) -> Arg<'a> {
         .help("How deep axioms may call one another, 64 where it isn't given")
 }
 
-fn pair_option<'a>(alloc: Global) -> Arg<'a> {
+pub fn pair_option<'a>(alloc: Global) -> Arg<'a> {
     Arg::new(alloc, "pair")
         .long("pair")
         .value_name("I")
@@ -85,6 +88,14 @@ fn dot_option<'a>(alloc: Global) -> Arg<'a> {
         .long("dot")
         .action(ArgAction::SetTrue)
         .help("Writes a graph for Graphviz")
+}
+
+fn changes_option<'a>(alloc: Global) -> Result<Arg<'a>, AllocError> {
+    Arg::new(alloc, "changes")
+        .long("changes")
+        .action(ArgAction::SetTrue)
+        .help("Tells what each step takes from the state, adds, protects and frees")
+        .conflicts_with("dot")
 }
 
 /// What the words of `tree` ask for, behind the names of the files.
@@ -104,5 +115,6 @@ pub fn asked_tree<'a>(words: &ArgMatches<'a>, names: Names<'a>) -> Option<TreeWo
         pair,
         plan,
         dot: words.get_flag("dot"),
+        changes: words.get_flag("changes"),
     })
 }

@@ -1,3 +1,4 @@
+pub mod ChangeSteps
 pub mod DeedSteps
 pub mod TellingSteps
 pub mod TextSteps

@@ -11,6 +11,7 @@ use Rattle.hp_syntax.specs.Numbered.{IsNumberedDomain}
 use Rattle.hp_syntax.specs.Syntax.{Domain, Pair, Problem, Rule}
 use Rattle.hp_syntax.specs.TextForms.{IsRead}
 use Rattle.hp_doctor.specs.Accepting.{Has, IsAccepted}
+use Rattle.hp_changes.specs.Changes.{Changed}
 use Rattle.hp_code.specs.CodeViews.{CodeView, or_empty, rules_in, rules_of}
 use Rattle.hp_derivation.specs.declared.roll.Stood.{Stood}
 use Rattle.hp_derivation.specs.Derived.{derived}
@@ -53,17 +54,20 @@ pair_ground law t d p a (suc i) pair e =
     all_there IsGroundPair p.pairs i pair (has_ground law t.problem.text d p a.problem a.checked) e
 
 -- what is drawn of a plan is what its deeds have
-pub plan_is : (f : File) (rules : List Rule) (pair : Pair) (ds : List Deed) (dot : Bool) (steps : List ℕ)
-    (tasks : List Stood) (order : List ℕ) (o : Option (List Stood × List ℕ)) → steps ≡ steps_from rules 0 ds
-    → tasks ≡ (parts_or_none o).0 → order ≡ (parts_or_none o).1 → o ≡ derived rules pair ds
-    → drawing_text f (record { rules = rules; deeds = ds; steps = steps; tasks = tasks; dot = dot }) order
-    ≡ plan_text f rules pair ds dot
-plan_is f rules pair ds dot steps tasks order o s t r e =
+pub plan_is : (f : File) (rules : List Rule) (pair : Pair) (ds : List Deed) (cs : List Changed) (dot : Bool)
+    (steps : List ℕ) (tasks : List Stood) (order : List ℕ) (o : Option (List Stood × List ℕ))
+    → steps ≡ steps_from rules 0 ds → tasks ≡ (parts_or_none o).0 → order ≡ (parts_or_none o).1
+    → o ≡ derived rules pair ds
+    → drawing_text f
+    (record { rules = rules; deeds = ds; steps = steps; changes = cs; tasks = tasks; dot = dot }) order
+    ≡ plan_text f rules pair ds cs dot
+plan_is f rules pair ds cs dot steps tasks order o s t r e =
     let text : List ℕ → List Stood → List ℕ → List ℕ =
-    λ ss ts os. drawing_text f (record { rules = rules; deeds = ds; steps = ss; tasks = ts; dot = dot }) os in
+    λ ss ts os. drawing_text f
+    (record { rules = rules; deeds = ds; steps = ss; changes = cs; tasks = ts; dot = dot }) os in
     ap (λ ss. text ss tasks order) s
     ∙ (ap₂ (λ ts os. text (steps_from rules 0 ds) ts os) t r
-    ∙ ap (λ p. parts_text f rules ds dot (parts_or_none p)) e)
+    ∙ ap (λ p. parts_text f rules ds cs dot (parts_or_none p)) e)
 
 -- a code whose rules read back as these has them
 pub rules_known : (c : CodeView) (rules : List Rule) → rules_of c ≡ Some rules → rules_in c ≡ rules

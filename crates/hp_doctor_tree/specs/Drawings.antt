@@ -1,7 +1,9 @@
 -- What is drawn of a plan: a line for each task, or a graph.
 use Rattle.std.specs.Prelude.{ℕ, Bool, cond, List, [], ◌++◌, flat_map, replicate, Option, Some, None, map, slice_get, codes, decimal}
+use Rattle.hp_changes.specs.Changes.{Changed, changed_of}
 use Rattle.hp_derivation.specs.declared.roll.Stood.{Stood}
 use Rattle.hp_syntax.specs.Syntax.{Rule, Does, Refines, Concludes}
+use Rattle.hp_syntax.specs.Terms.{Term}
 use Rattle.hp_syntax.specs.TermTexts.{term_text}
 use Rattle.hp_syntax.specs.Views.{domain_of}
 use Rattle.hp_way.specs.Ways.{Deed, deed_of}
@@ -10,12 +12,13 @@ use Rattle.hp_doctor_tree.specs.declared.drawing.Drawing as drawn
 use Rattle.hp_doctor_tree.specs.Deeds.{branch_words, step_words, sum_words}
 use Rattle.hp_doctor_tree.specs.Words.{escaped, marked, place_text}
 
--- the rules of a domain, the deeds that lead to a plan, how many steps there are up to each, all tasks by their
--- numbers, and whether a graph is wanted
+-- the rules of a domain, the deeds that lead to a plan, how many steps there are up to each, what each changes where
+-- that is asked for, all tasks by their numbers, and whether a graph is wanted
 pub record Drawing : Type 0 where
   pub rules : List Rule
   pub deeds : List Deed
   pub steps : List ℕ
+  pub changes : List Changed
   pub tasks : List Stood
   pub dot : Bool
 
@@ -24,6 +27,7 @@ drawing_of w = record {
   rules = (domain_of w.domain.now).rules;
   deeds = map deed_of w.deeds.now;
   steps = w.steps.now;
+  changes = map changed_of w.changes.now;
   tasks = w.tasks.now;
   dot = w.dot;
 }
@@ -48,9 +52,35 @@ abbrev pub done_line : File → Drawing → Option ℕ → List ℕ
 done_line f w None = []
 done_line f w (Some k) = deed_line f w k (slice_get w.deeds k)
 
--- two blanks for each level, and the task
+-- two blanks for each level
+abbrev pub margin : ℕ → List ℕ
+margin level = replicate level 32 ++ replicate level 32
+
+-- a term behind a mark, two blanks deeper than its step
+abbrev pub change_line : ℕ → List ℕ → Term → List ℕ
+change_line level mark t = margin level ++ codes "  " ++ mark ++ term_text t ++ codes "\n"
+
+abbrev pub change_lines : ℕ → List ℕ → List Term → List ℕ
+change_lines level mark ts = flat_map (change_line level mark) ts
+
+-- what a step takes, adds, protects and frees, each on a line of its own
+abbrev pub changed_text : ℕ → Changed → List ℕ
+changed_text level c =
+    change_lines level (codes "- ") c.taken ++ change_lines level (codes "+ ") c.added
+    ++ change_lines level (codes "protects ") c.protected ++ change_lines level (codes "frees ") c.freed
+
+abbrev pub changed_lines : ℕ → Option Changed → List ℕ
+changed_lines level None = []
+changed_lines level (Some c) = changed_text level c
+
+-- what a deed changes, by its number
+abbrev pub deed_changes : List Changed → ℕ → Option ℕ → List ℕ
+deed_changes cs level None = []
+deed_changes cs level (Some k) = changed_lines level (slice_get cs k)
+
+-- the margin, the task, and what it changes
 abbrev pub line_text : File → Drawing → Stood → List ℕ
-line_text f w s = replicate s.level 32 ++ replicate s.level 32 ++ done_line f w s.deed ++ codes "\n"
+line_text f w s = margin s.level ++ done_line f w s.deed ++ codes "\n" ++ deed_changes w.changes s.level s.deed
 
 -- ---- a node of a graph
 

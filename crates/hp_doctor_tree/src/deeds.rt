@@ -19,7 +19,7 @@ pub(crate) fn deed_at(deeds: &[Deed], number: usize) -> Option<&Deed>
 }
 
 /// The rule of a number, if there is one.
-pub(crate) fn rule_at(domain: &Domain, number: usize) -> Option<&Rule>
+pub fn rule_at(domain: &Domain, number: usize) -> Option<&Rule>
     ensures { option_map (λ r. rule_of r.now) result ≡ slice_get (domain_of domain.now).rules number }
 {
     domain.rules.get(number)

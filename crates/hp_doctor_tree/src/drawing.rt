@@ -11,9 +11,11 @@ ghost use Rattle.hp_doctor_tree.specs.Drawings.{closing, deed_label, deed_line, 
 ghost use Rattle.hp_doctor_tree.specs.Drawings.{line_text, node_text, opening, rule_label, rule_line};
 ghost use Rattle.hp_doctor_tree.specs.Words.{escaped, marked, place_text};
 
+use crate::changes::{push_done_changes, push_margin};
 use crate::deeds::{deed_at, push_branch, push_step, push_sum, rule_at};
 use crate::grounds::push_ground;
-use crate::words::{push_blanks, push_escaped, push_marked, push_number, push_place};
+use crate::words::{push_escaped, push_marked, push_number, push_place};
+use hp_changes::Changed;
 use hp_derivation::Stood;
 use hp_doctor::Text;
 use hp_syntax::{Domain, Ground, Method, Operator, Rule};
@@ -28,6 +30,8 @@ pub(crate) struct Drawing<'a> {
     pub(crate) deeds: &'a [Deed],
     /// How many steps there are up to each deed.
     pub(crate) steps: &'a [usize],
+    /// What each deed changes, where that is asked for.
+    pub(crate) changes: &'a [Changed],
     /// All tasks by their numbers.
     pub(crate) tasks: &'a [Stood],
     /// A graph is drawn, and no lines.
@@ -102,10 +106,10 @@ fn push_line(
     ensures { OnOk result (out.new.items
         ≡ out.old.items ++ line_text (file_of file.now) (drawing_of drawing.now) task) }
 {
-    push_blanks(out, task.level)?;
-    push_blanks(out, task.level)?;
+    push_margin(out, task.level)?;
     push_done_line(out, file, drawing, task.deed)?;
-    out.extend_from_slice(b"\n")
+    out.extend_from_slice(b"\n")?;
+    push_done_changes(out, drawing.changes, task.level, task.deed)
 }
 
 fn push_done_line(
@@ -195,7 +199,7 @@ fn push_step_line(
     push_place(out, file, operator.head.span.from)
 }
 
-fn push_branch_line(
+pub fn push_branch_line(
     out: &mut Vec<u8>,
     file: &Text,
     method: &Method,

@@ -11,7 +11,7 @@ use std::alloc::AllocError;
 
 /// A term as the planner prints it.
 #[cycle(ground)]
-pub(crate) fn push_ground(out: &mut Vec<u8>, term: &Ground) -> Result<(), AllocError>
+pub fn push_ground(out: &mut Vec<u8>, term: &Ground) -> Result<(), AllocError>
     ensures { OnOk result (out.new.items ≡ out.old.items ++ term_text (ground_of term.now)) }
 {
     match term {

@@ -1,6 +1,9 @@
 //! Telling how a plan came about.
 
-ghost use Rattle.std.specs.Prelude.{◌≡◌, ◌≤◌, ◌++◌, None, IfOk, OnOk, IfErr, codes, decimal, map, option_map};
+ghost use Rattle.std.specs.Prelude.{◌≡◌, ◌≤◌, ◌<◌, ◌-◌, ◌^◌, ◌++◌, None, IfOk, OnOk, IfErr, codes, decimal, map, option_map};
+ghost use Rattle.hp_changes.specs.Changes.{changed_of};
+ghost use Rattle.hp_changes.specs.Changing.{AreAlong};
+ghost use Rattle.std.specs.List.{All};
 ghost use Rattle.hp_code.specs.CodeViews.{rules_in};
 ghost use Rattle.hp_code.specs.Codes.{code_of};
 ghost use Rattle.hp_doctor.specs.Accepting.{IsAccepted};
@@ -16,13 +19,14 @@ ghost use Rattle.hp_syntax.specs.PlaceTexts.{at_span};
 ghost use Rattle.hp_syntax.specs.Report.{fault_word};
 ghost use Rattle.hp_syntax.specs.Views.{domain_of, pair_of, problem_of};
 ghost use Rattle.hp_syntax.specs.Walk.{root};
-ghost use Rattle.hp_way.specs.Ways.{deed_of};
+ghost use Rattle.hp_way.specs.Ways.{IsWay, deed_of, tree_of};
 ghost use Rattle.hp_derivation.specs.Goings.{parts_of};
-ghost use Rattle.hp_doctor_tree.specs.TreeTold.{HasSmallNumbers, IsTreeOf, IsWantedWay, TellsOf, TellsTree, absent_text, fault_text, pair_at, parts_or_none, plan_text, way_answer};
+ghost use Rattle.hp_doctor_tree.specs.TreeTold.{HasChanges, HasSmallNumbers, IsPathOfWay, IsTreeOf, IsWantedWay, TellsOf, TellsTree, absent_text, fault_text, pair_at, parts_or_none, plan_text, way_answer};
 
 use crate::deeds::steps;
 use crate::drawing::Drawing;
 use crate::telling::tell_drawing;
+use hp_changes::Changed;
 use hp_code::laws::compiled_rules_are_a_code;
 use hp_code::{Code, lower};
 use hp_derivation::{Derivation, Stood, derivation_of};
@@ -35,7 +39,7 @@ use hp_laws::pair_laws::{accepted_domains_are_checked, accepted_pairs_are_ground
 use hp_out::Refusal;
 use hp_syntax::laws::forms_are_numbered;
 use hp_syntax::{Domain, FaultKind, Pair, RunFault, Status};
-use hp_way::{Deed, Way, way_to, way_to_plan};
+use hp_way::{Deed, Numbered, Way, changes_on_the_way, numbered_way, way_to};
 use itoa::Buffer;
 use std::alloc::{AllocError, Global};
 
@@ -60,9 +64,20 @@ pub struct Asked<'a> {
     pub wanted: Wanted<'a>,
     /// A graph is wanted in place of lines.
     pub dot: bool,
+    /// What each step changes is wanted behind its line.
+    pub changes: bool,
 }
 
 // ---- a plan
+
+/// A plan that is told: the deeds that lead to it, what each of them changes where that is asked for, and whether it is
+/// drawn as a graph.
+#[derive(Clone, Copy)]
+struct Plan<'a> {
+    deeds: &'a [Deed],
+    changes: &'a [Changed],
+    dot: bool,
+}
 
 /// All tasks by their numbers, and the order in which they are read; none where nothing was derived.
 fn parts(derivation: &Option<Derivation>) -> (&[Stood], &[usize])
@@ -81,30 +96,31 @@ fn tell_plan<K: Sink>(
     file: &Text,
     domain: &Domain,
     pair: &Pair,
-    deeds: &[Deed],
-    dot: bool,
+    plan: &Plan,
     out: &mut K,
 ) -> Result<(), Halt>
     ensures ok { OnOk result (Wrote (plan_text (file_of file.now) (domain_of domain.now).rules (pair_of pair.now)
-        (map deed_of deeds.now) dot) (K.bytes out.old) (K.bytes out.new)) }
+        (map deed_of plan.now.deeds.now) (map changed_of plan.now.changes.now) plan.now.dot)
+        (K.bytes out.old) (K.bytes out.new)) }
     ensures err { IfErr result (λ h. Halts h (plan_text (file_of file.now) (domain_of domain.now).rules
-        (pair_of pair.now) (map deed_of deeds.now) dot)
+        (pair_of pair.now) (map deed_of plan.now.deeds.now) (map changed_of plan.now.changes.now) plan.now.dot)
         (sink_run (K.faults out.old) (K.faults out.new) (K.bytes out.old) (K.bytes out.new))) }
     ensures later { K.faults out.old ≤ K.faults out.new }
 {
-    let Ok(counted) = steps(alloc, domain, deeds) else {
+    let Ok(counted) = steps(alloc, domain, plan.deeds) else {
         return Err(Halt::NoMemory);
     };
-    let Ok(derived) = derivation_of(alloc, domain, pair, deeds) else {
+    let Ok(derived) = derivation_of(alloc, domain, pair, plan.deeds) else {
         return Err(Halt::NoMemory);
     };
     let (tasks, order) = parts(&derived);
     let drawing = Drawing {
         domain,
-        deeds,
+        deeds: plan.deeds,
         steps: counted.as_slice(),
+        changes: plan.changes,
         tasks,
-        dot,
+        dot: plan.dot,
     };
     tell_drawing(alloc, file, &drawing, order, out)
 }
@@ -179,7 +195,7 @@ fn push_fault_line(out: &mut Vec<u8>, fault: RunFault) -> Result<(), AllocError>
 }
 
 /// A fault, and what it means.
-fn push_fault(out: &mut Vec<u8>, files: &Texts, fault: RunFault) -> Result<(), AllocError>
+pub fn push_fault(out: &mut Vec<u8>, files: &Texts, fault: RunFault) -> Result<(), AllocError>
     ensures { OnOk result (out.new.items ≡ out.old.items ++ fault_text (texts_of files.now) fault) }
 {
     push_fault_line(out, fault)?;
@@ -214,19 +230,18 @@ fn answer_plan<K: Sink>(
     file: &Text,
     domain: &Domain,
     pair: &Pair,
-    deeds: &[Deed],
-    dot: bool,
+    plan: &Plan,
     out: &mut K,
 ) -> Status
     ensures tells { Tells (
       plan_text (file_of file.now) (domain_of domain.now).rules (pair_of pair.now)
-          (map deed_of deeds.now) dot,
+          (map deed_of plan.now.deeds.now) (map changed_of plan.now.changes.now) plan.now.dot,
       Status.Done,
     ) result
         (sink_run (K.faults out.old) (K.faults out.new) (K.bytes out.old) (K.bytes out.new)) }
     ensures later { K.faults out.old ≤ K.faults out.new }
 {
-    let told = tell_plan(alloc, file, domain, pair, deeds, dot, out);
+    let told = tell_plan(alloc, file, domain, pair, plan, out);
     status_told(told, Status::Done)
 }
 
@@ -250,44 +265,157 @@ fn answer_fault<K: Sink>(alloc: Global, files: &Texts, fault: RunFault, out: &mu
     status_told(told, Status::RunFault)
 }
 
+/// The way to the plan that is asked for, and what the deeds on it change where that is asked for.
+struct Found {
+    way: Way,
+    changes: Vec<Changed>,
+}
+
+// A derived drop would do the same, but be proved anew wherever it is let go.
+impl Drop for Found {
+    fn drop(self) {
+        let Found { way, changes } = self;
+        drop(way);
+        drop(changes);
+    }
+}
+
 /// Writes where the way to the plan that is asked for leads, and answers the status.
 fn answer_way<K: Sink>(
     alloc: Global,
     files: &Texts,
     domain: &Domain,
     pair: &Pair,
-    way: &Way,
+    found: &Found,
     asked: &Asked,
     out: &mut K,
 ) -> Status
-    ensures tells { Tells (way_answer (texts_of files.now) asked.now (domain_of domain.now).rules (pair_of pair.now) way.now)
+    ensures tells { Tells (way_answer (texts_of files.now) asked.now (domain_of domain.now).rules (pair_of pair.now)
+        found.now.way (map changed_of found.now.changes.items))
         result (sink_run (K.faults out.old) (K.faults out.new) (K.bytes out.old) (K.bytes out.new)) }
     ensures later { K.faults out.old ≤ K.faults out.new }
 {
-    match way {
+    match &found.way {
         Way::Plan(deeds) => {
-            let deeds = deeds.as_slice();
-            answer_plan(alloc, &files.domain, domain, pair, deeds, asked.dot, out)
+            let plan = Plan {
+                deeds: deeds.as_slice(),
+                changes: found.changes.as_slice(),
+                dot: asked.dot,
+            };
+            answer_plan(alloc, &files.domain, domain, pair, &plan, out)
         }
         Way::Absent => answer_absent(alloc, asked, out),
         Way::Fault(fault) => answer_fault(alloc, files, *fault, out),
     }
 }
 
-/// The way to the plan that is asked for.
-fn wanted_way(alloc: Global, code: &Code, pair: &Pair, asked: &Asked) -> Result<Way, AllocError>
+/// The way to the plan at a path, and the path.
+fn way_at(
+    alloc: Global,
+    code: &Code,
+    pair: &Pair,
+    asked: &Asked,
+    path: &[u64],
+) -> Result<Numbered, AllocError>
+    requires pair { IsGroundPair (pair_of pair.now) }
+    requires depth { asked.now.depth ≤ GREATEST_DEPTH }
+    requires nest { asked.now.nest ≤ MOST_LEVELS }
+    requires small { All (λ i. i < 2 ^ 64 - 1) path.now }
+    ensures way { IfOk result (λ w. IsWay (rules_in (code_of code.now)) asked.now.nest
+        (root (pair_of pair.now) asked.now.depth) path.now w.way) }
+    ensures path { IfOk result (λ w. w.path.items ≡ path.now) }
+{
+    let own = Vec::from_slice(alloc, path)?;
+    let way = way_to(alloc, code, pair, asked.depth, asked.nest, path)?;
+    Ok(Numbered { way, path: own })
+}
+
+/// The way to the plan that is asked for, and its path.
+fn wanted_way(
+    alloc: Global,
+    code: &Code,
+    pair: &Pair,
+    asked: &Asked,
+) -> Result<Numbered, AllocError>
     requires pair { IsGroundPair (pair_of pair.now) }
     requires depth { asked.now.depth ≤ GREATEST_DEPTH }
     requires nest { asked.now.nest ≤ MOST_LEVELS }
     requires small { HasSmallNumbers asked.now.wanted }
-    ensures { IfOk result (λ w. IsWantedWay (rules_in (code_of code.now)) asked.now.nest
-        (root (pair_of pair.now) asked.now.depth) asked.now.wanted w) }
+    ensures way { IfOk result (λ w. IsWantedWay (rules_in (code_of code.now)) asked.now.nest
+        (root (pair_of pair.now) asked.now.depth) asked.now.wanted w.way) }
+    ensures path { IfOk result (λ w. IsPathOfWay (rules_in (code_of code.now)) asked.now.nest
+        (root (pair_of pair.now) asked.now.depth) w.way w.path.items) }
 {
-    let (depth, nest) = (asked.depth, asked.nest);
     match asked.wanted {
-        Wanted::At(path) => way_to(alloc, code, pair, depth, nest, path),
-        Wanted::Nth(number) => way_to_plan(alloc, code, pair, depth, nest, number),
+        Wanted::At(path) => way_at(alloc, code, pair, asked, path),
+        Wanted::Nth(number) => { numbered_way(alloc, code, pair, asked.depth, asked.nest, number) }
     }
+}
+
+/// What the decompositions on the way to a path change.
+fn changes_to(
+    alloc: Global,
+    code: &Code,
+    pair: &Pair,
+    asked: &Asked,
+    path: &[u64],
+) -> Result<Vec<Changed>, AllocError>
+    requires pair { IsGroundPair (pair_of pair.now) }
+    requires depth { asked.now.depth ≤ GREATEST_DEPTH }
+    requires nest { asked.now.nest ≤ MOST_LEVELS }
+    ensures { IfOk result (λ v. AreAlong (tree_of (rules_in (code_of code.now)) asked.now.nest
+        (root (pair_of pair.now) asked.now.depth)) path.now v.items) }
+{
+    match changes_on_the_way(alloc, code, pair, asked.depth, asked.nest, path)? {
+        Some(changes) => Ok(changes),
+        // A node has 2^64 - 1 decompositions or more, and nothing could hold its children.
+        None => Err(AllocError),
+    }
+}
+
+/// What the deeds of a way change, where that is asked for.
+fn wanted_changes(
+    alloc: Global,
+    code: &Code,
+    pair: &Pair,
+    asked: &Asked,
+    found: &Numbered,
+) -> Result<Vec<Changed>, AllocError>
+    requires pair { IsGroundPair (pair_of pair.now) }
+    requires depth { asked.now.depth ≤ GREATEST_DEPTH }
+    requires nest { asked.now.nest ≤ MOST_LEVELS }
+    requires path { IsPathOfWay (rules_in (code_of code.now)) asked.now.nest
+        (root (pair_of pair.now) asked.now.depth) found.now.way found.now.path.items }
+    ensures { IfOk result (λ v. HasChanges (rules_in (code_of code.now)) asked.now.nest
+        (root (pair_of pair.now) asked.now.depth) asked.now.changes found.now.way (map changed_of v.items)) }
+{
+    if !asked.changes {
+        return Ok(Vec::new(alloc));
+    }
+    match &found.way {
+        Way::Plan(_) => changes_to(alloc, code, pair, asked, found.path.as_slice()),
+        Way::Absent => Ok(Vec::new(alloc)),
+        Way::Fault(_) => Ok(Vec::new(alloc)),
+    }
+}
+
+/// The way to the plan that is asked for, and what the deeds on it change where that is asked for.
+fn find(alloc: Global, code: &Code, pair: &Pair, asked: &Asked) -> Result<Found, AllocError>
+    requires pair { IsGroundPair (pair_of pair.now) }
+    requires depth { asked.now.depth ≤ GREATEST_DEPTH }
+    requires nest { asked.now.nest ≤ MOST_LEVELS }
+    requires small { HasSmallNumbers asked.now.wanted }
+    ensures way { IfOk result (λ f. IsWantedWay (rules_in (code_of code.now)) asked.now.nest
+        (root (pair_of pair.now) asked.now.depth) asked.now.wanted f.way) }
+    ensures changes { IfOk result (λ f. HasChanges (rules_in (code_of code.now)) asked.now.nest
+        (root (pair_of pair.now) asked.now.depth) asked.now.changes f.way (map changed_of f.changes.items)) }
+{
+    let found = wanted_way(alloc, code, pair, asked)?;
+    let changes = wanted_changes(alloc, code, pair, asked, &found)?;
+    Ok(Found {
+        way: found.into_way(),
+        changes,
+    })
 }
 
 /// Goes to the plan of a pair that is asked for, and writes what stands there.
@@ -314,8 +442,8 @@ fn answer_pair<K: Sink>(
     let Ok(code) = lower(alloc, domain) else {
         return Status::NoMemory;
     };
-    match wanted_way(alloc, &code, pair, asked) {
-        Ok(way) => answer_way(alloc, files, domain, pair, &way, asked, out),
+    match find(alloc, &code, pair, asked) {
+        Ok(found) => answer_way(alloc, files, domain, pair, &found, asked, out),
         Err(_) => Status::NoMemory,
     }
 }
@@ -323,7 +451,7 @@ fn answer_pair<K: Sink>(
 // ---- the files
 
 /// The pair of a number, from 1 on, if there is one.
-fn pair_at(pairs: &[Pair], number: u64) -> Option<&Pair>
+pub fn pair_at(pairs: &[Pair], number: u64) -> Option<&Pair>
     ensures { option_map (λ p. pair_of p.now) result ≡ pair_at number (map pair_of pairs.now) }
 {
     if number == 0 {

@@ -12,7 +12,7 @@ use itoa::Buffer;
 use std::alloc::AllocError;
 
 /// So many blanks.
-pub(crate) fn push_blanks(out: &mut Vec<u8>, count: usize) -> Result<(), AllocError>
+pub fn push_blanks(out: &mut Vec<u8>, count: usize) -> Result<(), AllocError>
     ensures { OnOk result (out.new.items ≡ out.old.items ++ replicate count 32) }
 {
     for _ in 0..count {
@@ -22,7 +22,7 @@ pub(crate) fn push_blanks(out: &mut Vec<u8>, count: usize) -> Result<(), AllocEr
 }
 
 /// A number in decimal.
-pub(crate) fn push_number(out: &mut Vec<u8>, number: usize) -> Result<(), AllocError>
+pub fn push_number(out: &mut Vec<u8>, number: usize) -> Result<(), AllocError>
     ensures { OnOk result (out.new.items ≡ out.old.items ++ decimal number) }
 {
     let mut buffer = Buffer::new();
@@ -74,7 +74,7 @@ fn push_escaped_byte(out: &mut Vec<u8>, byte: u8) -> Result<(), AllocError>
 }
 
 /// Where an offset of a file is: its name, and the line and the column where its text is there.
-pub(crate) fn push_place(out: &mut Vec<u8>, file: &Text, offset: u32) -> Result<(), AllocError>
+pub fn push_place(out: &mut Vec<u8>, file: &Text, offset: u32) -> Result<(), AllocError>
     ensures { OnOk result (out.new.items ≡ out.old.items ++ place_text (file_of file.now) offset) }
 {
     out.extend_from_slice(file.name)?;

@@ -1,6 +1,8 @@
 mod BesideSteps
+mod FilledSteps
 mod FurtherSteps
+mod HeadSteps
 mod PairSteps
-mod ReasonSteps
+pub mod ReasonSteps
 mod RecurSteps
 mod StepSteps

@@ -1,6 +1,6 @@
 -- A walk by the code of a domain is one of the domain's tree.
 use Rattle.std.proofs.Common.{◌≡◌, ◌≤◌, ℕ, true, false, List, [], length, Option, Some, None, refl, sym, ap, ◌∙◌, subst, cond}
-use Rattle.std.specs.Prelude.{Contains, MatchOption, option_map}
+use Rattle.std.specs.Prelude.{Contains, MatchOption, option_map, pos}
 use Rattle.std.specs.List.{All}
 use Rattle.std.proofs.lemmas.List.Elements.{All-weaker}
 use Rattle.std.proofs.lemmas.Option.{IfSome_then}
@@ -12,6 +12,7 @@ use Rattle.hp_dead_ends.specs.Arriving.{HasArrived, HasHeldCuts, IsHeld, is_smal
 use Rattle.hp_dead_ends.specs.DeadEnds.{dead_ends, until_plan, with_root}
 use Rattle.hp_dead_ends.specs.Finding.{IsFound, IsFoundIn, IsFurthest, items_of}
 use Rattle.hp_net.specs.Standings.{Standing, Tree, node_reached, tree_visits}
+use Rattle.hp_search.specs.Planned.{with_depth}
 use Rattle.hp_syntax.specs.Syntax.{Pair, Rule}
 use Rattle.hp_syntax.specs.Walk.{Node, Visit, children, node_at, root, visits}
 use Rattle.hp_doctor_why.specs.Reasons.{IsCutAt, lowered_tree, reason_of}
@@ -144,3 +145,14 @@ cut_there t s at path c is there h =
 pub root_depth : (pair : Pair) (depth : ℕ) → (root pair depth).depth ≡ depth
 unfolding root
 root_depth pair depth = refl
+
+pub root_cost : (pair : Pair) (depth : ℕ) → (root pair depth).cost ≡ pos 0
+unfolding root
+root_cost pair depth = refl
+
+-- a tree from the same depth on is the same tree
+pub same_depth : (rules : List Rule) (nest : ℕ) (pair : Pair) (depth : ℕ)
+    → with_depth depth (record { rules = rules; nest = nest; root = root pair depth })
+    ≡ record { rules = rules; nest = nest; root = root pair depth }
+unfolding root
+same_depth rules nest pair depth = refl

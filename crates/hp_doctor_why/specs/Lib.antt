@@ -1,4 +1,6 @@
 pub mod Beside
+pub mod Filled
+pub mod Heads
 pub mod Queries
 pub mod Reasons
 pub mod Said

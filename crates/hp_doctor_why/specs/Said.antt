@@ -8,6 +8,7 @@ use Rattle.hp_syntax.specs.Report.{path_text}
 use Rattle.hp_syntax.specs.Syntax.{Domain, Problem, Rule, Does, Refines, Concludes}
 use Rattle.hp_syntax.specs.Terms.{Term}
 use Rattle.hp_syntax.specs.TermTexts.{term_text}
+use Rattle.hp_syntax.specs.Values.{Bindings}
 use Rattle.hp_lint.specs.declared.report.Concern.{Concern}
 use Rattle.hp_lint.specs.declared.report.Concern.TheVariants as concerns
 use Rattle.hp_lint.specs.Branches.{expression_span, precondition_span}
@@ -25,11 +26,13 @@ use Rattle.hp_unmet.specs.Conjunctions.{part_at}
 use Rattle.hp_unmet.specs.declared.unmet.Unmet.{Unmet}
 use Rattle.hp_unmet.specs.declared.unmet.Unmet.TheVariants as unmets
 use Rattle.hp_obstacles.specs.Facts.{Facts}
-use Rattle.hp_obstacles.specs.Obstacles.{Obstacle, Stuck, name_unmet, task_name}
+use Rattle.hp_obstacles.specs.Obstacles.{Obstacle, Stuck, is_negated_at, name_unmet, task_name}
 use Rattle.hp_doctor_why.specs.declared.ends.TheConstants.{STEPS_SHOWN}
 use Rattle.hp_doctor_why.specs.declared.cuts.TheConstants.{TASKS_SHOWN}
 use Rattle.hp_doctor_why.specs.declared.reasons.Why.{Why}
 use Rattle.hp_doctor_why.specs.declared.phrases.TheConstants as says
+use Rattle.hp_doctor_why.specs.Filled.{filled_at, protected_text}
+use Rattle.hp_doctor_why.specs.Heads.{mismatch_at}
 use Rattle.hp_doctor_why.specs.Whys.{Cut, Reason, cut_of, kept}
 
 -- ---- places
@@ -79,46 +82,58 @@ abbrev pub facts_text : Option Facts → List ℕ
 facts_text None = []
 facts_text (Some f) = facts_line f
 
--- an axiom that concludes atoms of a name, at its head
-abbrev pub axiom_text : Texts → List ℕ → Rule → List ℕ
-axiom_text t name (Does o) = []
-axiom_text t name (Refines m) = []
-axiom_text t name (Concludes x) =
-    cond (bytes_eq x.head.name name) (told_in (Some t.domain) (Some x.head.span) says.NOT_CONCLUDED.now) []
+-- a sentence at the head of an axiom that concludes atoms of a name
+abbrev pub axiom_text : Texts → List ℕ → List ℕ → Rule → List ℕ
+axiom_text t sentence name (Does o) = []
+axiom_text t sentence name (Refines m) = []
+axiom_text t sentence name (Concludes x) =
+    cond (bytes_eq x.head.name name) (told_in (Some t.domain) (Some x.head.span) sentence) []
 
--- the axioms that conclude atoms of the name for which a part asks, where it asks for an atom
-abbrev pub axioms_text : Texts → Domain → Option (List ℕ) → List ℕ
-axioms_text t d None = []
-axioms_text t d (Some name) = flat_map (axiom_text t name) d.rules
+abbrev pub axioms_text : Texts → Domain → List ℕ → Option (List ℕ) → List ℕ
+axioms_text t d sentence None = []
+axioms_text t d sentence (Some name) = flat_map (axiom_text t sentence name) d.rules
+
+-- of an atom none is concluded that fits, and of a negation one may be
+abbrev pub axiom_sentence : Bool → List ℕ
+axiom_sentence negated = cond negated says.CONCLUDES.now says.NOT_CONCLUDED.now
+
+-- the axioms that conclude atoms of the name for which the part at a place asks, or for whose negation
+abbrev pub axioms_at : Texts → Domain → ℕ → ℕ → ℕ → List ℕ
+axioms_at t d rule branch place =
+    axioms_text t d (axiom_sentence (is_negated_at d.rules rule branch place))
+    (name_unmet d.rules rule branch (unmets.Part place))
 
 -- that nothing satisfies the part at a place, of the first part without a word of those before it
 abbrev pub part_sentence : ℕ → List ℕ
 part_sentence place = cond (place == 0) says.FIRST_UNMET.now says.LATER_UNMET.now
 
--- what keeps an operator or a branch from doing a task, at its place in the domain; that a head doesn't match is said
--- once of a method
-abbrev pub obstacle_by : Texts → Domain → ℕ → ℕ → Option Facts → Unmet → List ℕ
-obstacle_by t d rule branch facts unmets.None = told_in (Some t.domain) (head_span_at d rule) says.PROTECTED.now
-obstacle_by t d rule branch facts unmets.Head =
-    cond (branch == 0) (told_in (Some t.domain) (head_span_at d rule) says.NO_MATCH.now) []
-obstacle_by t d rule branch facts (unmets.Part place) =
+-- what keeps an operator or a branch from doing a task, at its place in the domain, with the values that its variables
+-- have; that a head doesn't match is said once of a method
+abbrev pub obstacle_by : Texts → Domain → Term → List Term → ℕ → ℕ → Bindings → Option Facts → Unmet → List ℕ
+obstacle_by t d task guards rule branch e facts unmets.None =
+    told_in (Some t.domain) (head_span_at d rule) says.PROTECTED.now ++ protected_text d rule e guards
+obstacle_by t d task guards rule branch e facts unmets.Head = cond (branch == 0) (mismatch_at t d task rule) []
+obstacle_by t d task guards rule branch e facts (unmets.Part place) =
     told_in (Some t.domain) (part_span_at d rule branch place) (part_sentence place)
-    ++ facts_text facts ++ axioms_text t d (name_unmet d.rules rule branch (unmets.Part place))
-obstacle_by t d rule branch facts unmets.Unknown = told_in (Some t.domain) (span_at d rule branch) says.UNKNOWN.now
+    ++ filled_at d rule branch place e ++ facts_text facts
+    ++ axioms_at t d rule branch place
+obstacle_by t d task guards rule branch e facts unmets.Unknown =
+    told_in (Some t.domain) (span_at d rule branch) says.UNKNOWN.now
 
-abbrev pub obstacle_text : Texts → Domain → Obstacle → List ℕ
-obstacle_text t d o = obstacle_by t d o.rule o.branch o.facts o.unmet
+-- a task, and the atoms that are protected where it can't be done
+abbrev pub obstacle_text : Texts → Domain → Term → List Term → Obstacle → List ℕ
+obstacle_text t d task guards o = obstacle_by t d task guards o.rule o.branch o.values o.facts o.unmet
 
 -- where no operator and no method has the task's name, that is said
-abbrev pub obstacles_text : Texts → Domain → List Obstacle → List ℕ
-obstacles_text t d [] = says.NO_RULE.now
-obstacles_text t d (o ∷ os) = flat_map (obstacle_text t d) (o ∷ os)
+abbrev pub obstacles_text : Texts → Domain → Term → List Term → List Obstacle → List ℕ
+obstacles_text t d task guards [] = says.NO_RULE.now
+obstacles_text t d task guards (o ∷ os) = flat_map (obstacle_text t d task guards) (o ∷ os)
 
 abbrev pub stuck_line : Term → List ℕ
 stuck_line t = says.NOTHING_DOES.now ++ term_text t ++ codes " here\n"
 
-abbrev pub stuck_text : Texts → Domain → Stuck → List ℕ
-stuck_text t d s = stuck_line s.task ++ obstacles_text t d s.obstacles
+abbrev pub stuck_text : Texts → Domain → List Term → Stuck → List ℕ
+stuck_text t d guards s = stuck_line s.task ++ obstacles_text t d s.task guards s.obstacles
 
 -- ---- dead ends
 
@@ -133,7 +148,7 @@ abbrev pub steps_line : List Term → List ℕ
 steps_line ts = cond (length ts == 0) says.NO_STEP.now (last_line (last_steps ts))
 
 abbrev pub known_text : Texts → Domain → Reason → List ℕ
-known_text t d r = steps_line r.steps ++ flat_map (stuck_text t d) r.tasks
+known_text t d r = steps_line r.steps ++ flat_map (stuck_text t d r.guards) r.tasks
 
 abbrev pub reason_text : Texts → Domain → Option Reason → List ℕ
 reason_text t d None = says.TOO_WIDE.now

@@ -57,7 +57,8 @@ fn push_known(
         ++ plain.known_text (texts_of files.now) (domain_of domain.now) (kept reason.now)) }
 {
     push_steps(out, reason.steps.as_slice())?;
-    push_all_stuck(out, files, domain, reason.tasks.as_slice())
+    let guards = reason.guards.as_slice();
+    push_all_stuck(out, files, domain, guards, reason.tasks.as_slice())
 }
 
 fn push_reason(

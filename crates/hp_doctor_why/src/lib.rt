@@ -4,6 +4,8 @@
 mod cuts;
 mod endings;
 mod ends;
+mod filled;
+mod heads;
 mod numbers;
 mod phrases;
 mod places;
@@ -13,4 +15,8 @@ mod tasks;
 mod telling;
 mod unserved;
 
+pub use numbers::{push_number, push_path};
+pub use places::head_span_at;
+pub use reasons::{Reason, Search, reason_here};
+pub use tasks::{push_obstacle, push_term};
 pub use telling::{Limits, why};

@@ -10,6 +10,15 @@ pub const NO_MATCH: &[u8] = b"this head doesn't match the task";
 pub const PROTECTED: &[u8] =
     b"the precondition is satisfied, but a protected atom would be deleted";
 
+pub const PROTECTED_HERE: &[u8] = b"protected here:";
+
+pub const OTHER_VALUE: &[u8] = b"this head doesn't match the task, which has another value here";
+
+pub const OTHER_COUNT: &[u8] =
+    b"this head doesn't match the task, which has another number of arguments";
+
+pub const FILLED: &[u8] = b"filled in here: ";
+
 pub const UNKNOWN: &[u8] = b"the levels of axioms, or a fault, hide which part nothing satisfies";
 
 pub const NOTHING_DOES: &[u8] = b"nothing does ";
@@ -21,6 +30,8 @@ pub const NO_FACT: &[u8] = b"no fact has this name here\n";
 pub const FACTS: &[u8] = b"facts with this name here:";
 
 pub const NOT_CONCLUDED: &[u8] = b"this axiom concludes none that fits here";
+
+pub const CONCLUDES: &[u8] = b"this axiom concludes atoms of this name";
 
 pub const LEFT: &[u8] = b"left to do there:";
 

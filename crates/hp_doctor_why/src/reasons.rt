@@ -1,23 +1,24 @@
 //! Why a pair has no plan.
-ghost use Rattle.std.specs.Prelude.{◌≡◌, true, Some, IfOk, IfSome, MatchOption, map, option_map};
+ghost use Rattle.std.specs.Prelude.{◌≡◌, false, true, [], Some, IfOk, IfSome, MatchOption, OnOk, map, option_map};
 ghost use Rattle.std.specs.List.{All};
 ghost use Rattle.hp_code.specs.Codes.{code_of};
 ghost use Rattle.hp_code.specs.CodeViews.{IsCodeOf};
 ghost use Rattle.hp_dead_ends.specs.Arriving.{HasHeldCuts, IsHeld};
+ghost use Rattle.hp_dead_ends.specs.DeadEnds.{is_stopped};
 ghost use Rattle.hp_dead_ends.specs.Finding.{IsFoundIn, IsFurthest, items_of};
 ghost use Rattle.hp_net.specs.Standings.{node_reached};
 ghost use Rattle.hp_search.specs.Planned.{stands_planned, tree_planned};
 ghost use Rattle.hp_syntax.specs.GroundViews.{ground_of};
 ghost use Rattle.hp_syntax.specs.Views.{domain_of};
 ghost use Rattle.hp_way.specs.Ways.{deed_of};
-ghost use Rattle.hp_doctor_why.specs.Searches.{CanSearch, tree_searched};
+ghost use Rattle.hp_doctor_why.specs.Searches.{CanSearch, IsFresh, IsWalkOf, tree_searched};
 ghost use Rattle.hp_doctor_why.specs.Reasons.{AreTasksTo, IsCutAt, IsCutAtIf, IsWhy, lowered_tree, reason_of};
 ghost use Rattle.hp_doctor_why.specs.Whys.{cut_of, kept, reason_at};
 
 use hp_best::to_grounds;
 use hp_code::Code;
 use hp_code::laws::{compiled_rules_are_a_code, lowered_rules_have_the_tree};
-use hp_dead_ends::{DeadEnd, DeadEnds, find, go_to};
+use hp_dead_ends::{DeadEnd, DeadEnds, SearchEnd, find, go_to};
 use hp_net::Walk;
 use hp_obstacles::{Stuck, all_stuck, next_tasks};
 use hp_search::Planner;
@@ -25,17 +26,23 @@ use hp_syntax::{Domain, Ground, Pair};
 use hp_way::{Deed, deeds_of};
 use std::alloc::{AllocError, Global};
 
-/// The steps before a dead end, and what keeps the tasks there from being done.
+/// The steps before a dead end, the atoms that are protected there, and what keeps the tasks there from being done.
 pub struct Reason {
     pub steps: Vec<Ground>,
+    pub guards: Vec<Ground>,
     pub tasks: Vec<Stuck>,
 }
 
 // A derived drop would do the same, but be proved anew wherever a reason is let go.
 impl Drop for Reason {
     fn drop(self) {
-        let Reason { steps, tasks } = self;
+        let Reason {
+            steps,
+            guards,
+            tasks,
+        } = self;
         drop(steps);
+        drop(guards);
         drop(tasks);
     }
 }
@@ -88,7 +95,7 @@ pub struct Search<'a> {
 }
 
 /// The steps before the node where a walk stands, and what keeps its tasks from being done.
-fn reason_here(
+pub fn reason_here(
     alloc: Global,
     search: Search<'_>,
     walk: &mut Planner<'_>,
@@ -99,46 +106,116 @@ fn reason_here(
         (λ n. kept r ≡ reason_at (domain_of search.entry.domain.now).rules walk.old.nest n)) }
 {
     let steps = to_grounds(alloc, walk.cells(), walk.plan())?;
+    let guards = to_grounds(alloc, walk.cells(), walk.world().guards())?;
     let tasks = all_stuck(alloc, search.domain, search.code, walk)?;
-    Ok(Reason { steps, tasks })
+    Ok(Reason {
+        steps,
+        guards,
+        tasks,
+    })
+}
+
+/// A walk of the tree of a pair.
+fn new_walk<'a>(alloc: Global, search: Search<'a>) -> Result<Planner<'a>, AllocError>
+    requires search { CanSearch search }
+    ensures { IfOk result (IsFresh search.entry) }
+{
+    // Nothing runs here: the law makes known that the walk by the code is one of the domain's tree.
+    compiled_rules_are_a_code();
+    let walk = Planner::new(alloc, search.code, search.pair, search.depth, search.nest)?;
+    Ok(walk)
+}
+
+/// A walk that is at its root, once more from there. It takes no memory for another world.
+fn renewed<'a>(search: Search<'a>, walk: Planner<'a>) -> Result<Planner<'a>, AllocError>
+    requires search { CanSearch search }
+    requires of { IsWalkOf search walk }
+    requires root { (stands_planned walk).path ≡ [] }
+    ensures { IfOk result (IsFresh search.entry) }
+{
+    let mut own = walk;
+    own.begin_again(search.depth)?;
+    Ok(own)
+}
+
+/// A walk from the root, if one is left after a search.
+fn spare_after<'a>(
+    search: Search<'a>,
+    walk: Planner<'a>,
+    end: SearchEnd,
+) -> Result<Option<Planner<'a>>, AllocError>
+    requires search { CanSearch search }
+    requires of { IsWalkOf search walk }
+    requires over { is_stopped end ≡ false → (stands_planned walk).path ≡ [] }
+    ensures { IfOk result (λ o. IfSome o (IsFresh search.entry)) }
+{
+    match end {
+        SearchEnd::Whole | SearchEnd::Cut => {
+            let own = renewed(search, walk)?;
+            Ok(Some(own))
+        }
+        SearchEnd::Plan | SearchEnd::Fault(_) => Ok(None),
+    }
+}
+
+/// The walk that is left, or else a new one.
+fn walk_from<'a>(
+    alloc: Global,
+    search: Search<'a>,
+    spare: Option<Planner<'a>>,
+) -> Result<Planner<'a>, AllocError>
+    requires search { CanSearch search }
+    requires spare { IfSome spare (IsFresh search) }
+    ensures { IfOk result (IsFresh search.entry) }
+{
+    match spare {
+        Some(walk) => Ok(walk),
+        None => new_walk(alloc, search),
+    }
 }
 
 /// The reasons at a dead end, by a walk that goes to it.
-fn reason_of_end(
+fn reason_of_end<'a>(
     alloc: Global,
-    search: Search<'_>,
+    search: Search<'a>,
     end: &DeadEnd,
+    walk: Planner<'a>,
 ) -> Result<Option<Reason>, AllocError>
     requires search { CanSearch search }
+    requires fresh { IsFresh search walk }
     requires held { IsHeld (tree_searched search) end.now.path.items }
     ensures { IfOk result (λ r. option_map kept r ≡ reason_of (tree_searched search.entry) end.now.path.items) }
 {
-    // Nothing runs here: the laws make known that the walk by the code is one of the domain's tree.
-    compiled_rules_are_a_code();
+    // Nothing runs here: the law makes known that the walk has the visits of the domain's tree.
     lowered_rules_have_the_tree();
-    let mut walk = Planner::new(alloc, search.code, search.pair, search.depth, search.nest)?;
-    if go_to(&mut walk, end.path.as_slice())? {
-        let found = reason_here(alloc, search, &mut walk)?;
+    let mut own = walk;
+    if go_to(&mut own, end.path.as_slice())? {
+        let found = reason_here(alloc, search, &mut own)?;
         Ok(Some(found))
     } else {
         Ok(None)
     }
 }
 
-/// The reasons at each of some dead ends.
-fn reasons_of_ends(
+/// The reasons at each of some dead ends. The walk that is left goes to the first.
+fn reasons_of_ends<'a>(
     alloc: Global,
-    search: Search<'_>,
+    search: Search<'a>,
     ends: &[DeadEnd],
+    spare: Option<Planner<'a>>,
 ) -> Result<Vec<Option<Reason>>, AllocError>
     requires search { CanSearch search }
     requires held { All (λ e. IsHeld (tree_searched search) e.path.items) ends.now }
+    requires spare { IfSome spare (IsFresh search) }
     ensures { IfOk result (λ v. map (option_map kept) v.items
         ≡ map (λ e. reason_of (tree_searched search.entry) e.path.items) ends.now) }
 {
     let mut reasons = Vec::with_capacity(alloc, ends.len())?;
+    let mut left = spare;
     for end in ends {
-        let found = reason_of_end(alloc, search, end)?;
+        let walk = walk_from(alloc, search, left)?;
+        left = None;
+        let found = reason_of_end(alloc, search, end, walk)?;
         reasons.push(found)?;
     }
     Ok(reasons)
@@ -176,64 +253,85 @@ fn cut_here(alloc: Global, walk: &Planner<'_>) -> Result<Cut, AllocError>
 }
 
 /// What is known of the node of a path, by a walk that goes to it.
-fn cut_at(alloc: Global, search: Search<'_>, path: &[u64]) -> Result<Option<Cut>, AllocError>
+fn cut_at<'a>(
+    alloc: Global,
+    search: Search<'a>,
+    path: &[u64],
+    walk: Planner<'a>,
+) -> Result<Option<Cut>, AllocError>
     requires search { CanSearch search }
+    requires fresh { IsFresh search walk }
     requires held { IsHeld (tree_searched search) path.now }
     ensures { IfOk result (λ o. IsCutAtIf (lowered_tree (tree_searched search.entry)) (Some path.now)
         (option_map cut_of o)) }
 {
-    // Nothing runs here: the laws make known that the walk by the code is one of the domain's tree.
-    compiled_rules_are_a_code();
+    // Nothing runs here: the law makes known that the walk has the visits of the domain's tree.
     lowered_rules_have_the_tree();
-    let mut walk = Planner::new(alloc, search.code, search.pair, search.depth, search.nest)?;
-    if go_to(&mut walk, path)? {
-        let found = cut_here(alloc, &walk)?;
+    let mut own = walk;
+    if go_to(&mut own, path)? {
+        let found = cut_here(alloc, &own)?;
         Ok(Some(found))
     } else {
         Ok(None)
     }
 }
 
-/// What is known of the first node that the depth cut, if there is one.
-fn first_cut(
+/// What is known of the first node that the depth cut, if there is one, and the walk that is left where none had to go
+/// there.
+fn first_cut<'a>(
     alloc: Global,
-    search: Search<'_>,
+    search: Search<'a>,
     cut: &Option<Vec<u64>>,
-) -> Result<Option<Cut>, AllocError>
+    spare: Option<Planner<'a>>,
+) -> Result<(Option<Cut>, Option<Planner<'a>>), AllocError>
     requires search { CanSearch search }
     requires held { IfSome (items_of cut.now) (IsHeld (tree_searched search)) }
-    ensures { IfOk result (λ o. IsCutAtIf (lowered_tree (tree_searched search.entry)) (items_of cut.now)
-        (option_map cut_of o)) }
+    requires spare { IfSome spare (IsFresh search) }
+    ensures cut { IfOk result (λ r. IsCutAtIf (lowered_tree (tree_searched search.entry)) (items_of cut.now)
+        (option_map cut_of r.0)) }
+    ensures spare { IfOk result (λ r. IfSome r.1 (IsFresh search.entry)) }
 {
     match cut {
-        Some(path) => cut_at(alloc, search, path.as_slice()),
-        None => Ok(None),
+        Some(path) => {
+            let walk = walk_from(alloc, search, spare)?;
+            let found = cut_at(alloc, search, path.as_slice(), walk)?;
+            Ok((found, None))
+        }
+        None => Ok((None, spare)),
     }
 }
 
-/// The dead ends of the tree of a pair, up to its first plan or fault.
-fn dead_ends(alloc: Global, search: Search<'_>, most: usize) -> Result<DeadEnds, AllocError>
+/// The dead ends of the tree of a pair, up to its first plan or fault, by a new walk of it.
+fn dead_ends<'a>(
+    alloc: Global,
+    search: Search<'a>,
+    walk: &mut Planner<'a>,
+    most: usize,
+) -> Result<DeadEnds, AllocError>
     requires search { CanSearch search }
+    requires fresh { IsFresh search walk.old }
     ensures found { IfOk result (IsFoundIn (tree_searched search.entry) most) }
     ensures dead { IfOk result (λ f. All (IsFurthest (tree_searched search.entry)) f.furthest.items) }
     ensures held { IfOk result (λ f. All (λ e. IsHeld (tree_searched search.entry) e.path.items) f.furthest.items) }
     ensures cuts { IfOk result (HasHeldCuts (tree_searched search.entry)) }
+    ensures over { IfOk result (λ f. is_stopped f.end ≡ false → (stands_planned walk.new).path ≡ []) }
+    ensures of { OnOk result (IsWalkOf search.entry walk.new) }
 {
-    compiled_rules_are_a_code();
     lowered_rules_have_the_tree();
-    let mut walk = Planner::new(alloc, search.code, search.pair, search.depth, search.nest)?;
-    find(alloc, &mut walk, search.depth, most)
+    find(alloc, walk, search.depth, most)
 }
 
 /// How far the search for a plan of a pair came, and what stopped it: at most so many of the furthest dead ends are
-/// told.
+/// told. Where the search ended by itself its walk goes on to the first place that is to be seen.
 pub fn why_of(alloc: Global, search: Search<'_>, most: usize) -> Result<Why, AllocError>
     requires search { CanSearch search }
     ensures { IfOk result (IsWhy (tree_searched search.entry) most) }
 {
-    let found = dead_ends(alloc, search, most)?;
-    let cut = first_cut(alloc, search, &found.depth_cut)?;
-    let reasons = reasons_of_ends(alloc, search, found.furthest.as_slice())?;
+    let mut walk = new_walk(alloc, search)?;
+    let found = dead_ends(alloc, search, &mut walk, most)?;
+    let spare = spare_after(search, walk, found.end)?;
+    let (cut, left) = first_cut(alloc, search, &found.depth_cut, spare)?;
+    let reasons = reasons_of_ends(alloc, search, found.furthest.as_slice(), left)?;
     Ok(Why {
         found,
         cut,

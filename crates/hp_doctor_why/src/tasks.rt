@@ -1,5 +1,5 @@
 //! What is said of tasks that nothing does.
-ghost use Rattle.std.specs.Prelude.{◌≡◌, ◌++◌, OnOk, Some, map, option_map};
+ghost use Rattle.std.specs.Prelude.{◌≡◌, ◌++◌, List, OnOk, Some, map, option_map};
 ghost use Rattle.std.specs.List.{flat_map};
 ghost use Rattle.hp_syntax.specs.GroundViews.{ground_of};
 ghost use Rattle.hp_syntax.specs.TermTexts.{term_text};
@@ -7,16 +7,21 @@ ghost use Rattle.hp_syntax.specs.Views.{domain_of, rule_of};
 ghost use Rattle.hp_doctor.specs.Explained.{told_in};
 ghost use Rattle.hp_doctor.specs.Texts.{texts_of};
 ghost use Rattle.hp_obstacles.specs.Facts.{kept};
-ghost use Rattle.hp_obstacles.specs.Obstacles.{name_unmet, obstacle_of, stuck_of};
+ghost use Rattle.hp_obstacles.specs.Obstacles.{obstacle_of, stuck_of};
+ghost use Rattle.hp_choice.specs.FirstSatisfier.{values_of};
+ghost use Rattle.hp_syntax.specs.Terms.{Term};
+ghost use Rattle.hp_doctor_why.specs.Filled.{filled_at, protected_text};
 ghost use Rattle.hp_doctor_why.specs.Said as plain;
 
+use crate::filled::{push_filled_at, push_protected};
+use crate::heads::push_mismatch_at;
 use crate::phrases::{
-    FACTS, FIRST_UNMET, LATER_UNMET, NO_FACT, NO_MATCH, NO_RULE, NOT_CONCLUDED, NOTHING_DOES,
+    CONCLUDES, FACTS, FIRST_UNMET, LATER_UNMET, NO_FACT, NO_RULE, NOT_CONCLUDED, NOTHING_DOES,
     PROTECTED, UNKNOWN,
 };
 use crate::places::{head_span_at, part_span_at, span_at};
 use hp_doctor::{Texts, push_in};
-use hp_obstacles::{Facts, Obstacle, Stuck, name_at};
+use hp_obstacles::{Facts, Obstacle, Stuck, is_negated_at, name_at};
 use hp_print::ground_text;
 use hp_syntax::{Domain, Ground, Name, Rule};
 use hp_unmet::Unmet;
@@ -108,18 +113,21 @@ fn part_sentence(place: usize) -> &'static [u8]
     LATER_UNMET
 }
 
-/// Puts an axiom at its head after other bytes, where it concludes atoms of a name.
-fn push_axiom(out: &mut Vec<u8>, files: &Texts, name: &Name, rule: &Rule) -> Result<(), AllocError>
+/// Puts a sentence at the head of an axiom after other bytes, where the axiom concludes atoms of a name.
+fn push_axiom(
+    out: &mut Vec<u8>,
+    files: &Texts,
+    says: &[u8],
+    name: &Name,
+    rule: &Rule,
+) -> Result<(), AllocError>
     ensures { OnOk result (out.new.items
-        ≡ out.old.items ++ plain.axiom_text (texts_of files.now) name.now (rule_of rule.now)) }
+        ≡ out.old.items ++ plain.axiom_text (texts_of files.now) says.now name.now (rule_of rule.now)) }
 {
     match rule {
-        Rule::Axiom(axiom) if axiom.head.name == *name => push_in(
-            out,
-            Some(&files.domain),
-            Some(axiom.head.span),
-            NOT_CONCLUDED,
-        ),
+        Rule::Axiom(axiom) if axiom.head.name == *name => {
+            push_in(out, Some(&files.domain), Some(axiom.head.span), says)
+        }
         Rule::Axiom(_) => Ok(()),
         Rule::Operator(_) => Ok(()),
         Rule::Method(_) => Ok(()),
@@ -130,19 +138,28 @@ fn push_axiom(out: &mut Vec<u8>, files: &Texts, name: &Name, rule: &Rule) -> Res
 fn push_axioms(
     out: &mut Vec<u8>,
     files: &Texts,
+    says: &[u8],
     rules: &[Rule],
     name: &Name,
 ) -> Result<(), AllocError>
     ensures { OnOk result (out.new.items ≡ out.old.items
-        ++ flat_map (plain.axiom_text (texts_of files.now) name.now) (map rule_of rules.now)) }
+        ++ flat_map (plain.axiom_text (texts_of files.now) says.now name.now) (map rule_of rules.now)) }
 {
     for rule in rules {
-        push_axiom(out, files, name, rule)?;
+        push_axiom(out, files, says, name, rule)?;
     }
     Ok(())
 }
 
-/// Puts the axioms that conclude atoms of the name for which the part at a place asks after other bytes.
+/// What is said of the axioms of a name: of a negation they may conclude the atom, else none that fits.
+fn axiom_sentence(is_negated: bool) -> &'static [u8]
+    ensures { result.now ≡ plain.axiom_sentence is_negated }
+{
+    if is_negated { CONCLUDES } else { NOT_CONCLUDED }
+}
+
+/// Puts the axioms that conclude atoms of the name for which the part at a place asks after other bytes, or for whose
+/// negation.
 fn push_axioms_at(
     out: &mut Vec<u8>,
     files: &Texts,
@@ -150,14 +167,39 @@ fn push_axioms_at(
     obstacle: &Obstacle,
     place: usize,
 ) -> Result<(), AllocError>
-    ensures { OnOk result (out.new.items ≡ out.old.items ++ plain.axioms_text (texts_of files.now)
-        (domain_of domain.now) (name_unmet (domain_of domain.now).rules obstacle.now.rule obstacle.now.branch
-        (Unmet.Part place))) }
+    ensures { OnOk result (out.new.items ≡ out.old.items ++ plain.axioms_at (texts_of files.now)
+        (domain_of domain.now) obstacle.now.rule obstacle.now.branch place) }
 {
+    let is_negated = is_negated_at(domain, obstacle.rule, obstacle.branch, place);
     match name_at(domain, obstacle.rule, obstacle.branch, place) {
-        Some(name) => push_axioms(out, files, domain.rules.as_slice(), name),
+        Some(name) => {
+            let says = axiom_sentence(is_negated);
+            push_axioms(out, files, says, domain.rules.as_slice(), name)
+        }
         None => Ok(()),
     }
+}
+
+/// Puts the place and the sentence of a part that nothing satisfies after other bytes, and the part with the values of
+/// its variables.
+fn push_part_here(
+    out: &mut Vec<u8>,
+    files: &Texts,
+    domain: &Domain,
+    obstacle: &Obstacle,
+    place: usize,
+) -> Result<(), AllocError>
+    ensures { OnOk result (out.new.items ≡ out.old.items
+        ++ (told_in (Some (texts_of files.now).domain)
+        (plain.part_span_at (domain_of domain.now) obstacle.now.rule obstacle.now.branch place)
+        (plain.part_sentence place)
+        ++ filled_at (domain_of domain.now) obstacle.now.rule obstacle.now.branch place
+        (values_of obstacle.now.values))) }
+{
+    let span = part_span_at(domain, obstacle.rule, obstacle.branch, place);
+    push_in(out, Some(&files.domain), span, part_sentence(place))?;
+    let values = obstacle.values.as_slice();
+    push_filled_at(out, domain, obstacle.rule, obstacle.branch, place, values)
 }
 
 /// Puts what is said of the part at a place after other bytes, which nothing satisfies.
@@ -168,44 +210,56 @@ fn push_part(
     obstacle: &Obstacle,
     place: usize,
 ) -> Result<(), AllocError>
-    ensures { OnOk result (out.new.items ≡ out.old.items ++ plain.obstacle_by (texts_of files.now)
-        (domain_of domain.now) obstacle.now.rule obstacle.now.branch (option_map kept obstacle.now.facts)
-        (Unmet.Part place)) }
+    ensures { OnOk result ((t : Term) (gs : List Term) → out.new.items ≡ out.old.items ++ plain.obstacle_by
+        (texts_of files.now) (domain_of domain.now) t gs obstacle.now.rule obstacle.now.branch
+        (values_of obstacle.now.values) (option_map kept obstacle.now.facts) (Unmet.Part place)) }
 {
-    let span = part_span_at(domain, obstacle.rule, obstacle.branch, place);
-    push_in(out, Some(&files.domain), span, part_sentence(place))?;
+    push_part_here(out, files, domain, obstacle, place)?;
     push_facts_if(out, &obstacle.facts)?;
     push_axioms_at(out, files, domain, obstacle, place)
 }
 
-/// Puts a sentence after other bytes, at the head of a rule.
-fn push_at_head(
+/// Puts after other bytes that a precondition is satisfied, and the protected atoms that the operator would delete.
+fn push_satisfied(
     out: &mut Vec<u8>,
     files: &Texts,
     domain: &Domain,
-    rule: usize,
-    says: &[u8],
-) -> Result<(), AllocError>
-    ensures { OnOk result (out.new.items ≡ out.old.items
-        ++ told_in (Some (texts_of files.now).domain) (plain.head_span_at (domain_of domain.now) rule) says.now) }
-{
-    push_in(out, Some(&files.domain), head_span_at(domain, rule), says)
-}
-
-/// Puts what keeps an operator or a branch from doing a task after other bytes.
-fn push_obstacle(
-    out: &mut Vec<u8>,
-    files: &Texts,
-    domain: &Domain,
+    guards: &[Ground],
     obstacle: &Obstacle,
 ) -> Result<(), AllocError>
     ensures { OnOk result (out.new.items ≡ out.old.items
-        ++ plain.obstacle_text (texts_of files.now) (domain_of domain.now) (obstacle_of obstacle.now)) }
+        ++ (told_in (Some (texts_of files.now).domain)
+        (plain.head_span_at (domain_of domain.now) obstacle.now.rule) PROTECTED.now
+        ++ protected_text (domain_of domain.now) obstacle.now.rule (values_of obstacle.now.values)
+        (map ground_of guards.now))) }
+{
+    let span = head_span_at(domain, obstacle.rule);
+    push_in(out, Some(&files.domain), span, PROTECTED)?;
+    push_protected(
+        out,
+        domain,
+        obstacle.rule,
+        obstacle.values.as_slice(),
+        guards,
+    )
+}
+
+/// Puts what keeps an operator or a branch from doing a task after other bytes.
+pub fn push_obstacle(
+    out: &mut Vec<u8>,
+    files: &Texts,
+    domain: &Domain,
+    task: &Ground,
+    guards: &[Ground],
+    obstacle: &Obstacle,
+) -> Result<(), AllocError>
+    ensures { OnOk result (out.new.items ≡ out.old.items ++ plain.obstacle_text (texts_of files.now)
+        (domain_of domain.now) (ground_of task.now) (map ground_of guards.now) (obstacle_of obstacle.now)) }
 {
     match obstacle.unmet {
-        Unmet::None => push_at_head(out, files, domain, obstacle.rule, PROTECTED),
+        Unmet::None => push_satisfied(out, files, domain, guards, obstacle),
         Unmet::Head if obstacle.branch == 0 => {
-            push_at_head(out, files, domain, obstacle.rule, NO_MATCH)
+            push_mismatch_at(out, files, domain, task, obstacle.rule)
         }
         Unmet::Head => Ok(()),
         Unmet::Part(place) => push_part(out, files, domain, obstacle, place),
@@ -220,13 +274,15 @@ fn push_each(
     out: &mut Vec<u8>,
     files: &Texts,
     domain: &Domain,
+    task: &Ground,
+    guards: &[Ground],
     obstacles: &[Obstacle],
 ) -> Result<(), AllocError>
-    ensures { OnOk result (out.new.items ≡ out.old.items
-        ++ flat_map (plain.obstacle_text (texts_of files.now) (domain_of domain.now)) (map obstacle_of obstacles.now)) }
+    ensures { OnOk result (out.new.items ≡ out.old.items ++ flat_map (plain.obstacle_text (texts_of files.now)
+        (domain_of domain.now) (ground_of task.now) (map ground_of guards.now)) (map obstacle_of obstacles.now)) }
 {
     for obstacle in obstacles {
-        push_obstacle(out, files, domain, obstacle)?;
+        push_obstacle(out, files, domain, task, guards, obstacle)?;
     }
     Ok(())
 }
@@ -236,15 +292,17 @@ fn push_obstacles(
     out: &mut Vec<u8>,
     files: &Texts,
     domain: &Domain,
+    task: &Ground,
+    guards: &[Ground],
     obstacles: &[Obstacle],
 ) -> Result<(), AllocError>
-    ensures { OnOk result (out.new.items ≡ out.old.items
-        ++ plain.obstacles_text (texts_of files.now) (domain_of domain.now) (map obstacle_of obstacles.now)) }
+    ensures { OnOk result (out.new.items ≡ out.old.items ++ plain.obstacles_text (texts_of files.now)
+        (domain_of domain.now) (ground_of task.now) (map ground_of guards.now) (map obstacle_of obstacles.now)) }
 {
     if obstacles.is_empty() {
         return out.extend_from_slice(NO_RULE);
     }
-    push_each(out, files, domain, obstacles)
+    push_each(out, files, domain, task, guards, obstacles)
 }
 
 fn push_stuck_line(out: &mut Vec<u8>, task: &Ground) -> Result<(), AllocError>
@@ -259,27 +317,37 @@ fn push_stuck(
     out: &mut Vec<u8>,
     files: &Texts,
     domain: &Domain,
+    guards: &[Ground],
     stuck: &Stuck,
 ) -> Result<(), AllocError>
-    ensures { OnOk result (out.new.items ≡ out.old.items
-        ++ plain.stuck_text (texts_of files.now) (domain_of domain.now) (stuck_of stuck.now)) }
+    ensures { OnOk result (out.new.items ≡ out.old.items ++ plain.stuck_text (texts_of files.now)
+        (domain_of domain.now) (map ground_of guards.now) (stuck_of stuck.now)) }
 {
     push_stuck_line(out, &stuck.task)?;
-    push_obstacles(out, files, domain, stuck.obstacles.as_slice())
+    push_obstacles(
+        out,
+        files,
+        domain,
+        &stuck.task,
+        guards,
+        stuck.obstacles.as_slice(),
+    )
 }
 
-/// Puts tasks that nothing does after other bytes, each with what keeps it from being done.
+/// Puts tasks that nothing does after other bytes, each with what keeps it from being done, where these atoms are
+/// protected.
 pub fn push_all_stuck(
     out: &mut Vec<u8>,
     files: &Texts,
     domain: &Domain,
+    guards: &[Ground],
     tasks: &[Stuck],
 ) -> Result<(), AllocError>
-    ensures { OnOk result (out.new.items ≡ out.old.items
-        ++ flat_map (plain.stuck_text (texts_of files.now) (domain_of domain.now)) (map stuck_of tasks.now)) }
+    ensures { OnOk result (out.new.items ≡ out.old.items ++ flat_map (plain.stuck_text (texts_of files.now)
+        (domain_of domain.now) (map ground_of guards.now)) (map stuck_of tasks.now)) }
 {
     for stuck in tasks {
-        push_stuck(out, files, domain, stuck)?;
+        push_stuck(out, files, domain, guards, stuck)?;
     }
     Ok(())
 }

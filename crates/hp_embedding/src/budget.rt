@@ -78,7 +78,7 @@ impl<W: Walk> Pass<W, ()> for Affordable {
 
     type Error = SearchError;
 
-    ghost meets = { meets_affordable };
+    ghost meets = { λ tree. meets_affordable };
 
     ghost fails = { fails_affordable };
 

@@ -33,7 +33,7 @@ impl<W: Walk> Pass<W, ()> for Limited {
 
     type Error = RunFault;
 
-    ghost meets = { meets_limited };
+    ghost meets = { λ tree. meets_limited };
 
     ghost fails = { fails_limited };
 

@@ -4,4 +4,3 @@ pub mod Laying
 pub mod Marks
 pub mod NodeViews
 pub mod Trees
-pub mod Varied

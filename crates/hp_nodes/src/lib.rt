@@ -11,4 +11,4 @@ mod rules;
 
 pub use asking::{LAST_PART, asked_by_nodes};
 pub use node::{CodeNode, Op};
-pub use rules::{lay_method_with, lay_operator_with, lay_rule};
+pub use rules::lay_rule;

@@ -8,7 +8,6 @@ ghost use Rattle.hp_nodes.specs.Compiled.{only, effect_trees, operator_tree, bra
 ghost use Rattle.hp_nodes.specs.Laying.{Lays};
 ghost use Rattle.hp_nodes.specs.NodeViews.{laid_of, operation_of};
 ghost use Rattle.hp_nodes.specs.Trees.{BranchOf, CostOf, TasksOf};
-ghost use Rattle.hp_nodes.specs.Varied.{branch_behind, method_with, operator_with, tasks_behind};
 
 use crate::effects::lay_effects;
 use crate::expressions::{lay_part, lay_precondition};
@@ -28,41 +27,20 @@ fn lay_cost(nodes: &mut Vec<CodeNode>, alloc: Global, cost: &Pat) -> Result<(), 
     leaf(nodes, op, cost.span)
 }
 
-/// What an operator deletes, then what it adds, and then a cost.
+/// What an operator deletes, then what it adds, and then its cost.
 fn lay_effects_and_cost(
     nodes: &mut Vec<CodeNode>,
     alloc: Global,
     operator: &Operator,
-    cost: &Pat,
 ) -> Result<(), AllocError>
-    ensures { OnOk result (let o = operator_of operator.now in let price = pattern_of cost.now in
+    ensures { OnOk result (let o = operator_of operator.now in
         Lays (effect_trees Side.Deletes o.span o.dels (effect_trees Side.Adds o.span o.adds
-        (only (compiled.leaf (CostOf price) (pattern_span price))))) nodes.old.items nodes.new.items) }
+        (only (compiled.leaf (CostOf o.cost) (pattern_span o.cost))))) nodes.old.items nodes.new.items) }
 {
     let span = operator.span;
     lay_effects(nodes, alloc, Side::Deletes, span, operator.dels.as_slice())?;
     lay_effects(nodes, alloc, Side::Adds, span, operator.adds.as_slice())?;
-    lay_cost(nodes, alloc, cost)
-}
-
-/// Lays an operator with another precondition and another cost down behind the nodes that there are.
-pub fn lay_operator_with(
-    nodes: &mut Vec<CodeNode>,
-    alloc: Global,
-    operator: &Operator,
-    pre: &Pre,
-    cost: &Pat,
-) -> Result<(), AllocError>
-    ensures { OnOk result (Lays (only (operator_tree
-        (operator_with (operator_of operator.now) (precondition_of pre.now) (pattern_of cost.now))))
-        nodes.old.items nodes.new.items) }
-{
-    let op = Op::Operator(operator.head.copy(alloc)?);
-    let at = open_node(nodes, op, operator.span)?;
-    lay_precondition(nodes, alloc, operator.span, pre)?;
-    lay_effects_and_cost(nodes, alloc, operator, cost)?;
-    close_node(nodes, at);
-    Ok(())
+    lay_cost(nodes, alloc, &operator.cost)
 }
 
 /// An operator.
@@ -74,7 +52,12 @@ fn lay_operator(
     ensures { OnOk result (Lays (only (operator_tree (operator_of operator.now)))
         nodes.old.items nodes.new.items) }
 {
-    lay_operator_with(nodes, alloc, operator, &operator.pre, &operator.cost)
+    let op = Op::Operator(operator.head.copy(alloc)?);
+    let at = open_node(nodes, op, operator.span)?;
+    lay_precondition(nodes, alloc, operator.span, &operator.pre)?;
+    lay_effects_and_cost(nodes, alloc, operator)?;
+    close_node(nodes, at);
+    Ok(())
 }
 
 /// The tasks of a branch.
@@ -88,32 +71,6 @@ fn lay_tasks(
         nodes.old.items nodes.new.items) }
 {
     let op = Op::Tasks(tasks.copy(alloc)?);
-    leaf(nodes, op, span)
-}
-
-/// Tasks behind others.
-fn tasks_behind(alloc: Global, first: &NetPat, tasks: &NetPat) -> Result<NetPat, AllocError>
-    ensures { IfOk result (λ all. tasks_of all ≡ tasks_behind (tasks_of first.now) (tasks_of tasks.now)) }
-{
-    let rest = tasks.copy(alloc)?;
-    let before = first.copy(alloc)?;
-    let parts = vec![in alloc; before, rest]?;
-    Ok(NetPat::Ordered(parts))
-}
-
-/// The tasks of a branch, behind others.
-fn lay_tasks_behind(
-    nodes: &mut Vec<CodeNode>,
-    alloc: Global,
-    span: Span,
-    first: &NetPat,
-    tasks: &NetPat,
-) -> Result<(), AllocError>
-    ensures { OnOk result
-        (Lays (only (compiled.leaf (TasksOf (tasks_behind (tasks_of first.now) (tasks_of tasks.now))) span))
-        nodes.old.items nodes.new.items) }
-{
-    let op = Op::Tasks(tasks_behind(alloc, first, tasks)?);
     leaf(nodes, op, span)
 }
 
@@ -141,48 +98,6 @@ fn lay_branch(
     let at = open_node(nodes, op, span)?;
     lay_precondition(nodes, alloc, span, &branch.pre)?;
     lay_tasks(nodes, alloc, span, &branch.tasks)?;
-    close_node(nodes, at);
-    Ok(())
-}
-
-/// A branch of a method that stands here, with another precondition, whose tasks stand behind others.
-fn lay_branch_behind(
-    nodes: &mut Vec<CodeNode>,
-    alloc: Global,
-    span: Span,
-    first: &NetPat,
-    branch: &Branch,
-    pre: &Pre,
-) -> Result<(), AllocError>
-    ensures { OnOk result (Lays (only (branch_tree span
-        (branch_behind (tasks_of first.now) (branch_of branch.now) (precondition_of pre.now))))
-        nodes.old.items nodes.new.items) }
-{
-    let op = named(alloc, &branch.name)?;
-    let at = open_node(nodes, op, span)?;
-    lay_precondition(nodes, alloc, span, pre)?;
-    lay_tasks_behind(nodes, alloc, span, first, &branch.tasks)?;
-    close_node(nodes, at);
-    Ok(())
-}
-
-/// Lays a method down behind the nodes that there are which has a single branch: one of its own with another
-/// precondition, whose tasks stand behind others.
-pub fn lay_method_with(
-    nodes: &mut Vec<CodeNode>,
-    alloc: Global,
-    method: &Method,
-    first: &NetPat,
-    branch: &Branch,
-    pre: &Pre,
-) -> Result<(), AllocError>
-    ensures { OnOk result (Lays (only (rule_tree (syntax.Refines (method_with (method_of method.now)
-        (branch_behind (tasks_of first.now) (branch_of branch.now) (precondition_of pre.now))))))
-        nodes.old.items nodes.new.items) }
-{
-    let op = Op::Method(method.head.copy(alloc)?);
-    let at = open_node(nodes, op, method.span)?;
-    lay_branch_behind(nodes, alloc, method.span, first, branch, pre)?;
     close_node(nodes, at);
     Ok(())
 }

@@ -9,12 +9,13 @@ use Rattle.hp_syntax.specs.Events.{State}
 use Rattle.hp_syntax.specs.GroundViews.{ground_of, grounds_of}
 use Rattle.hp_syntax.specs.Syntax.{Rule}
 use Rattle.hp_syntax.specs.Terms.{Term, Listed}
+use Rattle.hp_syntax.specs.Values.{Bindings}
 use Rattle.hp_syntax.specs.Views.{rule_of}
 use Rattle.hp_nodes.specs.Trees.{roots}
 use Rattle.hp_code.specs.CodeViews.{CodeView, IsCodeOf, rule_nodes}
 use Rattle.hp_code.proofs.CodeLemmas.{code_trees, length-rule_nodes}
 use Rattle.hp_unmet.specs.declared.unmet.Unmet.{Unmet}
-use Rattle.hp_unmet.specs.Conjunctions.{first_unmet}
+use Rattle.hp_unmet.specs.Conjunctions.{first_unmet, values_met}
 use Rattle.hp_unmet.specs.PartNodes.{AsksAlike, ServesFor}
 use Rattle.hp_obstacles.specs.declared.obstacles.Obstacle as made
 use Rattle.hp_obstacles.specs.Facts.{Facts, facts_of, shown}
@@ -60,16 +61,17 @@ mapped_twice f g None = refl
 mapped_twice f g (Some a) = refl
 
 module _ (rules : List Rule) (nest : ℕ) (s : State) (t : Term) (rule branch : ℕ) where
-  abbrev with_facts : Unmet → Option Facts → Obstacle
-  with_facts u fs = record { rule = rule; branch = branch; unmet = u; facts = fs }
+  abbrev with_parts : Unmet → Bindings → Option Facts → Obstacle
+  with_parts u vs fs = record { rule = rule; branch = branch; unmet = u; values = vs; facts = fs }
 
-  -- what is unmet, with the facts of the name that it asks for, is the obstacle
-  pub obstacle_is : (u : Unmet) (fs : Option Facts) (name : Option (List ℕ)) → u ≡ first_unmet rules nest s t rule branch
+  -- what is unmet, with the values by what is met and the facts of the name that it asks for, is the obstacle
+  pub obstacle_is : (u : Unmet) (vs : Bindings) (fs : Option Facts) (name : Option (List ℕ))
+      → u ≡ first_unmet rules nest s t rule branch → vs ≡ values_met rules nest s t rule branch u
       → fs ≡ option_map (λ n. shown (facts_of n s)) name → name ≡ name_unmet rules rule branch u
-      → with_facts u fs ≡ obstacle rules nest s t rule branch
-  obstacle_is u fs name e f g =
-      ap (with_facts u) (f ∙ ap (option_map (λ n. shown (facts_of n s))) g)
-      ∙ ap (obstacle_by rules nest s rule branch) e
+      → with_parts u vs fs ≡ obstacle rules nest s t rule branch
+  obstacle_is u vs fs name e v f g =
+      ap₂ (with_parts u) v (f ∙ ap (option_map (λ n. shown (facts_of n s))) g)
+      ∙ ap (obstacle_by rules nest s t rule branch) e
 
 -- ---- one branch more
 

@@ -1,15 +1,17 @@
 -- What keeps the tasks that may be done next at a node from being done.
-use Rattle.std.specs.Prelude.{ℕ, ◌+◌, zero, suc, cond, List, [], ◌∷◌, ◌++◌, length, map, Option, Some, None, option_map, bytes_eq}
+use Rattle.std.specs.Prelude.{ℕ, ◌+◌, zero, suc, Bool, false, true, cond, List, [], ◌∷◌, ◌++◌, length, map, Option, Some, None, option_map, bytes_eq}
 use Rattle.std.specs.Option.{option_and_then}
 use Rattle.hp_syntax.specs.Events.{State}
 use Rattle.hp_syntax.specs.GroundViews.{ground_of}
 use Rattle.hp_syntax.specs.Syntax as syntax
 use Rattle.hp_syntax.specs.Syntax.{Expression, Rule, Does, Refines, Concludes}
 use Rattle.hp_syntax.specs.Terms.{Term, Listed, NoTerm, More, Number, Symbol}
+use Rattle.hp_syntax.specs.Values.{Bindings}
+use Rattle.hp_choice.specs.FirstSatisfier.{values_of}
 use Rattle.hp_syntax.specs.Walk.{Node}
 use Rattle.hp_unmet.specs.declared.unmet.Unmet.{Unmet}
 use Rattle.hp_unmet.specs.declared.unmet.Unmet.TheVariants as unmets
-use Rattle.hp_unmet.specs.Conjunctions.{first_unmet, part_at}
+use Rattle.hp_unmet.specs.Conjunctions.{first_unmet, part_at, values_met}
 use Rattle.hp_obstacles.specs.declared.obstacles.Obstacle as made
 use Rattle.hp_obstacles.specs.declared.obstacles.Stuck as stuck
 use Rattle.hp_obstacles.specs.Facts as facts
@@ -18,15 +20,43 @@ use Rattle.hp_obstacles.specs.Tasks.{next_tasks}
 
 -- ---- one branch
 
--- the name of the atom that a part asks for, where it is one
+-- the name of an atom
+abbrev pub atom_name : Expression → Option (List ℕ)
+atom_name (syntax.Holds s a) = Some a.name
+atom_name (syntax.And s parts) = None
+atom_name (syntax.Or s parts) = None
+atom_name (syntax.Not s part) = None
+atom_name (syntax.Forall s vars range body) = None
+atom_name (syntax.Assign s v value) = None
+atom_name (syntax.Test s call) = None
+
+-- the name of the atom that a part asks for, or whose negation it asks for
 abbrev pub name_in : Expression → Option (List ℕ)
 name_in (syntax.Holds s a) = Some a.name
 name_in (syntax.And s parts) = None
 name_in (syntax.Or s parts) = None
-name_in (syntax.Not s part) = None
+name_in (syntax.Not s part) = atom_name part
 name_in (syntax.Forall s vars range body) = None
 name_in (syntax.Assign s v value) = None
 name_in (syntax.Test s call) = None
+
+-- a part asks for a negation
+abbrev pub is_negation : Expression → Bool
+is_negation (syntax.Holds s a) = false
+is_negation (syntax.And s parts) = false
+is_negation (syntax.Or s parts) = false
+is_negation (syntax.Not s part) = true
+is_negation (syntax.Forall s vars range body) = false
+is_negation (syntax.Assign s v value) = false
+is_negation (syntax.Test s call) = false
+
+abbrev pub is_negation_if : Option Expression → Bool
+is_negation_if None = false
+is_negation_if (Some e) = is_negation e
+
+-- and so does the part at a place
+abbrev pub is_negated_at : List Rule → ℕ → ℕ → ℕ → Bool
+is_negated_at rules rule branch place = is_negation_if (part_at rules rule branch place)
 
 -- the name of the atom that the first unmet part of a precondition asks for
 abbrev pub name_unmet : List Rule → ℕ → ℕ → Unmet → Option (List ℕ)
@@ -36,24 +66,27 @@ name_unmet rules rule branch (unmets.Part place) = option_and_then name_in (part
 name_unmet rules rule branch unmets.Unknown = None
 
 -- what keeps an operator, or a branch of a method, from doing a task: by their places, the first part of the
--- precondition that is unmet, and the facts of the name that it asks for
+-- precondition that is unmet, the values of the variables by the parts that are met, and the facts of the name that the
+-- unmet part asks for
 pub record Obstacle : Type 0 where
   pub rule : ℕ
   pub branch : ℕ
   pub unmet : Unmet
+  pub values : Bindings
   pub facts : Option Facts
 
 module _ (rules : List Rule) (nest : ℕ) (s : State) where
-  abbrev pub obstacle_by : ℕ → ℕ → Unmet → Obstacle
-  obstacle_by rule branch u = record {
+  abbrev pub obstacle_by : Term → ℕ → ℕ → Unmet → Obstacle
+  obstacle_by t rule branch u = record {
     rule = rule;
     branch = branch;
     unmet = u;
+    values = values_met rules nest s t rule branch u;
     facts = option_map (λ name. shown (facts_of name s)) (name_unmet rules rule branch u);
   }
 
   abbrev pub obstacle : Term → ℕ → ℕ → Obstacle
-  obstacle t rule branch = obstacle_by rule branch (first_unmet rules nest s t rule branch)
+  obstacle t rule branch = obstacle_by t rule branch (first_unmet rules nest s t rule branch)
 
   -- ---- all branches of all rules
 
@@ -111,7 +144,13 @@ all_stuck rules nest n = map (stuck_by rules nest n.state) (next_tasks n)
 -- ---- as they are kept
 
 abbrev pub obstacle_of : made.Obstacle → Obstacle
-obstacle_of o = record { rule = o.rule; branch = o.branch; unmet = o.unmet; facts = option_map facts.kept o.facts }
+obstacle_of o = record {
+  rule = o.rule;
+  branch = o.branch;
+  unmet = o.unmet;
+  values = values_of o.values;
+  facts = option_map facts.kept o.facts;
+}
 
 abbrev pub stuck_of : stuck.Stuck → Stuck
 stuck_of s = record { task = ground_of s.task; obstacles = map obstacle_of s.obstacles.items }

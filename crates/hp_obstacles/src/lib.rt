@@ -11,4 +11,4 @@ mod obstacles;
 
 pub use facts::{FACTS_SHOWN, Facts};
 pub use next::next_tasks;
-pub use obstacles::{Obstacle, Stuck, all_stuck, name_at, task_name};
+pub use obstacles::{Obstacle, Stuck, all_stuck, is_negated_at, name_at, task_name};

@@ -2,11 +2,13 @@
 ghost use Rattle.std.specs.Prelude.{◌≡◌, ◌++◌, ◌<◌, Some, None, true, IfOk, OnOk, MatchOption, length, map, option_map, slice_get};
 ghost use Rattle.hp_code.specs.Codes.{code_of};
 ghost use Rattle.hp_code.specs.CodeViews.{IsCodeOf};
+ghost use Rattle.hp_choice.specs.FirstSatisfier.{values_of};
 ghost use Rattle.hp_net.specs.Standings.{node_reached};
 ghost use Rattle.hp_search.specs.Planned.{stands_planned, tree_planned};
 ghost use Rattle.hp_syntax.specs.GroundViews.{ground_of};
 ghost use Rattle.hp_syntax.specs.Views.{domain_of, expression_of, rule_of};
-ghost use Rattle.hp_unmet.specs.PartNodes.{ServesFor};
+ghost use Rattle.hp_unmet.specs.PartNodes.{IsSpot, ServesFor};
+ghost use Rattle.hp_unmet.specs.Conjunctions.{first_unmet, values_met};
 ghost use Rattle.hp_unmet.specs.States.{InStateOf};
 ghost use Rattle.hp_obstacles.specs.Facts.{facts_of, kept, shown};
 ghost use Rattle.hp_obstacles.specs.Obstacles as plain;
@@ -19,7 +21,7 @@ use hp_code::Code;
 use hp_net::Walk;
 use hp_search::Planner;
 use hp_syntax::{Domain, Expr, ExprKind, Ground, Name, Rule};
-use hp_unmet::{Unmet, first_unmet, part_at};
+use hp_unmet::{Answer, Spot, Unmet, branch_after, first_branch, first_unmet, part_at};
 use std::alloc::{AllocError, Global};
 
 /// What keeps an operator, or a branch of a method, from doing a task.
@@ -29,7 +31,10 @@ pub struct Obstacle {
     /// The place of the branch among those of the method, 0 for an operator.
     pub branch: usize,
     pub unmet: Unmet,
-    /// The facts of the name for which the unmet part asks, where it asks for an atom.
+    /// The values of the variables of the rule by the first satisfier of the parts before the unmet one, or of all parts
+    /// where none is unmet. Where the head doesn't match or the answer is unknown, there are none.
+    pub values: Vec<Option<Ground>>,
+    /// The facts of the name for which the unmet part asks, where it asks for an atom or for the negation of one.
     pub facts: Option<Facts>,
 }
 
@@ -40,8 +45,10 @@ impl Drop for Obstacle {
             rule: _,
             branch: _,
             unmet: _,
+            values,
             facts,
         } = self;
+        drop(values);
         drop(facts);
     }
 }
@@ -61,9 +68,9 @@ impl Drop for Stuck {
     }
 }
 
-/// The name of the atom that a part asks for, where it is one.
-fn name_in(part: &Expr) -> Option<&Name>
-    ensures { option_map (λ n. n.now) result ≡ plain.name_in (expression_of part.now) }
+/// The name of an atom.
+fn atom_name(part: &Expr) -> Option<&Name>
+    ensures { option_map (λ n. n.now) result ≡ plain.atom_name (expression_of part.now) }
 {
     match &part.kind {
         ExprKind::Atom(atom) => Some(&atom.name),
@@ -76,7 +83,47 @@ fn name_in(part: &Expr) -> Option<&Name>
     }
 }
 
-/// The name of the atom that the part at a place asks for.
+/// The name of the atom that a part asks for, or whose negation it asks for.
+fn name_in(part: &Expr) -> Option<&Name>
+    ensures { option_map (λ n. n.now) result ≡ plain.name_in (expression_of part.now) }
+{
+    match &part.kind {
+        ExprKind::Atom(atom) => Some(&atom.name),
+        ExprKind::And(_) => None,
+        ExprKind::Or(_) => None,
+        ExprKind::Not(part) => atom_name(part),
+        ExprKind::Forall(_, _, _) => None,
+        ExprKind::Assign(_, _) => None,
+        ExprKind::Call(_) => None,
+    }
+}
+
+/// Whether a part asks for a negation.
+fn is_negation(part: &Expr) -> bool
+    ensures { result ≡ plain.is_negation (expression_of part.now) }
+{
+    match &part.kind {
+        ExprKind::Atom(_) => false,
+        ExprKind::And(_) => false,
+        ExprKind::Or(_) => false,
+        ExprKind::Not(_) => true,
+        ExprKind::Forall(_, _, _) => false,
+        ExprKind::Assign(_, _) => false,
+        ExprKind::Call(_) => false,
+    }
+}
+
+/// Whether the part at a place asks for a negation.
+pub fn is_negated_at(domain: &Domain, rule: usize, branch: usize, place: usize) -> bool
+    ensures { result ≡ plain.is_negated_at (domain_of domain.now).rules rule branch place }
+{
+    match part_at(domain, rule, branch, place) {
+        Some(part) => is_negation(part),
+        None => false,
+    }
+}
+
+/// The name of the atom that the part at a place asks for, or whose negation it asks for.
 pub fn name_at(domain: &Domain, rule: usize, branch: usize, place: usize) -> Option<&Name>
     ensures { option_map (λ n. n.now) result
         ≡ plain.name_unmet (domain_of domain.now).rules rule branch (Unmet.Part place) }
@@ -186,39 +233,49 @@ struct Question<'a> {
 }
 
 impl Question<'_> {
+    /// What keeps an operator or a branch from doing the task, by an answer for it at the node where a walk stands.
+    fn obstacle_by(
+        &self,
+        alloc: Global,
+        walk: &Planner<'_>,
+        spot: Spot,
+        answer: Answer,
+    ) -> Result<Obstacle, AllocError>
+        requires live { walk.now.live ≡ true }
+        requires unmet { InStateOf walk.now (λ nest s. answer.unmet
+            ≡ first_unmet (rules_asked self.now) nest s (task_asked self.now) spot.rule spot.branch) }
+        requires values { InStateOf walk.now (λ nest s. values_of answer.values ≡ values_met (rules_asked self.now) nest s
+            (task_asked self.now) spot.rule spot.branch answer.unmet) }
+        ensures { IfOk result (λ o. InStateOf walk.now (λ nest s. obstacle_of o
+            ≡ plain.obstacle (rules_asked self.now) nest s (task_asked self.now) spot.rule spot.branch)) }
+    {
+        let unmet = answer.unmet;
+        let name = name_unmet(self.domain, spot.rule, spot.branch, unmet);
+        let facts = facts_if(alloc, walk, name)?;
+        Ok(Obstacle {
+            rule: spot.rule,
+            branch: spot.branch,
+            unmet,
+            values: answer.into_values(),
+            facts,
+        })
+    }
+
     /// What keeps an operator or a branch from doing the task at the node where a walk stands.
     fn obstacle_at(
         &self,
         alloc: Global,
         walk: &mut Planner<'_>,
-        rule: usize,
-        branch: usize,
+        spot: Spot,
     ) -> Result<Obstacle, AllocError>
-        requires code { IsCodeOf (rules_asked self.now) (code_of self.now.code.now) }
-        requires there { rule < length (rules_asked self.now) }
+        requires spot { IsSpot (rules_asked self.now) (code_of self.now.code.now) spot }
         requires live { walk.old.live ≡ true }
         ensures is { IfOk result (λ o. InStateOf walk.old (λ nest s. obstacle_of o
-            ≡ plain.obstacle (rules_asked self.now) nest s (task_asked self.now) rule branch)) }
+            ≡ plain.obstacle (rules_asked self.now) nest s (task_asked self.now) spot.rule spot.branch)) }
         ensures same { walk.new ≡ walk.old }
     {
-        let node = node_of(self.domain, self.code, rule);
-        let unmet = first_unmet(
-            alloc,
-            self.domain,
-            self.code,
-            node,
-            rule,
-            branch,
-            walk,
-            self.task,
-        )?;
-        let facts = facts_if(alloc, walk, name_unmet(self.domain, rule, branch, unmet))?;
-        Ok(Obstacle {
-            rule,
-            branch,
-            unmet,
-            facts,
-        })
+        let answer = first_unmet(alloc, self.domain, self.code, spot, walk, self.task)?;
+        self.obstacle_by(alloc, walk, spot, answer)
     }
 
     /// Adds what keeps so many branches of a rule from doing the task.
@@ -238,9 +295,18 @@ impl Question<'_> {
             ++ plain.at_branches (rules_asked self.now) nest s (task_asked self.now) rule 0 count)) }
         ensures same { walk.new ≡ walk.old }
     {
+        let node = node_of(self.domain, self.code, rule);
+        let mut branch_node = first_branch(self.code, node);
         for branch in 0..count {
-            let found = self.obstacle_at(alloc, walk, rule, branch)?;
+            let spot = Spot {
+                rule,
+                branch,
+                node,
+                branch_node,
+            };
+            let found = self.obstacle_at(alloc, walk, spot)?;
             obstacles.push(found)?;
+            branch_node = branch_after(self.code, branch_node);
         }
         Ok(())
     }

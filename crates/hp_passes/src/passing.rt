@@ -47,7 +47,7 @@ pub enum Stop<E> {
 /// plan so far, and the writer of plans are passes.
 pub trait Pass<W: Walk, C> {
     ghost use Rattle.std.specs.Prelude.{◌≡◌, true, Some, IfOk, IfErr};
-    ghost use Rattle.hp_net.specs.Standings.{node_reached};
+    ghost use Rattle.hp_net.specs.Standings.{Tree, node_reached};
     ghost use Rattle.hp_syntax.specs.Walk.{Node, Visit, visit};
     ghost use Rattle.hp_passes.specs.Passing.{Fits, IsReached, sight_of};
     ghost use Rattle.hp_passes.specs.declared.passing.Turn.{Turn};
@@ -55,8 +55,8 @@ pub trait Pass<W: Walk, C> {
     /// What makes a visit fail.
     type Error;
 
-    /// What a visit makes of the pass and of what is at hand, and how it goes on.
-    ghost meets: { Self → C → Visit → Turn → Self → C → Type 0 };
+    /// What a visit of a tree makes of the pass and of what is at hand, and how it goes on.
+    ghost meets: { Tree → Self → C → Visit → Turn → Self → C → Type 0 };
 
     /// What is left at hand where a visit fails.
     ghost fails: { Self → C → Visit → Self.Error → C → Type 0 };
@@ -67,7 +67,7 @@ pub trait Pass<W: Walk, C> {
         requires live { W.is_live walk.now ≡ true }
         requires reached { IsReached (W.tree walk.now) (W.stands walk.now) }
         ensures meets { IfOk result (λ t. (n : Node) → node_reached (W.tree walk.now) (W.stands walk.now) ≡ Some n
-            → meets self.old hand.old (visit (W.stands walk.now).path n (sight_of sight)) t self.new hand.new) }
+            → meets (W.tree walk.now) self.old hand.old (visit (W.stands walk.now).path n (sight_of sight)) t self.new hand.new) }
         ensures fits { IfOk result (Fits sight) }
         ensures fails { IfErr result (λ e. (n : Node) → node_reached (W.tree walk.now) (W.stands walk.now) ≡ Some n
             → fails self.old hand.old (visit (W.stands walk.now).path n (sight_of sight)) e hand.new) };
@@ -97,9 +97,10 @@ pub fn go_through<W: Walk, C, P: Pass<W, C>>(
 ) -> Result<(), Stop<P::Error>>
     requires live { W.is_live walk.old ≡ true }
     requires at { All (IsAtItsNode (W.tree walk.old)) (W.stands walk.old).rest }
-    ensures passes { OnOk result (Passes P.meets pass.old hand.old (W.stands walk.old).rest pass.new hand.new
-        (W.stands walk.new)) }
-    ensures stops { IfErr result (λ e. Stops P.meets P.fails pass.old hand.old (W.stands walk.old).rest e hand.new) }
+    ensures passes { OnOk result (Passes (P.meets (W.tree walk.old)) pass.old hand.old (W.stands walk.old).rest
+        pass.new hand.new (W.stands walk.new)) }
+    ensures stops { IfErr result (λ e. Stops (P.meets (W.tree walk.old)) P.fails pass.old hand.old
+        (W.stands walk.old).rest e hand.new) }
     ensures tree { W.tree walk.new ≡ W.tree walk.old }
     ensures root_cells { W.root_cells walk.new ≡ W.root_cells walk.old }
     ensures live { OnOk result (W.is_live walk.new ≡ true) }

@@ -31,7 +31,7 @@ impl<W: Walk> Pass<W, ()> for Walked {
 
     type Error = AllocError;
 
-    ghost meets = { meets_walked };
+    ghost meets = { λ tree. meets_walked };
 
     ghost fails = { λ s c v e d. ⊥ };
 

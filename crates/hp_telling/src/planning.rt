@@ -92,7 +92,7 @@ impl<W: Walk, K: Sink> Pass<W, K> for Telling {
 
     type Error = Halt;
 
-    ghost meets = { λ s c v t u d. Tells s v t u (sink_run (K.faults c) (K.faults d) (K.bytes c) (K.bytes d)) };
+    ghost meets = { λ tree s c v t u d. Tells s v t u (sink_run (K.faults c) (K.faults d) (K.bytes c) (K.bytes d)) };
 
     ghost fails = { λ s c v h d. StopsAt s v h (sink_run (K.faults c) (K.faults d) (K.bytes c) (K.bytes d)) };
 

@@ -1,5 +1,5 @@
 -- The rule at a place of a domain, and the one in a code that asks for what it does.
-use Rattle.std.proofs.Common.{◌≡◌, ℕ, List, map, Option, Some, None, get_or, refl, sym, ap, ◌∙◌, subst, arith}
+use Rattle.std.proofs.Common.{◌≡◌, ℕ, ◌<◌, List, length, map, Option, Some, None, get_or, refl, sym, ap, ◌∙◌, subst, arith}
 use Rattle.std.specs.Prelude.{option_map, slice_get}
 use Rattle.std.specs.Option.{option_and_then}
 use Rattle.std.specs.Ordering.{nat_cmp}
@@ -8,7 +8,8 @@ use Rattle.std.proofs.lemmas.Bool.Decides.{nat_tests}
 use Rattle.std.proofs.lemmas.Option.{get_or_from_slice_get, slice_get-map, slice_get_within}
 use Rattle.hp_choice.specs.declared.asking.Conjuncts.{Conjuncts}
 use Rattle.hp_choice.specs.Asking.{head_of}
-use Rattle.hp_code.specs.CodeViews.{CodeView, beside, rule_nodes, rules_in}
+use Rattle.hp_choice.proofs.RuleReadings.{rule_within}
+use Rattle.hp_code.specs.CodeViews.{CodeView, IsCode, beside, rule_nodes, rules_in}
 use Rattle.hp_code.specs.Lowered.{lowered, lowered_branch, lowered_precondition, lowered_rule}
 use Rattle.hp_code.proofs.LookUpSteps.{place_found}
 use Rattle.hp_nodes.specs.Compiled.{vars_of}
@@ -127,6 +128,10 @@ module _ (rules : List syntax.Rule) (rule : ℕ) (code : CodeView) (node : ℕ)
       (compared ns place node serves.node_at)).1
       ∙ (ap (λ rs. slice_get rs place) (rules_there serves.others code serves.code)
       ∙ (slice_get-map lowered_rule serves.others place ∙ ap (option_map lowered_rule) serves.other_at))
+
+  -- the node is one of the code's
+  pub node_within : IsCode code → node < length code.nodes
+  node_within kept = rule_within code kept node (lowered_rule serves.other) beside_node
 
   module _ (branch : ℕ) (c : Conjunction) (asked : asked_in rules rule branch ≡ Some c) where
     asks : AsksLowered branch (lowered_rule serves.other) c

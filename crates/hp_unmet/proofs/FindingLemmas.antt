@@ -2,6 +2,7 @@
 use Rattle.std.proofs.Common.{◌≡◌, ◌≢◌, ℕ, zero, suc, List, [], ◌∷◌, ◌++◌, Some, None, refl, sym, ap, ◌∙◌}
 use Rattle.std.proofs.lemmas.List.{append-nil}
 use Rattle.std.proofs.lemmas.List.Concat.{flat_map-append}
+use Rattle.hp_choice.specs.FirstSatisfier.{first_sat}
 use Rattle.hp_syntax.specs.declared.pattern.Span.{Span}
 use Rattle.hp_syntax.specs.Events.{Event, Sat, Cut, Fault, Finding, Satisfied, State, atom_events, events, events_of_all, finding, finding_with, in_place, sat, through}
 use Rattle.hp_syntax.specs.Preconditions.{heard, precondition_events}
@@ -19,6 +20,13 @@ heard_finding [] = refl
 heard_finding (Sat e ∷ xs) = refl
 heard_finding (Cut ∷ xs) = ap (finding_with Cut) (heard_finding xs)
 heard_finding (Fault f ∷ xs) = refl
+
+-- the first satisfier of events is that of those that are heard
+pub heard_first : (xs : List Event) → first_sat (heard xs) ≡ first_sat xs
+heard_first [] = refl
+heard_first (Sat e ∷ xs) = refl
+heard_first (Cut ∷ xs) = heard_first xs
+heard_first (Fault f ∷ xs) = refl
 
 -- where no satisfier is found, the same is found whatever stands in the place of satisfiers
 pub through_finding : (xs : List Event) (f : Bindings → List Event) → finding xs ≢ Satisfied

@@ -1,11 +1,14 @@
 -- What is found with more and more of the first parts of a conjunction.
-use Rattle.std.proofs.Common.{◌≡◌, ◌≢◌, ℕ, ◌≤◌, List, ◌++◌, take, drop, Option, Some, None, refl, sym, ap, ◌∙◌}
-use Rattle.std.proofs.lemmas.List.{take-append-drop, take-take}
+use Rattle.std.proofs.Common.{◌≡◌, ◌≢◌, ℕ, ◌≤◌, min, List, ◌++◌, length, take, drop, Option, Some, None, refl, sym, ap, ◌∙◌}
+use Rattle.std.proofs.lemmas.List.{take-append-drop, take-take, take_min}
 use Rattle.hp_syntax.specs.Events.{Finding, Satisfied, Nothing, State, axioms_of, finding}
+use Rattle.hp_choice.specs.FirstSatisfier.{first_sat}
+use Rattle.hp_syntax.specs.Preconditions.{precondition_events}
 use Rattle.hp_syntax.specs.Syntax as syntax
 use Rattle.hp_syntax.specs.Terms.{Term}
 use Rattle.hp_syntax.specs.Values.{Bindings}
-use Rattle.hp_unmet.specs.Conjunctions.{Conjunction, first_events, found, matched}
+use Rattle.hp_syntax.specs.Views.{as_expressions}
+use Rattle.hp_unmet.specs.Conjunctions.{Conjunction, first_events, first_values, found, matched, or_unbound}
 use Rattle.hp_unmet.proofs.FindingLemmas.{found_asking, found_with_more, found_with_none}
 
 -- the first parts begin those of which there are more
@@ -42,3 +45,13 @@ module _ (rules : List syntax.Rule) (nest : ℕ) (state : State) (c : Conjunctio
     is_matched None h e =
         absurd (let never : Nothing ≡ Satisfied = sym (ap (λ o. found_where o 0) h) ∙ e in cc)
     is_matched (Some b) h e = (b, h)
+
+  -- as many of the first parts as there are, at most so many, give the values that so many do
+  pub few_values : (o : Option Bindings) (n : ℕ)
+      → first_values rules nest state c o (min n (length c.parts)) ≡ first_values rules nest state c o n
+  few_values None n = refl
+  few_values (Some e) n =
+      ap
+      (λ ps. or_unbound (first_sat (precondition_events (axioms_of rules) nest state
+      (syntax.Plain (syntax.And c.span (as_expressions ps))) e)))
+      (take_min n c.parts)

@@ -2,6 +2,7 @@
 use Rattle.std.proofs.Common.{◌≡◌, ℕ, List, [], ◌∷◌, length, map, take, Option, Some, None, refl, sym, ap, ap₂, ◌∙◌}
 use Rattle.std.proofs.lemmas.List.{take-map}
 use Rattle.hp_choice.specs.Asking.{asked_events, events_under, head_of}
+use Rattle.hp_choice.specs.FirstSatisfier.{first_sat}
 use Rattle.hp_code.specs.CodeViews.{CodeView, IsCodeOf, or_empty, rules_in}
 use Rattle.hp_code.specs.Lowered.{all_lowered, lowered, lowered_axiom, lowered_precondition, lowered_rules}
 use Rattle.hp_code.proofs.CodeLemmas.{code_reads}
@@ -15,7 +16,7 @@ use Rattle.hp_syntax.specs.Terms.{Term}
 use Rattle.hp_syntax.specs.Values.{Bindings, unbound}
 use Rattle.hp_syntax.specs.Views.{as_expressions}
 use Rattle.hp_unmet.specs.Conjunctions.{Conjunction, body_of, conjuncts, first_events, found, listed, matched}
-use Rattle.hp_unmet.proofs.FindingLemmas.{heard_finding}
+use Rattle.hp_unmet.proofs.FindingLemmas.{heard_finding, heard_first}
 
 -- ---- parts
 
@@ -93,3 +94,20 @@ module _ (others : List syntax.Rule) (code : CodeView) (of : IsCodeOf others cod
         ap (λ o. finding (events_under (rules_in code) nest state first_there o))
         (ap₂ (λ h vs. match_atom h t (unbound (length vs))) head vars)
         ∙ under_there (matched c t)
+
+    -- by the code the first satisfier of them is that of the precondition
+    first_under_there : (o : Option Bindings) → first_sat (events_under (rules_in code) nest state first_there o)
+        ≡ first_sat (first_events rules nest state c o n)
+    unfolding precondition_events
+    first_under_there None = refl
+    first_under_there (Some e) =
+        ap first_sat (sat_there e) ∙ sym (heard_first (sat (axioms_of rules) nest state first_own e))
+
+    -- so it is where the head of a rule, which is that of the parts, matches a task
+    pub first_sat_there : (r : syntax.Rule) (t : Term) → head_of r ≡ c.head → vars_of r ≡ c.vars
+        → first_sat (asked_events (rules_in code) nest state r first_there t)
+        ≡ first_sat (first_events rules nest state c (matched c t) n)
+    first_sat_there r t head vars =
+        ap (λ o. first_sat (events_under (rules_in code) nest state first_there o))
+        (ap₂ (λ h vs. match_atom h t (unbound (length vs))) head vars)
+        ∙ first_under_there (matched c t)

@@ -6,6 +6,7 @@ use Rattle.hp_choice.specs.declared.asking.Conjuncts.{Conjuncts}
 use Rattle.hp_choice.specs.declared.asking.Finding.{Finding}
 use Rattle.hp_choice.specs.declared.asking.Prefix.{Prefix}
 use Rattle.hp_choice.specs.Asking.{AreConjuncts, Finds, GoesAlong, along, events_under, finding_of, head_of, past}
+use Rattle.hp_choice.specs.FirstSatisfier.{GivesFirst, values_of}
 use Rattle.hp_choice.proofs.AlongLaws.{along_satisfied, along_within}
 use Rattle.hp_code.specs.CodeViews.{CodeView, rules_in}
 use Rattle.hp_code.specs.Codes.{code_of}
@@ -13,16 +14,19 @@ use Rattle.hp_code.specs.Lowered.{lowered}
 use Rattle.hp_nodes.specs.Compiled.{vars_of}
 use Rattle.hp_suspended.specs.Fitting.{AreExpressionsIn}
 use Rattle.hp_suspended.specs.Nodes.{expressions_in}
+use Rattle.std.specs.Prelude.{Vec}
+use Rattle.std.specs.Global.{Global}
+use Rattle.hp_syntax.specs.declared.pattern.Ground.{Ground}
 use Rattle.hp_syntax.specs.Events.{Satisfied, State, axioms_of, finding, sat}
 use Rattle.hp_syntax.specs.Matching.{match_atom}
 use Rattle.hp_syntax.specs.Syntax.{And, Axiom, Expression}
 use Rattle.hp_syntax.specs.Values.{Bindings, unbound}
 use Rattle.hp_syntax.specs.Views.{as_expressions, expression_of}
 use Rattle.hp_syntax.specs.Walk.{Node}
-use Rattle.hp_unmet.specs.Conjunctions.{Conjunction, matched}
-use Rattle.hp_unmet.specs.Trials.{CanBeTried, IsPrefix, conjunction_of, rules_tried, task_tried, tried}
+use Rattle.hp_unmet.specs.Conjunctions.{Conjunction, matched, or_unbound}
+use Rattle.hp_unmet.specs.Trials.{CanBeTried, IsPrefix, conjunction_of, rules_tried, task_tried, tried, values_tried}
 use Rattle.hp_unmet.specs.declared.trial.Trial.{Trial}
-use Rattle.hp_unmet.proofs.LoweredParts.{found_there, parts_lowered}
+use Rattle.hp_unmet.proofs.LoweredParts.{first_sat_there, found_there, parts_lowered}
 use Rattle.hp_unmet.proofs.PrefixSteps.{PrefixAt, past_all, past_more, prefix_at}
 
 -- so many more parts than some end behind these
@@ -80,6 +84,18 @@ module _ (t : Trial) (can : CanBeTried t) where
         (ap (expressions_in code t.nodes.first) is.end ∙ prefix.are)
         ∙ found_there can.stand.others code can.stand.of (rules_tried t) can.stand.axioms nest state own p.count
         can.stand.rule (task_tried t) can.stand.head can.stand.vars
+
+    -- the values that they give are those by so many of the first parts
+    pub gives_first : (nest : ℕ) (state : State) (o : Option (Vec (Option Ground) Global))
+        → GivesFirst code nest state asked (task_tried t) o
+        → or_unbound (option_map values_of o) ≡ values_tried t nest state p.count
+    gives_first nest state o gives =
+        let own = conjunction_of t.asked in
+        ap or_unbound
+        (gives can.stand.rule own.span (as_expressions (take p.count held)) can.stand.is
+        (ap (expressions_in code t.nodes.first) is.end ∙ prefix.are)
+        ∙ first_sat_there can.stand.others code can.stand.of (rules_tried t) can.stand.axioms nest state own p.count
+        can.stand.rule (task_tried t) can.stand.head can.stand.vars)
 
   -- all parts may be gone along
   pub may_go : AreConjuncts code t.nodes

@@ -9,6 +9,7 @@ use Rattle.hp_syntax.specs.Syntax as syntax
 use Rattle.hp_syntax.specs.Terms.{Term}
 use Rattle.hp_syntax.specs.Values.{Bindings, unbound}
 use Rattle.hp_syntax.specs.Views.{as_expressions}
+use Rattle.hp_choice.specs.FirstSatisfier.{first_sat}
 use Rattle.hp_unmet.specs.declared.unmet.Unmet.{Unmet}
 use Rattle.hp_unmet.specs.declared.unmet.Unmet.TheVariants as unmets
 
@@ -110,3 +111,29 @@ module _ (rules : List syntax.Rule) (nest : ℕ) (state : State) where
 -- what of a precondition is satisfied in a state, where the head of its rule matches the task
 abbrev pub first_unmet : List syntax.Rule → ℕ → State → Term → ℕ → ℕ → Unmet
 first_unmet rules nest state task rule branch = answer_if rules nest state task (asked_in rules rule branch)
+
+-- ---- the values of the variables
+
+abbrev pub or_unbound : Option Bindings → Bindings
+or_unbound None = []
+or_unbound (Some e) = e
+
+module _ (rules : List syntax.Rule) (nest : ℕ) (state : State) where
+  -- by the first satisfier of so many of the first parts together, none where there is none
+  abbrev pub first_values : Conjunction → Option Bindings → ℕ → Bindings
+  first_values c o n = or_unbound (first_sat (first_events rules nest state c o n))
+
+  -- by that of the parts before the one that is unmet, or of all where none is
+  abbrev pub values_of : Term → Conjunction → Unmet → Bindings
+  values_of task c unmets.None = first_values c (matched c task) (length c.parts)
+  values_of task c unmets.Head = []
+  values_of task c (unmets.Part n) = first_values c (matched c task) n
+  values_of task c unmets.Unknown = []
+
+  abbrev pub values_if : Term → Unmet → Option Conjunction → Bindings
+  values_if task u None = []
+  values_if task u (Some c) = values_of task c u
+
+-- the values of the variables of a rule by the parts of a precondition that are met
+abbrev pub values_met : List syntax.Rule → ℕ → State → Term → ℕ → ℕ → Unmet → Bindings
+values_met rules nest state task rule branch u = values_if rules nest state task u (asked_in rules rule branch)

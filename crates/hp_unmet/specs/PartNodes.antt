@@ -1,5 +1,5 @@
 -- Where the parts of preconditions stand in a code.
-use Rattle.std.specs.Prelude.{◌≡◌, ℕ, List, slice_get, Option, Some, None}
+use Rattle.std.specs.Prelude.{◌≡◌, ◌+◌, ℕ, List, slice_get, Option, Some, None}
 use Rattle.std.specs.Option.{option_map}
 use Rattle.hp_syntax.specs.Events.{axioms_of}
 use Rattle.hp_syntax.specs.Syntax as syntax
@@ -10,8 +10,9 @@ use Rattle.hp_code.specs.Lowered.{all_lowered}
 use Rattle.hp_suspended.specs.Fitting.{AreExpressionsIn}
 use Rattle.hp_suspended.specs.Nodes.{expressions_in}
 use Rattle.hp_choice.specs.declared.asking.Conjuncts.{Conjuncts}
-use Rattle.hp_choice.specs.Asking.{head_of}
+use Rattle.hp_choice.specs.Asking.{head_of, past}
 use Rattle.hp_unmet.specs.Conjunctions.{Conjunction, body_of, conjuncts}
+use Rattle.hp_unmet.specs.declared.nodes.Spot.{Spot}
 
 -- the precondition of an operator, or of the branch of a method that has this number
 abbrev pub precondition_by : ℕ → syntax.Rule → Option syntax.Precondition
@@ -37,6 +38,15 @@ pub record ServesFor (rules : List syntax.Rule) (rule : ℕ) (c : CodeView) (nod
   pub other : syntax.Rule
   pub other_at : slice_get others place ≡ Some other
   pub alike : AsksAlike own other
+
+-- the node of a branch stands past so many trees after that of the rule
+abbrev pub IsAtBranch : CodeView → Spot → Type 0
+IsAtBranch c s = s.branch_node ≡ past c.nodes (s.node + 1) s.branch
+
+-- an operator of a domain, or a branch of a method, is told by a rule of a code that asks for what it does
+pub record IsSpot (rules : List syntax.Rule) (c : CodeView) (s : Spot) : Type 0 where
+  pub serves : ServesFor rules s.rule c s.node
+  pub at : IsAtBranch c s
 
 -- the rule of a node has this precondition there
 pub record HasPrecondition (c : CodeView) (i branch : ℕ) (p : syntax.Precondition) : Type 0 where

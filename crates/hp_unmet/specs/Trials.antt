@@ -4,11 +4,12 @@ use Rattle.hp_syntax.specs.Events.{Finding, Satisfied, Faulty, Undecided, Nothin
 use Rattle.hp_syntax.specs.GroundPatterns.{IsGroundAtom, atom_said}
 use Rattle.hp_syntax.specs.Syntax as syntax
 use Rattle.hp_syntax.specs.Terms.{Term}
+use Rattle.hp_syntax.specs.Values.{Bindings}
 use Rattle.hp_syntax.specs.Views.{atom_of, domain_of, expression_of}
 use Rattle.hp_code.specs.Codes.{code_of}
 use Rattle.hp_choice.specs.Asking.{past}
 use Rattle.hp_choice.specs.declared.asking.Prefix.{Prefix}
-use Rattle.hp_unmet.specs.Conjunctions.{Conjunction, answer_of, found}
+use Rattle.hp_unmet.specs.Conjunctions.{Conjunction, answer_of, first_values, found, matched, values_of}
 use Rattle.hp_unmet.specs.PartNodes.{StandIn}
 use Rattle.hp_unmet.specs.declared.parts.Parts.{Parts}
 use Rattle.hp_unmet.specs.declared.trial.Trial.{Trial}
@@ -42,6 +43,15 @@ pub record IsPrefix (t : Trial) (p : Prefix) : Type 0 where
 -- what is found with so many of the first parts, with so many axiom levels in a state
 abbrev pub tried : Trial → ℕ → State → ℕ → Finding
 tried t nest state n = found (rules_tried t) nest state (conjunction_of t.asked) (task_tried t) n
+
+-- the values of the variables by the first satisfier of so many of them
+abbrev pub values_tried : Trial → ℕ → State → ℕ → Bindings
+values_tried t nest state n =
+    let c = conjunction_of t.asked in first_values (rules_tried t) nest state c (matched c (task_tried t)) n
+
+-- and by that of the parts that are met
+abbrev pub values_answered : Trial → ℕ → State → Unmet → Bindings
+values_answered t nest state u = values_of (rules_tried t) nest state (task_tried t) (conjunction_of t.asked) u
 
 abbrev pub answer_tried : Trial → ℕ → State → Unmet
 answer_tried t nest state = answer_of (rules_tried t) nest state (task_tried t) (conjunction_of t.asked)

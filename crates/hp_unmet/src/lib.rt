@@ -8,5 +8,6 @@ mod said;
 mod trial;
 mod unmet;
 
+pub use nodes::{Spot, branch_after, first_branch};
 pub use parts::part_at;
-pub use unmet::{Unmet, first_unmet};
+pub use unmet::{Answer, Unmet, first_unmet};

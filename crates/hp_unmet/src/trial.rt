@@ -1,18 +1,19 @@
 //! Trials, which tell what the first parts of a conjunction come to where a walk stands.
-ghost use Rattle.std.specs.Prelude.{◌≡◌, ◌+◌, ◌≤◌, None, true, IfOk, IfSome, length};
+ghost use Rattle.std.specs.Prelude.{◌≡◌, ◌+◌, ◌≤◌, None, true, IfOk, IfSome, length, min};
 ghost use Rattle.hp_choice.specs.Asking.{finding_of};
+ghost use Rattle.hp_choice.specs.FirstSatisfier.{values_of};
 ghost use Rattle.hp_syntax.specs.Events.{Satisfied};
 ghost use Rattle.hp_unmet.specs.Conjunctions.{matched};
 ghost use Rattle.hp_unmet.specs.States.{InStateOf};
-ghost use Rattle.hp_unmet.specs.Trials.{CanBeTried, IsPrefix, conjunction_of, is_satisfied, task_tried, tried};
+ghost use Rattle.hp_unmet.specs.Trials.{CanBeTried, IsPrefix, conjunction_of, is_satisfied, task_tried, tried, values_tried};
 
 use crate::nodes::past;
 use crate::parts::Parts;
 use hp_choice::{Conjuncts, Finding, Prefix};
 use hp_code::Code;
 use hp_search::Planner;
-use hp_syntax::{AtomPat, Domain};
-use std::alloc::AllocError;
+use hp_syntax::{AtomPat, Domain, Ground};
+use std::alloc::{AllocError, Global};
 
 /// The first parts of a conjunction are looked for where its head matches a task, which has no variables and no calls:
 /// by the nodes of the parts in a code of rules whose axioms are the domain's.
@@ -49,6 +50,45 @@ impl Trial<'_> {
         Prefix {
             count: prefix.count + more,
             end: past(self.code, prefix.end, more),
+        }
+    }
+
+    /// So many of the first parts, and all where there are fewer.
+    pub fn first(&self, count: usize) -> Prefix
+        requires can { CanBeTried self.now }
+        ensures prefix { IsPrefix self.now result }
+        ensures count { result.count ≡ min count (length self.now.asked.parts.now) }
+    {
+        let none = Prefix {
+            count: 0,
+            end: self.nodes.first,
+        };
+        self.more(none, count.min(self.asked.parts.len()))
+    }
+
+    /// The values of the variables by the first satisfier of so many of the first parts together, in the state of the
+    /// node at which a walk stands. None where there is no satisfier before a fault.
+    pub fn values(
+        &self,
+        alloc: Global,
+        walk: &mut Planner<'_>,
+        prefix: Prefix,
+    ) -> Result<Vec<Option<Ground>>, AllocError>
+        requires can { CanBeTried self.now }
+        requires live { walk.old.live ≡ true }
+        requires prefix { IsPrefix self.now prefix }
+        ensures values { IfOk result (λ v. InStateOf walk.old
+            (λ nest state. values_of v ≡ values_tried self.now nest state prefix.count)) }
+        ensures same { walk.new ≡ walk.old }
+    {
+        let asked = Conjuncts {
+            rule: self.nodes.rule,
+            first: self.nodes.first,
+            end: prefix.end,
+        };
+        match walk.first_satisfier(self.code, asked, self.task)? {
+            Some(values) => Ok(values),
+            None => Ok(Vec::new(alloc)),
         }
     }
 

@@ -1,19 +1,20 @@
 //! The first part that nothing satisfies.
-ghost use Rattle.std.specs.Prelude.{◌≡◌, ◌+◌, ◌-◌, ◌<◌, ◌≤◌, ℕ, true, false, IfOk, length};
+ghost use Rattle.std.specs.Prelude.{◌≡◌, ◌+◌, ◌-◌, ◌<◌, ◌≤◌, ℕ, [], true, false, IfOk, length};
 ghost use Rattle.hp_code.specs.Codes.{code_of};
 ghost use Rattle.hp_syntax.specs.Events.{Satisfied, Nothing, State};
 ghost use Rattle.hp_syntax.specs.GroundPatterns.{IsGroundAtom, atom_said};
 ghost use Rattle.hp_syntax.specs.GroundViews.{ground_of};
 ghost use Rattle.hp_syntax.specs.Terms.{Term};
 ghost use Rattle.hp_syntax.specs.Views.{atom_of, domain_of};
-ghost use Rattle.hp_unmet.specs.Conjunctions.{first_unmet};
+ghost use Rattle.hp_choice.specs.FirstSatisfier.{values_of};
+ghost use Rattle.hp_unmet.specs.Conjunctions.{first_unmet, values_met};
 ghost use Rattle.hp_unmet.specs.Halving.{IsBetween};
-ghost use Rattle.hp_unmet.specs.PartNodes.{ServesFor};
+ghost use Rattle.hp_unmet.specs.PartNodes.{IsSpot};
 ghost use Rattle.hp_unmet.specs.Said.{is_atom};
 ghost use Rattle.hp_unmet.specs.States.{InStateOf};
-ghost use Rattle.hp_unmet.specs.Trials.{CanBeTried, IsFirstMissing, IsPrefix, answer_tried, tried};
+ghost use Rattle.hp_unmet.specs.Trials.{CanBeTried, IsFirstMissing, IsPrefix, answer_tried, tried, values_answered};
 
-use crate::nodes::parts_asked;
+use crate::nodes::{Spot, parts_asked};
 use crate::parts::asked_in;
 use crate::said::to_atom;
 use crate::trial::Trial;
@@ -37,6 +38,32 @@ pub enum Unmet {
     /// Some first parts have a satisfier together; with the next one there is none before a fault, and a limit of
     /// nesting or a fault is met.
     Unknown,
+}
+
+/// What of a precondition is satisfied, with the values of the variables of its rule by the first satisfier of the parts
+/// before the one that is unmet, or of all parts where none is. Where the head doesn't match or the answer is unknown,
+/// there are no values.
+pub struct Answer {
+    pub unmet: Unmet,
+    pub values: Vec<Option<Ground>>,
+}
+
+// A derived drop would do the same, but be proved anew wherever an answer is let go.
+impl Drop for Answer {
+    fn drop(self) {
+        let Answer { unmet: _, values } = self;
+        drop(values);
+    }
+}
+
+impl Answer {
+    /// The values alone.
+    pub fn into_values(self) -> Vec<Option<Ground>>
+        ensures { result ≡ self.values }
+    {
+        let Answer { unmet: _, values } = self;
+        values
+    }
 }
 
 /// So many of the first parts are satisfied, and with so many nothing is found.
@@ -173,27 +200,69 @@ impl Trial<'_> {
             None => Ok(Unmet::Head),
         }
     }
+
+    /// The values of the variables by the parts that are met.
+    fn values_met(
+        &self,
+        alloc: Global,
+        walk: &mut Planner<'_>,
+        unmet: Unmet,
+    ) -> Result<Vec<Option<Ground>>, AllocError>
+        requires can { CanBeTried self.now }
+        requires live { walk.old.live ≡ true }
+        ensures values { IfOk result (λ v. InStateOf walk.old
+            (λ nest state. values_of v ≡ values_answered self.now nest state unmet)) }
+        ensures same { walk.new ≡ walk.old }
+    {
+        match unmet {
+            Unmet::None => self.values(alloc, walk, self.all()),
+            Unmet::Part(place) => self.values(alloc, walk, self.first(place)),
+            Unmet::Head => Ok(Vec::new(alloc)),
+            Unmet::Unknown => Ok(Vec::new(alloc)),
+        }
+    }
+
+    /// The answer with these values.
+    fn answer_with_values(
+        &self,
+        alloc: Global,
+        walk: &mut Planner<'_>,
+    ) -> Result<Answer, AllocError>
+        requires can { CanBeTried self.now }
+        requires live { walk.old.live ≡ true }
+        ensures unmet { IfOk result (λ a. InStateOf walk.old
+            (λ nest state. a.unmet ≡ answer_tried self.now nest state)) }
+        ensures values { IfOk result (λ a. InStateOf walk.old
+            (λ nest state. values_of a.values ≡ values_answered self.now nest state a.unmet)) }
+        ensures same { walk.new ≡ walk.old }
+    {
+        let unmet = self.answer(walk)?;
+        let values = self.values_met(alloc, walk, unmet)?;
+        Ok(Answer { unmet, values })
+    }
 }
 
-fn unmet_in(
+fn answer_in(
+    alloc: Global,
     domain: &Domain,
     code: &Code,
-    node: usize,
-    rule: usize,
-    branch: usize,
+    spot: Spot,
     walk: &mut Planner<'_>,
     task: &AtomPat,
-) -> Result<Unmet, AllocError>
-    requires code { ServesFor (domain_of domain.now).rules rule (code_of code.now) node }
+) -> Result<Answer, AllocError>
+    requires spot { IsSpot (domain_of domain.now).rules (code_of code.now) spot }
     requires live { walk.old.live ≡ true }
     requires ground { IsGroundAtom (atom_of task.now) }
-    ensures unmet { IfOk result (λ u. InStateOf walk.old (λ nest state. u
-        ≡ first_unmet (domain_of domain.now).rules nest state (atom_said (atom_of task.now)) rule branch)) }
+    ensures unmet { IfOk result (λ a. InStateOf walk.old (λ nest state. a.unmet
+        ≡ first_unmet (domain_of domain.now).rules nest state (atom_said (atom_of task.now)) spot.rule spot.branch)) }
+    ensures values { IfOk result (λ a. InStateOf walk.old (λ nest state. values_of a.values
+        ≡ values_met (domain_of domain.now).rules nest state (atom_said (atom_of task.now)) spot.rule spot.branch
+        a.unmet)) }
     ensures same { walk.new ≡ walk.old }
 {
-    match asked_in(domain, rule, branch) {
+    match asked_in(domain, spot.rule, spot.branch) {
         Some(asked) => {
-            let nodes = parts_asked(code, node, branch);
+            let nodes = parts_asked(code, spot);
             let trial = Trial {
                 domain,
                 asked,
@@ -201,50 +270,62 @@ fn unmet_in(
                 nodes,
                 task,
             };
-            trial.answer(walk)
+            trial.answer_with_values(alloc, walk)
         }
-        None => Ok(Unmet::None),
+        None => Ok(without_values(alloc, Unmet::None)),
+    }
+}
+
+/// An answer without values.
+fn without_values(alloc: Global, unmet: Unmet) -> Answer
+    ensures unmet { result.unmet ≡ unmet }
+    ensures values { values_of result.values ≡ [] }
+{
+    Answer {
+        unmet,
+        values: Vec::new(alloc),
     }
 }
 
 /// The answer for a task that is no atom, which no head matches.
-fn unmatched(domain: &Domain, rule: usize, branch: usize) -> Unmet
-    ensures { (nest : ℕ) (state : State) (task : Term) → is_atom task ≡ false
-        → result ≡ first_unmet (domain_of domain.now).rules nest state task rule branch }
+fn unmatched(domain: &Domain, spot: Spot) -> Unmet
+    ensures unmet { (nest : ℕ) (state : State) (task : Term) → is_atom task ≡ false
+        → result ≡ first_unmet (domain_of domain.now).rules nest state task spot.rule spot.branch }
+    ensures values { (nest : ℕ) (state : State) (task : Term)
+        → values_met (domain_of domain.now).rules nest state task spot.rule spot.branch result ≡ [] }
 {
-    match asked_in(domain, rule, branch) {
+    match asked_in(domain, spot.rule, spot.branch) {
         Some(_) => Unmet::Head,
         None => Unmet::None,
     }
 }
 
 /// What of the precondition of an operator, or of a branch of a method, is satisfied where the head matches a task, in
-/// the state of the node at which a walk stands: the rule and the branch are told by their places in the domain. It is
-/// asked by the nodes of a code that serves for the domain's: its rule of that node asks for what the domain's does,
-/// and its axioms are the domain's. Axioms may call one another as deep as in the walk, which stays as it is, after an
-/// error too.
+/// the state of the node at which a walk stands. It is asked by the nodes of a code that serves for the domain's: its
+/// rule asks for what the domain's does, and its axioms are the domain's. Axioms may call one another as deep as in the
+/// walk, which stays as it is, after an error too.
 ///
 /// The walk goes along the parts once, each by its first satisfier, and then it is asked for one part more. Mostly that
-/// tells the answer. Where these are satisfied too it is asked for all of them, for twice as many more again and again,
+/// gives the answer. Where these are satisfied too it is asked for all of them, for twice as many more again and again,
 /// and for numbers between.
 pub fn first_unmet(
     alloc: Global,
     domain: &Domain,
     code: &Code,
-    node: usize,
-    rule: usize,
-    branch: usize,
+    spot: Spot,
     walk: &mut Planner<'_>,
     task: &Ground,
-) -> Result<Unmet, AllocError>
-    requires code { ServesFor (domain_of domain.now).rules rule (code_of code.now) node }
+) -> Result<Answer, AllocError>
+    requires spot { IsSpot (domain_of domain.now).rules (code_of code.now) spot }
     requires live { walk.old.live ≡ true }
-    ensures unmet { IfOk result (λ u. InStateOf walk.old
-        (λ nest state. u ≡ first_unmet (domain_of domain.now).rules nest state (ground_of task.now) rule branch)) }
+    ensures unmet { IfOk result (λ a. InStateOf walk.old (λ nest state. a.unmet
+        ≡ first_unmet (domain_of domain.now).rules nest state (ground_of task.now) spot.rule spot.branch)) }
+    ensures values { IfOk result (λ a. InStateOf walk.old (λ nest state. values_of a.values
+        ≡ values_met (domain_of domain.now).rules nest state (ground_of task.now) spot.rule spot.branch a.unmet)) }
     ensures same { walk.new ≡ walk.old }
 {
     match to_atom(alloc, task)? {
-        Some(atom) => unmet_in(domain, code, node, rule, branch, walk, &atom),
-        None => Ok(unmatched(domain, rule, branch)),
+        Some(atom) => answer_in(alloc, domain, code, spot, walk, &atom),
+        None => Ok(without_values(alloc, unmatched(domain, spot))),
     }
 }

@@ -8,4 +8,4 @@ mod comparing;
 pub mod laws;
 mod verifying;
 
-pub use verifying::{Answer, Verdict, verify};
+pub use verifying::{Answer, Verdict, are_steps, leads_on, verify};

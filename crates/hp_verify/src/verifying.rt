@@ -31,7 +31,7 @@ pub struct Verdict {
 }
 
 /// Whether the steps so far begin the plan.
-fn leads_on<W: Walk>(walk: &W, steps: &[Ground]) -> bool
+pub fn leads_on<W: Walk>(walk: &W, steps: &[Ground]) -> bool
     requires live { W.is_live walk.now ≡ true }
     ensures { MatchOption (node_reached (W.tree walk.now) (W.stands walk.now)) ⊥
         (λ n. result ≡ steps_begin n.steps (map ground_of steps.now)) }
@@ -40,7 +40,7 @@ fn leads_on<W: Walk>(walk: &W, steps: &[Ground]) -> bool
 }
 
 /// Whether the steps so far are those of the plan.
-fn are_steps<W: Walk>(walk: &W, steps: &[Ground]) -> bool
+pub fn are_steps<W: Walk>(walk: &W, steps: &[Ground]) -> bool
     requires live { W.is_live walk.now ≡ true }
     ensures { MatchOption (node_reached (W.tree walk.now) (W.stands walk.now)) ⊥
         (λ n. result ≡ steps_are n.steps (map ground_of steps.now)) }
@@ -60,7 +60,7 @@ impl<'a, W: Walk> Pass<W, ()> for Keeping<'a> {
 
     type Error = Infallible;
 
-    ghost meets = { meets_keeping };
+    ghost meets = { λ tree. meets_keeping };
 
     ghost fails = { fails_keeping };
 

@@ -1,14 +1,17 @@
 -- Facts of a walk to the plan of a number.
-use Rattle.std.proofs.Common.{◌≡◌, ◌≢◌, ℕ, zero, suc, ◌-◌, false, List, [], ◌∷◌, Some, None, MatchOption, refl, sym, ap, ◌∙◌, subst, arith}
+use Rattle.std.proofs.Common.{◌≡◌, ◌≢◌, ℕ, zero, suc, ◌-◌, false, List, [], ◌∷◌, Option, Some, None, MatchOption, refl, sym, ap, ◌∙◌, subst, arith}
 use Rattle.std.specs.List.{All, find}
 use Rattle.std.proofs.lemmas.List.Elements.{All-head, All-tail}
 use Rattle.hp_after.specs.declared.reaching.Reached.{Reached}
 use Rattle.hp_after.specs.declared.reaching.Reached.TheVariants as reached
-use Rattle.hp_net.specs.Standings.{Tree, Standing, IsAtItsNode}
+use Rattle.hp_net.specs.Standings.{Tree, Standing, IsAtItsNode, tree_visits}
 use Rattle.hp_passes.specs.Passing.{Passes, AtEnd, GoesOn, LeavesOut, Ends, at_end, at_visit}
 use Rattle.hp_syntax.specs.declared.fault.RunFault.{RunFault}
-use Rattle.hp_syntax.specs.Walk.{Sight, Visit, Did, Plan, CutHere, FaultHere, is_fault_here, is_plan}
+use Rattle.hp_syntax.specs.Walk.{Sight, Visit, Did, Plan, CutHere, FaultHere, is_fault_here, is_plan, told}
 use Rattle.hp_way.specs.declared.plans.Counting.{Counting}
+use Rattle.hp_way.specs.declared.ways.Way.{Way}
+use Rattle.hp_way.specs.declared.ways.Way.TheVariants as ways
+use Rattle.hp_way.specs.Ways.{IsPathOf, IsPathOfPlan, IsToldOf, StandsAtNumbered}
 use Rattle.hp_way.specs.Counting as counting
 use Rattle.hp_way.specs.Counting.{ComesTo, IsLast, StandsAtPlan, meets_counting, plan_numbered}
 
@@ -100,3 +103,18 @@ comes_so n t _ _ _ _ _ _ left none all (GoesOn s r u c d e v vs there m rest) =
 comes_so n t _ _ _ _ _ _ left none all (LeavesOut s r u c d e v vs there m rest) = absurd m
 comes_so n t _ _ _ _ _ _ left none all (Ends s r c d v vs m) =
     comes_here r.answer t n v vs (All-head (IsAtItsNode t) v vs all) (subst (λ k. IsLast k v r.answer) left m)
+
+-- ---- the path of the plan
+
+told_path : (o : Option Visit) (stands path : List ℕ) → IsPathOf o stands → path ≡ told stands → IsToldOf o path
+told_path None stands path h e = h
+told_path (Some v) stands path h e = e ∙ ap told h
+
+-- where a walk stands at the plan of a number, its path is that of the plan
+pub numbered_path : (t : Tree) (number : ℕ) (w : Way) (stands path : List ℕ)
+    → StandsAtNumbered w number (tree_visits t) stands → path ≡ told stands
+    → IsPathOfPlan t.rules t.nest t.root number w path
+numbered_path t number (ways.Plan ds) stands path h e =
+    told_path (plan_numbered number (tree_visits t)) stands path h e
+numbered_path t number ways.Absent stands path h e = tt
+numbered_path t number (ways.Fault f) stands path h e = tt

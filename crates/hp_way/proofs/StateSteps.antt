@@ -1,13 +1,8 @@
 -- The atoms of a world, and the state of a node on the path of a walk.
-use Rattle.std.proofs.Common.{◌≡◌, ◌≢◌, inl, ℕ, ◌+◌, ◌≤◌, List, [], ◌∷◌, ◌++◌, Option, Some, length}
+use Rattle.std.proofs.Common.{◌≡◌, ◌≢◌, inl, ℕ, ◌≤◌, List, length}
 use Rattle.std.proofs.Common.{take, sym, ◌∙◌, ap}
-use Rattle.std.specs.Prelude.{slice_get}
-use Rattle.std.proofs.lemmas.List.{take_more}
-use Rattle.std.proofs.lemmas.Option.{get_or_from_slice_get, slice_get_within}
 use Rattle.hp_syntax.specs.Terms.{Term}
 use Rattle.hp_syntax.specs.Walk.{node_at}
-use Rattle.hp_world.specs.Stages.{live_atoms}
-use Rattle.hp_world.proofs.StageLemmas.{live_joined}
 use Rattle.hp_net.specs.Standings.{Tree, tree_visits}
 use Rattle.hp_after.specs.declared.reaching.Arrival.{Arrival}
 use Rattle.hp_after.specs.declared.reaching.Reached.{Reached}
@@ -16,15 +11,6 @@ use Rattle.hp_after.specs.Reach.{IsArrival, IsThere}
 use Rattle.hp_search.specs.Planned.{Planned, stands_planned, tree_planned}
 use Rattle.hp_way.specs.Along.{HasStateAt}
 use Rattle.hp_way.specs.Ways.{HasNoStateOnTheWay, IsStateOnTheWay}
-
--- the atoms up to a place and those at it are the atoms up to the next one
-pub live_next : (ps : List (Option ℕ)) (i : ℕ) (p : Option ℕ) → slice_get ps i ≡ Some p
-    → live_atoms (take (i + 1) ps) ≡ live_atoms (take i ps) ++ live_atoms (p ∷ [])
-live_next ps i p e =
-    ap live_atoms
-    (take_more ps i p (slice_get_within ps i p e)
-    ∙ ap (λ (q : Option ℕ). take i ps ++ q ∷ []) (get_or_from_slice_get ps i p p e))
-    ∙ live_joined (take i ps) (p ∷ [])
 
 module _ (t : Tree) (path : List ℕ) (count : ℕ) (a : Arrival) (arrival : IsArrival a path (tree_visits t)) where
   -- where the walk to a path came to the plan, a state on its own path is one on the way

@@ -1,10 +1,11 @@
 -- The way to a plan: the decompositions that lead to it, one by one, and the states between them.
-use Rattle.std.specs.Prelude.{◌≡◌, ◌≢◌, ◌⊎◌, ◌<◌, ◌≤◌, ℕ, ℤ, List, [], ◌∷◌, ◌++◌, length, map, slice_get, take, Some}
+use Rattle.std.specs.Prelude.{◌≡◌, ◌≢◌, ◌⊎◌, ◌<◌, ◌≤◌, ℕ, ℤ, List, [], ◌∷◌, ◌++◌, length, map, slice_get, take, Option, Some, MatchOption}
 use Rattle.hp_syntax.specs.GroundViews.{ground_of}
 use Rattle.hp_syntax.specs.Networks.{Place}
 use Rattle.hp_syntax.specs.Syntax.{Rule}
 use Rattle.hp_syntax.specs.Terms.{Term}
-use Rattle.hp_syntax.specs.Walk.{Node, Visit, Plan, node_at, visit, visits}
+use Rattle.hp_syntax.specs.Walk.{Node, Visit, Plan, node_at, told, visit, visits}
+use Rattle.hp_net.specs.Standings.{Tree}
 use Rattle.hp_laws.specs.Derivations.{IsNext, Leads, situation_at}
 use Rattle.hp_choice.specs.Served.{ServesBy}
 use Rattle.hp_after.specs.declared.reaching.Reached.TheVariants as reached
@@ -52,6 +53,18 @@ pub data LeadAlong (rules : List Rule) (nest : ℕ) : List Deed → List ℕ →
   Through : (d : Deed) (ds : List Deed) (i : ℕ) (p : List ℕ) (n m l : Node) → IsDone rules nest d i n m
       → LeadAlong rules nest ds p m l → LeadAlong rules nest (d ∷ ds) (i ∷ p) n l
 
+-- the tree of rules, where axioms may call one another so deep
+abbrev pub tree_of : List Rule → ℕ → Node → Tree
+tree_of rules nest root = record { rules = rules; nest = nest; root = root }
+
+-- a visit is there, and this is its path
+abbrev pub IsPathOf : Option Visit → List ℕ → Type 0
+IsPathOf o path = MatchOption o ⊥ (λ v. path ≡ v.path)
+
+-- or its path as it is told
+abbrev pub IsToldOf : Option Visit → List ℕ → Type 0
+IsToldOf o path = MatchOption o ⊥ (λ v. path ≡ told v.path)
+
 -- visits hold the plan of a node at a path
 abbrev pub HoldsPlanOf : Node → List ℕ → List Visit → Type 0
 HoldsPlanOf n p vs = (before : List Visit) × (after : List Visit) × (vs ≡ before ++ visit p n Plan ∷ after)
@@ -82,6 +95,19 @@ abbrev pub IsWayOfPlan : List Rule → ℕ → Node → ℕ → Way → Type 0
 IsWayOfPlan rules nest root number (ways.Plan ds) = LeadToNumbered rules nest root number (map deed_of ds.items)
 IsWayOfPlan rules nest root number ways.Absent = LacksPlan number (visits rules nest root [])
 IsWayOfPlan rules nest root number (ways.Fault f) = HasFaultFirst number f (visits rules nest root [])
+
+-- the plan of a number is at this path, as it is told, where the way leads to a plan
+abbrev pub IsPathOfPlan : List Rule → ℕ → Node → ℕ → Way → List ℕ → Type 0
+IsPathOfPlan rules nest root number (ways.Plan ds) path =
+    IsToldOf (plan_numbered number (visits rules nest root [])) path
+IsPathOfPlan rules nest root number ways.Absent path = Unit {0}
+IsPathOfPlan rules nest root number (ways.Fault f) path = Unit {0}
+
+-- a walk stands at the plan of a number where the way leads to one
+abbrev pub StandsAtNumbered : Way → ℕ → List Visit → List ℕ → Type 0
+StandsAtNumbered (ways.Plan ds) number vs stands = IsPathOf (plan_numbered number vs) stands
+StandsAtNumbered ways.Absent number vs stands = Unit {0}
+StandsAtNumbered (ways.Fault f) number vs stands = Unit {0}
 
 -- a walk stands at the path where the way leads to a plan
 abbrev pub StandsThere : Way → List ℕ → List ℕ → Type 0

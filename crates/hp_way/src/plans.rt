@@ -10,7 +10,7 @@ ghost use Rattle.hp_syntax.specs.GroundPatterns.{IsGroundPair};
 ghost use Rattle.hp_syntax.specs.Views.{pair_of};
 ghost use Rattle.hp_syntax.specs.Walk.{root};
 ghost use Rattle.hp_way.specs.Counting.{ComesTo};
-ghost use Rattle.hp_way.specs.Ways.{IsWayOfPlan};
+ghost use Rattle.hp_way.specs.Ways.{IsPathOfPlan, IsWayOfPlan, StandsAtNumbered};
 
 use crate::ways::{Way, deeds_of};
 use hp_after::Reached;
@@ -34,7 +34,7 @@ impl<W: Walk> Pass<W, ()> for Counting {
 
     type Error = AllocError;
 
-    ghost meets = { meets_counting };
+    ghost meets = { λ tree. meets_counting };
 
     ghost fails = { λ s c v e d. ⊥ };
 
@@ -77,13 +77,16 @@ fn go_to_plan<W: Walk>(walk: &mut W, number: u64) -> Result<Reached, AllocError>
     }
 }
 
-/// The way to the plan of a number in the tree of a walk that has all its visits left, as a new one has. After an error
-/// the walk may be used no more.
+/// The way to the plan of a number in the tree of a walk that has all its visits left, as a new one has. The walk stands
+/// at the plan, if there is one. After an error it may be used no more.
 fn way_by_number(alloc: Global, planner: &mut Planner<'_>, number: u64) -> Result<Way, AllocError>
     requires live { planner.old.live ≡ true }
     requires new { (stands_planned planner.old).rest ≡ tree_visits (tree_planned planner.old) }
-    ensures { IfOk result (λ w. IsWayOfPlan (tree_planned planner.old).rules (tree_planned planner.old).nest
+    ensures way { IfOk result (λ w. IsWayOfPlan (tree_planned planner.old).rules (tree_planned planner.old).nest
         (tree_planned planner.old).root number w) }
+    ensures stands { IfOk result (λ w. StandsAtNumbered w number (tree_visits (tree_planned planner.old))
+        (stands_planned planner.new).path) }
+    ensures live { OnOk result (planner.new.live ≡ true) }
 {
     let answer = go_to_plan(planner, number)?;
     match answer {
@@ -94,6 +97,56 @@ fn way_by_number(alloc: Global, planner: &mut Planner<'_>, number: u64) -> Resul
         Reached::Absent => Ok(Way::Absent),
         Reached::Fault(fault) => Ok(Way::Fault(fault)),
     }
+}
+
+/// The way to the plan of a number, and the path of that plan, where there is one: for each decomposition its number
+/// among those of its parent, from 0 on; one that is greater than 2^64 - 1 is told as that.
+pub struct Numbered {
+    pub way: Way,
+    pub path: Vec<u64>,
+}
+
+// A derived drop would do the same, but be proved anew wherever a way is let go.
+impl Drop for Numbered {
+    fn drop(self) {
+        let Numbered { way, path } = self;
+        drop(way);
+        drop(path);
+    }
+}
+
+impl Numbered {
+    /// The way alone.
+    pub fn into_way(self) -> Way
+        ensures { result ≡ self.way }
+    {
+        let Numbered { way, path } = self;
+        drop(path);
+        way
+    }
+}
+
+/// As `way_to_plan`, and the path of the plan.
+pub fn numbered_way(
+    alloc: Global,
+    code: &Code,
+    pair: &Pair,
+    depth: u32,
+    nest: u32,
+    number: u64,
+) -> Result<Numbered, AllocError>
+    requires pair { IsGroundPair (pair_of pair.now) }
+    requires depth { depth ≤ GREATEST_DEPTH }
+    requires nest { nest ≤ MOST_LEVELS }
+    ensures way { IfOk result (λ w. IsWayOfPlan (rules_in (code_of code.now)) nest (root (pair_of pair.now) depth) number
+        w.way) }
+    ensures path { IfOk result (λ w. IsPathOfPlan (rules_in (code_of code.now)) nest (root (pair_of pair.now) depth)
+        number w.way w.path.items) }
+{
+    let mut planner = Planner::new(alloc, code, pair, depth, nest)?;
+    let way = way_by_number(alloc, &mut planner, number)?;
+    let path = Vec::from_slice(alloc, planner.path())?;
+    Ok(Numbered { way, path })
 }
 
 /// The way to the plan of a number, from 1 on, in the tree of a pair at a depth, by the rules of a code, where axioms may
@@ -112,6 +165,6 @@ pub fn way_to_plan(
     requires nest { nest ≤ MOST_LEVELS }
     ensures { IfOk result (λ w. IsWayOfPlan (rules_in (code_of code.now)) nest (root (pair_of pair.now) depth) number w) }
 {
-    let mut planner = Planner::new(alloc, code, pair, depth, nest)?;
-    way_by_number(alloc, &mut planner, number)
+    let found = numbered_way(alloc, code, pair, depth, nest, number)?;
+    Ok(found.into_way())
 }

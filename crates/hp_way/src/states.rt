@@ -1,5 +1,5 @@
 //! The states on the way to a plan.
-ghost use Rattle.std.specs.Prelude.{◌≡◌, ◌-◌, ◌<◌, ◌≤◌, ◌^◌, ◌++◌, [], ◌∷◌, true, IfOk, MatchOption, OnOk, length, map};
+ghost use Rattle.std.specs.Prelude.{◌≡◌, ◌-◌, ◌<◌, ◌≤◌, ◌^◌, true, IfOk, MatchOption, length, map};
 ghost use Rattle.std.specs.List.{All};
 ghost use Rattle.hp_code.specs.CodeViews.{rules_in};
 ghost use Rattle.hp_code.specs.Codes.{code_of};
@@ -10,51 +10,15 @@ ghost use Rattle.hp_syntax.specs.GroundPatterns.{IsGroundPair};
 ghost use Rattle.hp_syntax.specs.GroundViews.{ground_of};
 ghost use Rattle.hp_syntax.specs.Views.{pair_of};
 ghost use Rattle.hp_syntax.specs.Walk.{root};
-ghost use Rattle.hp_world.specs.Stages.{StageBelow, live_atoms, state_of};
 ghost use Rattle.hp_way.specs.Along.{HasStateAt};
 ghost use Rattle.hp_way.specs.Ways.{HasNoStateOnTheWay, IsStateOnTheWay};
 
 use hp_after::{Reached, reach};
-use hp_best::to_grounds;
-use hp_cells::{Cell, Cells};
+use hp_changes::atoms_of;
 use hp_code::Code;
 use hp_search::Planner;
 use hp_syntax::{Ground, Pair};
-use hp_world::World;
 use std::alloc::{AllocError, Global};
-
-/// Adds what stands at a place, if an atom does.
-fn push_place(atoms: &mut Vec<Cell>, place: Option<Cell>) -> Result<(), AllocError>
-    ensures { OnOk result (atoms.new.items ≡ atoms.old.items ++ live_atoms (place ∷ [])) }
-{
-    match place {
-        Some(atom) => {
-            atoms.push(atom)?;
-            Ok(())
-        }
-        None => Ok(()),
-    }
-}
-
-/// The cells of the atoms of a world, in its order.
-fn live_cells(alloc: Global, world: &World) -> Result<Vec<Cell>, AllocError>
-    ensures { IfOk result (λ v. v.items ≡ live_atoms world.now.now.places) }
-{
-    let mut atoms = Vec::new(alloc);
-    for place in 0..world.places() {
-        push_place(&mut atoms, world.at(place))?;
-    }
-    Ok(atoms)
-}
-
-/// The atoms of a world, in its order.
-fn atoms_of(alloc: Global, world: &World, cells: &Cells) -> Result<Vec<Ground>, AllocError>
-    requires { StageBelow (length cells.now) world.now.now }
-    ensures { IfOk result (λ v. map ground_of v.items ≡ state_of cells.now world.now.now) }
-{
-    let atoms = live_cells(alloc, world)?;
-    to_grounds(alloc, cells, atoms.as_slice())
-}
 
 /// The atoms that hold at the node which so many of the first numbers of a walk's path reach.
 fn atoms_at(alloc: Global, planner: Planner<'_>, count: usize) -> Result<Vec<Ground>, AllocError>

@@ -73,7 +73,7 @@ pub enum Way {
 }
 
 /// The decomposition that led a walk from the node which so many numbers of its path reach to the next one.
-fn deed_at(alloc: Global, planner: &Planner<'_>, level: usize) -> Result<Deed, AllocError>
+pub fn deed_at(alloc: Global, planner: &Planner<'_>, level: usize) -> Result<Deed, AllocError>
     requires live { planner.now.live ≡ true }
     requires level { level < length (stands_planned planner.now).path }
     requires room { level + 1 < 2 ^ 64 }

@@ -1,7 +1,9 @@
-use Rattle.std.proofs.Common.{refl}
+use Rattle.std.proofs.Common.{refl, sym, ap, ◌∙◌}
 use Rattle.std.proofs.lemmas.Result.{IfOk-weaker}
 use Rattle.hp_after.proofs.Arrivals.{tree_at}
-use Rattle.hp_dead_ends.proofs.FindSteps.{found_by, furthest_in, held_in, reached_root, tells_root}
+use Rattle.hp_dead_ends.specs.declared.searching.SearchEnd.TheVariants as ends
+use Rattle.hp_dead_ends.specs.DeadEnds.{ending, is_stopped, until_plan}
+use Rattle.hp_dead_ends.proofs.FindSteps.{found_by, furthest_in, held_in, over_by, reached_root, tells_root}
 use Rattle.hp_dead_ends.proofs.HeldLemmas.{cuts_held}
 use Rattle.hp_dead_ends.proofs.MeetSteps.{many_steps}
 use Rattle.hp_dead_ends.proofs.searching.find.Goals as goal
@@ -33,4 +35,11 @@ returns-in-Ok-clause-held g c =
 pub returns-in-Ok-clause-cuts : goal.returns-in-Ok-clause-cuts
 returns-in-Ok-clause-cuts g c =
     IfOk-weaker c.finish.result _ _ (λ f h. cuts_held (g.W.Walk.tree c.args.walk.now) c.args.most f h)
+    (returns-in-Ok-clause-found g c)
+
+pub returns-in-Ok-clause-over : goal.returns-in-Ok-clause-over
+returns-in-Ok-clause-over g c =
+    IfOk-weaker c.finish.result _ _
+    (λ f h q. over_by _ _ _ _ (g.W.Walk.stands c.args.walk.now).rest _ ends.Whole c.in-Ok.ensures.passes
+    (ap (λ ws. is_stopped (ending ends.Whole (until_plan ws))) c.requires.new ∙ (sym (ap is_stopped h.end) ∙ q)))
     (returns-in-Ok-clause-found g c)

@@ -1,4 +1,5 @@
 use Rattle.std.proofs.Common.{ℕ, List, OnOk, IfErr, map, option_map, subst, ◌∙◌}
+use Rattle.hp_changes.specs.Changes.{changed_of}
 use Rattle.hp_derivation.specs.Goings.{parts_of}
 use Rattle.hp_doctor.specs.Telling.{Halts}
 use Rattle.hp_doctor.specs.Texts.{file_of}
@@ -14,7 +15,7 @@ returns-clause-ok g c =
     (λ (text : List ℕ). OnOk c.tell_drawing.result (Wrote text (g.K.Sink.bytes c.args.out.now)
     (g.K.Sink.bytes c.tell_drawing.new.out)))
     (plan_is (file_of c.args.file.now) (domain_of c.args.domain.now).rules (pair_of c.args.pair.now)
-    (map deed_of c.args.deeds.now) c.args.dot c.as_slice.result.now c.parts.result.0.now c.parts.result.1.now
+    (map deed_of c.args.plan.now.deeds.now) (map changed_of c.args.plan.now.changes.now) c.args.plan.now.dot c.as_slice.result.now c.parts.result.0.now c.parts.result.1.now
     (option_map parts_of c.in-Ok-derivation_of.derived) (c.as_slice.ensures.value ∙ c.in-Ok.ensures)
     c.parts.ensures.tasks c.parts.ensures.order c.in-Ok-derivation_of.ensures.is)
     c.tell_drawing.ensures.ok
@@ -26,7 +27,7 @@ returns-clause-err g c =
     (sink_run (g.K.Sink.faults c.args.out.now) (g.K.Sink.faults c.tell_drawing.new.out)
     (g.K.Sink.bytes c.args.out.now) (g.K.Sink.bytes c.tell_drawing.new.out))))
     (plan_is (file_of c.args.file.now) (domain_of c.args.domain.now).rules (pair_of c.args.pair.now)
-    (map deed_of c.args.deeds.now) c.args.dot c.as_slice.result.now c.parts.result.0.now c.parts.result.1.now
+    (map deed_of c.args.plan.now.deeds.now) (map changed_of c.args.plan.now.changes.now) c.args.plan.now.dot c.as_slice.result.now c.parts.result.0.now c.parts.result.1.now
     (option_map parts_of c.in-Ok-derivation_of.derived) (c.as_slice.ensures.value ∙ c.in-Ok.ensures)
     c.parts.ensures.tasks c.parts.ensures.order c.in-Ok-derivation_of.ensures.is)
     c.tell_drawing.ensures.err

@@ -8,7 +8,7 @@ use Rattle.hp_doctor_why.proofs.tasks.push_axioms.Goals as goal
 
 pub loop-rule-preserved : goal.loop-rule-preserved
 loop-rule-preserved c =
-    let text = axiom_text (texts_of c.args.files.now) c.args.name.now in
+    let text = axiom_text (texts_of c.args.files.now) c.args.says.now c.args.name.now in
     made_on (λ ys. flat_map text (map rule_of ys)) (λ y. text (rule_of y)) c.args.rules.now c.loop-rule.rule-index
     c.rule-item.result _ _ _ (λ y ys. refl) c.loop-rule-test.true c.rule-item.is c.loop-rule.invariant
     c.in_ok-push_axiom.ensures

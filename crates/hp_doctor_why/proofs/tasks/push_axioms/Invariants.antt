@@ -7,6 +7,6 @@ use Rattle.hp_doctor_why.proofs.tasks.push_axioms.Given as goal
 
 abbrev pub invariant-loop-rule : goal.invariant-loop-rule
 invariant-loop-rule l =
-    let text = axiom_text (texts_of l.files) l.name in
+    let text = axiom_text (texts_of l.files) l.says l.name in
     l.out.items ++ flat_map text (map rule_of (drop l.rule-index l.rules))
     ≡ l.fn.out.items ++ flat_map text (map rule_of l.rules)

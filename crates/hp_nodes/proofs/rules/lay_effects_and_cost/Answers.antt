@@ -1,7 +1,7 @@
 use Rattle.std.proofs.lemmas.Result.{on_ok_weaker}
 use Rattle.hp_syntax.specs.declared.domain.Side.TheVariants.{Deletes, Adds}
 use Rattle.hp_syntax.specs.Changes.{pattern_span}
-use Rattle.hp_syntax.specs.Views.{operator_of, pattern_of}
+use Rattle.hp_syntax.specs.Views.{operator_of}
 use Rattle.hp_nodes.specs.Compiled.{leaf, only, effect_trees}
 use Rattle.hp_nodes.specs.Trees.{CostOf}
 use Rattle.hp_nodes.proofs.LayingSteps.{effects_before}
@@ -10,8 +10,7 @@ use Rattle.hp_nodes.proofs.rules.lay_effects_and_cost.Goals as goal
 pub returns : goal.returns
 returns c =
     let o = operator_of c.args.operator.now in
-    let price = pattern_of c.args.cost.now in
-    let cost = only (leaf (CostOf price) (pattern_span price)) in
+    let cost = only (leaf (CostOf o.cost) (pattern_span o.cost)) in
     let before = c.args.nodes.now.items in
     let deleted = c.lay_effects.new.nodes.items in
     let added = c.lay_effects-2.new.nodes.items in

@@ -1,6 +1,7 @@
-use Rattle.std.proofs.Common.{sym, ap}
+use Rattle.std.proofs.Common.{sym, ap, ◌∙◌}
+use Rattle.hp_syntax.specs.Views.{expression_of}
 use Rattle.hp_syntax.specs.ViewLaws.{expression_of-atom, expression_of-and, expression_of-or, expression_of-not, expression_of-forall, expression_of-assign, expression_of-call}
-use Rattle.hp_obstacles.specs.Obstacles.{name_in}
+use Rattle.hp_obstacles.specs.Obstacles.{atom_name, name_in}
 use Rattle.hp_obstacles.proofs.obstacles.name_in.Goals as goal
 
 pub returns-in-Atom : goal.returns-in-Atom
@@ -13,7 +14,9 @@ pub returns-in-Or : goal.returns-in-Or
 returns-in-Or c = sym (ap name_in (expression_of-or c.args.part.now _ c.in-Or.is))
 
 pub returns-in-Not : goal.returns-in-Not
-returns-in-Not c = sym (ap name_in (expression_of-not c.args.part.now _ c.in-Not.is))
+returns-in-Not c =
+    c.atom_name.ensures ∙ ap (λ e. atom_name (expression_of e)) c.deref.ensures
+    ∙ sym (ap name_in (expression_of-not c.args.part.now _ c.in-Not.is))
 
 pub returns-in-Forall : goal.returns-in-Forall
 returns-in-Forall c = sym (ap name_in (expression_of-forall c.args.part.now _ _ _ c.in-Forall.is))

@@ -1,5 +1,6 @@
 use Rattle.std.proofs.Common.{arith, ◌∙◌, subst}
 use Rattle.hp_passes.specs.Passing.{Between, Fits, sight_of}
+use Rattle.hp_passes.specs.declared.passing.Turn.TheVariants.{On, Past, Last}
 use Rattle.hp_passes.proofs.PassingSteps.{Next, next_seen, none_seen, stands_at_end, node_there, said, shorter, pruned_shorter, pruned_at, ends_here, goes_on, leaves_out, ends, stops_within, stops_after, stops_past}
 use Rattle.hp_net.proofs.NextVisits.{at_kept}
 use Rattle.hp_passes.proofs.passing.go_through.Goals as goal
@@ -15,7 +16,7 @@ returns-in_default-seen-clause-passes g c =
     let t = g.W.Walk.stands c.next.new.self in
     let none = none_seen c.in-Ok.step s.rest c.in-Ok.ensures.answer c.in_default-seen.ensures in
     c.loop-step.invariant.leads _ _ _
-    (ends_here g.P.Pass.meets c.loop-step.pass c.loop-step.hand s t none
+    (ends_here _ c.loop-step.pass c.loop-step.hand s t none
     (stands_at_end s t c.in-Ok.ensures.stands none))
 
 pub meet-requires-clause-reached : goal.meet-requires-clause-reached
@@ -35,19 +36,23 @@ loop-step-preserved-in-Ok-On g c =
     next_seen s t _ c.in-Ok.step c.in-Ok.ensures.stands c.in-Ok.ensures.answer c.in-Some.ensures in
     let fits = subst (Fits y) c.in-Ok-On.field-0-is c.in-Ok-On.ensures.fits in
     let meets =
-    subst (λ x. g.P.Pass.meets c.loop-step.pass c.loop-step.hand next.visit x c.meet.new.self c.meet.new.hand)
+    subst (λ w. g.P.Pass.meets w c.loop-step.pass c.loop-step.hand next.visit On c.meet.new.self c.meet.new.hand)
+    (c.next.ensures.tree ∙ c.loop-step.invariant.tree)
+    (subst (λ x. g.P.Pass.meets (g.W.Walk.tree c.next.new.self) c.loop-step.pass c.loop-step.hand next.visit x
+    c.meet.new.self c.meet.new.hand)
     c.in-Ok-On.field-0-is
     (said s t _ next _ _ c.next.ensures.tree c.loop-step.invariant.at
-    (λ v. g.P.Pass.meets c.loop-step.pass c.loop-step.hand v c.in-Ok-On.field-0 c.meet.new.self c.meet.new.hand)
-    c.in-Ok-On.ensures.meets) in
+    (λ v. g.P.Pass.meets (g.W.Walk.tree c.next.new.self) c.loop-step.pass c.loop-step.hand v c.in-Ok-On.field-0
+    c.meet.new.self c.meet.new.hand)
+    c.in-Ok-On.ensures.meets)) in
     record {
       leads = λ u e there p.
           c.loop-step.invariant.leads u e there
-          (goes_on g.P.Pass.meets s t y next c.loop-step.pass c.meet.new.self c.loop-step.hand c.meet.new.hand u e there
+          (goes_on _ s t y next c.loop-step.pass c.meet.new.self c.loop-step.hand c.meet.new.hand u e there
           fits meets p);
       stops = λ x e p.
           c.loop-step.invariant.stops x e
-          (stops_after g.P.Pass.meets s t y next c.loop-step.pass c.meet.new.self c.loop-step.hand c.meet.new.hand
+          (stops_after _ s t y next c.loop-step.pass c.meet.new.self c.loop-step.hand c.meet.new.hand
           g.P.Pass.fails e x fits meets p);
       live = c.in-Ok.ensures.live;
       tree = c.next.ensures.tree ∙ c.loop-step.invariant.tree;
@@ -74,19 +79,23 @@ loop-step-preserved g c =
     next_seen s t _ c.in-Ok.step c.in-Ok.ensures.stands c.in-Ok.ensures.answer c.in-Some.ensures in
     let fits = subst (Fits y) c.in-Ok-Past.field-0-is c.in-Ok-Past.ensures.fits in
     let meets =
-    subst (λ x. g.P.Pass.meets c.loop-step.pass c.loop-step.hand next.visit x c.meet.new.self c.meet.new.hand)
+    subst (λ w. g.P.Pass.meets w c.loop-step.pass c.loop-step.hand next.visit Past c.meet.new.self c.meet.new.hand)
+    (c.next.ensures.tree ∙ c.loop-step.invariant.tree)
+    (subst (λ x. g.P.Pass.meets (g.W.Walk.tree c.next.new.self) c.loop-step.pass c.loop-step.hand next.visit x
+    c.meet.new.self c.meet.new.hand)
     c.in-Ok-Past.field-0-is
     (said s t _ next _ _ c.next.ensures.tree c.loop-step.invariant.at
-    (λ v. g.P.Pass.meets c.loop-step.pass c.loop-step.hand v c.in-Ok-Past.field-0 c.meet.new.self c.meet.new.hand)
-    c.in-Ok-Past.ensures.meets) in
+    (λ v. g.P.Pass.meets (g.W.Walk.tree c.next.new.self) c.loop-step.pass c.loop-step.hand v c.in-Ok-Past.field-0
+    c.meet.new.self c.meet.new.hand)
+    c.in-Ok-Past.ensures.meets)) in
     record {
       leads = λ u e there p.
           c.loop-step.invariant.leads u e there
-          (leaves_out g.P.Pass.meets s t y next c.loop-step.pass c.meet.new.self c.loop-step.hand c.meet.new.hand r u e
+          (leaves_out _ s t y next c.loop-step.pass c.meet.new.self c.loop-step.hand c.meet.new.hand r u e
           there fits c.prune.ensures.stands meets p);
       stops = λ x e p.
           c.loop-step.invariant.stops x e
-          (stops_past g.P.Pass.meets s t y next c.loop-step.pass c.meet.new.self c.loop-step.hand c.meet.new.hand
+          (stops_past _ s t y next c.loop-step.pass c.meet.new.self c.loop-step.hand c.meet.new.hand
           g.P.Pass.fails r e x fits c.prune.ensures.stands meets p);
       live = c.prune.ensures.live;
       tree = c.prune.ensures.tree ∙ (c.next.ensures.tree ∙ c.loop-step.invariant.tree);
@@ -103,13 +112,17 @@ returns-in-Ok-Last-clause-passes g c =
     let next : Next s t (sight_of y) =
     next_seen s t _ c.in-Ok.step c.in-Ok.ensures.stands c.in-Ok.ensures.answer c.in-Some.ensures in
     let meets =
-    subst (λ x. g.P.Pass.meets c.loop-step.pass c.loop-step.hand next.visit x c.meet.new.self c.meet.new.hand)
+    subst (λ w. g.P.Pass.meets w c.loop-step.pass c.loop-step.hand next.visit Last c.meet.new.self c.meet.new.hand)
+    (c.next.ensures.tree ∙ c.loop-step.invariant.tree)
+    (subst (λ x. g.P.Pass.meets (g.W.Walk.tree c.next.new.self) c.loop-step.pass c.loop-step.hand next.visit x
+    c.meet.new.self c.meet.new.hand)
     c.in-Ok-Last.field-0-is
     (said s t _ next _ _ c.next.ensures.tree c.loop-step.invariant.at
-    (λ v. g.P.Pass.meets c.loop-step.pass c.loop-step.hand v c.in-Ok-Last.field-0 c.meet.new.self c.meet.new.hand)
-    c.in-Ok-Last.ensures.meets) in
+    (λ v. g.P.Pass.meets (g.W.Walk.tree c.next.new.self) c.loop-step.pass c.loop-step.hand v c.in-Ok-Last.field-0
+    c.meet.new.self c.meet.new.hand)
+    c.in-Ok-Last.ensures.meets)) in
     c.loop-step.invariant.leads _ _ _
-    (ends g.P.Pass.meets s t y next c.loop-step.pass c.meet.new.self c.loop-step.hand c.meet.new.hand meets)
+    (ends _ s t y next c.loop-step.pass c.meet.new.self c.loop-step.hand c.meet.new.hand meets)
 
 pub returns-in-Err-clause-stops : goal.returns-in-Err-clause-stops
 returns-in-Err-clause-stops g c =
@@ -119,7 +132,7 @@ returns-in-Err-clause-stops g c =
     let next : Next s t (sight_of y) =
     next_seen s t _ c.in-Ok.step c.in-Ok.ensures.stands c.in-Ok.ensures.answer c.in-Some.ensures in
     c.loop-step.invariant.stops _ _
-    (stops_within g.P.Pass.meets s t y next c.loop-step.pass c.loop-step.pass c.loop-step.hand c.meet.new.hand
+    (stops_within _ s t y next c.loop-step.pass c.loop-step.pass c.loop-step.hand c.meet.new.hand
     g.P.Pass.fails c.in-Err.error
     (said s t _ next _ _ c.next.ensures.tree c.loop-step.invariant.at
     (λ v. g.P.Pass.fails c.loop-step.pass c.loop-step.hand v c.in-Err.error c.meet.new.hand)

@@ -9,7 +9,7 @@ use Rattle.hp_unmet.proofs.nodes.parts_asked.Goals as goal
 
 pub overflow_add-expression : goal.overflow_add-expression
 overflow_add-expression c =
-    let h = c.requires.1 in
+    let h = c.requires.asks.1 in
     let within =
     body_within (code_of c.args.code.now) c.args.code.now.kept c.precondition_node-expression.result h.pre
     (c.precondition_node-expression.ensures h.pre h.has) in
@@ -17,11 +17,14 @@ overflow_add-expression c =
 
 pub parts_at-requires : goal.parts_at-requires
 parts_at-requires c =
-    let h = c.requires.1 in (
+    let h = c.requires.asks.1 in (
       body_of h.pre,
       body_behind (code_of c.args.code.now) c.args.code.now.kept c.precondition_node-expression.result h.pre
           (c.precondition_node-expression.ensures h.pre h.has),
     )
+
+pub precondition_node-expression-requires-clause-has : goal.precondition_node-expression-requires-clause-has
+precondition_node-expression-requires-clause-has c = let h = c.requires.asks.1 in (h.pre, h.has)
 
 pub returns-clause-parts : goal.returns-clause-parts
 returns-clause-parts c = λ parts h.

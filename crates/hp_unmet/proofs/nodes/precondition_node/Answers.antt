@@ -1,4 +1,4 @@
--- The node behind an operator's is that of its precondition, and so is the node behind that of a method's branch.
+-- The node after an operator's is that of its precondition, and so is the node after that of a method's branch.
 use Rattle.std.proofs.Common.{◌+◌, ap, ◌∙◌, arith}
 use Rattle.hp_syntax.specs.Views.{atom_of}
 use Rattle.hp_nodes.specs.NodeViews.{laid_of, operation_of}
@@ -10,26 +10,26 @@ use Rattle.hp_unmet.proofs.nodes.precondition_node.Goals as goal
 
 pub node_at-requires : goal.node_at-requires
 node_at-requires c =
-    let h = c.requires.1 in
-    rule_within (code_of c.args.code.now) c.args.code.now.kept c.args.rule h.rule h.is
+    let h = c.requires.has.1 in
+    rule_within (code_of c.args.code.now) c.args.code.now.kept c.args.spot.node h.rule h.is
 
 pub overflow_add-result : goal.overflow_add-result
 overflow_add-result c =
     let code = code_of c.args.code.now in
-    let b = behind_branch code c.args.code.now.kept c.args.rule c.args.branch (laid_of c.node_at.result.now)
-    c.requires.0 c.node_at.ensures.is c.requires.1 (atom_of c.in-Method.field-0) (ap operation_of c.in-Method.is) in
-    omega (arith, b.inside, c.past.ensures, few_nodes c.args.code.now)
+    let b = behind_branch code c.args.code.now.kept c.args.spot.node c.args.spot.branch (laid_of c.node_at.result.now)
+    c.requires.has.0 c.node_at.ensures.is c.requires.has.1 (atom_of c.in-Method.field-0) (ap operation_of c.in-Method.is) in
+    omega (arith, b.inside, c.requires.at, few_nodes c.args.code.now)
 
 pub returns-in-Method : goal.returns-in-Method
 returns-in-Method c = λ p h.
     let code = code_of c.args.code.now in
-    let b = behind_branch code c.args.code.now.kept c.args.rule c.args.branch (laid_of c.node_at.result.now) p
+    let b = behind_branch code c.args.code.now.kept c.args.spot.node c.args.spot.branch (laid_of c.node_at.result.now) p
     c.node_at.ensures.is h (atom_of c.in-Method.field-0) (ap operation_of c.in-Method.is) in
-    ap (λ i. precondition_at code (i + 1)) c.past.ensures ∙ b.is
+    ap (λ i. precondition_at code (i + 1)) c.requires.at ∙ b.is
 
 pub returns-in_default : goal.returns-in_default
 returns-in_default c = λ p h.
-    let b = behind_rule (code_of c.args.code.now) c.args.code.now.kept c.args.rule c.args.branch
+    let b = behind_rule (code_of c.args.code.now) c.args.code.now.kept c.args.spot.node c.args.spot.branch
     (laid_of c.node_at.result.now) p c.node_at.ensures.is h
     (no_method c.node_at.result.now.op c.in_default.not-Method) in
     b.is

@@ -1,0 +1,4 @@
+pub mod ChangingSteps
+pub mod HoldingSteps
+pub mod TermSteps
+pub mod WayLemmas

@@ -1,0 +1,3 @@
+mod PlanSteps
+mod StopSteps
+mod TellSteps

@@ -1,0 +1,15 @@
+use Rattle.std.proofs.Common.{refl, map}
+use Rattle.std.specs.List.{flat_map}
+use Rattle.hp_syntax.proofs.ListLemmas.{made_on}
+use Rattle.hp_syntax.specs.Views.{domain_of}
+use Rattle.hp_doctor.specs.Texts.{texts_of}
+use Rattle.hp_obstacles.specs.Obstacles.{stuck_of}
+use Rattle.hp_doctor_derive.specs.Said.{task_text}
+use Rattle.hp_doctor_derive.proofs.words.push_each_task.Goals as goal
+
+pub loop-stuck-preserved : goal.loop-stuck-preserved
+loop-stuck-preserved c =
+    let text = task_text (texts_of c.args.files.now) (domain_of c.args.domain.now) in
+    made_on (λ ys. flat_map text (map stuck_of ys)) (λ y. text (stuck_of y)) c.args.tasks.now
+    c.loop-stuck.stuck-index c.stuck-item.result _ _ _ (λ y ys. refl) c.loop-stuck-test.true c.stuck-item.is
+    c.loop-stuck.invariant c.in_ok-push_task.ensures

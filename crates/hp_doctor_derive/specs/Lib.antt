@@ -1,0 +1,5 @@
+pub mod Blanked
+pub mod Plans
+pub mod Said
+pub mod Stopping
+pub mod Told

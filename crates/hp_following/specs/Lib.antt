@@ -1,0 +1,4 @@
+pub mod Follows
+pub mod Heading
+pub mod Samples
+pub mod Tracking
