@@ -12,11 +12,12 @@ use Rattle.hp_code.proofs.CodeLemmas.{vars_found}
 use Rattle.hp_eval.specs.GoalViews.{term_at}
 use Rattle.hp_eval.specs.Slotted.{Slotted, AreBelow, Matched, bindings_of, no_bindings}
 use Rattle.hp_eval.proofs.SlotLemmas.{binds_vars, match_failed, match_made}
-use Rattle.hp_choice.specs.declared.asking.Conjuncts.{Conjuncts}
-use Rattle.hp_choice.specs.Asking.{IsBoundByTask, head_of}
+use Rattle.hp_choice.specs.declared.starting.Conjuncts.{Conjuncts}
+use Rattle.hp_choice.specs.Asking.{head_of}
+use Rattle.hp_choice.specs.Starting.{IsBoundByTask}
 
 -- free slots bind none of their variables
-none_bound : (terms : List Term) (n : ℕ) → bindings_of terms (no_bindings n) ≡ unbound n
+pub none_bound : (terms : List Term) (n : ℕ) → bindings_of terms (no_bindings n) ≡ unbound n
 none_bound terms zero = refl
 none_bound terms (suc n) = ap (λ os. None ∷ os) (none_bound terms n)
 
@@ -43,12 +44,17 @@ module _ (terms : List Term) (head : Atom) (cell vars : ℕ) (slots new : Slotte
 
 -- ---- the head of a rule
 
+-- the names of the variables of a rule, as the code holds them, are as many as its variables
+pub as_many : (c : CodeView) → IsCode c → (i : ℕ) (r : Rule) → beside i (rule_nodes c) (rules_in c) ≡ Some r
+    → (vars : List (List ℕ)) → vars ≡ vars_at c i → length vars ≡ length (vars_of r)
+as_many c code i r found vars named = ap length (named ∙ vars_found c code i r found)
+
 -- what the head of a rule matches is what it matches as the code holds the head and the names of the variables
 pub rule_matches : (c : CodeView) → IsCode c → (i : ℕ) (r : Rule) → beside i (rule_nodes c) (rules_in c) ≡ Some r
     → (vars : List (List ℕ)) → vars ≡ vars_at c i → (head : Atom) → head ≡ head_of r → (said told : Term) → told ≡ said
     → match_atom (head_of r) said (unbound (length (vars_of r))) ≡ match_atom head told (unbound (length vars))
 rule_matches c code i r found vars named head is said told same =
-    let many = ap length (named ∙ vars_found c code i r found) in
+    let many = as_many c code i r found vars named in
     ap (λ x. match_atom (head_of r) x (unbound (length (vars_of r)))) (sym same)
     ∙ ap₂ (λ a k. match_atom a told (unbound k)) (sym is) (sym many)
 
@@ -65,9 +71,9 @@ pub bound_by_head : (c : CodeView) → IsCode c → (x : Conjuncts) (said : Term
     → told ≡ said → (o : Option Slotted)
     → MeetsHead terms (length vars) o (match_atom head told (unbound (length vars))) → IsBoundByTask c x said terms o
 bound_by_head c code x said terms vars named head is told same o met =
+    λ r found.
     let bound = head_bound terms (length vars) o (match_atom head told (unbound (length vars))) met in
     record {
-      matches =
-          λ r found. rule_matches c code x.rule r found vars named head (is r found) said told same ∙ bound.0;
+      are = rule_matches c code x.rule r found vars named head (is r found) said told same ∙ bound.0;
       below = bound.1;
     }

@@ -11,3 +11,5 @@ pub mod AskingSteps
 pub mod AlongSteps
 pub mod FirstSteps
 pub mod AlongLaws
+pub mod StartSteps
+pub mod TestSteps

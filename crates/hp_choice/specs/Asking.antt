@@ -1,25 +1,19 @@
 -- What parts of a conjunction find for a task in a state, and how many of the first are satisfied one after another, by
 -- the head of their rule.
-use Rattle.std.specs.Prelude.{◌≡◌, ℕ, zero, suc, Bool, true, false, cond, List, [], ◌∷◌, length, slice_get, Option, None, Some, IfSome}
-use Rattle.std.specs.Option.{option_map}
-use Rattle.hp_syntax.specs.declared.pattern.Span.{Span}
+use Rattle.std.specs.Prelude.{◌≡◌, ℕ, zero, suc, Bool, true, false, cond, List, [], ◌∷◌, length, slice_get, Option, None, Some}
 use Rattle.hp_syntax.specs.Events as plain
 use Rattle.hp_syntax.specs.Events.{Event, State, axioms_of, finding, finding_with, sat}
 use Rattle.hp_syntax.specs.Matching.{match_atom}
-use Rattle.hp_syntax.specs.Syntax.{And, Atom, Axiom, Expression, Expressions, Rule, Does, Refines, Concludes}
+use Rattle.hp_syntax.specs.Syntax.{Atom, Axiom, Expression, Rule, Does, Refines, Concludes}
 use Rattle.hp_syntax.specs.Terms.{Term}
 use Rattle.hp_syntax.specs.Values.{Bindings, unbound}
-use Rattle.hp_syntax.specs.Views.{as_expressions}
 use Rattle.hp_nodes.specs.Compiled.{vars_of}
 use Rattle.hp_nodes.specs.Trees.{Laid}
 use Rattle.hp_code.specs.CodeViews.{CodeView, beside, rule_nodes, rules_in}
-use Rattle.hp_eval.specs.Slotted.{Slotted, AreBelow, bindings_of}
 use Rattle.hp_suspended.specs.Fitting.{AreExpressionsIn}
-use Rattle.hp_suspended.specs.Nodes.{expressions_in}
-use Rattle.hp_choice.specs.declared.asking.Conjuncts.{Conjuncts}
+use Rattle.hp_choice.specs.declared.starting.Conjuncts.{Conjuncts}
 use Rattle.hp_choice.specs.declared.asking.Finding.{Finding}
 use Rattle.hp_choice.specs.declared.asking.Finding.TheVariants as findings
-use Rattle.hp_choice.specs.declared.asking.Prefix.{Prefix}
 
 -- what events come to, as it is told
 abbrev pub finding_of : Finding → plain.Finding
@@ -55,21 +49,6 @@ pub record AreConjuncts (c : CodeView) (x : Conjuncts) : Type 0 where
   pub is : beside x.rule (rule_nodes c) (rules_in c) ≡ Some rule
   pub parts : AreExpressionsIn c x.first x.end
 
--- slots hold the bindings under which the head of the rule of parts matches a task, and cells alone; there are none where
--- the head doesn't match
-pub record IsBoundByTask (c : CodeView) (x : Conjuncts) (t : Term) (terms : List Term) (o : Option Slotted)
-    : Type 0 where
-  pub matches : (r : Rule) → beside x.rule (rule_nodes c) (rules_in c) ≡ Some r
-      → match_atom (head_of r) t (unbound (length (vars_of r))) ≡ option_map (bindings_of terms) o
-  pub below : IfSome o (AreBelow (length terms))
-
--- all of them together come to this for a task
-abbrev pub Finds : CodeView → ℕ → State → Conjuncts → Term → Finding → Type 0
-Finds c nest st x t f =
-    (r : Rule) (s : Span) (ps : Expressions) → beside x.rule (rule_nodes c) (rules_in c) ≡ Some r
-    → expressions_in c x.first x.end ≡ Some ps
-    → finding_of f ≡ finding (asked_events (rules_in c) nest st r (And s ps) t)
-
 -- ---- parts that are satisfied one after another
 
 -- where the first event is a satisfier, one more than is counted under its bindings; else none
@@ -98,13 +77,3 @@ next_tree (Some l) i = l.to
 abbrev pub past : List Laid → ℕ → ℕ → ℕ
 past nodes i zero = i
 past nodes i (suc n) = past nodes (next_tree (slice_get nodes i) i) n
-
--- so many of the first parts are satisfied one after another for a task, and behind them is this index; there is no
--- answer where the head doesn't match
-pub record GoesAlong (c : CodeView) (nest : ℕ) (st : State) (x : Conjuncts) (t : Term) (o : Option Prefix)
-    : Type 0 where
-  pub count : (r : Rule) (ps : List Expression) → beside x.rule (rule_nodes c) (rules_in c) ≡ Some r
-      → expressions_in c x.first x.end ≡ Some (as_expressions ps)
-      → option_map (λ p. p.count) o
-      ≡ option_map (along (axioms_of (rules_in c)) nest st ps) (match_atom (head_of r) t (unbound (length (vars_of r))))
-  pub end : IfSome o (λ p. p.end ≡ past c.nodes x.first p.count)

@@ -20,14 +20,16 @@ ghost use Rattle.hp_suspended.specs.SceneViews.{IsReady, code_in, setting_of};
 ghost use Rattle.hp_suspended.specs.Settings.{node_events, state_in};
 ghost use Rattle.hp_suspended.specs.Views as names;
 ghost use Rattle.hp_suspended.specs.Views.{view};
-ghost use Rattle.hp_choice.specs.Asking.{AreConjuncts, Finds, GoesAlong, GoesBy, IsBoundByTask, along, behind, finding_of, head_of, past};
+ghost use Rattle.hp_choice.specs.Asking.{AreConjuncts, GoesBy, along, behind, finding_of, past};
+ghost use Rattle.hp_choice.specs.Questions.{Finds, GoesAlong};
+ghost use Rattle.hp_choice.specs.Starting.{CanStart};
 
-use crate::opening::{matched, node_at};
+use crate::opening::node_at;
+use crate::starting::{Conjuncts, Start, begun, bound_by, levels_from};
 use hp_cells::Cells;
-use hp_code::Op;
-use hp_eval::{Event, Slots, ground_atom};
+use hp_eval::{Event, Slots};
 use hp_suspended::{Scene, Suspended};
-use hp_syntax::{AtomPat, RunFault};
+use hp_syntax::RunFault;
 use std::alloc::{AllocError, Global};
 
 /// What events come to.
@@ -43,46 +45,11 @@ pub enum Finding {
     Nothing,
 }
 
-/// Parts of a conjunction by nodes of a code: that of their rule, the first of theirs, and the index behind them.
-#[derive(Clone, Copy, Debug)]
-pub struct Conjuncts {
-    pub rule: usize,
-    pub first: usize,
-    pub end: usize,
-}
-
 /// So many of the first parts of a conjunction, and the index of the code behind them.
 #[derive(Clone, Copy, Debug)]
 pub struct Prefix {
     pub count: usize,
     pub end: usize,
-}
-
-/// All satisfiers of parts together, which are begun at the first.
-pub(crate) fn begun(
-    alloc: Global,
-    nest: u32,
-    first: usize,
-    end: usize,
-    slots: &Slots,
-) -> Result<Suspended, AllocError>
-    ensures { let mark = length slots.now.trail in IfOk result (λ s. view s
-        ≡ names.Conj mark nest first end names.Bare (names.One mark events.Sat)) }
-{
-    let mark = slots.mark();
-    let before = Suspended::One {
-        mark,
-        event: Event::Sat,
-    };
-    let here = Box::new(alloc, before)?;
-    Ok(Suspended::Conj {
-        mark,
-        nest,
-        next: first,
-        end,
-        outer: Vec::new(alloc),
-        here,
-    })
 }
 
 /// What no event comes to, where there may be a cut before it.
@@ -97,7 +64,7 @@ fn none_behind(is_cut: bool) -> Finding
 }
 
 /// What the events that are left come to.
-fn found_in(
+pub(crate) fn found_in(
     alloc: Global,
     scene: &Scene<'_>,
     parts: &mut Suspended,
@@ -141,62 +108,28 @@ fn found_under(
     found_in(alloc, scene, &mut parts, slots, cells)
 }
 
-/// The head of a rule, by its node.
-fn head_of<'s>(rule: usize, scene: &'s Scene<'_>) -> &'s AtomPat
-    requires { let c = code_in scene.now in
-        (r : Rule) × (beside rule (rule_nodes c) (rules_in c) ≡ Some r) }
-    ensures { let c = code_in scene.now in
-        (r : Rule) → beside rule (rule_nodes c) (rules_in c) ≡ Some r → atom_of result.now ≡ head_of r }
-{
-    match &node_at(rule, scene).op {
-        Op::Operator(head) => head,
-        Op::Method(head) => head,
-        Op::Axiom(head) => head,
-        _ => unreachable!(),
-    }
-}
-
-/// The bindings under which the head of the rule of parts matches a task, if it does. The task is an atom without
-/// variables and calls. Only cells are added.
-pub(crate) fn bound_by_task(
-    alloc: Global,
-    scene: &Scene<'_>,
-    asked: Conjuncts,
-    task: &AtomPat,
-    cells: &mut Cells,
-) -> Result<Option<Slots>, AllocError>
-    requires asked { AreConjuncts (code_in scene.now) asked }
-    requires task { IsGroundAtom (atom_of task.now) }
-    ensures bound { IfOk result (IsBoundByTask (code_in scene.now) asked (atom_said (atom_of task.now)) cells.new) }
-    ensures cells { Grows cells.old cells.new }
-{
-    let cell = ground_atom(alloc, task, cells)?;
-    let vars = scene.code.vars(asked.rule).len();
-    matched(alloc, head_of(asked.rule, scene), vars, cell, cells)
-}
-
-/// What parts of a conjunction come to together for a task in a scene, where the head of their rule matches it, with
-/// so many axiom levels, at most 128; where the head doesn't match, there is nothing. The task is an atom without
-/// variables and calls. Only cells are added.
+/// What parts of a conjunction come to together in a scene, from the bindings of a start, with so many axiom levels, at
+/// most 128; where there are no bindings, there is nothing. Only cells are added.
 pub fn ask(
     alloc: Global,
     scene: &Scene<'_>,
     nest: u32,
     asked: Conjuncts,
-    task: &AtomPat,
+    start: &Start<'_>,
     cells: &mut Cells,
 ) -> Result<Finding, AllocError>
     requires asked { AreConjuncts (code_in scene.now) asked }
     requires atoms { AllBelow (length cells.old) (live_atoms scene.now.world.now.places) }
     requires knows { Knows cells.old scene.now.world }
-    requires task { IsGroundAtom (atom_of task.now) }
+    requires start { CanStart (code_in scene.now) start.now }
     requires levels { nest ≤ 128 }
     ensures found { IfOk result (Finds (code_in scene.now) nest (state_in (setting_of scene.now cells.old)) asked
-        (atom_said (atom_of task.now))) }
+        start.now) }
     ensures cells { Grows cells.old cells.new }
 {
-    match bound_by_task(alloc, scene, asked, task, cells)? {
-        Some(mut slots) => found_under(alloc, scene, nest, asked, &mut slots, cells),
+    let levels = levels_from(nest, start);
+    match bound_by(alloc, scene, nest, asked, start, cells)? {
+        Some(mut slots) => found_under(alloc, scene, levels, asked, &mut slots, cells),
         None => Ok(Finding::Nothing),
     }
 }
@@ -254,30 +187,30 @@ fn satisfied_along(
     Ok(Prefix { count, end: next })
 }
 
-/// How many of the first parts of a conjunction are satisfied one after another for a task in a scene, and the index
-/// behind them: each by its first event, under the bindings that the one before gave, with so many axiom levels, at
-/// most 128. There is no answer where the head of their rule doesn't match the task. The task is an atom without
-/// variables and calls. Only cells are added.
+/// How many of the first parts of a conjunction are satisfied one after another in a scene, and the index behind them:
+/// the first by its first event under the bindings of a start, each other under those that the one before gave, with so
+/// many axiom levels, at most 128. There is no answer where there are no bindings to start from. Only cells are added.
 pub fn ask_along(
     alloc: Global,
     scene: &Scene<'_>,
     nest: u32,
     asked: Conjuncts,
-    task: &AtomPat,
+    start: &Start<'_>,
     cells: &mut Cells,
 ) -> Result<Option<Prefix>, AllocError>
     requires asked { AreConjuncts (code_in scene.now) asked }
     requires atoms { AllBelow (length cells.old) (live_atoms scene.now.world.now.places) }
     requires knows { Knows cells.old scene.now.world }
-    requires task { IsGroundAtom (atom_of task.now) }
+    requires start { CanStart (code_in scene.now) start.now }
     requires levels { nest ≤ 128 }
     ensures along { IfOk result (GoesAlong (code_in scene.now) nest (state_in (setting_of scene.now cells.old)) asked
-        (atom_said (atom_of task.now))) }
+        start.now) }
     ensures cells { Grows cells.old cells.new }
 {
-    match bound_by_task(alloc, scene, asked, task, cells)? {
+    let levels = levels_from(nest, start);
+    match bound_by(alloc, scene, nest, asked, start, cells)? {
         Some(mut slots) => {
-            let prefix = satisfied_along(alloc, scene, nest, asked, &mut slots, cells)?;
+            let prefix = satisfied_along(alloc, scene, levels, asked, &mut slots, cells)?;
             Ok(Some(prefix))
         }
         None => Ok(None),

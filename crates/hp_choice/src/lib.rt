@@ -7,9 +7,11 @@ mod first;
 pub mod laws;
 mod opening;
 mod rooms;
+mod starting;
 
-pub use asking::{Conjuncts, Finding, Prefix, ask, ask_along};
+pub use asking::{Finding, Prefix, ask, ask_along};
 pub use choice::{Choice, Deed, Given};
-pub use first::first_satisfier;
+pub use first::{Test, first_satisfier};
 pub use opening::open;
 pub use rooms::Rooms;
+pub use starting::{Conjuncts, Start};

@@ -1,14 +1,16 @@
 -- A whole search for dead ends.
 use Rattle.std.proofs.Common.{◌≡◌, ℕ, ◌≤◌, Bool, true, false, ◌&&◌, ◌||◌, cond, List, [], ◌∷◌, ◌++◌, length, take, map, Some, None, refl, sym, ap, ◌∙◌, subst, arith, inl}
-use Rattle.std.specs.Prelude.{not, filter}
+use Rattle.std.specs.Prelude.{not, filter, Contains}
 use Rattle.std.specs.List.{All, list_all}
 use Rattle.std.proofs.lemmas.Bool.{and_parts}
 use Rattle.std.proofs.lemmas.Bool.Decides.{nat_tests}
-use Rattle.std.proofs.lemmas.List.Elements.{All-nil, All-cons, All-head, All-tail, All-take}
+use Rattle.std.proofs.lemmas.List.Elements.{All-nil, All-cons, All-head, All-tail, All-take, All-contains}
+use Rattle.hp_laws.proofs.JoinLemmas.{contains_first, contains_later}
 use Rattle.hp_laws.proofs.PathLemmas.{visits_in_tree}
 use Rattle.hp_net.specs.Standings.{Tree, Standing, IsAtItsNode, node_reached, tree_visits}
 use Rattle.hp_passes.specs.Passing.{Passes, AtEnd, GoesOn, LeavesOut, Ends}
 use Rattle.hp_passes.specs.declared.passing.Turn.TheVariants as turns
+use Rattle.hp_syntax.specs.declared.fault.RunFault.{RunFault}
 use Rattle.hp_syntax.specs.Walk.{Node, Sight, Did, Plan, CutHere, FaultHere, Visit, count_told, is_did, is_plan, is_fault_here, node_at, visit}
 use Rattle.hp_dead_ends.specs.declared.searching.DeadEnd.{DeadEnd}
 use Rattle.hp_dead_ends.specs.declared.searching.DeadEnds.{DeadEnds}
@@ -17,7 +19,7 @@ use Rattle.hp_dead_ends.specs.declared.searching.SearchEnd.{SearchEnd}
 use Rattle.hp_dead_ends.specs.declared.searching.SearchEnd.TheVariants as ends
 use Rattle.hp_dead_ends.specs.Arriving.{IsHeld}
 use Rattle.hp_dead_ends.specs.DeadEnds.{IsDeadEnd, Rank, rank, rank_of, comes_further, dead_ends, decompositions_of, ending, ends_at, furthest, is_further, is_stopped, until_plan, with_root}
-use Rattle.hp_dead_ends.specs.Finding.{IsFoundIn, IsFurthest, ends_of, items_of, path_told, told_at, told_of}
+use Rattle.hp_dead_ends.specs.Finding.{HasMet, IsFoundIn, IsFurthest, ends_of, items_of, path_told, told_at, told_of}
 use Rattle.hp_dead_ends.specs.Searching.{Fits, Known, MeetsSeeking, Tells, TellsFound, after, after_all, as_rank, at_root, closed, noted, turn_at}
 use Rattle.hp_dead_ends.proofs.DeadLemmas.{all_dead, tree_tells_until}
 use Rattle.hp_dead_ends.proofs.FitLemmas.{AllFit, tree_fits}
@@ -116,6 +118,63 @@ over_by _ _ _ _ _ _ x (LeavesOut s t u c a e v vs there m rest) h = absurd (goes
 over_by _ _ _ _ _ _ x (Ends s t c a v vs m) h =
     let left = cond (is_plan v.sight || is_fault_here v.sight) [] (until_plan vs) in
     absurd (let f : true ≡ false = sym (stops_at v.sight v refl m.turn x left) ∙ h in cc)
+
+-- visits have a fault, and a walk is at the one that has it
+record Meets (f : RunFault) (vs : List Visit) (there : Standing) : Type 0 where
+  visit : Visit
+  sight : visit.sight ≡ FaultHere f
+  within : Contains vs visit
+  path : there.path ≡ visit.path
+
+-- a visit after which a pass goes on leaves an end that isn't stopped, as it was before
+unstopped_on : (x : Sight) (v : Visit) → v.sight ≡ x → turns.On ≡ turn_at x → (e : SearchEnd) → is_stopped e ≡ false
+    → (ws : List Visit) → (z : SearchEnd) × (is_stopped z ≡ false) × (ending e (v ∷ ws) ≡ ending z ws)
+unstopped_on Did v h a e n ws = (e, n, rw h refl)
+unstopped_on Plan v h a e n ws = absurd (cc)
+unstopped_on CutHere v h a e n ws = (ends.Cut, refl, rw h refl)
+unstopped_on (FaultHere f) v h a e n ws = absurd (cc)
+
+-- a last visit at which visits end with a fault has it
+fault_at : (x : Sight) (v : Visit) → v.sight ≡ x → turns.Last ≡ turn_at x → (e : SearchEnd) (ws : List Visit)
+    → (f : RunFault) → ending e (v ∷ ws) ≡ ends.Fault f → v.sight ≡ FaultHere f
+fault_at Did v h a e ws f k = absurd (cc)
+fault_at Plan v h a e ws f k =
+    let plan : ending e (v ∷ ws) ≡ ends.Plan = rw h refl in
+    let never : ends.Plan ≡ ends.Fault f = sym plan ∙ k in absurd (cc)
+fault_at CutHere v h a e ws f k = absurd (cc)
+fault_at (FaultHere g) v h a e ws f k =
+    let own : ending e (v ∷ ws) ≡ ends.Fault g = rw h refl in
+    let same : ends.Fault g ≡ ends.Fault f = sym own ∙ k in
+    let fault : g ≡ f = cc in h ∙ ap FaultHere fault
+
+-- where a search ended at a fault, its walk is at the visit that has it
+met_by : (s u : Seeking) (c e : Unit {0}) (vs : List Visit) (there : Standing) (x : SearchEnd) (f : RunFault)
+    → Passes MeetsSeeking s c vs u e there → is_stopped x ≡ false → ending x (until_plan vs) ≡ ends.Fault f
+    → Meets f (until_plan vs) there
+met_by _ _ _ _ _ _ x f (AtEnd s c) n h =
+    let never : true ≡ false = sym (ap is_stopped h) ∙ n in absurd (cc)
+met_by _ _ _ _ _ _ x f (GoesOn s t u c a e v vs there m rest) n h =
+    let on = goes_on v.sight m.turn in
+    let o = unstopped_on v.sight v refl m.turn x n (until_plan vs) in
+    let met = met_by t u a e vs there o.0 f rest o.1
+    (sym o.2 ∙ subst (λ b. ending x (v ∷ cond b [] (until_plan vs)) ≡ ends.Fault f) on h) in
+    record {
+      visit = met.visit;
+      sight = met.sight;
+      within =
+          subst (λ b. Contains (v ∷ cond b [] (until_plan vs)) met.visit) (sym on)
+          (contains_later v met.visit (until_plan vs) met.within);
+      path = met.path;
+    }
+met_by _ _ _ _ _ _ x f (LeavesOut s t u c a e v vs there m rest) n h = absurd (goes_past v.sight m.turn)
+met_by _ _ _ _ _ _ x f (Ends s t c a v vs m) n h =
+    let left = cond (is_plan v.sight || is_fault_here v.sight) [] (until_plan vs) in
+    record {
+      visit = v;
+      sight = fault_at v.sight v refl m.turn x left f h;
+      within = contains_first v left;
+      path = refl;
+    }
 
 -- ---- what was found
 
@@ -303,3 +362,21 @@ module _ (t : Tree) where
       (All-take (HeldAt t) most (furthest (ends_of t))
       (all_passing (λ v. list_all (λ w. not (comes_further w v)) (ends_of t)) (HeldAt t) (HeldAt t) (λ v k e. k) (ends_of t)
       (all_ends (HeldAt t) (with_root t.root (until_plan (tree_visits t))) (with_root_held t))))
+
+  -- where a fault ended the search, the walk is at the node that has it
+  pub met_in : (s u : Seeking) (c e : Unit {0}) (vs : List Visit) (there : Standing) (f : RunFault)
+      → vs ≡ tree_visits t → Passes MeetsSeeking s c vs u e there
+      → ending ends.Whole (until_plan (tree_visits t)) ≡ ends.Fault f → HasMet t there f
+  met_in s u c e vs there f new made h =
+      let met = met_by s u c e (tree_visits t) there ends.Whole f
+      (subst (λ ws. Passes MeetsSeeking s c ws u e there) new made) refl h in
+      record {
+        visit = met.visit;
+        sight = met.sight;
+        within = met.within;
+        path = met.path;
+        at_node =
+            ap (node_at t.rules t.nest t.root) met.path
+            ∙ All-contains (IsAtItsNode t) (with_root t.root (until_plan (tree_visits t))) met.visit seen_at
+            (contains_later (visit [] t.root Did) met.visit (until_plan (tree_visits t)) met.within);
+      }

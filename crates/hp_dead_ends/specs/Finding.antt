@@ -1,9 +1,10 @@
 -- What is told of dead ends.
-use Rattle.std.specs.Prelude.{◌≡◌, ℕ, ◌≤◌, List, length, map, take, Option, Some, option_map, Vec}
+use Rattle.std.specs.Prelude.{◌≡◌, ℕ, ◌≤◌, List, length, map, take, Option, Some, option_map, Contains, Vec}
 use Rattle.std.specs.declared.alloc.Global.{Global}
 use Rattle.std.specs.List.{All, find}
-use Rattle.hp_net.specs.Standings.{Tree, tree_visits}
-use Rattle.hp_syntax.specs.Walk.{Node, Visit, count_told, node_at, told}
+use Rattle.hp_net.specs.Standings.{Tree, Standing, node_reached, tree_visits}
+use Rattle.hp_syntax.specs.declared.fault.RunFault.{RunFault}
+use Rattle.hp_syntax.specs.Walk.{Node, Visit, FaultHere, count_told, node_at, told}
 use Rattle.hp_dead_ends.specs.declared.searching.DeadEnd.{DeadEnd}
 use Rattle.hp_dead_ends.specs.declared.searching.DeadEnds.{DeadEnds}
 use Rattle.hp_dead_ends.specs.declared.searching.SearchEnd.TheVariants as ends
@@ -56,3 +57,11 @@ pub record IsFurthest (t : Tree) (e : DeadEnd) : Type 0 where
   pub at_node : node_at t.rules t.nest t.root path ≡ Some node
   pub dead : IsDeadEnd t.rules t.nest node
   pub most : All (λ w. length w.node.steps ≤ e.steps) (ends_of t)
+
+-- a walk is at a node at which the visits of a tree have a fault
+pub record HasMet (t : Tree) (s : Standing) (x : RunFault) : Type 0 where
+  pub visit : Visit
+  pub sight : visit.sight ≡ FaultHere x
+  pub within : Contains (until_plan (tree_visits t)) visit
+  pub path : s.path ≡ visit.path
+  pub at_node : node_reached t s ≡ Some visit.node

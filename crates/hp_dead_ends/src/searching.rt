@@ -3,9 +3,11 @@ ghost use Rattle.std.specs.Prelude.{◌≡◌, [], false, true, map, Some, IfOk,
 ghost use Rattle.std.specs.List.{All};
 ghost use Rattle.hp_net.specs.Standings.{tree_visits};
 ghost use Rattle.hp_passes.specs.Passing.{sight_of};
+ghost use Rattle.hp_syntax.specs.declared.fault.RunFault.{RunFault};
 ghost use Rattle.hp_dead_ends.specs.Arriving.{HasHeldCuts, IsHeld};
 ghost use Rattle.hp_dead_ends.specs.DeadEnds.{is_further, is_stopped};
-ghost use Rattle.hp_dead_ends.specs.Finding.{IsFoundIn, IsFurthest, items_of, told_of};
+ghost use Rattle.hp_dead_ends.specs.declared.searching.SearchEnd.TheVariants as ends;
+ghost use Rattle.hp_dead_ends.specs.Finding.{HasMet, IsFoundIn, IsFurthest, items_of, told_of};
 ghost use Rattle.hp_dead_ends.specs.Searching.{as_rank, first_of, is_over, one_more, told_as};
 
 use hp_net::Walk;
@@ -276,8 +278,8 @@ impl<W: Walk> Pass<W, ()> for Seeking {
 /// Finds the dead ends of the tree of a new walk, up to its first plan or fault, and tells the first of those that came
 /// furthest, at most so many: they have the most steps, and among these the most decompositions. No path is copied but
 /// that of a dead end that comes as far as all before it, and those of the first cuts. In another walk of the tree
-/// `go_to` goes to each of them. Where neither a plan nor a fault ended the search, the walk is at its root again. After an
-/// error it may be used no more.
+/// `go_to` goes to each of them. Where neither a plan nor a fault ended the search, the walk is at its root again. Where a
+/// fault ended it, the walk is at the node that has it. After an error it may be used no more.
 pub fn find<W: Walk>(
     alloc: Global,
     walk: &mut W,
@@ -293,6 +295,8 @@ pub fn find<W: Walk>(
     ensures held { IfOk result (λ f. All (λ e. IsHeld (W.tree walk.old) e.path.items) f.furthest.items) }
     ensures cuts { IfOk result (HasHeldCuts (W.tree walk.old)) }
     ensures over { IfOk result (λ f. is_stopped f.end ≡ false → (W.stands walk.new).path ≡ []) }
+    ensures fault { IfOk result (λ f. (x : RunFault) → f.end ≡ ends.Fault x
+        → HasMet (W.tree walk.old) (W.stands walk.new) x) }
     ensures tree { W.tree walk.new ≡ W.tree walk.old }
     ensures live { OnOk result (W.is_live walk.new ≡ true) }
 {

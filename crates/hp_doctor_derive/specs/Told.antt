@@ -1,4 +1,4 @@
--- What `derive` writes of three files: what they are refused for, or where the plan stops to be derived.
+-- What `derive` writes of three files: what they are refused for, or how far the plan can be derived.
 use Rattle.std.specs.Prelude.{◌≡◌, ℕ, List, [], length, Some, None}
 use Rattle.hp_doctor.specs.Accepting.{AreRefused, IsAccepted, refusal_status}
 use Rattle.hp_doctor.specs.Explained.{explained}

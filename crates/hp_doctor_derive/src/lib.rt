@@ -1,4 +1,4 @@
-//! Telling where a plan that is given stops to be derived.
+//! Telling how far a plan that is given can be derived.
 #![tactic(auto)]
 
 mod blanks;

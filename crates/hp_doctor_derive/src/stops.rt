@@ -1,4 +1,4 @@
-//! Where a plan stops to be derived.
+//! How far a plan can be derived.
 ghost use Rattle.std.specs.Prelude.{◌≡◌, IfOk, map, option_map};
 ghost use Rattle.hp_doctor_why.specs.Reasons.{reason_of};
 ghost use Rattle.hp_doctor_why.specs.Searches.{CanSearch, tree_searched};

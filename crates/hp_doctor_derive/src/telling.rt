@@ -1,4 +1,4 @@
-//! Telling where a plan stops to be derived.
+//! Telling how far a plan can be derived.
 ghost use Rattle.std.specs.Prelude.{◌≡◌, ◌≤◌, IfErr, OnOk, IfOk, Some, map};
 ghost use Rattle.hp_code.specs.Codes.{code_of};
 ghost use Rattle.hp_code.specs.CodeViews.{IsCodeOf};

@@ -22,7 +22,7 @@ pub enum Asked<'a> {
     Trace(TraceWords<'a>),
     /// Why there is no plan of these files is to be told.
     Why { names: Names<'a>, limits: Limits },
-    /// Where a plan of these files stops to be derived is to be told.
+    /// How far a plan of these files can be derived is to be told.
     Derive(DeriveWords<'a>),
 }
 

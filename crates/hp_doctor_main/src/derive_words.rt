@@ -33,7 +33,7 @@ pub fn derive_command<'a>(alloc: Global) -> Result<Command<'a>, AllocError> {
         .value_parser(value_parser!(u64).range(1..))
         .help("The pair of a problem set, 1 where it isn't given");
     Command::new(alloc, "derive")
-        .about("Says where a plan stops to be derived, and what may be done next there")
+        .about("Says how far a plan can be derived, and what may be done next there")
         .arg(file_word(alloc, "DOMAIN", "The file of the domain"))?
         .arg(file_word(alloc, "PROBLEM", "The file of the problem"))?
         .arg(file_word(alloc, "PLAN", "The file of the plan"))?

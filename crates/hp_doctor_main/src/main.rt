@@ -192,7 +192,7 @@ fn tell_why(rt: &HostRuntime, names: Names, asked: Limits) -> Status {
     close(status, flushed)
 }
 
-/// Tells where a plan stops to be derived. The command line lets no number beyond the limits through.
+/// Tells how far a plan can be derived. The command line lets no number beyond the limits through.
 fn tell_derive(rt: &HostRuntime, words: DeriveWords) -> Status {
     let Ok(texts) = Texts::read(rt.alloc(), &mut HostFolder::new(rt), words.names) else {
         return Status::NoMemory;

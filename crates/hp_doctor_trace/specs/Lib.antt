@@ -1,2 +1,3 @@
+pub mod Failing
 pub mod Lines
 pub mod TraceTold

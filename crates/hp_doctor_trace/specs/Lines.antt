@@ -1,8 +1,9 @@
 -- The lines of the visits of a walk.
-use Rattle.std.specs.Prelude.{ℕ, zero, suc, ◌+◌, ◌-◌, nat_lt, min, Bool, cond, List, [], ◌∷◌, ◌++◌, length, replicate, Option, Some, None, slice_get, codes, decimal}
+use Rattle.std.specs.Prelude.{ℕ, zero, suc, ◌+◌, ◌-◌, nat_lt, min, Bool, cond, List, [], ◌∷◌, ◌++◌, length, map, Option, Some, None, slice_get, codes, decimal}
 use Rattle.hp_syntax.specs.Syntax.{Rule, Does, Refines, Concludes}
 use Rattle.hp_syntax.specs.TermTexts.{term_text}
 use Rattle.hp_way.specs.Ways.{Deed, deed_of}
+use Rattle.hp_obstacles.specs.Obstacles.{Stuck, stuck_of}
 use Rattle.hp_trace.specs.declared.tracing.Seen.{Seen}
 use Rattle.hp_trace.specs.declared.tracing.Seen.TheVariants as seen
 use Rattle.hp_trace.specs.declared.tracing.TracedVisit.{TracedVisit}
@@ -11,10 +12,7 @@ use Rattle.hp_doctor.specs.Texts.{File, Texts}
 use Rattle.hp_doctor_tree.specs.Deeds.{branch_words}
 use Rattle.hp_doctor_tree.specs.TreeTold.{fault_text}
 use Rattle.hp_doctor_tree.specs.Words.{marked, place_text}
-
--- two blanks for each level
-abbrev pub indent : ℕ → List ℕ
-indent level = replicate level 32 ++ replicate level 32
+use Rattle.hp_doctor_trace.specs.Failing.{indent, stuck_text}
 
 -- ---- a decomposition
 
@@ -33,21 +31,27 @@ done_words f rules d = term_text d.task ++ rule_words f d.branch (slice_get rule
 abbrev pub deed_text : File → List Rule → ℕ → Deed → List ℕ
 deed_text f rules level d = indent (level - 1) ++ done_words f rules d ++ codes "\n"
 
-abbrev pub end_text : ℕ → Bool → List ℕ
-end_text level dead = cond dead (indent level ++ codes "dead end\n") []
+-- a dead end, and what fails there
+abbrev pub dead_text : File → List Rule → ℕ → List Stuck → List ℕ
+dead_text f rules level ss = indent level ++ codes "dead end\n" ++ stuck_text f rules level ss
+
+abbrev pub end_text : File → List Rule → ℕ → Bool → List Stuck → List ℕ
+end_text f rules level dead ss = cond dead (dead_text f rules level ss) []
 
 -- ---- a visit
 
-abbrev pub seen_text : Texts → List Rule → ℕ → Bool → Seen → List ℕ
-seen_text t rules level dead (seen.Did d) = deed_text t.domain rules level (deed_of d) ++ end_text level dead
-seen_text t rules level dead seen.Plan = indent level ++ codes "plan\n"
-seen_text t rules level dead seen.DepthCut = indent level ++ codes "depth cut\n"
-seen_text t rules level dead seen.LevelCut = indent level ++ codes "level cut\n"
-seen_text t rules level dead (seen.Fault f) = indent level ++ fault_text t f
+abbrev pub seen_text : Texts → List Rule → ℕ → Bool → List Stuck → Seen → List ℕ
+seen_text t rules level dead ss (seen.Did d) =
+    deed_text t.domain rules level (deed_of d) ++ end_text t.domain rules level dead ss
+seen_text t rules level dead ss seen.Plan = indent level ++ codes "plan\n"
+seen_text t rules level dead ss seen.DepthCut = indent level ++ codes "depth cut\n"
+seen_text t rules level dead ss seen.LevelCut = indent level ++ codes "level cut\n"
+seen_text t rules level dead ss (seen.Fault f) = indent level ++ fault_text t f
 
 -- with the visit after it, if there is one
 abbrev pub visit_text : Texts → List Rule → TracedVisit → Option TracedVisit → List ℕ
-visit_text t rules v next = seen_text t rules v.level (is_dead_end v.level next) v.seen
+visit_text t rules v next =
+    seen_text t rules v.level (is_dead_end v.level next) (map stuck_of v.stuck.items) v.seen
 
 abbrev pub line_by : Texts → List Rule → Option TracedVisit → Option TracedVisit → List ℕ
 line_by t rules None next = []

@@ -57,10 +57,11 @@ trace_answer t rules from most vs =
 abbrev pub tree_of : Asked → List Rule → Pair → Tree
 tree_of a rules pair = record { rules = lowered_rules rules; nest = a.nest; root = root pair a.depth }
 
--- the first visits of the tree at or below the path: so many, and one more to know whether there are others
+-- the first visits of the tree at or below the path: so many, and one more to know whether there are others; at dead ends
+-- with what keeps the tasks there from being done, by the rules of the domain
 pub record IsTraceOf (t : Texts) (a : Asked) (rules : List Rule) (pair : Pair) (answer : Answer) : Type 0 where
   pub visits : List TracedVisit
-  pub are : IsTrace (tree_of a rules pair) a.from.now a.most visits
+  pub are : IsTrace rules (tree_of a rules pair) a.from.now a.most visits
   pub is : answer ≡ trace_answer t rules a.from.now a.most visits
 
 -- ---- what is told of the files

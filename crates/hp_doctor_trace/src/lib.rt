@@ -1,7 +1,9 @@
 //! The walk of the planner, told visit by visit.
 #![tactic(auto)]
 
+pub mod laws;
 mod lines;
+mod stuck;
 mod telling;
 mod traces;
 

@@ -1,24 +1,28 @@
 //! The lines of visits.
 
-ghost use Rattle.std.specs.Prelude.{◌≡◌, ◌++◌, ◌+◌, ◌-◌, ◌<◌, OnOk, Some, codes, decimal, length, option_map, slice_get};
+ghost use Rattle.std.specs.Prelude.{◌≡◌, ◌++◌, ◌+◌, ◌-◌, ◌<◌, OnOk, Some, codes, decimal, length, map, option_map, slice_get};
 ghost use Rattle.hp_doctor.specs.Texts.{file_of, texts_of};
 ghost use Rattle.hp_syntax.specs.TermTexts.{term_text};
 ghost use Rattle.hp_syntax.specs.Views.{domain_of, operator_of, rule_of};
+ghost use Rattle.hp_obstacles.specs.Obstacles.{stuck_of};
 ghost use Rattle.hp_way.specs.Ways.{deed_of};
 ghost use Rattle.hp_doctor_tree.specs.Words.{place_text};
-ghost use Rattle.hp_doctor_trace.specs.Lines.{closing, deed_text, done_words, end_text, indent, line_at, opening, rule_words, seen_text, visit_text};
+ghost use Rattle.hp_doctor_trace.specs.Failing.{indent};
+ghost use Rattle.hp_doctor_trace.specs.Lines.{closing, dead_text, deed_text, done_words, end_text, line_at, opening, rule_words, seen_text, visit_text};
 
+use crate::stuck::push_stuck;
 use hp_doctor::{Text, Texts};
 use hp_doctor_tree::{
     push_blanks, push_branch_line, push_fault, push_ground, push_number, push_place, rule_at,
 };
+use hp_obstacles::Stuck;
 use hp_syntax::{Domain, Operator, Rule};
 use hp_trace::{Seen, TracedVisit, is_dead_end};
 use hp_way::Deed;
 use std::alloc::AllocError;
 
 /// Two blanks for each level.
-fn push_indent(out: &mut Vec<u8>, level: usize) -> Result<(), AllocError>
+pub(crate) fn push_indent(out: &mut Vec<u8>, level: usize) -> Result<(), AllocError>
     ensures { OnOk result (out.new.items ≡ out.old.items ++ indent level) }
 {
     push_blanks(out, level)?;
@@ -75,12 +79,35 @@ fn push_done(out: &mut Vec<u8>, file: &Text, domain: &Domain, deed: &Deed) -> Re
     push_rule(out, file, deed.branch, rule_at(domain, deed.rule))
 }
 
+/// A dead end of a level, and what fails there.
+fn push_dead(
+    out: &mut Vec<u8>,
+    file: &Text,
+    domain: &Domain,
+    level: usize,
+    stuck: &[Stuck],
+) -> Result<(), AllocError>
+    ensures { OnOk result (out.new.items ≡ out.old.items
+        ++ dead_text (file_of file.now) (domain_of domain.now).rules level (map stuck_of stuck.now)) }
+{
+    push_word(out, level, b"dead end\n")?;
+    push_stuck(out, file, domain, level, stuck)
+}
+
 /// That a decomposition of a level is a dead end, where it is.
-fn push_end(out: &mut Vec<u8>, level: usize, is_dead: bool) -> Result<(), AllocError>
-    ensures { OnOk result (out.new.items ≡ out.old.items ++ end_text level is_dead) }
+fn push_end(
+    out: &mut Vec<u8>,
+    file: &Text,
+    domain: &Domain,
+    level: usize,
+    is_dead: bool,
+    stuck: &[Stuck],
+) -> Result<(), AllocError>
+    ensures { OnOk result (out.new.items ≡ out.old.items
+        ++ end_text (file_of file.now) (domain_of domain.now).rules level is_dead (map stuck_of stuck.now)) }
 {
     if is_dead {
-        push_word(out, level, b"dead end\n")
+        push_dead(out, file, domain, level, stuck)
     } else {
         Ok(())
     }
@@ -118,14 +145,15 @@ fn push_seen(
     level: usize,
     seen: &Seen,
     is_dead: bool,
+    stuck: &[Stuck],
 ) -> Result<(), AllocError>
-    ensures { OnOk result (out.new.items ≡ out.old.items
-        ++ seen_text (texts_of files.now) (domain_of domain.now).rules level is_dead seen.now) }
+    ensures { OnOk result (out.new.items ≡ out.old.items ++ seen_text (texts_of files.now)
+        (domain_of domain.now).rules level is_dead (map stuck_of stuck.now) seen.now) }
 {
     match seen {
         Seen::Did(deed) => {
             push_deed(out, &files.domain, domain, level, deed)?;
-            push_end(out, level, is_dead)
+            push_end(out, &files.domain, domain, level, is_dead, stuck)
         }
         Seen::Plan => push_word(out, level, b"plan\n"),
         Seen::DepthCut => push_word(out, level, b"depth cut\n"),
@@ -148,7 +176,8 @@ fn push_visit(
         (domain_of domain.now).rules visit.now (option_map (λ v. v.now) next.entry)) }
 {
     let is_dead = is_dead_end(visit.level, next);
-    push_seen(out, files, domain, visit.level, &visit.seen, is_dead)
+    let stuck = visit.stuck.as_slice();
+    push_seen(out, files, domain, visit.level, &visit.seen, is_dead, stuck)
 }
 
 /// The visit of a number, if there is one.

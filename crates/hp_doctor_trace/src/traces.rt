@@ -166,7 +166,7 @@ fn answer_pair<K: Sink>(
         return Status::NoMemory;
     };
     let (depth, nest, from, most) = (asked.depth, asked.nest, asked.from, asked.most);
-    match trace_of(alloc, &code, pair, depth, nest, from, most) {
+    match trace_of(alloc, domain, &code, pair, depth, nest, from, most) {
         Ok(visits) => answer_trace(alloc, files, domain, visits.as_slice(), from, most, out),
         Err(_) => Status::NoMemory,
     }

@@ -1,4 +1,6 @@
+mod AgainstSteps
 mod BesideSteps
+mod BlamedSteps
 mod FilledSteps
 mod FurtherSteps
 mod HeadSteps

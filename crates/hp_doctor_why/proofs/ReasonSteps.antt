@@ -10,12 +10,15 @@ use Rattle.hp_dead_ends.specs.declared.searching.DeadEnd.{DeadEnd}
 use Rattle.hp_dead_ends.specs.declared.searching.DeadEnds.{DeadEnds}
 use Rattle.hp_dead_ends.specs.Arriving.{HasArrived, HasHeldCuts, IsHeld, is_small}
 use Rattle.hp_dead_ends.specs.DeadEnds.{dead_ends, until_plan, with_root}
-use Rattle.hp_dead_ends.specs.Finding.{IsFound, IsFoundIn, IsFurthest, items_of}
+use Rattle.hp_blame.specs.Blames.{Blame, blame_of}
+use Rattle.hp_dead_ends.specs.declared.searching.SearchEnd.TheVariants as ends
+use Rattle.hp_syntax.specs.declared.fault.RunFault.{RunFault}
+use Rattle.hp_dead_ends.specs.Finding.{HasMet, IsFound, IsFoundIn, IsFurthest, items_of}
 use Rattle.hp_net.specs.Standings.{Standing, Tree, node_reached, tree_visits}
 use Rattle.hp_search.specs.Planned.{with_depth}
 use Rattle.hp_syntax.specs.Syntax.{Pair, Rule}
 use Rattle.hp_syntax.specs.Walk.{Node, Visit, children, node_at, root, visits}
-use Rattle.hp_doctor_why.specs.Reasons.{IsCutAt, lowered_tree, reason_of}
+use Rattle.hp_doctor_why.specs.Reasons.{IsBlamed, IsCutAt, lowered_tree, reason_of}
 use Rattle.hp_doctor_why.specs.Whys.{Cut, Reason, reason_at}
 
 -- the tree of a code that reads back as the lowered rules is the lowered tree
@@ -128,6 +131,18 @@ reason_there t s at nest path r nodes is deep small h known =
     ap Some (here ∙ ap (λ k. reason_at t.rules k h.node) deep)
     ∙ (ap (option_map (reason_at t.rules t.nest)) (sym there)
     ∙ ap (λ b. cond b (option_map (reason_at t.rules t.nest) (node_at t.rules t.nest t.root path)) None) (sym small))
+
+-- what was at fault at the node where a walk met a fault is what was at fault there
+pub blamed_there : (t s : Tree) (at : Standing) (nest : ℕ) (f : RunFault) (b : Option Blame) → s ≡ lowered_tree t
+    → nest ≡ t.nest → HasMet (lowered_tree t) at f
+    → MatchOption (node_reached s at) ⊥ (λ (n : Node). b ≡ blame_of t.rules f nest n)
+    → IsBlamed t (lowered_tree t) (ends.Fault f) b
+blamed_there t s at nest f b is deep met known =
+    let reached : node_reached s at ≡ Some met.visit.node =
+    ap (λ (x : Tree). node_reached x at) is ∙ met.at_node in
+    let here : b ≡ blame_of t.rules f nest met.visit.node =
+    match_at (node_reached s at) met.visit.node (λ (n : Node). b ≡ blame_of t.rules f nest n) reached known in
+    (at, met, here ∙ ap (λ k. blame_of t.rules f k met.visit.node) deep)
 
 -- of a path with a number that may stand for a greater one none are known
 pub no_reason : (t : Tree) (path : List ℕ) → is_small path ≡ false → None ≡ reason_of t path

@@ -1,4 +1,6 @@
+pub mod Against
 pub mod Beside
+pub mod Blamed
 pub mod Filled
 pub mod Heads
 pub mod Queries

@@ -3,8 +3,11 @@ use Rattle.std.specs.Prelude.{◌≡◌, ℕ, false, cond, List, map, Option, So
 use Rattle.std.specs.List.{All}
 use Rattle.hp_code.specs.Lowered.{lowered_rules}
 use Rattle.hp_dead_ends.specs.Arriving.{is_small}
-use Rattle.hp_dead_ends.specs.Finding.{IsFoundIn, IsFurthest, items_of}
-use Rattle.hp_net.specs.Standings.{Tree}
+use Rattle.hp_dead_ends.specs.declared.searching.SearchEnd.{SearchEnd}
+use Rattle.hp_dead_ends.specs.declared.searching.SearchEnd.TheVariants as ends
+use Rattle.hp_dead_ends.specs.Finding.{HasMet, IsFoundIn, IsFurthest, items_of}
+use Rattle.hp_blame.specs.Blames.{Blame, blame_kept, blame_of}
+use Rattle.hp_net.specs.Standings.{Standing, Tree}
 use Rattle.hp_syntax.specs.Syntax.{Pair, Rule}
 use Rattle.hp_syntax.specs.Terms.{Term}
 use Rattle.hp_syntax.specs.Walk.{Node, node_at, root}
@@ -46,10 +49,20 @@ IsCutAtIf t None c = c ≡ None
 IsCutAtIf t (Some p) None = is_small p ≡ false
 IsCutAtIf t (Some p) (Some c) = IsCutAt t p c
 
+-- where a fault ended the search, what is known is what was at fault at the node that has it
+abbrev pub IsBlamed : Tree → Tree → SearchEnd → Option Blame → Type 0
+IsBlamed t lowered ends.Plan b = b ≡ None
+IsBlamed t lowered ends.Whole b = b ≡ None
+IsBlamed t lowered ends.Cut b = b ≡ None
+IsBlamed t lowered (ends.Fault f) b =
+    (s : Standing) × (met : HasMet lowered s f) × (b ≡ blame_of t.rules f t.nest met.visit.node)
+
 -- what was found in a tree is what is to be told of its dead ends, at most so many of the furthest; each of these is
--- one than which none has more steps, and beside each stand the reasons at its path
+-- one than which none has more steps, and beside each stand the reasons at its path; and after a fault what was at
+-- fault is known
 pub record IsWhy (t : Tree) (most : ℕ) (w : Why) : Type 0 where
   pub found : IsFoundIn t most w.found
   pub dead : All (IsFurthest t) w.found.furthest.items
+  pub blame : IsBlamed t (lowered_tree t) w.found.end (option_map blame_kept w.blame)
   pub cut : IsCutAtIf (lowered_tree t) (items_of w.found.depth_cut) (option_map cut_of w.cut)
   pub reasons : map (option_map kept) w.reasons.items ≡ map (λ e. reason_of t e.path.items) w.found.furthest.items

@@ -26,22 +26,25 @@ use Rattle.hp_unmet.specs.Conjunctions.{part_at}
 use Rattle.hp_unmet.specs.declared.unmet.Unmet.{Unmet}
 use Rattle.hp_unmet.specs.declared.unmet.Unmet.TheVariants as unmets
 use Rattle.hp_obstacles.specs.Facts.{Facts}
-use Rattle.hp_obstacles.specs.Obstacles.{Obstacle, Stuck, is_negated_at, name_unmet, task_name}
+use Rattle.hp_obstacles.specs.Obstacles.{Obstacle, Stuck, Unconcluded, is_negated_at, name_unmet, task_name}
+use Rattle.hp_blame.specs.Blames.{blame_kept}
 use Rattle.hp_doctor_why.specs.declared.ends.TheConstants.{STEPS_SHOWN}
 use Rattle.hp_doctor_why.specs.declared.cuts.TheConstants.{TASKS_SHOWN}
 use Rattle.hp_doctor_why.specs.declared.reasons.Why.{Why}
 use Rattle.hp_doctor_why.specs.declared.phrases.TheConstants as says
+use Rattle.hp_doctor_why.specs.Against.{against_at}
+use Rattle.hp_doctor_why.specs.Blamed.{blame_text}
 use Rattle.hp_doctor_why.specs.Filled.{filled_at, protected_text}
 use Rattle.hp_doctor_why.specs.Heads.{mismatch_at}
 use Rattle.hp_doctor_why.specs.Whys.{Cut, Reason, cut_of, kept}
 
 -- ---- places
 
--- where the precondition of a rule begins and ends, of a method that of a branch
+-- where the precondition of a rule begins and ends, of a method and of an axiom that of a branch
 abbrev pub span_in : ℕ → Rule → Option Span
 span_in branch (Does o) = Some (precondition_span o.pre)
 span_in branch (Refines m) = option_map (λ b. precondition_span b.pre) (slice_get m.branches branch)
-span_in branch (Concludes x) = None
+span_in branch (Concludes x) = option_map (λ c. expression_span c.body) (slice_get x.clauses branch)
 
 abbrev pub span_at : Domain → ℕ → ℕ → Option Span
 span_at d rule branch = option_and_then (span_in branch) (slice_get d.rules rule)
@@ -93,36 +96,46 @@ abbrev pub axioms_text : Texts → Domain → List ℕ → Option (List ℕ) →
 axioms_text t d sentence None = []
 axioms_text t d sentence (Some name) = flat_map (axiom_text t sentence name) d.rules
 
--- of an atom none is concluded that fits, and of a negation one may be
-abbrev pub axiom_sentence : Bool → List ℕ
-axiom_sentence negated = cond negated says.CONCLUDES.now says.NOT_CONCLUDED.now
+-- of a negation, the axioms that conclude atoms of the name in it
+abbrev pub concluding_at : Texts → Domain → ℕ → ℕ → ℕ → List ℕ
+concluding_at t d rule branch place =
+    cond (is_negated_at d.rules rule branch place)
+    (axioms_text t d says.CONCLUDES.now (name_unmet d.rules rule branch (unmets.Part place))) []
 
--- the axioms that conclude atoms of the name for which the part at a place asks, or for whose negation
-abbrev pub axioms_at : Texts → Domain → ℕ → ℕ → ℕ → List ℕ
-axioms_at t d rule branch place =
-    axioms_text t d (axiom_sentence (is_negated_at d.rules rule branch place))
-    (name_unmet d.rules rule branch (unmets.Part place))
+-- what keeps a branch of an axiom from concluding the atom for which a part asks, at its place in the domain
+abbrev pub unconcluded_by : Texts → Domain → Unconcluded → Unmet → List ℕ
+unconcluded_by t d x unmets.None = told_in (Some t.domain) (span_at d x.rule x.branch) says.OTHER_CONCLUDED.now
+unconcluded_by t d x unmets.Head = told_in (Some t.domain) (head_span_at d x.rule) says.NOT_CONCLUDED.now
+unconcluded_by t d x (unmets.Part place) =
+    told_in (Some t.domain) (part_span_at d x.rule x.branch place) says.AXIOM_UNMET.now
+    ++ filled_at d x.rule x.branch place x.values ++ facts_text x.facts
+unconcluded_by t d x unmets.Unknown = told_in (Some t.domain) (span_at d x.rule x.branch) says.UNKNOWN.now
+
+abbrev pub unconcluded_text : Texts → Domain → Unconcluded → List ℕ
+unconcluded_text t d x = unconcluded_by t d x x.unmet
 
 -- that nothing satisfies the part at a place, of the first part without a word of those before it
 abbrev pub part_sentence : ℕ → List ℕ
 part_sentence place = cond (place == 0) says.FIRST_UNMET.now says.LATER_UNMET.now
 
--- what keeps an operator or a branch from doing a task, at its place in the domain, with the values that its variables
--- have; that a head doesn't match is said once of a method
-abbrev pub obstacle_by : Texts → Domain → Term → List Term → ℕ → ℕ → Bindings → Option Facts → Unmet → List ℕ
-obstacle_by t d task guards rule branch e facts unmets.None =
-    told_in (Some t.domain) (head_span_at d rule) says.PROTECTED.now ++ protected_text d rule e guards
-obstacle_by t d task guards rule branch e facts unmets.Head = cond (branch == 0) (mismatch_at t d task rule) []
-obstacle_by t d task guards rule branch e facts (unmets.Part place) =
-    told_in (Some t.domain) (part_span_at d rule branch place) (part_sentence place)
-    ++ filled_at d rule branch place e ++ facts_text facts
-    ++ axioms_at t d rule branch place
-obstacle_by t d task guards rule branch e facts unmets.Unknown =
-    told_in (Some t.domain) (span_at d rule branch) says.UNKNOWN.now
+-- what is said of the part at a place of a precondition, which nothing satisfies
+abbrev pub unmet_part_text : Texts → Domain → Obstacle → ℕ → List ℕ
+unmet_part_text t d o place =
+    told_in (Some t.domain) (part_span_at d o.rule o.branch place) (part_sentence place)
+    ++ filled_at d o.rule o.branch place o.values ++ against_at d o.rule o.values o.against ++ facts_text o.facts
+    ++ concluding_at t d o.rule o.branch place ++ flat_map (unconcluded_text t d) o.axioms
 
--- a task, and the atoms that are protected where it can't be done
+-- what keeps an operator or a branch from doing a task, at its place in the domain, where some atoms are protected;
+-- that a head doesn't match is said once of a method
+abbrev pub obstacle_by : Texts → Domain → Term → List Term → Obstacle → Unmet → List ℕ
+obstacle_by t d task guards o unmets.None =
+    told_in (Some t.domain) (head_span_at d o.rule) says.PROTECTED.now ++ protected_text d o.rule o.values guards
+obstacle_by t d task guards o unmets.Head = cond (o.branch == 0) (mismatch_at t d task o.rule) []
+obstacle_by t d task guards o (unmets.Part place) = unmet_part_text t d o place
+obstacle_by t d task guards o unmets.Unknown = told_in (Some t.domain) (span_at d o.rule o.branch) says.UNKNOWN.now
+
 abbrev pub obstacle_text : Texts → Domain → Term → List Term → Obstacle → List ℕ
-obstacle_text t d task guards o = obstacle_by t d task guards o.rule o.branch o.values o.facts o.unmet
+obstacle_text t d task guards o = obstacle_by t d task guards o o.unmet
 
 -- where no operator and no method has the task's name, that is said
 abbrev pub obstacles_text : Texts → Domain → Term → List Term → List Obstacle → List ℕ
@@ -312,12 +325,13 @@ rules_text t d p rs = cond (list_any has_unserved rs) (all_unserved t d p) []
 abbrev pub no_plan_text : Texts → Domain → Problem → ℕ → ℕ → Why → List ℕ
 no_plan_text t d p depth nest w = cuts_text w depth nest ++ ends_text t d w ++ rules_text t d p (map (option_map kept) w.reasons.items)
 
--- where there is a plan, nothing else is said
+-- where there is a plan, nothing else is said; after a fault what was at fault is said first
 abbrev pub others_text : Texts → Domain → Problem → ℕ → ℕ → Why → SearchEnd → List ℕ
 others_text t d p depth nest w search_ends.Plan = []
 others_text t d p depth nest w search_ends.Whole = no_plan_text t d p depth nest w
 others_text t d p depth nest w search_ends.Cut = no_plan_text t d p depth nest w
-others_text t d p depth nest w (search_ends.Fault f) = no_plan_text t d p depth nest w
+others_text t d p depth nest w (search_ends.Fault f) =
+    blame_text t d (span_at d) (option_map blame_kept w.blame) ++ no_plan_text t d p depth nest w
 
 abbrev pub why_text : Texts → Domain → Problem → ℕ → ℕ → Why → List ℕ
 why_text t d p depth nest w =

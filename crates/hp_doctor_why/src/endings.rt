@@ -7,6 +7,7 @@ ghost use Rattle.hp_doctor.specs.Explained.{finding_text};
 ghost use Rattle.hp_doctor.specs.Texts.{texts_of};
 ghost use Rattle.hp_doctor_why.specs.Said as plain;
 
+use crate::blamed::push_blame;
 use crate::cuts::push_cut;
 use crate::ends::push_ends;
 use crate::numbers::{push_number, push_path};
@@ -178,7 +179,8 @@ fn push_no_plan(
     push_rules(out, files, read, why.reasons.as_slice())
 }
 
-/// Puts what is said after the ending after other bytes: where there is a plan, nothing.
+/// Puts what is said after the ending after other bytes: where there is a plan, nothing, and after a fault what was at
+/// fault first.
 fn push_others(
     out: &mut Vec<u8>,
     files: &Texts,
@@ -193,7 +195,9 @@ fn push_others(
 {
     match why.found.end {
         SearchEnd::Plan => Ok(()),
-        SearchEnd::Whole | SearchEnd::Cut | SearchEnd::Fault(_) => {
+        SearchEnd::Whole | SearchEnd::Cut => push_no_plan(out, files, read, depth, nest, why),
+        SearchEnd::Fault(_) => {
+            push_blame(out, files, &read.domain, &why.blame)?;
             push_no_plan(out, files, read, depth, nest, why)
         }
     }

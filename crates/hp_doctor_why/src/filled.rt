@@ -47,7 +47,7 @@ fn filled_name(
 }
 
 /// What the variables of some names are written as.
-fn filled_names(
+pub fn filled_names(
     alloc: Global,
     names: &[Name],
     values: &[Option<Ground>],
@@ -63,7 +63,7 @@ fn filled_names(
 }
 
 /// The names of the variables of a rule.
-fn rule_names(rule: &Rule) -> &[Name]
+pub fn rule_names(rule: &Rule) -> &[Name]
     ensures { result.now ≡ plain.rule_names (rule_of rule.now) }
 {
     match rule {
@@ -74,7 +74,7 @@ fn rule_names(rule: &Rule) -> &[Name]
 }
 
 /// The names of the variables of the rule at a place, none where there is no rule.
-fn names_at(domain: &Domain, rule: usize) -> &[Name]
+pub fn names_at(domain: &Domain, rule: usize) -> &[Name]
     ensures { result.now ≡ plain.names_at (domain_of domain.now) rule }
 {
     match domain.rules.get(rule) {
@@ -111,7 +111,7 @@ fn negated_atom(alloc: Global, names: &[Name], atom: &AtomPat) -> Result<Vec<u8>
 }
 
 /// The text of an atom, of the negation of one or of a call, and none for another part.
-fn part_text(alloc: Global, names: &[Name], part: &Expr) -> Result<Vec<u8>, AllocError>
+pub fn part_text(alloc: Global, names: &[Name], part: &Expr) -> Result<Vec<u8>, AllocError>
     ensures { IfOk result (λ v. v.items ≡ plain.part_text names.now (expression_of part.now)) }
 {
     match &part.kind {

@@ -17,6 +17,11 @@ pub const OTHER_VALUE: &[u8] = b"this head doesn't match the task, which has ano
 pub const OTHER_COUNT: &[u8] =
     b"this head doesn't match the task, which has another number of arguments";
 
+pub const OTHER_BOUND: &[u8] =
+    b"this head doesn't match the task, since this variable has another value already";
+
+pub const OTHER_PART: &[u8] = b"this head doesn't match the task, which has something else here";
+
 pub const FILLED: &[u8] = b"filled in here: ";
 
 pub const UNKNOWN: &[u8] = b"the levels of axioms, or a fault, hide which part nothing satisfies";
@@ -29,7 +34,14 @@ pub const NO_FACT: &[u8] = b"no fact has this name here\n";
 
 pub const FACTS: &[u8] = b"facts with this name here:";
 
-pub const NOT_CONCLUDED: &[u8] = b"this axiom concludes none that fits here";
+pub const NOT_CONCLUDED: &[u8] = b"the head of this axiom doesn't fit";
+
+pub const AXIOM_UNMET: &[u8] = b"nothing satisfies this part of an axiom with this name";
+
+pub const OTHER_CONCLUDED: &[u8] =
+    b"this branch of an axiom with this name is taken, and concludes none that fits";
+
+pub const AGAINST: &[u8] = b"it is false for";
 
 pub const CONCLUDES: &[u8] = b"this axiom concludes atoms of this name";
 
@@ -55,6 +67,17 @@ pub const NO_PLAN: &[u8] = b"there is no plan at any depth";
 pub const NO_PLAN_WITHIN: &[u8] = b"there is no plan within depth ";
 
 pub const FAULT_WITHIN: &[u8] = b"a fault ended the search within depth ";
+
+/// What was at fault: the task, the rule, and the variables of the pattern.
+pub const TASK_AT_FAULT: &[u8] = b"met while doing ";
+
+pub const RULE_AT_FAULT: &[u8] = b"by this rule or branch, whose precondition is here";
+
+pub const NO_VALUE: &[u8] = b" has no value\n";
+
+pub const FROM: &[u8] = b", from ";
+
+pub const FROM_TASK: &[u8] = b", from the task";
 
 /// What cut the tree, before its path and after it.
 pub const DEPTH_CUT: &[u8] = b" cut the tree first at path ";

@@ -1,10 +1,10 @@
 //! Where preconditions stand.
 ghost use Rattle.std.specs.Prelude.{◌≡◌, map, option_map, slice_get};
-ghost use Rattle.hp_syntax.specs.Views.{branch_of, domain_of, precondition_of, rule_of};
+ghost use Rattle.hp_syntax.specs.Views.{branch_of, clause_of, domain_of, precondition_of, rule_of};
 ghost use Rattle.hp_lint.specs.Branches as spans;
 ghost use Rattle.hp_doctor_why.specs.Said as plain;
 
-use hp_syntax::{Branch, Domain, Pre, Rule, Span};
+use hp_syntax::{Branch, Clause, Domain, Pre, Rule, Span};
 use hp_unmet::part_at;
 
 fn precondition_span(pre: &Pre) -> Span
@@ -25,17 +25,27 @@ fn branch_span(branches: &[Branch], branch: usize) -> Option<Span>
     }
 }
 
+fn clause_span(clauses: &[Clause], branch: usize) -> Option<Span>
+    ensures { result
+        ≡ option_map (λ c. spans.expression_span c.body) (slice_get (map clause_of clauses.now) branch) }
+{
+    match clauses.get(branch) {
+        Some(clause) => Some(clause.body.span),
+        None => None,
+    }
+}
+
 fn span_in(rule: &Rule, branch: usize) -> Option<Span>
     ensures { result ≡ plain.span_in branch (rule_of rule.now) }
 {
     match rule {
         Rule::Operator(operator) => Some(precondition_span(&operator.pre)),
         Rule::Method(method) => branch_span(method.branches.as_slice(), branch),
-        Rule::Axiom(_) => None,
+        Rule::Axiom(axiom) => clause_span(axiom.clauses.as_slice(), branch),
     }
 }
 
-/// Where the precondition of a rule stands, of a method that of a branch.
+/// Where the precondition of a rule stands, of a method and of an axiom that of a branch.
 pub fn span_at(domain: &Domain, rule: usize, branch: usize) -> Option<Span>
     ensures { result ≡ plain.span_at (domain_of domain.now) rule branch }
 {

@@ -5,17 +5,21 @@ ghost use Rattle.hp_code.specs.Codes.{code_of};
 ghost use Rattle.hp_code.specs.CodeViews.{IsCodeOf};
 ghost use Rattle.hp_dead_ends.specs.Arriving.{HasHeldCuts, IsHeld};
 ghost use Rattle.hp_dead_ends.specs.DeadEnds.{is_stopped};
-ghost use Rattle.hp_dead_ends.specs.Finding.{IsFoundIn, IsFurthest, items_of};
+ghost use Rattle.hp_dead_ends.specs.Finding.{HasMet, IsFoundIn, IsFurthest, items_of};
+ghost use Rattle.hp_dead_ends.specs.declared.searching.SearchEnd.TheVariants as ends;
+ghost use Rattle.hp_blame.specs.Blames.{blame_kept};
+ghost use Rattle.hp_syntax.specs.declared.fault.RunFault.{RunFault};
 ghost use Rattle.hp_net.specs.Standings.{node_reached};
 ghost use Rattle.hp_search.specs.Planned.{stands_planned, tree_planned};
 ghost use Rattle.hp_syntax.specs.GroundViews.{ground_of};
 ghost use Rattle.hp_syntax.specs.Views.{domain_of};
 ghost use Rattle.hp_way.specs.Ways.{deed_of};
 ghost use Rattle.hp_doctor_why.specs.Searches.{CanSearch, IsFresh, IsWalkOf, tree_searched};
-ghost use Rattle.hp_doctor_why.specs.Reasons.{AreTasksTo, IsCutAt, IsCutAtIf, IsWhy, lowered_tree, reason_of};
+ghost use Rattle.hp_doctor_why.specs.Reasons.{AreTasksTo, IsBlamed, IsCutAt, IsCutAtIf, IsWhy, lowered_tree, reason_of};
 ghost use Rattle.hp_doctor_why.specs.Whys.{cut_of, kept, reason_at};
 
 use hp_best::to_grounds;
+use hp_blame::{Blame, find_blame};
 use hp_code::Code;
 use hp_code::laws::{compiled_rules_are_a_code, lowered_rules_have_the_tree};
 use hp_dead_ends::{DeadEnd, DeadEnds, SearchEnd, find, go_to};
@@ -65,6 +69,8 @@ impl Drop for Cut {
 /// How far the search for a plan came, and what stopped it.
 pub struct Why {
     pub found: DeadEnds,
+    /// What was at fault, where a fault ended the search and it is found.
+    pub blame: Option<Blame>,
     /// What is known of the first node that the depth cut, where there is one and its path can be followed.
     pub cut: Option<Cut>,
     /// The reasons at each of the furthest dead ends. None where a number of its path may stand for a greater one.
@@ -75,10 +81,12 @@ impl Drop for Why {
     fn drop(self) {
         let Why {
             found,
+            blame,
             cut,
             reasons,
         } = self;
         drop(found);
+        drop(blame);
         drop(cut);
         drop(reasons);
     }
@@ -315,10 +323,35 @@ fn dead_ends<'a>(
     ensures held { IfOk result (λ f. All (λ e. IsHeld (tree_searched search.entry) e.path.items) f.furthest.items) }
     ensures cuts { IfOk result (HasHeldCuts (tree_searched search.entry)) }
     ensures over { IfOk result (λ f. is_stopped f.end ≡ false → (stands_planned walk.new).path ≡ []) }
+    ensures fault { IfOk result (λ f. (x : RunFault) → f.end ≡ ends.Fault x
+        → HasMet (lowered_tree (tree_searched search.entry)) (stands_planned walk.new) x) }
     ensures of { OnOk result (IsWalkOf search.entry walk.new) }
 {
     lowered_rules_have_the_tree();
     find(alloc, walk, search.depth, most)
+}
+
+/// What was at fault at the node where a walk stands, if a fault ended its search and it is found.
+fn blame_after(
+    alloc: Global,
+    search: Search<'_>,
+    walk: &mut Planner<'_>,
+    end: SearchEnd,
+) -> Result<Option<Blame>, AllocError>
+    requires search { CanSearch search }
+    requires of { IsWalkOf search walk.old }
+    requires fault { (x : RunFault) → end ≡ ends.Fault x
+        → HasMet (lowered_tree (tree_searched search)) (stands_planned walk.old) x }
+    ensures is { IfOk result (λ o. IsBlamed (tree_searched search.entry) (lowered_tree (tree_searched search.entry)) end
+        (option_map blame_kept o)) }
+    ensures same { walk.new ≡ walk.old }
+{
+    match end {
+        SearchEnd::Fault(fault) => find_blame(alloc, search.domain, search.code, walk, fault),
+        SearchEnd::Plan => Ok(None),
+        SearchEnd::Whole => Ok(None),
+        SearchEnd::Cut => Ok(None),
+    }
 }
 
 /// How far the search for a plan of a pair came, and what stopped it: at most so many of the furthest dead ends are
@@ -329,11 +362,13 @@ pub fn why_of(alloc: Global, search: Search<'_>, most: usize) -> Result<Why, All
 {
     let mut walk = new_walk(alloc, search)?;
     let found = dead_ends(alloc, search, &mut walk, most)?;
+    let blame = blame_after(alloc, search, &mut walk, found.end)?;
     let spare = spare_after(search, walk, found.end)?;
     let (cut, left) = first_cut(alloc, search, &found.depth_cut, spare)?;
     let reasons = reasons_of_ends(alloc, search, found.furthest.as_slice(), left)?;
     Ok(Why {
         found,
+        blame,
         cut,
         reasons,
     })

@@ -1,29 +1,30 @@
 //! What is said of tasks that nothing does.
-ghost use Rattle.std.specs.Prelude.{◌≡◌, ◌++◌, List, OnOk, Some, map, option_map};
+ghost use Rattle.std.specs.Prelude.{◌≡◌, ◌++◌, OnOk, Some, map, option_map};
 ghost use Rattle.std.specs.List.{flat_map};
 ghost use Rattle.hp_syntax.specs.GroundViews.{ground_of};
 ghost use Rattle.hp_syntax.specs.TermTexts.{term_text};
-ghost use Rattle.hp_syntax.specs.Views.{domain_of, rule_of};
+ghost use Rattle.hp_syntax.specs.Views.{domain_of};
 ghost use Rattle.hp_doctor.specs.Explained.{told_in};
 ghost use Rattle.hp_doctor.specs.Texts.{texts_of};
 ghost use Rattle.hp_obstacles.specs.Facts.{kept};
-ghost use Rattle.hp_obstacles.specs.Obstacles.{obstacle_of, stuck_of};
+ghost use Rattle.hp_obstacles.specs.Obstacles.{obstacle_of, stuck_of, unconcluded_of};
 ghost use Rattle.hp_choice.specs.FirstSatisfier.{values_of};
-ghost use Rattle.hp_syntax.specs.Terms.{Term};
+ghost use Rattle.hp_doctor_why.specs.Against.{against_at};
 ghost use Rattle.hp_doctor_why.specs.Filled.{filled_at, protected_text};
 ghost use Rattle.hp_doctor_why.specs.Said as plain;
 
+use crate::against::push_against;
+use crate::axioms::{push_all_unconcluded, push_concluding_at};
 use crate::filled::{push_filled_at, push_protected};
 use crate::heads::push_mismatch_at;
 use crate::phrases::{
-    CONCLUDES, FACTS, FIRST_UNMET, LATER_UNMET, NO_FACT, NO_RULE, NOT_CONCLUDED, NOTHING_DOES,
-    PROTECTED, UNKNOWN,
+    FACTS, FIRST_UNMET, LATER_UNMET, NO_FACT, NO_RULE, NOTHING_DOES, PROTECTED, UNKNOWN,
 };
 use crate::places::{head_span_at, part_span_at, span_at};
 use hp_doctor::{Texts, push_in};
-use hp_obstacles::{Facts, Obstacle, Stuck, is_negated_at, name_at};
+use hp_obstacles::{Facts, Obstacle, Stuck};
 use hp_print::ground_text;
-use hp_syntax::{Domain, Ground, Name, Rule};
+use hp_syntax::{Domain, Ground};
 use hp_unmet::Unmet;
 use itoa::Buffer;
 use std::alloc::AllocError;
@@ -94,7 +95,7 @@ fn push_facts(out: &mut Vec<u8>, facts: &Facts) -> Result<(), AllocError>
     push_some_facts(out, facts.first.as_slice(), more_facts(facts))
 }
 
-fn push_facts_if(out: &mut Vec<u8>, facts: &Option<Facts>) -> Result<(), AllocError>
+pub(crate) fn push_facts_if(out: &mut Vec<u8>, facts: &Option<Facts>) -> Result<(), AllocError>
     ensures { OnOk result (out.new.items
         ≡ out.old.items ++ plain.facts_text (option_map kept facts.now)) }
 {
@@ -111,73 +112,6 @@ fn part_sentence(place: usize) -> &'static [u8]
         return FIRST_UNMET;
     }
     LATER_UNMET
-}
-
-/// Puts a sentence at the head of an axiom after other bytes, where the axiom concludes atoms of a name.
-fn push_axiom(
-    out: &mut Vec<u8>,
-    files: &Texts,
-    says: &[u8],
-    name: &Name,
-    rule: &Rule,
-) -> Result<(), AllocError>
-    ensures { OnOk result (out.new.items
-        ≡ out.old.items ++ plain.axiom_text (texts_of files.now) says.now name.now (rule_of rule.now)) }
-{
-    match rule {
-        Rule::Axiom(axiom) if axiom.head.name == *name => {
-            push_in(out, Some(&files.domain), Some(axiom.head.span), says)
-        }
-        Rule::Axiom(_) => Ok(()),
-        Rule::Operator(_) => Ok(()),
-        Rule::Method(_) => Ok(()),
-    }
-}
-
-/// Puts the axioms that conclude atoms of a name after other bytes.
-fn push_axioms(
-    out: &mut Vec<u8>,
-    files: &Texts,
-    says: &[u8],
-    rules: &[Rule],
-    name: &Name,
-) -> Result<(), AllocError>
-    ensures { OnOk result (out.new.items ≡ out.old.items
-        ++ flat_map (plain.axiom_text (texts_of files.now) says.now name.now) (map rule_of rules.now)) }
-{
-    for rule in rules {
-        push_axiom(out, files, says, name, rule)?;
-    }
-    Ok(())
-}
-
-/// What is said of the axioms of a name: of a negation they may conclude the atom, else none that fits.
-fn axiom_sentence(is_negated: bool) -> &'static [u8]
-    ensures { result.now ≡ plain.axiom_sentence is_negated }
-{
-    if is_negated { CONCLUDES } else { NOT_CONCLUDED }
-}
-
-/// Puts the axioms that conclude atoms of the name for which the part at a place asks after other bytes, or for whose
-/// negation.
-fn push_axioms_at(
-    out: &mut Vec<u8>,
-    files: &Texts,
-    domain: &Domain,
-    obstacle: &Obstacle,
-    place: usize,
-) -> Result<(), AllocError>
-    ensures { OnOk result (out.new.items ≡ out.old.items ++ plain.axioms_at (texts_of files.now)
-        (domain_of domain.now) obstacle.now.rule obstacle.now.branch place) }
-{
-    let is_negated = is_negated_at(domain, obstacle.rule, obstacle.branch, place);
-    match name_at(domain, obstacle.rule, obstacle.branch, place) {
-        Some(name) => {
-            let says = axiom_sentence(is_negated);
-            push_axioms(out, files, says, domain.rules.as_slice(), name)
-        }
-        None => Ok(()),
-    }
 }
 
 /// Puts the place and the sentence of a part that nothing satisfies after other bytes, and the part with the values of
@@ -202,6 +136,29 @@ fn push_part_here(
     push_filled_at(out, domain, obstacle.rule, obstacle.branch, place, values)
 }
 
+/// Puts the satisfier after other bytes that makes the part at a place false, the facts of its name, and the axioms.
+fn push_part_further(
+    out: &mut Vec<u8>,
+    files: &Texts,
+    domain: &Domain,
+    obstacle: &Obstacle,
+    place: usize,
+) -> Result<(), AllocError>
+    ensures { OnOk result (out.new.items ≡ out.old.items
+        ++ (against_at (domain_of domain.now) obstacle.now.rule (values_of obstacle.now.values)
+        (option_map values_of obstacle.now.against)
+        ++ plain.facts_text (option_map kept obstacle.now.facts)
+        ++ plain.concluding_at (texts_of files.now) (domain_of domain.now) obstacle.now.rule obstacle.now.branch place
+        ++ flat_map (plain.unconcluded_text (texts_of files.now) (domain_of domain.now))
+        (map unconcluded_of obstacle.now.axioms.items))) }
+{
+    let values = obstacle.values.as_slice();
+    push_against(out, domain, obstacle.rule, values, &obstacle.against)?;
+    push_facts_if(out, &obstacle.facts)?;
+    push_concluding_at(out, files, domain, obstacle, place)?;
+    push_all_unconcluded(out, files, domain, obstacle.axioms.as_slice())
+}
+
 /// Puts what is said of the part at a place after other bytes, which nothing satisfies.
 fn push_part(
     out: &mut Vec<u8>,
@@ -210,13 +167,11 @@ fn push_part(
     obstacle: &Obstacle,
     place: usize,
 ) -> Result<(), AllocError>
-    ensures { OnOk result ((t : Term) (gs : List Term) → out.new.items ≡ out.old.items ++ plain.obstacle_by
-        (texts_of files.now) (domain_of domain.now) t gs obstacle.now.rule obstacle.now.branch
-        (values_of obstacle.now.values) (option_map kept obstacle.now.facts) (Unmet.Part place)) }
+    ensures { OnOk result (out.new.items ≡ out.old.items ++ plain.unmet_part_text (texts_of files.now)
+        (domain_of domain.now) (obstacle_of obstacle.now) place) }
 {
     push_part_here(out, files, domain, obstacle, place)?;
-    push_facts_if(out, &obstacle.facts)?;
-    push_axioms_at(out, files, domain, obstacle, place)
+    push_part_further(out, files, domain, obstacle, place)
 }
 
 /// Puts after other bytes that a precondition is satisfied, and the protected atoms that the operator would delete.

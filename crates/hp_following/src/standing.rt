@@ -5,18 +5,12 @@ ghost use Rattle.hp_syntax.specs.GroundViews.{ground_of};
 ghost use Rattle.hp_dead_ends.specs.Arriving.{HasArrived, is_small};
 ghost use Rattle.hp_following.specs.Follows.{IsFollowed};
 
+use hp_dead_ends::is_small;
 use hp_net::Walk;
 use hp_passes::{Pass, Sight, Stop, Turn, go_through};
 use hp_syntax::Ground;
 use hp_verify::{are_steps, leads_on};
 use std::alloc::AllocError;
-
-/// Whether no number of a path is 2^64 - 1.
-fn is_small(path: &[u64]) -> bool
-    ensures { result ≡ is_small path.now }
-{
-    path.iter().all(|number| *number < u64::MAX)
-}
 
 /// Whether two paths are the same.
 fn are_same(path: &[u64], target: &[u64]) -> bool

@@ -1,5 +1,5 @@
 -- A domain's own code serves for each of its rules, and what keeps rules from doing a task is added in order.
-use Rattle.std.proofs.Common.{◌≡◌, ℕ, zero, suc, ◌+◌, ◌<◌, ◌≤◌, List, [], ◌∷◌, ◌++◌, length, take, get_or, map, Option, Some, None, refl, sym, ap, ap₂, ◌∙◌, subst, arith, add-one, append-nil, append_assoc}
+use Rattle.std.proofs.Common.{◌≡◌, ℕ, zero, suc, ◌+◌, ◌-◌, ◌<◌, ◌≤◌, Bool, true, false, cond, List, [], ◌∷◌, ◌++◌, length, take, get_or, map, Option, Some, None, refl, sym, ap, ap₂, ◌∙◌, subst, arith, add-one, append-nil, append_assoc}
 use Rattle.std.specs.Prelude.{slice_get, option_map}
 use Rattle.std.proofs.lemmas.List.{length-map, length-take-le, map-append, take_more}
 use Rattle.hp_links.proofs.ListSteps.{some_read}
@@ -17,9 +17,11 @@ use Rattle.hp_code.proofs.CodeLemmas.{code_trees, length-rule_nodes}
 use Rattle.hp_unmet.specs.declared.unmet.Unmet.{Unmet}
 use Rattle.hp_unmet.specs.Conjunctions.{first_unmet, values_met}
 use Rattle.hp_unmet.specs.PartNodes.{AsksAlike, ServesFor}
+use Rattle.hp_unmet.specs.Clauses.{clause_unmet, clause_values}
+use Rattle.hp_obstacles.specs.declared.axioms.Unconcluded as kept
 use Rattle.hp_obstacles.specs.declared.obstacles.Obstacle as made
-use Rattle.hp_obstacles.specs.Facts.{Facts, facts_of, shown}
-use Rattle.hp_obstacles.specs.Obstacles.{Obstacle, at_branches, at_rules, branches_for, name_unmet, obstacle, obstacle_by, obstacle_of, symbol_name, task_name}
+use Rattle.hp_obstacles.specs.Facts.{Facts}
+use Rattle.hp_obstacles.specs.Obstacles.{Obstacle, Unconcluded, Wanted, at_branches, at_clauses, against_unmet, axioms_unmet, facts_unmet, is_part, obstacle, obstacle_by, obstacle_of, of_rules, symbol_name, task_name, unconcluded, unconcluded_by, unconcluded_of}
 
 -- ---- the node of a rule
 
@@ -61,16 +63,27 @@ mapped_twice f g None = refl
 mapped_twice f g (Some a) = refl
 
 module _ (rules : List Rule) (nest : ℕ) (s : State) (t : Term) (rule branch : ℕ) where
-  abbrev with_parts : Unmet → Bindings → Option Facts → Obstacle
-  with_parts u vs fs = record { rule = rule; branch = branch; unmet = u; values = vs; facts = fs }
+  abbrev with_parts : Unmet → Bindings → Option Bindings → Option Facts → List Unconcluded → Obstacle
+  with_parts u vs as' fs xs = record {
+    rule = rule;
+    branch = branch;
+    unmet = u;
+    values = vs;
+    against = as';
+    facts = fs;
+    axioms = xs;
+  }
 
-  -- what is unmet, with the values by what is met and the facts of the name that it asks for, is the obstacle
-  pub obstacle_is : (u : Unmet) (vs : Bindings) (fs : Option Facts) (name : Option (List ℕ))
+  -- what is unmet, with the values by what is met, what makes it false, the facts of the name that it asks for and the
+  -- axioms of that name, is the obstacle
+  pub obstacle_is : (u : Unmet) (vs : Bindings) (as' : Option Bindings) (fs : Option Facts) (xs : List Unconcluded)
       → u ≡ first_unmet rules nest s t rule branch → vs ≡ values_met rules nest s t rule branch u
-      → fs ≡ option_map (λ n. shown (facts_of n s)) name → name ≡ name_unmet rules rule branch u
-      → with_parts u vs fs ≡ obstacle rules nest s t rule branch
-  obstacle_is u vs fs name e v f g =
-      ap₂ (with_parts u) v (f ∙ ap (option_map (λ n. shown (facts_of n s))) g)
+      → as' ≡ against_unmet rules nest s t rule branch u
+      → fs ≡ facts_unmet rules s rule branch u → xs ≡ axioms_unmet rules nest s t rule branch u
+      → with_parts u vs as' fs xs ≡ obstacle rules nest s t rule branch
+  obstacle_is u vs as' fs xs e v a f g =
+      ap₂ (λ y z. with_parts u y as' z xs) v f
+      ∙ ap₂ (λ y z. with_parts u (values_met rules nest s t rule branch u) y (facts_unmet rules s rule branch u) z) a g
       ∙ ap (obstacle_by rules nest s t rule branch) e
 
 -- ---- one branch more
@@ -108,31 +121,23 @@ module _ (rules : List Rule) (nest : ℕ) (s : State) (t : Term) (rule : ℕ) wh
 
 -- ---- one rule more
 
-module _ (all : List Rule) (nest : ℕ) (s : State) (t : Term) (name : List ℕ) where
+module _ {A : Type 0} (f : ℕ → Rule → List A) where
   rules_more : (rule : ℕ) (rs : List Rule) (r : Rule)
-      → at_rules all nest s t name rule (rs ++ r ∷ [])
-      ≡ at_rules all nest s t name rule rs
-      ++ at_branches all nest s t (rule + length rs) 0 (branches_for name r)
+      → of_rules f rule (rs ++ r ∷ []) ≡ of_rules f rule rs ++ f (rule + length rs) r
   rules_more rule [] r =
       let same : rule ≡ rule + 0 = omega arith in
-      append-nil (at_branches all nest s t rule 0 (branches_for name r))
-      ∙ ap (λ k. at_branches all nest s t k 0 (branches_for name r)) same
+      append-nil (f rule r) ∙ ap (λ k. f k r) same
   rules_more rule (x ∷ rs) r =
       let same : (rule + 1) + length rs ≡ rule + length (x ∷ rs) = omega arith in
-      let first = at_branches all nest s t rule 0 (branches_for name x) in
-      ap (λ os. first ++ os)
-      (rules_more (rule + 1) rs r
-      ∙ ap
-      (λ k. at_rules all nest s t name (rule + 1) rs ++ at_branches all nest s t k 0 (branches_for name r)) same)
-      ∙ sym (append_assoc first (at_rules all nest s t name (rule + 1) rs)
-      (at_branches all nest s t (rule + length (x ∷ rs)) 0 (branches_for name r)))
+      ap (λ os. f rule x ++ os)
+      (rules_more (rule + 1) rs r ∙ ap (λ k. of_rules f (rule + 1) rs ++ f k r) same)
+      ∙ sym (append_assoc (f rule x) (of_rules f (rule + 1) rs) (f (rule + length (x ∷ rs)) r))
 
-  -- the obstacles of the rules up to one, and those of its branches, are those up to the next one
-  pub rule_added : (rs : List public_rule.Rule) (i : ℕ) (r : public_rule.Rule) (old new : List Obstacle) (count : ℕ)
-      → i < length rs → r ≡ get_or rs i r → old ≡ at_rules all nest s t name 0 (map rule_of (take i rs))
-      → count ≡ branches_for name (rule_of r) → new ≡ old ++ at_branches all nest s t i 0 count
-      → new ≡ at_rules all nest s t name 0 (map rule_of (take (i + 1) rs))
-  rule_added rs i r old new count l is so_far c e =
+  -- what is said of the rules up to one, and of that one, is what is said of those up to the next one
+  pub rule_added : (rs : List public_rule.Rule) (i : ℕ) (r : public_rule.Rule) (old new : List A) → i < length rs
+      → r ≡ get_or rs i r → old ≡ of_rules f 0 (map rule_of (take i rs)) → new ≡ old ++ f i (rule_of r)
+      → new ≡ of_rules f 0 (map rule_of (take (i + 1) rs))
+  rule_added rs i r old new l is so_far e =
       let before = map rule_of (take i rs) in
       let many : 0 + length before ≡ i =
       omega (arith, length-map (take i rs) rule_of, length-take-le i rs (omega arith)) in
@@ -140,10 +145,56 @@ module _ (all : List Rule) (nest : ℕ) (s : State) (t : Term) (name : List ℕ)
       ap (map rule_of) (take_more rs i r l ∙ ap (λ x. take i rs ++ x ∷ []) (sym is))
       ∙ map-append rule_of (take i rs) (r ∷ []) in
       e
-      ∙ (ap₂ (λ os n. os ++ at_branches all nest s t i 0 n) so_far c
-      ∙ (ap (λ k. at_rules all nest s t name 0 before ++ at_branches all nest s t k 0 (branches_for name (rule_of r)))
-      (sym many)
-      ∙ (sym (rules_more 0 before (rule_of r)) ∙ ap (at_rules all nest s t name 0) (sym one))))
+      ∙ (ap (λ os. os ++ f i (rule_of r)) so_far
+      ∙ (ap (λ k. of_rules f 0 before ++ f k (rule_of r)) (sym many)
+      ∙ (sym (rules_more 0 before (rule_of r)) ∙ ap (of_rules f 0) (sym one))))
+
+-- ---- one branch of an axiom more
+
+module _ (rules : List Rule) (nest : ℕ) (s : State) (t : Term) (w : Wanted) (rule branch : ℕ) where
+  abbrev with_answer : Unmet → Bindings → Option Facts → Unconcluded
+  with_answer u vs fs = record { rule = rule; branch = branch; unmet = u; values = vs; facts = fs }
+
+  -- what is unmet of a branch, with the values by what is met and the facts of the name that it asks for, keeps it from
+  -- concluding
+  pub unconcluded_is : (u : Unmet) (vs : Bindings) (fs : Option Facts)
+      → u ≡ clause_unmet rules nest s t w.rule w.branch w.place rule branch
+      → vs ≡ clause_values rules nest s t w.rule w.branch w.place rule branch u
+      → fs ≡ facts_unmet rules s rule branch u → with_answer u vs fs ≡ unconcluded rules nest s t w rule branch
+  unconcluded_is u vs fs e v f =
+      ap₂ (with_answer u) v f ∙ ap (unconcluded_by rules nest s t w rule branch) e
+
+module _ (rules : List Rule) (nest : ℕ) (s : State) (t : Term) (w : Wanted) (rule count : ℕ) where
+  abbrev from : ℕ → ℕ → List Unconcluded
+  from = at_clauses rules nest s t w rule
+
+  -- those that are left from a branch on, where more are looked at
+  abbrev pub clauses_left : Bool → ℕ → List Unconcluded
+  clauses_left more branch = cond more (from branch (count - branch)) []
+
+  -- at a branch that is looked at, those that are left are what keeps it, and those behind it
+  pub clause_added : (now pushed : List kept.Unconcluded) (x : kept.Unconcluded) (branch : ℕ) (more : Bool)
+      (whole : List Unconcluded) → branch < count → pushed ≡ now ++ x ∷ [] → more ≡ is_part x.unmet
+      → unconcluded_of x ≡ unconcluded rules nest s t w rule branch
+      → map unconcluded_of now ++ clauses_left true branch ≡ whole
+      → map unconcluded_of pushed ++ clauses_left more (branch + 1) ≡ whole
+  clause_added now pushed x branch more whole l e m is so_far =
+      let left = count - (branch + 1) in
+      let rest = from (branch + 1) left in
+      let one : count - branch ≡ suc left = omega (arith, l) in
+      ap₂ (λ xs k. xs ++ cond k rest []) (ap (map unconcluded_of) e ∙ map-append unconcluded_of now (x ∷ [])) m
+      ∙ append_assoc (map unconcluded_of now) (unconcluded_of x ∷ []) (cond (is_part x.unmet) rest [])
+      ∙ ap (λ y. map unconcluded_of now ++ y ∷ cond (is_part y.unmet) rest []) is
+      ∙ ap (λ n. map unconcluded_of now ++ from branch n) (sym one)
+      ∙ so_far
+
+  -- where no more are looked at, none is left
+  pub none_left : (more : Bool) (branch : ℕ) → (more ≡ true → count ≤ branch) → clauses_left more branch ≡ []
+  none_left false branch h = refl
+  none_left true branch h =
+      let over = h refl in
+      let none : count - branch ≡ 0 = omega (arith, over) in
+      ap (from branch) none
 
 -- ---- the name of a task
 

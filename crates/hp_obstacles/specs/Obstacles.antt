@@ -11,7 +11,10 @@ use Rattle.hp_choice.specs.FirstSatisfier.{values_of}
 use Rattle.hp_syntax.specs.Walk.{Node}
 use Rattle.hp_unmet.specs.declared.unmet.Unmet.{Unmet}
 use Rattle.hp_unmet.specs.declared.unmet.Unmet.TheVariants as unmets
+use Rattle.hp_unmet.specs.Clauses.{clause_unmet, clause_values}
+use Rattle.hp_unmet.specs.Against.{against}
 use Rattle.hp_unmet.specs.Conjunctions.{first_unmet, part_at, values_met}
+use Rattle.hp_obstacles.specs.declared.axioms.Unconcluded as kept
 use Rattle.hp_obstacles.specs.declared.obstacles.Obstacle as made
 use Rattle.hp_obstacles.specs.declared.obstacles.Stuck as stuck
 use Rattle.hp_obstacles.specs.Facts as facts
@@ -65,15 +68,102 @@ name_unmet rules rule branch unmets.Head = None
 name_unmet rules rule branch (unmets.Part place) = option_and_then name_in (part_at rules rule branch place)
 name_unmet rules rule branch unmets.Unknown = None
 
--- what keeps an operator, or a branch of a method, from doing a task: by their places, the first part of the
--- precondition that is unmet, the values of the variables by the parts that are met, and the facts of the name that the
--- unmet part asks for
-pub record Obstacle : Type 0 where
+-- the facts of the name that the first unmet part asks for
+abbrev pub facts_unmet : List Rule → State → ℕ → ℕ → Unmet → Option Facts
+facts_unmet rules s rule branch u = option_map (λ name. shown (facts_of name s)) (name_unmet rules rule branch u)
+
+-- what is said of rules, one after the other, of which the first has this number
+abbrev pub of_rules : {A : Type 0} → (ℕ → Rule → List A) → ℕ → List Rule → List A
+of_rules f rule [] = []
+of_rules f rule (r ∷ rs) = f rule r ++ of_rules f (rule + 1) rs
+
+-- ---- the axioms of an atom's name
+
+-- what keeps a branch of an axiom from concluding an atom: by their places, the first part of the branch that is unmet,
+-- the values of the variables by the parts that are met, and the facts of the name that the unmet part asks for
+pub record Unconcluded : Type 0 where
   pub rule : ℕ
   pub branch : ℕ
   pub unmet : Unmet
   pub values : Bindings
   pub facts : Option Facts
+
+-- a part is unmet, so that nothing satisfies the branch and the next one is looked at
+abbrev pub is_part : Unmet → Bool
+is_part unmets.None = false
+is_part unmets.Head = false
+is_part (unmets.Part place) = true
+is_part unmets.Unknown = false
+
+-- how many branches of a rule conclude atoms of a name
+abbrev pub clauses_for : List ℕ → Rule → ℕ
+clauses_for name (Does o) = 0
+clauses_for name (Refines m) = 0
+clauses_for name (Concludes x) = cond (bytes_eq x.head.name name) (length x.clauses) 0
+
+-- an atom that is asked for: by the places of the operator or branch that asks, and by its place there
+pub record Wanted : Type 0 where
+  pub rule : ℕ
+  pub branch : ℕ
+  pub place : ℕ
+
+module _ (rules : List Rule) (nest : ℕ) (s : State) (t : Term) (w : Wanted) where
+  abbrev pub unconcluded_by : ℕ → ℕ → Unmet → Unconcluded
+  unconcluded_by rule branch u = record {
+    rule = rule;
+    branch = branch;
+    unmet = u;
+    values = clause_values rules nest s t w.rule w.branch w.place rule branch u;
+    facts = facts_unmet rules s rule branch u;
+  }
+
+  abbrev pub unconcluded : ℕ → ℕ → Unconcluded
+  unconcluded rule branch =
+      unconcluded_by rule branch (clause_unmet rules nest s t w.rule w.branch w.place rule branch)
+
+  -- of so many branches, from one of a number on, up to the first of which no part is unmet: that one is chosen, or the
+  -- head doesn't start from the atom, or it isn't known
+  abbrev pub at_clauses : ℕ → ℕ → ℕ → List Unconcluded
+  at_clauses rule branch zero = []
+  at_clauses rule branch (suc left) =
+      let x = unconcluded rule branch in x ∷ cond (is_part x.unmet) (at_clauses rule (branch + 1) left) []
+
+  -- of the axioms of a name
+  abbrev pub axioms_named : Option (List ℕ) → List Unconcluded
+  axioms_named None = []
+  axioms_named (Some name) = of_rules (λ rule r. at_clauses rule 0 (clauses_for name r)) 0 rules
+
+-- of those of the name of an unmet part that is an atom
+abbrev pub axioms_unmet : List Rule → ℕ → State → Term → ℕ → ℕ → Unmet → List Unconcluded
+axioms_unmet rules nest s t rule branch unmets.None = []
+axioms_unmet rules nest s t rule branch unmets.Head = []
+axioms_unmet rules nest s t rule branch (unmets.Part place) =
+    axioms_named rules nest s t (record { rule = rule; branch = branch; place = place })
+    (option_and_then atom_name (part_at rules rule branch place))
+axioms_unmet rules nest s t rule branch unmets.Unknown = []
+
+-- ---- what makes a part false
+
+-- the satisfier that makes the unmet part false, where it is a negation or a `forall`
+abbrev pub against_unmet : List Rule → ℕ → State → Term → ℕ → ℕ → Unmet → Option Bindings
+against_unmet rules nest s t rule branch unmets.None = None
+against_unmet rules nest s t rule branch unmets.Head = None
+against_unmet rules nest s t rule branch (unmets.Part place) = against rules nest s t rule branch place
+against_unmet rules nest s t rule branch unmets.Unknown = None
+
+-- ---- operators and methods
+
+-- what keeps an operator, or a branch of a method, from doing a task: by their places, the first part of the
+-- precondition that is unmet, the values of the variables by the parts that are met, the satisfier that makes the unmet
+-- part false, the facts of the name that it asks for, and what keeps the axioms of that name from concluding it
+pub record Obstacle : Type 0 where
+  pub rule : ℕ
+  pub branch : ℕ
+  pub unmet : Unmet
+  pub values : Bindings
+  pub against : Option Bindings
+  pub facts : Option Facts
+  pub axioms : List Unconcluded
 
 module _ (rules : List Rule) (nest : ℕ) (s : State) where
   abbrev pub obstacle_by : Term → ℕ → ℕ → Unmet → Obstacle
@@ -82,7 +172,9 @@ module _ (rules : List Rule) (nest : ℕ) (s : State) where
     branch = branch;
     unmet = u;
     values = values_met rules nest s t rule branch u;
-    facts = option_map (λ name. shown (facts_of name s)) (name_unmet rules rule branch u);
+    against = against_unmet rules nest s t rule branch u;
+    facts = facts_unmet rules s rule branch u;
+    axioms = axioms_unmet rules nest s t rule branch u;
   }
 
   abbrev pub obstacle : Term → ℕ → ℕ → Obstacle
@@ -104,8 +196,7 @@ branches_for name (Concludes x) = 0
 module _ (all : List Rule) (nest : ℕ) (s : State) where
   -- of the rules for tasks of a name, among some of which the first has this number
   abbrev pub at_rules : Term → List ℕ → ℕ → List Rule → List Obstacle
-  at_rules t name rule [] = []
-  at_rules t name rule (r ∷ rs) = at_branches all nest s t rule 0 (branches_for name r) ++ at_rules t name (rule + 1) rs
+  at_rules t name = of_rules (λ rule r. at_branches all nest s t rule 0 (branches_for name r))
 
 -- the name of a symbol
 abbrev pub symbol_name : Term → Option (List ℕ)
@@ -143,13 +234,24 @@ all_stuck rules nest n = map (stuck_by rules nest n.state) (next_tasks n)
 
 -- ---- as they are kept
 
+abbrev pub unconcluded_of : kept.Unconcluded → Unconcluded
+unconcluded_of x = record {
+  rule = x.rule;
+  branch = x.branch;
+  unmet = x.unmet;
+  values = values_of x.values;
+  facts = option_map facts.kept x.facts;
+}
+
 abbrev pub obstacle_of : made.Obstacle → Obstacle
 obstacle_of o = record {
   rule = o.rule;
   branch = o.branch;
   unmet = o.unmet;
   values = values_of o.values;
+  against = option_map values_of o.against;
   facts = option_map facts.kept o.facts;
+  axioms = map unconcluded_of o.axioms.items;
 }
 
 abbrev pub stuck_of : stuck.Stuck → Stuck

@@ -12,16 +12,19 @@ ghost use Rattle.hp_unmet.specs.Conjunctions.{first_unmet, values_met};
 ghost use Rattle.hp_unmet.specs.States.{InStateOf};
 ghost use Rattle.hp_obstacles.specs.Facts.{facts_of, kept, shown};
 ghost use Rattle.hp_obstacles.specs.Obstacles as plain;
-ghost use Rattle.hp_obstacles.specs.Obstacles.{obstacle_of, stuck_of};
+ghost use Rattle.hp_obstacles.specs.Obstacles.{obstacle_of, stuck_of, unconcluded_of};
 ghost use Rattle.hp_obstacles.specs.Questions.{rules_asked, task_asked};
 
+use crate::axioms::{AtomQuestion, Unconcluded};
 use crate::facts::{Facts, facts_in};
 use crate::next::next_tasks;
 use hp_code::Code;
 use hp_net::Walk;
 use hp_search::Planner;
 use hp_syntax::{Domain, Expr, ExprKind, Ground, Name, Rule};
-use hp_unmet::{Answer, Spot, Unmet, branch_after, first_branch, first_unmet, part_at};
+use hp_unmet::{
+    Answer, Spot, Unmet, branch_after, first_branch, first_unmet, part_at, satisfier_against,
+};
 use std::alloc::{AllocError, Global};
 
 /// What keeps an operator, or a branch of a method, from doing a task.
@@ -34,8 +37,13 @@ pub struct Obstacle {
     /// The values of the variables of the rule by the first satisfier of the parts before the unmet one, or of all parts
     /// where none is unmet. Where the head doesn't match or the answer is unknown, there are none.
     pub values: Vec<Option<Ground>>,
+    /// The values by the first satisfier that makes the unmet part false, where it is a negation or a `forall`.
+    pub against: Option<Vec<Option<Ground>>>,
     /// The facts of the name for which the unmet part asks, where it asks for an atom or for the negation of one.
     pub facts: Option<Facts>,
+    /// What keeps the axioms of that name from concluding it, in the order of the domain, where the unmet part is an
+    /// atom. Of each axiom there are the branches from the first on, up to the first of which no part is unmet.
+    pub axioms: Vec<Unconcluded>,
 }
 
 // A derived drop would do the same, but be proved anew wherever an obstacle is let go.
@@ -46,10 +54,14 @@ impl Drop for Obstacle {
             branch: _,
             unmet: _,
             values,
+            against,
             facts,
+            axioms,
         } = self;
         drop(values);
+        drop(against);
         drop(facts);
+        drop(axioms);
     }
 }
 
@@ -69,7 +81,7 @@ impl Drop for Stuck {
 }
 
 /// The name of an atom.
-fn atom_name(part: &Expr) -> Option<&Name>
+pub(crate) fn atom_name(part: &Expr) -> Option<&Name>
     ensures { option_map (λ n. n.now) result ≡ plain.atom_name (expression_of part.now) }
 {
     match &part.kind {
@@ -173,8 +185,24 @@ fn facts_if(
     }
 }
 
+/// The facts of the name that the first unmet part asks for, at the node where a walk stands.
+pub(crate) fn facts_unmet(
+    alloc: Global,
+    domain: &Domain,
+    walk: &Planner<'_>,
+    spot: Spot,
+    unmet: Unmet,
+) -> Result<Option<Facts>, AllocError>
+    requires live { walk.now.live ≡ true }
+    ensures { IfOk result (λ f. InStateOf walk.now (λ nest s. option_map kept f
+        ≡ plain.facts_unmet (domain_of domain.now).rules s spot.rule spot.branch unmet)) }
+{
+    let name = name_unmet(domain, spot.rule, spot.branch, unmet);
+    facts_if(alloc, walk, name)
+}
+
 /// The node of a rule in the code of its domain.
-fn node_of(domain: &Domain, code: &Code, rule: usize) -> usize
+pub fn node_of(domain: &Domain, code: &Code, rule: usize) -> usize
     requires code { IsCodeOf (domain_of domain.now).rules (code_of code.now) }
     requires there { rule < length (domain_of domain.now).rules }
     ensures { ServesFor (domain_of domain.now).rules rule (code_of code.now) result }
@@ -187,7 +215,7 @@ fn node_of(domain: &Domain, code: &Code, rule: usize) -> usize
 }
 
 /// How many branches of a rule are for tasks of a name: an operator counts as one.
-fn branches_for(name: &Name, rule: &Rule) -> usize
+pub fn branches_for(name: &Name, rule: &Rule) -> usize
     ensures { result ≡ plain.branches_for name.now (rule_of rule.now) }
 {
     match rule {
@@ -233,31 +261,93 @@ struct Question<'a> {
 }
 
 impl Question<'_> {
+    /// What keeps the axioms from concluding the first unmet part, where it is an atom.
+    fn axioms_unmet(
+        &self,
+        alloc: Global,
+        walk: &mut Planner<'_>,
+        spot: Spot,
+        unmet: Unmet,
+    ) -> Result<Vec<Unconcluded>, AllocError>
+        requires code { IsCodeOf (rules_asked self.now) (code_of self.now.code.now) }
+        requires spot { IsSpot (rules_asked self.now) (code_of self.now.code.now) spot }
+        requires live { walk.old.live ≡ true }
+        ensures are { IfOk result (λ v. InStateOf walk.old (λ nest s. map unconcluded_of v.items
+            ≡ plain.axioms_unmet (rules_asked self.now) nest s (task_asked self.now) spot.rule spot.branch unmet)) }
+        ensures same { walk.new ≡ walk.old }
+    {
+        match unmet {
+            Unmet::Part(place) => {
+                let question = AtomQuestion {
+                    domain: self.domain,
+                    code: self.code,
+                    task: self.task,
+                    asking: spot,
+                    place,
+                };
+                question.answer(alloc, walk)
+            }
+            Unmet::None => Ok(Vec::new(alloc)),
+            Unmet::Head => Ok(Vec::new(alloc)),
+            Unmet::Unknown => Ok(Vec::new(alloc)),
+        }
+    }
+
+    /// The values by the first satisfier that makes the first unmet part false, where it is a negation or a `forall`.
+    fn against_unmet(
+        &self,
+        alloc: Global,
+        walk: &mut Planner<'_>,
+        spot: Spot,
+        unmet: Unmet,
+    ) -> Result<Option<Vec<Option<Ground>>>, AllocError>
+        requires spot { IsSpot (rules_asked self.now) (code_of self.now.code.now) spot }
+        requires live { walk.old.live ≡ true }
+        ensures are { IfOk result (λ o. InStateOf walk.old (λ nest s. option_map values_of o
+            ≡ plain.against_unmet (rules_asked self.now) nest s (task_asked self.now) spot.rule spot.branch unmet)) }
+        ensures same { walk.new ≡ walk.old }
+    {
+        match unmet {
+            Unmet::Part(place) => {
+                satisfier_against(alloc, self.domain, self.code, spot, walk, self.task, place)
+            }
+            Unmet::None => Ok(None),
+            Unmet::Head => Ok(None),
+            Unmet::Unknown => Ok(None),
+        }
+    }
+
     /// What keeps an operator or a branch from doing the task, by an answer for it at the node where a walk stands.
     fn obstacle_by(
         &self,
         alloc: Global,
-        walk: &Planner<'_>,
+        walk: &mut Planner<'_>,
         spot: Spot,
         answer: Answer,
     ) -> Result<Obstacle, AllocError>
-        requires live { walk.now.live ≡ true }
-        requires unmet { InStateOf walk.now (λ nest s. answer.unmet
+        requires code { IsCodeOf (rules_asked self.now) (code_of self.now.code.now) }
+        requires spot { IsSpot (rules_asked self.now) (code_of self.now.code.now) spot }
+        requires live { walk.old.live ≡ true }
+        requires unmet { InStateOf walk.old (λ nest s. answer.unmet
             ≡ first_unmet (rules_asked self.now) nest s (task_asked self.now) spot.rule spot.branch) }
-        requires values { InStateOf walk.now (λ nest s. values_of answer.values ≡ values_met (rules_asked self.now) nest s
+        requires values { InStateOf walk.old (λ nest s. values_of answer.values ≡ values_met (rules_asked self.now) nest s
             (task_asked self.now) spot.rule spot.branch answer.unmet) }
-        ensures { IfOk result (λ o. InStateOf walk.now (λ nest s. obstacle_of o
+        ensures is { IfOk result (λ o. InStateOf walk.old (λ nest s. obstacle_of o
             ≡ plain.obstacle (rules_asked self.now) nest s (task_asked self.now) spot.rule spot.branch)) }
+        ensures same { walk.new ≡ walk.old }
     {
         let unmet = answer.unmet;
-        let name = name_unmet(self.domain, spot.rule, spot.branch, unmet);
-        let facts = facts_if(alloc, walk, name)?;
+        let facts = facts_unmet(alloc, self.domain, walk, spot, unmet)?;
+        let against = self.against_unmet(alloc, walk, spot, unmet)?;
+        let axioms = self.axioms_unmet(alloc, walk, spot, unmet)?;
         Ok(Obstacle {
             rule: spot.rule,
             branch: spot.branch,
             unmet,
             values: answer.into_values(),
+            against,
             facts,
+            axioms,
         })
     }
 
@@ -268,6 +358,7 @@ impl Question<'_> {
         walk: &mut Planner<'_>,
         spot: Spot,
     ) -> Result<Obstacle, AllocError>
+        requires code { IsCodeOf (rules_asked self.now) (code_of self.now.code.now) }
         requires spot { IsSpot (rules_asked self.now) (code_of self.now.code.now) spot }
         requires live { walk.old.live ≡ true }
         ensures is { IfOk result (λ o. InStateOf walk.old (λ nest s. obstacle_of o

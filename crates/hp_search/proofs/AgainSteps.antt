@@ -1,9 +1,10 @@
 -- A search that stands at its root begins again there, at another depth.
-use Rattle.std.proofs.Common.{◌≡◌, ℕ, ◌≤◌, ◌<◌, [], false, length, refl, sym, ◌∙◌, ap, subst, arith}
+use Rattle.std.proofs.Common.{◌≡◌, ℕ, ◌≤◌, ◌<◌, [], MatchOption, Some, false, length, refl, sym, ◌∙◌, ap, subst, arith}
 use Rattle.std.specs.Prelude.{pos, neg_ℤ, ◌≤ℤ◌}
 use Rattle.std.proofs.lemmas.Int.{ints}
 use Rattle.hp_syntax.specs.declared.limits.TheConstants.{GREATEST_DEPTH}
 use Rattle.hp_syntax.specs.Walk.{Node, told}
+use Rattle.hp_net.specs.Standings.{node_reached}
 use Rattle.hp_tree.specs.SearchNodes.{most_cost, node_of}
 use Rattle.hp_tree.specs.Stacks.{root_of}
 use Rattle.hp_site.specs.declared.site.Site.{Site}
@@ -19,6 +20,17 @@ use Rattle.hp_search.proofs.SearchSteps.{search_begins}
 -- the site of a search where so many decompositions may follow
 abbrev pub site_with : Search → ℕ → Site
 site_with s depth = record s.site { depth = depth }
+
+module _ (s : Search) (h : IsSearch s) where
+  -- the node reached is the search node now
+  node_here : node_reached (tree_in s) (stands_in s) ≡ Some (node_of s.cells (held_now s.site))
+  node_here =
+      h.stack.top.there ∙ ap (λ x. Some (node_of s.cells x)) (ap (held_at s.site) h.mark ∙ held_is_now s.site)
+
+  -- what holds of the search node now holds of the node reached
+  pub at_node : (P : Node → Type 0) → P (node_of s.cells (held_now s.site))
+      → MatchOption (node_reached (tree_in s) (stands_in s)) ⊥ P
+  at_node P p = subst (λ o. MatchOption o ⊥ P) (sym node_here) p
 
 module _ (s : Search) (h : IsSearch s) (at : (stands_in s).path ≡ []) where
   -- at the root no frame is above

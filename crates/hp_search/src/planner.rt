@@ -2,12 +2,12 @@
 use crate::decomposition::Decomposition;
 use crate::search::Search;
 use hp_cells::{Cell, Cells};
-use hp_choice::{Conjuncts, Finding, Prefix, Rooms};
+use hp_choice::{Conjuncts, Finding, Prefix, Rooms, Start, Test};
 use hp_code::{Code, asked_parts};
 use hp_gen::Scene;
 use hp_net::{Net, Step, Walk};
 use hp_site::Site;
-use hp_syntax::{AtomPat, Ground, Pair};
+use hp_syntax::{Ground, Pair};
 use hp_tree::root::Root;
 use hp_world::World;
 use std::alloc::{AllocError, Global};
@@ -46,12 +46,14 @@ impl<'a> Model for Planner<'a> {
 impl<'a> Planner<'a> {
     ghost use Rattle.std.specs.Prelude.{◌≡◌, ◌≤◌, ◌<◌, [], Some, true, false, pos, IfOk, MatchOption, OnErr, OnOk, length};
     ghost use Rattle.hp_syntax.specs.declared.limits.TheConstants.{GREATEST_DEPTH, MOST_LEVELS};
-    ghost use Rattle.hp_syntax.specs.GroundPatterns.{IsGroundAtom, IsGroundPair, atom_said};
-    ghost use Rattle.hp_syntax.specs.Views.{atom_of, pair_of};
+    ghost use Rattle.hp_syntax.specs.GroundPatterns.{IsGroundPair};
+    ghost use Rattle.hp_syntax.specs.Views.{pair_of};
     ghost use Rattle.hp_syntax.specs.Walk.{root, visits};
     ghost use Rattle.hp_code.specs.Codes.{code_of};
-    ghost use Rattle.hp_choice.specs.Asking.{AreConjuncts, Finds, GoesAlong};
-    ghost use Rattle.hp_choice.specs.FirstSatisfier.{GivesFirst};
+    ghost use Rattle.hp_choice.specs.Asking.{AreConjuncts};
+    ghost use Rattle.hp_choice.specs.Questions.{Finds, GivesFirst, GoesAlong};
+    ghost use Rattle.hp_choice.specs.Starting.{CanStart};
+    ghost use Rattle.hp_choice.specs.Tests.{CanTest};
     ghost use Rattle.hp_code.specs.CodeViews.{rules_in};
     ghost use Rattle.hp_links.specs.Linked.{PartBelow, focused};
     ghost use Rattle.hp_net.specs.Standings.{node_reached, standing, tree_visits};
@@ -120,63 +122,64 @@ impl<'a> Planner<'a> {
         Ok(())
     }
 
-    /// What parts of a conjunction of any code come to together in the state of the node reached, where the head of
-    /// their rule matches a task; where it doesn't, there is nothing. The parts are told by nodes of that code, and the
-    /// task is an atom without variables and calls. The walk stays as it is, after an error too.
+    /// What parts of a conjunction of any code come to together in the state of the node reached, from the bindings of a
+    /// start; where there are none, there is nothing. The parts are told by nodes of that code. The walk stays as it is,
+    /// after an error too.
     pub fn ask(
         &mut self,
         code: &Code,
         asked: Conjuncts,
-        task: &AtomPat,
+        start: &Start<'_>,
     ) -> Result<Finding, AllocError>
         requires live { self.old.live ≡ true }
         requires asked { AreConjuncts (code_of code.now) asked }
-        requires task { IsGroundAtom (atom_of task.now) }
+        requires start { CanStart (code_of code.now) start.now }
         ensures found { IfOk result (λ f. MatchOption (node_reached (tree_planned self.old) (stands_planned self.old)) ⊥
-            (λ n. Finds (code_of code.now) self.old.nest n.state asked (atom_said (atom_of task.now)) f)) }
+            (λ n. Finds (code_of code.now) self.old.nest n.state asked start.now f)) }
         ensures same { self.new ≡ self.old }
     {
-        self.search.ask(code, asked, task)
+        self.search.ask(code, asked, start)
     }
 
     /// How many of the first parts of a conjunction of any code are satisfied one after another in the state of the
-    /// node reached, and the index behind them: each by its first event, under the bindings that the one before gave.
-    /// There is no answer where the head of their rule doesn't match a task. The parts and the task are told as for
-    /// `ask`. The walk stays as it is, after an error too.
+    /// node reached, and the index behind them: the first by its first event under the bindings of a start, each other
+    /// under those that the one before gave. There is no answer where there are no bindings to start from. The walk
+    /// stays as it is, after an error too.
     pub fn ask_along(
         &mut self,
         code: &Code,
         asked: Conjuncts,
-        task: &AtomPat,
+        start: &Start<'_>,
     ) -> Result<Option<Prefix>, AllocError>
         requires live { self.old.live ≡ true }
         requires asked { AreConjuncts (code_of code.now) asked }
-        requires task { IsGroundAtom (atom_of task.now) }
+        requires start { CanStart (code_of code.now) start.now }
         ensures along { IfOk result (λ o. MatchOption (node_reached (tree_planned self.old) (stands_planned self.old)) ⊥
-            (λ n. GoesAlong (code_of code.now) self.old.nest n.state asked (atom_said (atom_of task.now)) o)) }
+            (λ n. GoesAlong (code_of code.now) self.old.nest n.state asked start.now o)) }
         ensures same { self.new ≡ self.old }
     {
-        self.search.ask_along(code, asked, task)
+        self.search.ask_along(code, asked, start)
     }
 
-    /// The values of the variables of a rule by the first satisfier of parts of its conjunction together, in the state
-    /// of the node reached, where the head of the rule matches a task. There are none where no satisfier comes before a
-    /// fault, and where the head doesn't match. The parts and the task are given as for `ask`. The walk stays as it is,
-    /// after an error too.
+    /// The values of the variables of a rule by the first satisfier of parts of its conjunction together that passes a
+    /// test, in the state of the node reached, from the bindings of a start. There are none where no such satisfier comes
+    /// before a fault, and where there are no bindings to start from. The walk stays as it is, after an error too.
     pub fn first_satisfier(
         &mut self,
         code: &Code,
         asked: Conjuncts,
-        task: &AtomPat,
+        start: &Start<'_>,
+        test: &Test<'_>,
     ) -> Result<Option<Vec<Option<Ground>>>, AllocError>
         requires live { self.old.live ≡ true }
         requires asked { AreConjuncts (code_of code.now) asked }
-        requires task { IsGroundAtom (atom_of task.now) }
+        requires start { CanStart (code_of code.now) start.now }
+        requires test { CanTest (code_of code.now) test.now }
         ensures values { IfOk result (λ o. MatchOption (node_reached (tree_planned self.old) (stands_planned self.old)) ⊥
-            (λ n. GivesFirst (code_of code.now) self.old.nest n.state asked (atom_said (atom_of task.now)) o)) }
+            (λ n. GivesFirst (code_of code.now) self.old.nest n.state asked start.now test.now o)) }
         ensures same { self.new ≡ self.old }
     {
-        self.search.first_satisfier(code, asked, task)
+        self.search.first_satisfier(code, asked, start, test)
     }
 
     /// The network of the node reached, with its focus. Its pasts at the moments of the path are the networks of the

@@ -1,1 +1,4 @@
+pub mod EndSteps
+pub mod ReachSteps
+pub mod StuckSteps
 pub mod TraceSteps

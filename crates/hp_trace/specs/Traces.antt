@@ -1,9 +1,12 @@
 -- The first visits of a tree, each with what is seen at it.
-use Rattle.std.specs.Prelude.{◌≡◌, ◌≢◌, ℕ, suc, ◌-◌, ◌||◌, cond, filter, nat_le, nat_lt, Bool, true, List, [], ◌∷◌, ◌++◌, length, take, Option, Some, None}
+use Rattle.std.specs.Prelude.{◌≡◌, ◌≢◌, ℕ, suc, ◌-◌, ◌||◌, cond, filter, nat_le, nat_lt, Bool, true, List, [], ◌∷◌, ◌++◌, length, map, take, Option, Some, None}
 use Rattle.hp_net.specs.Standings.{Tree, tree_visits}
 use Rattle.hp_passes.specs.Passes as passes
 use Rattle.hp_passes.specs.declared.passing.Turn.{Turn}
 use Rattle.hp_passes.specs.declared.passing.Turn.TheVariants.{On, Past, Last}
+use Rattle.hp_dead_ends.specs.DeadEnds.{IsDeadEnd}
+use Rattle.hp_obstacles.specs.Obstacles.{all_stuck, stuck_of}
+use Rattle.hp_syntax.specs.Syntax.{Rule}
 use Rattle.hp_syntax.specs.Walk.{Node, Sight, Visit, Did, Plan, CutHere, FaultHere, begins, node_at}
 use Rattle.hp_way.specs.Ways.{Deed, IsDone, deed_of}
 use Rattle.hp_trace.specs.declared.tracing.Seen.{Seen}
@@ -27,17 +30,25 @@ IsSeen t v seen.DepthCut = (v.sight ≡ CutHere) × (v.node.depth ≡ 0)
 IsSeen t v seen.LevelCut = (v.sight ≡ CutHere) × (v.node.depth ≢ 0)
 IsSeen t v (seen.Fault f) = v.sight ≡ FaultHere f
 
--- so many decompositions are above those that count
-pub record IsTraced (t : Tree) (above : ℕ) (v : Visit) (x : TracedVisit) : Type 0 where
+-- a visit is a decomposition that leads to a dead end
+pub record IsDead (t : Tree) (v : Visit) : Type 0 where
+  pub did : v.sight ≡ Did
+  pub dead : IsDeadEnd t.rules t.nest v.node
+
+-- so many decompositions are above those that count; at a dead end is known what keeps the tasks there from being done, by
+-- these rules
+pub record IsTraced (rules : List Rule) (t : Tree) (above : ℕ) (v : Visit) (x : TracedVisit) : Type 0 where
   pub level : x.level ≡ length v.path - above
   pub seen : IsSeen t v x.seen
+  pub stuck : IsDead t v → map stuck_of x.stuck.items ≡ all_stuck rules t.nest v.node
+  pub none : (IsDead t v → ⊥) → x.stuck.items ≡ []
 
 -- one by one
-abbrev pub AreTraced : Tree → ℕ → List Visit → List TracedVisit → Type 0
-AreTraced t above [] [] = Unit {0}
-AreTraced t above [] (x ∷ xs) = ⊥
-AreTraced t above (v ∷ vs) [] = ⊥
-AreTraced t above (v ∷ vs) (x ∷ xs) = IsTraced t above v x × AreTraced t above vs xs
+abbrev pub AreTraced : List Rule → Tree → ℕ → List Visit → List TracedVisit → Type 0
+AreTraced rules t above [] [] = Unit {0}
+AreTraced rules t above [] (x ∷ xs) = ⊥
+AreTraced rules t above (v ∷ vs) [] = ⊥
+AreTraced rules t above (v ∷ vs) (x ∷ xs) = IsTraced rules t above v x × AreTraced rules t above vs xs
 
 -- ---- the visits at or below a path
 
@@ -63,8 +74,9 @@ visits_from p vs = filter (λ v. begins p v.path) (passes.pass (turn_to p) None 
 
 -- these are so many of the first visits of a tree at or below a path, and one more where there is one; the decompositions
 -- of the path count as one
-abbrev pub IsTrace : Tree → List ℕ → ℕ → List TracedVisit → Type 0
-IsTrace t from most xs = AreTraced t (length from - 1) (take (suc most) (visits_from from (tree_visits t))) xs
+abbrev pub IsTrace : List Rule → Tree → List ℕ → ℕ → List TracedVisit → Type 0
+IsTrace rules t from most xs =
+    AreTraced rules t (length from - 1) (take (suc most) (visits_from from (tree_visits t))) xs
 
 -- ---- dead ends
 

@@ -10,7 +10,7 @@ use Rattle.hp_unmet.specs.Said.{is_atom}
 use Rattle.hp_unmet.specs.Trials.{IsFirstMissing, is_in_doubt, is_satisfied}
 use Rattle.hp_unmet.specs.declared.unmet.Unmet.{Unmet}
 use Rattle.hp_unmet.specs.declared.unmet.Unmet.TheVariants as unmets
-use Rattle.hp_unmet.proofs.FoundLemmas.{found_where, is_matched, keeps, none_where}
+use Rattle.hp_unmet.proofs.FoundLemmas.{keeps, none_where}
 
 -- ---- what is satisfied
 
@@ -99,59 +99,52 @@ module _ (found : ℕ → Finding)
       let here : 0 + count ≡ count = omega arith in
       doubt_by 0 count met (ap (λ j. is_in_doubt (found j)) here ∙ doubt)
 
-module _ (rules : List syntax.Rule) (nest : ℕ) (state : State) (c : Conjunction) (task : Term) (count : ℕ)
+module _ (rules : List syntax.Rule) (nest : ℕ) (state : State) (c : Conjunction) (count : ℕ)
     (all : length c.parts ≡ count) where
-  abbrev own : ℕ → Finding
-  own = found rules nest state c task
+  abbrev own : Option Bindings → ℕ → Finding
+  own o = found rules nest state c o
 
-  own_keeps : (j k : ℕ) → j ≤ k → own j ≢ Satisfied → own k ≡ own j
-  own_keeps = keeps rules nest state c task
+  own_keeps : (o : Option Bindings) (j k : ℕ) → j ≤ k → own o j ≢ Satisfied → own o k ≡ own o j
+  own_keeps = keeps rules nest state c
 
   abbrev answered : Option Bindings → Unmet
-  answered o = answer_where rules nest state c task o
+  answered o = answer_where rules nest state c o
 
-  -- where the head matches, the answer is that of all parts
-  answered_by : (b : Bindings) (u : Unmet) → matched c task ≡ Some b → answer_from own 0 count ≡ u
-      → u ≡ answered (matched c task)
-  answered_by b u is e = sym (ap answered is ∙ (ap (answer_from own 0) all ∙ e))
+  -- from bindings the answer is that of all parts
+  answered_by : (b : Bindings) (u : Unmet) → answer_from (own (Some b)) 0 count ≡ u → u ≡ answered (Some b)
+  answered_by b u e = sym (ap (answer_from (own (Some b)) 0) all ∙ e)
 
   -- all parts are satisfied
-  pub none_unmet : own count ≡ Satisfied → unmets.None ≡ answered (matched c task)
-  none_unmet e =
-      let first = met_before own own_keeps 0 count (omega arith) e in
-      let m = is_matched rules nest state c task (matched c task) refl first in
+  pub none_unmet : (o : Option Bindings) → own o count ≡ Satisfied → unmets.None ≡ answered o
+  none_unmet None e = absurd (let never : Nothing ≡ Satisfied = e in cc)
+  none_unmet (Some b) e =
       let here : 0 + count ≡ count = omega arith in
-      answered_by m.0 unmets.None m.1 (all_met own own_keeps 0 count (ap own here ∙ e))
+      answered_by b unmets.None
+      (all_met (own (Some b)) (own_keeps (Some b)) 0 count (ap (own (Some b)) here ∙ e))
 
   -- a part is the first with which nothing is found
-  pub part_unmet : (place : ℕ) → IsFirstMissing own count place → unmets.Part place ≡ answered (matched c task)
-  part_unmet place h =
-      let first = met_before own own_keeps 0 place (omega arith) h.met in
-      let m = is_matched rules nest state c task (matched c task) refl first in
-      answered_by m.0 (unmets.Part place) m.1 (part_told own own_keeps count place h)
+  pub part_unmet : (place : ℕ) (o : Option Bindings) → IsFirstMissing (own o) count place
+      → unmets.Part place ≡ answered o
+  part_unmet place None h = absurd (let never : Nothing ≡ Satisfied = h.met in cc)
+  part_unmet place (Some b) h =
+      answered_by b (unmets.Part place) (part_told (own (Some b)) (own_keeps (Some b)) count place h)
 
   -- a limit or a fault is met
-  pub unknown_unmet : is_in_doubt (own count) ≡ true → unmets.Unknown ≡ answered (matched c task)
-  unknown_unmet doubt = by (matched c task) refl
-    where
-      by : (o : Option Bindings) → matched c task ≡ o → unmets.Unknown ≡ answered (matched c task)
-      by None is =
-          let never : false ≡ true =
-          sym (ap (λ o. is_in_doubt (found_where rules nest state c o count)) is) ∙ doubt in
-          absurd (cc)
-      by (Some b) is =
-          let first : own 0 ≡ Satisfied =
-          ap (λ o. found_where rules nest state c o 0) is ∙ none_where rules nest state c b in
-          answered_by b unmets.Unknown is (doubt_told own own_keeps count first doubt)
+  pub unknown_unmet : (o : Option Bindings) → is_in_doubt (own o count) ≡ true → unmets.Unknown ≡ answered o
+  unknown_unmet None doubt = absurd (let never : false ≡ true = doubt in cc)
+  unknown_unmet (Some b) doubt =
+      answered_by b unmets.Unknown
+      (doubt_told (own (Some b)) (own_keeps (Some b)) count (none_where rules nest state c b) doubt)
 
   -- with some first parts a limit or a fault is met, and so it is with all
-  pub unknown_with : (j : ℕ) → j ≤ count → is_in_doubt (own j) ≡ true → unmets.Unknown ≡ answered (matched c task)
-  unknown_with j within doubt =
-      unknown_unmet (ap is_in_doubt (own_keeps j count within (in_doubt (own j) doubt)) ∙ doubt)
+  pub unknown_with : (o : Option Bindings) (j : ℕ) → j ≤ count → is_in_doubt (own o j) ≡ true
+      → unmets.Unknown ≡ answered o
+  unknown_with o j within doubt =
+      unknown_unmet o (ap is_in_doubt (own_keeps o j count within (in_doubt (own o j) doubt)) ∙ doubt)
 
 -- ---- tasks that are no atoms
 
-no_match : (c : Conjunction) (t : Term) → is_atom t ≡ false → matched c t ≡ None
+pub no_match : (c : Conjunction) (t : Term) → is_atom t ≡ false → matched c t ≡ None
 no_match c (Symbol name) h = refl
 no_match c (Number n) h = refl
 no_match c (Listed NoTerm) h = refl
@@ -165,7 +158,7 @@ module _ (rules : List syntax.Rule) (nest : ℕ) (state : State) (t : Term) wher
       → unmets.Head ≡ answer_if rules nest state t o
   unmatched_head o c is h =
       sym (ap (answer_if rules nest state t) (sym is)
-      ∙ ap (answer_where rules nest state c t) (no_match c t h))
+      ∙ ap (answer_where rules nest state c) (no_match c t h))
 
   pub unasked : (o : Option Conjunction) → None ≡ o → unmets.None ≡ answer_if rules nest state t o
   unasked o is = ap (answer_if rules nest state t) is

@@ -6,15 +6,15 @@ use Rattle.std.specs.Ordering.{nat_cmp}
 use Rattle.std.specs.declared.cmp.Ordering.TheVariants.{Equal}
 use Rattle.std.proofs.lemmas.Bool.Decides.{nat_tests}
 use Rattle.std.proofs.lemmas.Option.{get_or_from_slice_get, slice_get-map, slice_get_within}
-use Rattle.hp_choice.specs.declared.asking.Conjuncts.{Conjuncts}
+use Rattle.hp_choice.specs.declared.starting.Conjuncts.{Conjuncts}
 use Rattle.hp_choice.specs.Asking.{head_of}
 use Rattle.hp_choice.proofs.RuleReadings.{rule_within}
 use Rattle.hp_code.specs.CodeViews.{CodeView, IsCode, beside, rule_nodes, rules_in}
-use Rattle.hp_code.specs.Lowered.{lowered, lowered_branch, lowered_precondition, lowered_rule}
+use Rattle.hp_code.specs.Lowered.{lowered, lowered_branch, lowered_clause, lowered_precondition, lowered_rule}
 use Rattle.hp_code.proofs.LookUpSteps.{place_found}
 use Rattle.hp_nodes.specs.Compiled.{vars_of}
 use Rattle.hp_syntax.specs.Syntax as syntax
-use Rattle.hp_unmet.specs.Conjunctions.{Conjunction, asked_by, asked_in, body_of, conjuncts, conjunction, in_branch}
+use Rattle.hp_unmet.specs.Conjunctions.{Conjunction, asked_by, asked_in, body_of, conjuncts, conjunction, in_branch, in_clause}
 use Rattle.hp_unmet.specs.PartNodes.{AsksAlike, AsksFor, ServesFor, StandBetween, StandIn, precondition_by}
 use Rattle.hp_unmet.proofs.LoweredParts.{asked_lowered, parts_lowered, rules_there}
 
@@ -42,6 +42,20 @@ method_asks branch m c (Some b) at e =
       are = refl;
     })
 
+axiom_asks : (branch : ℕ) (x : syntax.Axiom) (c : Conjunction) (o : Option syntax.Clause)
+    → slice_get x.clauses branch ≡ o → option_map (in_clause x) o ≡ Some c → Asks branch (syntax.Concludes x) c
+axiom_asks branch x c None at e = absurd cc
+axiom_asks branch x c (Some b) at e =
+    let same : in_clause x b ≡ c = cc in
+    subst (Asks branch (syntax.Concludes x)) same
+    (record {
+      head = refl;
+      vars = refl;
+      pre = syntax.Plain b.body;
+      own = ap (option_map (λ (y : syntax.Clause). syntax.Plain y.body)) at;
+      are = refl;
+    })
+
 -- a rule asks for its own conjunction
 rule_asks : (branch : ℕ) (r : syntax.Rule) (c : Conjunction) → asked_by branch r ≡ Some c → Asks branch r c
 rule_asks branch (syntax.Does o) c e =
@@ -49,7 +63,7 @@ rule_asks branch (syntax.Does o) c e =
     subst (Asks branch (syntax.Does o)) same
     (record { head = refl; vars = refl; pre = o.pre; own = refl; are = refl })
 rule_asks branch (syntax.Refines m) c e = method_asks branch m c (slice_get m.branches branch) refl e
-rule_asks branch (syntax.Concludes x) c e = absurd cc
+rule_asks branch (syntax.Concludes x) c e = axiom_asks branch x c (slice_get x.clauses branch) refl e
 
 -- what a rule asks for, one that asks for what it does asks for too
 alike_asks : (branch : ℕ) (r s : syntax.Rule) (c : Conjunction) → AsksAlike r s → Asks branch r c → Asks branch s c
@@ -81,6 +95,13 @@ branch_lowered : (o : Option syntax.Branch) → option_map (λ b. b.pre) (option
 branch_lowered None = refl
 branch_lowered (Some b) = refl
 
+-- and so is that of a lowered branch of an axiom
+clause_lowered : (o : Option syntax.Clause)
+    → option_map (λ b. syntax.Plain b.body) (option_map lowered_clause o)
+    ≡ option_map lowered_precondition (option_map (λ b. syntax.Plain b.body) o)
+clause_lowered None = refl
+clause_lowered (Some b) = refl
+
 -- and so it is with that of a rule
 pre_lowered : (branch : ℕ) (r : syntax.Rule)
     → precondition_by branch (lowered_rule r) ≡ option_map lowered_precondition (precondition_by branch r)
@@ -88,7 +109,9 @@ pre_lowered branch (syntax.Does o) = refl
 pre_lowered branch (syntax.Refines m) =
     ap (option_map (λ (b : syntax.Branch). b.pre)) (slice_get-map lowered_branch m.branches branch)
     ∙ branch_lowered (slice_get m.branches branch)
-pre_lowered branch (syntax.Concludes x) = refl
+pre_lowered branch (syntax.Concludes x) =
+    ap (option_map (λ (b : syntax.Clause). syntax.Plain b.body)) (slice_get-map lowered_clause x.clauses branch)
+    ∙ clause_lowered (slice_get x.clauses branch)
 
 -- a rule has the head and the variables of a conjunction, and asks there for its parts, lowered
 record AsksLowered (branch : ℕ) (r : syntax.Rule) (c : Conjunction) : Type 0 where

@@ -103,7 +103,7 @@ module _ (c : CodeView) (code : IsCode c) (i : ℕ) (e : Expression) (read : exp
   below = trees_between c.nodes (suc i) l.to
 
   -- the tree of the node reads back as the expression
-  own_tree : expression_read (Node l.op l.span below) ≡ Some e
+  pub own_tree : expression_read (Node l.op l.span below) ≡ Some e
   own_tree = sym (expression_of c i (Node l.op l.span below) (node_there c.nodes i l there)) ∙ read
 
   -- between a conjunction's node and where the nodes below it end stand its parts
@@ -126,18 +126,17 @@ module _ (c : CodeView) (code : IsCode c) (i : ℕ) (e : Expression) (read : exp
 
 -- ---- any other expression
 
--- what is made of another expression is no conjunction
-other_made : {A : Type 0} (make : A → Expression) (s : Span) (es : Expressions)
-    → ((a : A) → make a ≡ syntax.And s es → ⊥) → (x : Option A) → option_map make x ≡ Some (syntax.And s es) → ⊥
-other_made make s es other None e = cc
-other_made make s es other (Some a) e = other a (same_Some (make a) (syntax.And s es) e)
+-- what is made of one thing is no expression that isn't made so
+pub other_made : {A : Type 0} (make : A → Expression) (E : Expression) → ((a : A) → make a ≡ E → ⊥) → (x : Option A)
+    → option_map make x ≡ Some E → ⊥
+other_made make E other None e = cc
+other_made make E other (Some a) e = other a (same_Some (make a) E e)
 
 -- nor is what is made of two
-other_made_of : {A B : Type 0} (make : A → B → Expression) (s : Span) (es : Expressions)
-    → ((a : A) (b : B) → make a b ≡ syntax.And s es → ⊥) → (x : Option A) (y : Option B)
-    → made_of make x y ≡ Some (syntax.And s es) → ⊥
-other_made_of make s es other None y e = cc
-other_made_of make s es other (Some a) y e = other_made (make a) s es (other a) y e
+pub other_made_of : {A B : Type 0} (make : A → B → Expression) (E : Expression)
+    → ((a : A) (b : B) → make a b ≡ E → ⊥) → (x : Option A) (y : Option B) → made_of make x y ≡ Some E → ⊥
+other_made_of make E other None y e = cc
+other_made_of make E other (Some a) y e = other_made (make a) E (other a) y e
 
 -- a tree that reads back as a conjunction is one
 and_alone : (op : Operation) (s : Span) (ts : Trees) (t : Span) (es : Expressions)
@@ -145,15 +144,15 @@ and_alone : (op : Operation) (s : Span) (ts : Trees) (t : Span) (es : Expression
 unfolding expression_read
 and_alone trees.And s ts t es e = refl
 and_alone trees.Or s ts t es e =
-    absurd (other_made (syntax.Or s) t es (λ a h. cc) (expressions_read ts) e)
+    absurd (other_made (syntax.Or s) (syntax.And t es) (λ a h. cc) (expressions_read ts) e)
 and_alone trees.Not s NoTree t es e = absurd cc
 and_alone trees.Not s (More u NoTree) t es e =
-    absurd (other_made (syntax.Not s) t es (λ a h. cc) (expression_read u) e)
+    absurd (other_made (syntax.Not s) (syntax.And t es) (λ a h. cc) (expression_read u) e)
 and_alone trees.Not s (More u (More v vs)) t es e = absurd cc
 and_alone trees.Forall s NoTree t es e = absurd cc
 and_alone trees.Forall s (More u NoTree) t es e = absurd cc
 and_alone trees.Forall s (More u (More v NoTree)) t es e =
-    absurd (other_made_of (syntax.Forall s []) t es (λ a b h. cc) (expression_read u) (expression_read v) e)
+    absurd (other_made_of (syntax.Forall s []) (syntax.And t es) (λ a b h. cc) (expression_read u) (expression_read v) e)
 and_alone trees.Forall s (More u (More v (More w ws))) t es e = absurd cc
 and_alone (trees.Holds a) s NoTree t es e = absurd cc
 and_alone (trees.Holds a) s (More u us) t es e = absurd cc

@@ -1,8 +1,8 @@
 -- What is found of the events of more and more parts of a conjunction.
-use Rattle.std.proofs.Common.{◌≡◌, ◌≢◌, ℕ, zero, suc, List, [], ◌∷◌, ◌++◌, Some, None, refl, sym, ap, ◌∙◌}
+use Rattle.std.proofs.Common.{◌≡◌, ◌≢◌, ℕ, Bool, cond, zero, suc, List, [], ◌∷◌, ◌++◌, Some, None, refl, sym, ap, ◌∙◌}
 use Rattle.std.proofs.lemmas.List.{append-nil}
 use Rattle.std.proofs.lemmas.List.Concat.{flat_map-append}
-use Rattle.hp_choice.specs.FirstSatisfier.{first_sat}
+use Rattle.hp_choice.specs.FirstSatisfier.{first_that}
 use Rattle.hp_syntax.specs.declared.pattern.Span.{Span}
 use Rattle.hp_syntax.specs.Events.{Event, Sat, Cut, Fault, Finding, Satisfied, State, atom_events, events, events_of_all, finding, finding_with, in_place, sat, through}
 use Rattle.hp_syntax.specs.Preconditions.{heard, precondition_events}
@@ -21,12 +21,12 @@ heard_finding (Sat e ∷ xs) = refl
 heard_finding (Cut ∷ xs) = ap (finding_with Cut) (heard_finding xs)
 heard_finding (Fault f ∷ xs) = refl
 
--- the first satisfier of events is that of those that are heard
-pub heard_first : (xs : List Event) → first_sat (heard xs) ≡ first_sat xs
-heard_first [] = refl
-heard_first (Sat e ∷ xs) = refl
-heard_first (Cut ∷ xs) = heard_first xs
-heard_first (Fault f ∷ xs) = refl
+-- the first satisfier of events that passes a test is that of those that are heard
+pub heard_first : (passes : Bindings → Bool) (xs : List Event) → first_that passes (heard xs) ≡ first_that passes xs
+heard_first passes [] = refl
+heard_first passes (Sat e ∷ xs) = ap (λ o. cond (passes e) (Some e) o) (heard_first passes xs)
+heard_first passes (Cut ∷ xs) = heard_first passes xs
+heard_first passes (Fault f ∷ xs) = refl
 
 -- where no satisfier is found, the same is found whatever stands in the place of satisfiers
 pub through_finding : (xs : List Event) (f : Bindings → List Event) → finding xs ≢ Satisfied
@@ -61,7 +61,7 @@ module _ (atoms : syntax.Atom → Bindings → List Event) where
   of_parts ps e = events_of_all atoms (as_expressions ps) e
 
   -- those of parts behind others stand in the place of the satisfiers of these
-  parts_behind : (ps qs : List syntax.Expression) (e : Bindings)
+  pub parts_behind : (ps qs : List syntax.Expression) (e : Bindings)
       → of_parts (ps ++ qs) e ≡ through (of_parts ps e) (of_parts qs)
   unfolding events events_of_all
   parts_behind [] qs e = sym (append-nil (of_parts qs e))
@@ -81,7 +81,7 @@ module _ (atoms : syntax.Atom → Bindings → List Event) where
   no_parts e = refl
 
   -- the events of one part alone are its own
-  one_part : (p : syntax.Expression) (e : Bindings) → of_parts (p ∷ []) e ≡ events atoms p e
+  pub one_part : (p : syntax.Expression) (e : Bindings) → of_parts (p ∷ []) e ≡ events atoms p e
   unfolding events_of_all
   one_part p e = through_same (events atoms p e)
 

@@ -13,7 +13,7 @@ use Rattle.hp_unmet.specs.declared.unmet.Unmet.{Unmet}
 use Rattle.hp_unmet.specs.declared.unmet.Unmet.TheVariants as unmets
 use Rattle.hp_unmet.proofs.AnswerLemmas.{met_before, part_unmet}
 use Rattle.hp_unmet.proofs.FindingLemmas.{asks, found_of_all}
-use Rattle.hp_unmet.proofs.FoundLemmas.{found_where, keeps_where, none_where}
+use Rattle.hp_unmet.proofs.FoundLemmas.{keeps, none_where}
 
 -- ---- events
 
@@ -101,14 +101,7 @@ never_head found n (suc left) h =
 
 module _ (rules : List syntax.Rule) (nest : ℕ) (state : State) (task : Term) (c : Conjunction) where
   abbrev own : Bindings → ℕ → Finding
-  own e = found_where rules nest state c (Some e)
-
-  abbrev given : ℕ → Finding
-  given = found rules nest state c task
-
-  -- what is found with each number of parts, where the head matches so
-  same_found : (e : Bindings) → matched c task ≡ Some e → given ≡ own e
-  same_found e is = λ i n. found_where rules nest state c (is i) n
+  own e = found rules nest state c (Some e)
 
   is_first : (place : ℕ) (e : Bindings) → matched c task ≡ Some e → IsTold (own e) 0 (length c.parts) place
       → IsFirstUnmet rules nest state task c place
@@ -116,21 +109,20 @@ module _ (rules : List syntax.Rule) (nest : ℕ) (state : State) (task : Term) (
     bindings = e;
     matches = is;
     within = let l = h.within in omega arith;
-    fewer = λ n l. met_before (own e) (keeps_where rules nest state c (Some e)) n place l h.met;
+    fewer = λ n l. met_before (own e) (keeps rules nest state c (Some e)) n place l h.met;
     more = λ n l.
         no_event (first_events rules nest state c (Some e) n)
-        (keeps_where rules nest state c (Some e) (place + 1) n (omega arith)
+        (keeps rules nest state c (Some e) (place + 1) n (omega arith)
         (λ k. let never : Nothing ≡ Satisfied = sym h.missing ∙ k in cc)
         ∙ h.missing);
   }
 
   first_by_match : (place : ℕ) (o : Option Bindings) → matched c task ≡ o
-      → answer_where rules nest state c task o ≡ unmets.Part place → IsFirstUnmet rules nest state task c place
+      → answer_where rules nest state c o ≡ unmets.Part place → IsFirstUnmet rules nest state task c place
   first_by_match place None is h = absurd (let never : unmets.Head ≡ unmets.Part place = h in cc)
   first_by_match place (Some e) is h =
       is_first place e is
-      (is_told (own e) 0 (length c.parts) place (none_where rules nest state c e)
-      (ap (λ f. answer_from f 0 (length c.parts)) (sym (same_found e is)) ∙ h))
+      (is_told (own e) 0 (length c.parts) place (none_where rules nest state c e) h)
 
   -- a part that is told is the first that is unmet
   pub told_is_first : (place : ℕ) → answer_of rules nest state task c ≡ unmets.Part place
@@ -141,13 +133,12 @@ module _ (rules : List syntax.Rule) (nest : ℕ) (state : State) (task : Term) (
   pub first_is_told : (place : ℕ) → IsFirstUnmet rules nest state task c place
       → answer_of rules nest state task c ≡ unmets.Part place
   first_is_told place h =
-      let same = same_found h.bindings h.matches in
-      let missing : own h.bindings (place + 1) ≡ Nothing = ap finding (h.more (place + 1) (omega arith)) in
-      sym (part_unmet rules nest state c task (length c.parts) refl place
+      ap (answer_where rules nest state c) h.matches
+      ∙ sym (part_unmet rules nest state c (length c.parts) refl place (Some h.bindings)
       (record {
         within = h.within;
-        met = ap (λ f. f place) same ∙ h.fewer place (omega arith);
-        missing = ap (λ f. f (place + 1)) same ∙ missing;
+        met = h.fewer place (omega arith);
+        missing = ap finding (h.more (place + 1) (omega arith));
       }))
 
   -- where none is told all are satisfied
@@ -157,14 +148,13 @@ module _ (rules : List syntax.Rule) (nest : ℕ) (state : State) (task : Term) (
       let here : 0 + length c.parts ≡ length c.parts = omega arith in
       ap (own e) (sym here)
       ∙ all_satisfied (own e) 0 (length c.parts) (none_where rules nest state c e)
-      (ap (λ f. answer_from f 0 (length c.parts)) (sym (same_found e is))
-      ∙ (sym (ap (λ o. answer_where rules nest state c task o) is) ∙ h))
+      (sym (ap (answer_where rules nest state c) is) ∙ h)
 
   -- the answer is that of a head that doesn't match exactly where it doesn't
-  pub head_by : (o : Option Bindings) → matched c task ≡ o → (x : Unmet) → answer_where rules nest state c task o ≡ x
+  pub head_by : (o : Option Bindings) → matched c task ≡ o → (x : Unmet) → answer_where rules nest state c o ≡ x
       → (x ≡ unmets.Head) ↔ (o ≡ None)
   head_by None is x e = (λ h. refl, λ h. sym e)
-  head_by (Some b) is x e = (λ h. absurd (never_head (found rules nest state c task) 0 (length c.parts) (e ∙ h)), λ h. absurd (cc))
+  head_by (Some b) is x e = (λ h. absurd (never_head (own b) 0 (length c.parts) (e ∙ h)), λ h. absurd (cc))
 
   pub head_alone : (answer_of rules nest state task c ≡ unmets.Head) ↔ (matched c task ≡ None)
   head_alone = head_by (matched c task) refl (answer_of rules nest state task c) refl

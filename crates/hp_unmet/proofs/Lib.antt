@@ -6,9 +6,15 @@ pub mod FoundLemmas
 pub mod LoweredParts
 pub mod AskedRules
 pub mod PrefixSteps
+pub mod StartLemmas
 pub mod TrialLemmas
 pub mod AnswerLemmas
 pub mod HalvingSteps
 pub mod LawSteps
 pub mod ConjunctionNodes
 pub mod PreconditionSteps
+pub mod ClauseNodes
+pub mod ClauseLemmas
+pub mod ExpressionNodes
+pub mod AgainstSteps
+pub mod AgainstLaws

@@ -1,8 +1,8 @@
 -- Parts as a code of rules holds them: they are the parts, lowered, and mean the same.
-use Rattle.std.proofs.Common.{◌≡◌, ℕ, List, [], ◌∷◌, length, map, take, Option, Some, None, refl, sym, ap, ap₂, ◌∙◌}
+use Rattle.std.proofs.Common.{◌≡◌, ℕ, Bool, true, List, [], ◌∷◌, length, map, take, Option, Some, None, refl, sym, ap, ap₂, ◌∙◌}
 use Rattle.std.proofs.lemmas.List.{take-map}
 use Rattle.hp_choice.specs.Asking.{asked_events, events_under, head_of}
-use Rattle.hp_choice.specs.FirstSatisfier.{first_sat}
+use Rattle.hp_choice.specs.FirstSatisfier.{first_sat, first_that}
 use Rattle.hp_code.specs.CodeViews.{CodeView, IsCodeOf, or_empty, rules_in}
 use Rattle.hp_code.specs.Lowered.{all_lowered, lowered, lowered_axiom, lowered_precondition, lowered_rules}
 use Rattle.hp_code.proofs.CodeLemmas.{code_reads}
@@ -80,28 +80,22 @@ module _ (others : List syntax.Rule) (code : CodeView) (of : IsCodeOf others cod
         ∙ sat_same (axioms_of rules) nest state first_own e
 
     -- by the code the same is found with them as of the precondition
-    under_there : (o : Option Bindings) → finding (events_under (rules_in code) nest state first_there o)
-        ≡ finding (first_events rules nest state c o n)
+    pub under_there : (o : Option Bindings) → finding (events_under (rules_in code) nest state first_there o)
+        ≡ found rules nest state c o n
     unfolding precondition_events
     under_there None = refl
     under_there (Some e) =
         ap finding (sat_there e) ∙ sym (heard_finding (sat (axioms_of rules) nest state first_own e))
 
-    -- so it is where the head of a rule, which is that of the parts, matches a task
-    pub found_there : (r : syntax.Rule) (t : Term) → head_of r ≡ c.head → vars_of r ≡ c.vars
-        → finding (asked_events (rules_in code) nest state r first_there t) ≡ found rules nest state c t n
-    found_there r t head vars =
-        ap (λ o. finding (events_under (rules_in code) nest state first_there o))
-        (ap₂ (λ h vs. match_atom h t (unbound (length vs))) head vars)
-        ∙ under_there (matched c t)
-
-    -- by the code the first satisfier of them is that of the precondition
-    first_under_there : (o : Option Bindings) → first_sat (events_under (rules_in code) nest state first_there o)
-        ≡ first_sat (first_events rules nest state c o n)
+    -- by the code the first satisfier of them that passes a test is that of the precondition
+    pub first_under_there : (passes : Bindings → Bool) (o : Option Bindings)
+        → first_that passes (events_under (rules_in code) nest state first_there o)
+        ≡ first_that passes (first_events rules nest state c o n)
     unfolding precondition_events
-    first_under_there None = refl
-    first_under_there (Some e) =
-        ap first_sat (sat_there e) ∙ sym (heard_first (sat (axioms_of rules) nest state first_own e))
+    first_under_there passes None = refl
+    first_under_there passes (Some e) =
+        ap (first_that passes) (sat_there e)
+        ∙ sym (heard_first passes (sat (axioms_of rules) nest state first_own e))
 
     -- so it is where the head of a rule, which is that of the parts, matches a task
     pub first_sat_there : (r : syntax.Rule) (t : Term) → head_of r ≡ c.head → vars_of r ≡ c.vars
@@ -110,4 +104,4 @@ module _ (others : List syntax.Rule) (code : CodeView) (of : IsCodeOf others cod
     first_sat_there r t head vars =
         ap (λ o. first_sat (events_under (rules_in code) nest state first_there o))
         (ap₂ (λ h vs. match_atom h t (unbound (length vs))) head vars)
-        ∙ first_under_there (matched c t)
+        ∙ first_under_there (λ e. true) (matched c t)

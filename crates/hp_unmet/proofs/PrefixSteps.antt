@@ -176,3 +176,16 @@ past_all c code first end [] are read = nothing_left c code first end are read
 past_all c code first end (e ∷ es) are read =
     let b = begins_with c code first end are e es read in
     past_first c.nodes first (length es) b.node b.there ∙ past_all c code b.node.to end es b.others b.rest
+
+-- the expression at a place stands past as many trees
+pub part_past : (c : CodeView) → IsCode c → (first end n : ℕ) (es : List Expression) (e : Expression)
+    → AreExpressionsIn c first end → expressions_in c first end ≡ Some (as_expressions es) → slice_get es n ≡ Some e
+    → expression_at c (past c.nodes first n) ≡ Some e
+part_past c code first end n [] e are read there = absurd cc
+part_past c code first end zero (x ∷ xs) e are read there =
+    let b = begins_with c code first end are x xs read in
+    b.is ∙ there
+part_past c code first end (suc n) (x ∷ xs) e are read there =
+    let b = begins_with c code first end are x xs read in
+    ap (expression_at c) (past_first c.nodes first n b.node b.there)
+    ∙ part_past c code b.node.to end n xs e b.others b.rest there

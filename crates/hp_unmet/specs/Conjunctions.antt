@@ -49,11 +49,15 @@ conjunction s vars head pre = record { span = s; vars = vars; head = head; parts
 abbrev pub in_branch : syntax.Method → syntax.Branch → Conjunction
 in_branch m b = conjunction m.span m.vars m.head b.pre
 
--- that of an operator, or of the branch of a method that has this number
+-- a branch of an axiom asks for its expression
+abbrev pub in_clause : syntax.Axiom → syntax.Clause → Conjunction
+in_clause x c = conjunction x.span x.vars x.head (syntax.Plain c.body)
+
+-- that of an operator, or of the branch of a method or of an axiom that has this number
 abbrev pub asked_by : ℕ → syntax.Rule → Option Conjunction
 asked_by branch (syntax.Does o) = Some (conjunction o.span o.vars o.head o.pre)
 asked_by branch (syntax.Refines m) = option_map (in_branch m) (slice_get m.branches branch)
-asked_by branch (syntax.Concludes x) = None
+asked_by branch (syntax.Concludes x) = option_map (in_clause x) (slice_get x.clauses branch)
 
 -- that of the rule of a number
 abbrev pub asked_in : List syntax.Rule → ℕ → ℕ → Option Conjunction
@@ -87,22 +91,22 @@ answer_from found n zero = unmets.None
 answer_from found n (suc left) = answer_by (found (n + 1)) n (answer_from found (n + 1) left)
 
 module _ (rules : List syntax.Rule) (nest : ℕ) (state : State) where
-  -- what looking for satisfiers of so many of the first parts meets in the state, under the bindings of the head
+  -- what looking for satisfiers of so many of the first parts meets in the state under bindings, if there are any
   abbrev pub first_events : Conjunction → Option Bindings → ℕ → List Event
   first_events c None n = []
   first_events c (Some e) n = precondition_events (axioms_of rules) nest state (first_parts c n) e
 
   -- what is found with so many: a satisfier before any fault, a fault, a cut, or no event at all
-  abbrev pub found : Conjunction → Term → ℕ → Finding
-  found c task n = finding (first_events c (matched c task) n)
+  abbrev pub found : Conjunction → Option Bindings → ℕ → Finding
+  found c o n = finding (first_events c o n)
 
-  -- where the head doesn't match the task, that is the answer
-  abbrev pub answer_where : Conjunction → Term → Option Bindings → Unmet
-  answer_where c task None = unmets.Head
-  answer_where c task (Some e) = answer_from (found c task) 0 (length c.parts)
+  -- where there are no bindings to start from, the answer is that of a head that doesn't match
+  abbrev pub answer_where : Conjunction → Option Bindings → Unmet
+  answer_where c None = unmets.Head
+  answer_where c (Some e) = answer_from (found c (Some e)) 0 (length c.parts)
 
   abbrev pub answer_of : Term → Conjunction → Unmet
-  answer_of task c = answer_where c task (matched c task)
+  answer_of task c = answer_where c (matched c task)
 
   abbrev pub answer_if : Term → Option Conjunction → Unmet
   answer_if task None = unmets.None
@@ -124,11 +128,14 @@ module _ (rules : List syntax.Rule) (nest : ℕ) (state : State) where
   first_values c o n = or_unbound (first_sat (first_events rules nest state c o n))
 
   -- by that of the parts before the one that is unmet, or of all where none is
+  abbrev pub values_where : Conjunction → Option Bindings → Unmet → Bindings
+  values_where c o unmets.None = first_values c o (length c.parts)
+  values_where c o unmets.Head = []
+  values_where c o (unmets.Part n) = first_values c o n
+  values_where c o unmets.Unknown = []
+
   abbrev pub values_of : Term → Conjunction → Unmet → Bindings
-  values_of task c unmets.None = first_values c (matched c task) (length c.parts)
-  values_of task c unmets.Head = []
-  values_of task c (unmets.Part n) = first_values c (matched c task) n
-  values_of task c unmets.Unknown = []
+  values_of task c u = values_where c (matched c task) u
 
   abbrev pub values_if : Term → Unmet → Option Conjunction → Bindings
   values_if task u None = []

@@ -1,3 +1,5 @@
+pub mod Against
+pub mod Clauses
 pub mod Conjunctions
 pub mod FirstUnmet
 pub mod Halving
@@ -5,3 +7,4 @@ pub mod PartNodes
 pub mod Said
 pub mod States
 pub mod Trials
+pub mod TrialsAgainst

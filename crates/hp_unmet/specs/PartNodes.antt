@@ -1,5 +1,5 @@
 -- Where the parts of preconditions stand in a code.
-use Rattle.std.specs.Prelude.{◌≡◌, ◌+◌, ℕ, List, slice_get, Option, Some, None}
+use Rattle.std.specs.Prelude.{◌≡◌, ◌+◌, ℕ, List, slice_get, Option, Some}
 use Rattle.std.specs.Option.{option_map}
 use Rattle.hp_syntax.specs.Events.{axioms_of}
 use Rattle.hp_syntax.specs.Syntax as syntax
@@ -9,16 +9,17 @@ use Rattle.hp_code.specs.CodeViews.{CodeView, IsCodeOf, beside, rule_nodes, rule
 use Rattle.hp_code.specs.Lowered.{all_lowered}
 use Rattle.hp_suspended.specs.Fitting.{AreExpressionsIn}
 use Rattle.hp_suspended.specs.Nodes.{expressions_in}
-use Rattle.hp_choice.specs.declared.asking.Conjuncts.{Conjuncts}
+use Rattle.hp_choice.specs.declared.starting.Conjuncts.{Conjuncts}
 use Rattle.hp_choice.specs.Asking.{head_of, past}
 use Rattle.hp_unmet.specs.Conjunctions.{Conjunction, body_of, conjuncts}
 use Rattle.hp_unmet.specs.declared.nodes.Spot.{Spot}
 
--- the precondition of an operator, or of the branch of a method that has this number
+-- the precondition of an operator, or of the branch of a method that has this number; one of an axiom asks for its
+-- expression as a plain one does
 abbrev pub precondition_by : ℕ → syntax.Rule → Option syntax.Precondition
 precondition_by branch (syntax.Does o) = Some o.pre
 precondition_by branch (syntax.Refines m) = option_map (λ b. b.pre) (slice_get m.branches branch)
-precondition_by branch (syntax.Concludes x) = None
+precondition_by branch (syntax.Concludes x) = option_map (λ c. syntax.Plain c.body) (slice_get x.clauses branch)
 
 -- a rule asks for what another one does: they have the same head, variables and preconditions
 pub record AsksAlike (r s : syntax.Rule) : Type 0 where
@@ -43,7 +44,7 @@ pub record ServesFor (rules : List syntax.Rule) (rule : ℕ) (c : CodeView) (nod
 abbrev pub IsAtBranch : CodeView → Spot → Type 0
 IsAtBranch c s = s.branch_node ≡ past c.nodes (s.node + 1) s.branch
 
--- an operator of a domain, or a branch of a method, is told by a rule of a code that asks for what it does
+-- an operator of a domain, or a branch of a method or of an axiom, is told by a rule of a code that asks for what it does
 pub record IsSpot (rules : List syntax.Rule) (c : CodeView) (s : Spot) : Type 0 where
   pub serves : ServesFor rules s.rule c s.node
   pub at : IsAtBranch c s

@@ -1,13 +1,15 @@
 //! Laws of the answer, so that a mistake in its definition would show.
 //!
 //! Each function does nothing, and its contract is the law.
-ghost use Rattle.std.specs.Prelude.{◌≡◌, ◌↔◌, ℕ, List, Some, length};
+ghost use Rattle.std.specs.Prelude.{◌≡◌, ◌≢◌, ◌↔◌, ℕ, List, [], ◌∷◌, true, Some, is_some, length, slice_get};
 ghost use Rattle.hp_syntax.specs.declared.pattern.Span.{Span};
-ghost use Rattle.hp_syntax.specs.Events.{Satisfied, Nothing, State, finding};
+ghost use Rattle.hp_syntax.specs.declared.fault.RunFault.{RunFault};
+ghost use Rattle.hp_syntax.specs.Events.{Fault, Satisfied, Nothing, State, finding, sat};
 ghost use Rattle.hp_syntax.specs.Preconditions.{precondition_events};
-ghost use Rattle.hp_syntax.specs.Syntax.{Atom, Axiom, Expression, First, Key, Plain, Rule, Sorted};
+ghost use Rattle.hp_syntax.specs.Syntax.{Atom, Axiom, Expression, First, Forall, Key, Not, Plain, Rule, Sorted};
 ghost use Rattle.hp_syntax.specs.Terms.{Term};
 ghost use Rattle.hp_syntax.specs.Values.{Bindings};
+ghost use Rattle.hp_unmet.specs.Against.{IsDenial, against_part, satisfier_against};
 ghost use Rattle.hp_unmet.specs.Conjunctions.{Conjunction, answer_of, conjunction, first_events, first_parts, matched};
 ghost use Rattle.hp_unmet.specs.FirstUnmet.{IsFirstUnmet};
 
@@ -44,4 +46,27 @@ pub fn all_parts_are_the_precondition()
         (k : Key) (E : Expression) (e : Bindings) → let c = conjunction s vars head (Sorted k E) in
         (finding (precondition_events axioms nest state (first_parts c (length c.parts)) e) ≡ Nothing)
         ↔ (finding (precondition_events axioms nest state (Sorted k E) e) ≡ Nothing) }
+{}
+
+/// Where a satisfier makes a negation false, the negation has no event. Where one makes a `forall` false, the `forall` has
+/// no event either, or only the fault that its second expression meets under an earlier satisfier of the first. And for
+/// each negation or `forall` without an event there is such a satisfier.
+pub fn what_is_against_a_part_makes_it_false()
+    ensures negation { (axioms : List Axiom) (nest : ℕ) (state : State) (s : Span) (p : Expression) (e b : Bindings)
+        → satisfier_against axioms nest state (Not s p) e ≡ Some b → sat axioms nest state (Not s p) e ≡ [] }
+    ensures forall_part { (axioms : List Axiom) (nest : ℕ) (state : State) (s : Span) (vars : List ℕ) (y z : Expression)
+        (e b : Bindings) → satisfier_against axioms nest state (Forall s vars y z) e ≡ Some b
+        → ((f : RunFault) → sat axioms nest state (Forall s vars y z) e ≢ Fault f ∷ [])
+        → sat axioms nest state (Forall s vars y z) e ≡ [] }
+    ensures there { (axioms : List Axiom) (nest : ℕ) (state : State) (part : Expression) (e : Bindings)
+        → IsDenial part → sat axioms nest state part e ≡ []
+        → is_some (satisfier_against axioms nest state part e) ≡ true }
+{}
+
+/// Where the first unmet part is a negation or a `forall`, there is a satisfier that makes it false.
+pub fn an_unmet_denial_has_a_satisfier_against_it()
+    ensures { (rules : List Rule) (nest : ℕ) (state : State) (task : Term) (c : Conjunction) (place : ℕ)
+        (part : Expression) → answer_of rules nest state task c ≡ Unmet.Part place
+        → slice_get c.parts place ≡ Some part → IsDenial part
+        → is_some (against_part rules nest state task c place part) ≡ true }
 {}

@@ -3,25 +3,28 @@ ghost use Rattle.std.specs.Prelude.{◌≡◌, ◌+◌, ◌<◌, ℕ, List, Some
 ghost use Rattle.hp_choice.specs.Asking as plain;
 ghost use Rattle.hp_code.specs.Codes.{code_of};
 ghost use Rattle.hp_nodes.specs.NodeViews.{laid_of};
-ghost use Rattle.hp_precondition.specs.PreconditionNodes.{precondition_at};
 ghost use Rattle.hp_suspended.specs.Nodes.{expression_at};
 ghost use Rattle.hp_syntax.specs.Syntax.{Expression, Precondition, Rule};
-ghost use Rattle.hp_unmet.specs.Conjunctions.{conjuncts};
-ghost use Rattle.hp_unmet.specs.PartNodes.{AsksFor, HasPrecondition, IsAtBranch, ServesFor, StandBetween};
+ghost use Rattle.hp_syntax.specs.Views.{domain_of};
+ghost use Rattle.hp_unmet.specs.Conjunctions.{asked_in, body_of, conjuncts};
+ghost use Rattle.hp_unmet.specs.PartNodes.{AsksFor, HasPrecondition, IsAtBranch, IsSpot, ServesFor, StandBetween, StandIn};
+ghost use Rattle.hp_unmet.specs.Trials.{conjunction_of};
 
+use crate::parts::Parts;
 use hp_choice::Conjuncts;
 use hp_code::{Code, CodeNode, Op};
+use hp_syntax::Domain;
 
-/// An operator, or a branch of a method, by its places in a domain and its nodes in a code.
+/// An operator, or a branch of a method or of an axiom, by its places in a domain and its nodes in a code.
 #[derive(Clone, Copy, Debug)]
 pub struct Spot {
-    /// The place of the operator or method among the rules of the domain.
+    /// The place of the operator, method or axiom among the rules of the domain.
     pub rule: usize,
-    /// The place of the branch among those of the method, 0 for an operator.
+    /// The place of the branch among those of the rule, 0 for an operator.
     pub branch: usize,
-    /// The node of the operator or method.
+    /// The node of the operator, method or axiom.
     pub node: usize,
-    /// The node of the branch. The first one stands right after the node of its method.
+    /// The node of the branch. The first one stands right after the node of its rule.
     pub branch_node: usize,
 }
 
@@ -70,17 +73,19 @@ pub fn branch_after(code: &Code, branch_node: usize) -> usize
     next_tree(code, branch_node)
 }
 
-/// The node of the precondition of an operator, or of a branch of a method.
-fn precondition_node(code: &Code, spot: Spot) -> usize
+/// The node of the expression for which an operator, or a branch of a method or of an axiom, asks.
+fn expression_node(code: &Code, spot: Spot) -> usize
     requires has { (p : Precondition) × HasPrecondition (code_of code.now) spot.node spot.branch p }
     requires at { IsAtBranch (code_of code.now) spot }
     ensures { (p : Precondition) → HasPrecondition (code_of code.now) spot.node spot.branch p
-        → precondition_at (code_of code.now) result ≡ Some p }
+        → expression_at (code_of code.now) result ≡ Some (body_of p) }
 {
     match &node_at(code, spot.node).op {
-        // Each branch stands before its precondition.
-        Op::Method(_) => spot.branch_node + 1,
-        _ => spot.node + 1,
+        // A branch of a method stands before its precondition, and that before its expression.
+        Op::Method(_) => spot.branch_node + 2,
+        // A branch of an axiom stands before its expression.
+        Op::Axiom(_) => spot.branch_node + 1,
+        _ => spot.node + 2,
     }
 }
 
@@ -107,7 +112,7 @@ fn parts_at(code: &Code, rule: usize, expression: usize) -> Conjuncts
     }
 }
 
-/// The nodes of the parts for which an operator, or a branch of a method, asks together.
+/// The nodes of the parts for which an operator, or a branch of a method or of an axiom, asks together.
 pub fn parts_asked(code: &Code, spot: Spot) -> Conjuncts
     requires asks { (parts : List Expression) × AsksFor (code_of code.now) spot.node spot.branch parts }
     requires at { IsAtBranch (code_of code.now) spot }
@@ -115,7 +120,16 @@ pub fn parts_asked(code: &Code, spot: Spot) -> Conjuncts
         → StandBetween (code_of code.now) result.first result.end parts }
     ensures rule { result.rule ≡ spot.node }
 {
-    // The expression stands after the node of its precondition.
-    let expression = precondition_node(code, spot) + 1;
-    parts_at(code, spot.node, expression)
+    parts_at(code, spot.node, expression_node(code, spot))
+}
+
+/// The nodes of the parts of an operator or a branch of a domain.
+pub fn nodes_asked(domain: &Domain, code: &Code, spot: Spot, asked: Parts<'_>) -> Conjuncts
+    requires spot { IsSpot (domain_of domain.now).rules (code_of code.now) spot }
+    requires asked { asked_in (domain_of domain.now).rules spot.rule spot.branch ≡ Some (conjunction_of asked) }
+    ensures { StandIn (domain_of domain.now).rules (code_of code.now) (conjunction_of asked.entry) result }
+{
+    let _ = domain;
+    let _ = asked.parts.len();
+    parts_asked(code, spot)
 }

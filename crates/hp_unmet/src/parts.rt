@@ -1,13 +1,16 @@
 //! The parts of the preconditions of a domain.
 ghost use Rattle.std.specs.Prelude.{◌≡◌, map, option_map};
-ghost use Rattle.hp_syntax.specs.Views.{branch_of, domain_of, expression_of, method_of, operator_of, precondition_of, rule_of};
+ghost use Rattle.hp_syntax.specs.Views.{axiom_of, branch_of, clause_of, domain_of, expression_of, method_of, operator_of, precondition_of, rule_of};
 ghost use Rattle.hp_unmet.specs.Conjunctions as plain;
 ghost use Rattle.hp_unmet.specs.Trials.{conjunction_of};
 
-use hp_syntax::{AtomPat, Branch, Domain, Expr, ExprKind, Method, Name, Operator, Pre, Rule, Span};
+use hp_syntax::{
+    AtomPat, Axiom, Branch, Clause, Domain, Expr, ExprKind, Method, Name, Operator, Pre, Rule, Span,
+};
 use std::slice;
 
-/// The parts of a precondition, with the span, the variables and the head of its rule.
+/// The parts of a precondition, with the span, the variables and the head of its rule. A branch of an axiom asks for its
+/// expression.
 #[derive(Clone, Copy)]
 pub struct Parts<'a> {
     pub span: Span,
@@ -65,6 +68,17 @@ fn of_branch<'a>(method: &'a Method, branch: &'a Branch) -> Parts<'a>
     }
 }
 
+fn of_clause<'a>(rule: &'a Axiom, clause: &'a Clause) -> Parts<'a>
+    ensures { conjunction_of result ≡ plain.in_clause (axiom_of rule.now) (clause_of clause.now) }
+{
+    Parts {
+        span: rule.span,
+        vars: rule.vars.as_slice(),
+        head: &rule.head,
+        parts: conjuncts(&clause.body),
+    }
+}
+
 fn asked_by(rule: &Rule, branch: usize) -> Option<Parts<'_>>
     ensures { option_map conjunction_of result ≡ plain.asked_by branch (rule_of rule.now) }
 {
@@ -74,11 +88,14 @@ fn asked_by(rule: &Rule, branch: usize) -> Option<Parts<'_>>
             Some(own) => Some(of_branch(method, own)),
             None => None,
         },
-        Rule::Axiom(_) => None,
+        Rule::Axiom(concluding) => match concluding.clauses.get(branch) {
+            Some(own) => Some(of_clause(concluding, own)),
+            None => None,
+        },
     }
 }
 
-/// The parts of the precondition of an operator, or of a branch of a method, by their places.
+/// The parts of the precondition of an operator, or of a branch of a method or of an axiom, by their places.
 pub fn asked_in(domain: &Domain, rule: usize, branch: usize) -> Option<Parts<'_>>
     ensures { option_map conjunction_of result ≡ plain.asked_in (domain_of domain.now).rules rule branch }
 {
@@ -88,7 +105,7 @@ pub fn asked_in(domain: &Domain, rule: usize, branch: usize) -> Option<Parts<'_>
     }
 }
 
-/// The part that stands at a place, of the precondition of an operator or of a branch of a method.
+/// The part that stands at a place, of the precondition of an operator or of a branch of a method or of an axiom.
 pub fn part_at(domain: &Domain, rule: usize, branch: usize, place: usize) -> Option<&Expr>
     ensures { option_map (λ e. expression_of e.now) result
         ≡ plain.part_at (domain_of domain.now).rules rule branch place }

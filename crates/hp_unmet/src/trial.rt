@@ -1,29 +1,28 @@
 //! Trials, which tell what the first parts of a conjunction come to where a walk stands.
 ghost use Rattle.std.specs.Prelude.{◌≡◌, ◌+◌, ◌≤◌, None, true, IfOk, IfSome, length, min};
-ghost use Rattle.hp_choice.specs.Asking.{finding_of};
+ghost use Rattle.hp_choice.specs.Asking.{AreConjuncts, finding_of};
 ghost use Rattle.hp_choice.specs.FirstSatisfier.{values_of};
+ghost use Rattle.hp_code.specs.Codes.{code_of};
 ghost use Rattle.hp_syntax.specs.Events.{Satisfied};
-ghost use Rattle.hp_unmet.specs.Conjunctions.{matched};
-ghost use Rattle.hp_unmet.specs.States.{InStateOf};
-ghost use Rattle.hp_unmet.specs.Trials.{CanBeTried, IsPrefix, conjunction_of, is_satisfied, task_tried, tried, values_tried};
+ghost use Rattle.hp_unmet.specs.Trials.{CanBeTried, InTrial, IsPrefix, is_satisfied, nodes_tried, tried, values_tried};
 
 use crate::nodes::past;
 use crate::parts::Parts;
-use hp_choice::{Conjuncts, Finding, Prefix};
+use hp_choice::{Conjuncts, Finding, Prefix, Start, Test};
 use hp_code::Code;
 use hp_search::Planner;
-use hp_syntax::{AtomPat, Domain, Ground};
+use hp_syntax::{Domain, Ground};
 use std::alloc::{AllocError, Global};
 
-/// The first parts of a conjunction are looked for where its head matches a task, which has no variables and no calls:
-/// by the nodes of the parts in a code of rules whose axioms are the domain's.
+/// The first parts of a conjunction are looked for from the bindings of a start, by the nodes of the parts in a code of
+/// rules whose axioms are the domain's.
 #[derive(Clone, Copy)]
 pub struct Trial<'a> {
     pub domain: &'a Domain,
     pub asked: Parts<'a>,
     pub code: &'a Code,
     pub nodes: Conjuncts,
-    pub task: &'a AtomPat,
+    pub start: Start<'a>,
 }
 
 impl Trial<'_> {
@@ -66,6 +65,20 @@ impl Trial<'_> {
         self.more(none, count.min(self.asked.parts.len()))
     }
 
+    /// The nodes of so many of the first parts.
+    pub fn nodes_of(&self, prefix: Prefix) -> Conjuncts
+        requires can { CanBeTried self.now }
+        requires prefix { IsPrefix self.now prefix }
+        ensures are { AreConjuncts (code_of self.now.code.now) result }
+        ensures is { result ≡ nodes_tried self.now prefix }
+    {
+        Conjuncts {
+            rule: self.nodes.rule,
+            first: self.nodes.first,
+            end: prefix.end,
+        }
+    }
+
     /// The values of the variables by the first satisfier of so many of the first parts together, in the state of the
     /// node at which a walk stands. None where there is no satisfier before a fault.
     pub fn values(
@@ -77,33 +90,28 @@ impl Trial<'_> {
         requires can { CanBeTried self.now }
         requires live { walk.old.live ≡ true }
         requires prefix { IsPrefix self.now prefix }
-        ensures values { IfOk result (λ v. InStateOf walk.old
-            (λ nest state. values_of v ≡ values_tried self.now nest state prefix.count)) }
+        ensures values { IfOk result (λ v. InTrial walk.old self.now
+            (λ nest state o. values_of v ≡ values_tried self.now nest state o prefix.count)) }
         ensures same { walk.new ≡ walk.old }
     {
-        let asked = Conjuncts {
-            rule: self.nodes.rule,
-            first: self.nodes.first,
-            end: prefix.end,
-        };
-        match walk.first_satisfier(self.code, asked, self.task)? {
+        let asked = self.nodes_of(prefix);
+        match walk.first_satisfier(self.code, asked, &self.start, &Test::Any)? {
             Some(values) => Ok(values),
             None => Ok(Vec::new(alloc)),
         }
     }
 
-    /// The first parts that are satisfied one after another; none where the head doesn't match the task.
+    /// The first parts that are satisfied one after another; none where there are no bindings to start from.
     pub fn along(&self, walk: &mut Planner<'_>) -> Result<Option<Prefix>, AllocError>
         requires can { CanBeTried self.now }
         requires live { walk.old.live ≡ true }
-        ensures prefix { IfOk result (λ o. IfSome o (IsPrefix self.now)) }
-        ensures met { IfOk result (λ o. IfSome o
-            (λ p. InStateOf walk.old (λ nest state. tried self.now nest state p.count ≡ Satisfied))) }
-        ensures none { IfOk result (λ o. o ≡ None
-            → InStateOf walk.old (λ nest state. matched (conjunction_of self.now.asked) (task_tried self.now) ≡ None)) }
+        ensures prefix { IfOk result (λ p. IfSome p (IsPrefix self.now)) }
+        ensures met { IfOk result (λ p. IfSome p (λ x. InTrial walk.old self.now
+            (λ nest state o. tried self.now nest state o x.count ≡ Satisfied))) }
+        ensures none { IfOk result (λ p. p ≡ None → InTrial walk.old self.now (λ nest state o. o ≡ None)) }
         ensures same { walk.new ≡ walk.old }
     {
-        walk.ask_along(self.code, self.nodes, self.task)
+        walk.ask_along(self.code, self.nodes, &self.start)
     }
 
     /// What so many of the first parts come to, by one question to a walk, in the state of the node at which it stands.
@@ -111,16 +119,11 @@ impl Trial<'_> {
         requires can { CanBeTried self.now }
         requires live { walk.old.live ≡ true }
         requires prefix { IsPrefix self.now prefix }
-        ensures found { IfOk result (λ f. InStateOf walk.old
-            (λ nest state. finding_of f ≡ tried self.now nest state prefix.count)) }
+        ensures found { IfOk result (λ f. InTrial walk.old self.now
+            (λ nest state o. finding_of f ≡ tried self.now nest state o prefix.count)) }
         ensures same { walk.new ≡ walk.old }
     {
-        let asked = Conjuncts {
-            rule: self.nodes.rule,
-            first: self.nodes.first,
-            end: prefix.end,
-        };
-        walk.ask(self.code, asked, self.task)
+        walk.ask(self.code, self.nodes_of(prefix), &self.start)
     }
 
     /// Whether so many of the first parts are satisfied.
@@ -128,8 +131,8 @@ impl Trial<'_> {
         requires can { CanBeTried self.now }
         requires live { walk.old.live ≡ true }
         requires prefix { IsPrefix self.now prefix }
-        ensures met { IfOk result (λ b. InStateOf walk.old
-            (λ nest state. b ≡ is_satisfied (tried self.now nest state prefix.count))) }
+        ensures met { IfOk result (λ b. InTrial walk.old self.now
+            (λ nest state o. b ≡ is_satisfied (tried self.now nest state o prefix.count))) }
         ensures same { walk.new ≡ walk.old }
     {
         match self.found(walk, prefix)? {

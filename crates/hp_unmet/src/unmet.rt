@@ -12,13 +12,13 @@ ghost use Rattle.hp_unmet.specs.Halving.{IsBetween};
 ghost use Rattle.hp_unmet.specs.PartNodes.{IsSpot};
 ghost use Rattle.hp_unmet.specs.Said.{is_atom};
 ghost use Rattle.hp_unmet.specs.States.{InStateOf};
-ghost use Rattle.hp_unmet.specs.Trials.{CanBeTried, IsFirstMissing, IsPrefix, answer_tried, tried, values_answered};
+ghost use Rattle.hp_unmet.specs.Trials.{CanBeTried, InTrial, IsFirstMissing, IsPrefix, answer_tried, tried, values_answered};
 
-use crate::nodes::{Spot, parts_asked};
+use crate::nodes::{Spot, nodes_asked};
 use crate::parts::asked_in;
 use crate::said::to_atom;
 use crate::trial::Trial;
-use hp_choice::{Finding, Prefix};
+use hp_choice::{Finding, Prefix, Start};
 use hp_code::Code;
 use hp_search::Planner;
 use hp_syntax::{AtomPat, Domain, Ground};
@@ -30,7 +30,7 @@ pub enum Unmet {
     /// All parts together have a satisfier before any fault, and so it is where there are no parts. Or there is no such
     /// operator or branch.
     None,
-    /// The head of the rule doesn't match the task.
+    /// The head of the rule doesn't match the task, or that of the axiom doesn't start from the atom.
     Head,
     /// The parts before this one, by its place, have a satisfier together; with this one there is none, and no limit of
     /// nesting and no fault is met.
@@ -93,14 +93,14 @@ impl Trial<'_> {
     ) -> Result<Between, AllocError>
         requires can { CanBeTried self.now }
         requires live { walk.old.live ≡ true }
-        requires held { InStateOf walk.old
-            (λ nest state. IsBetween (tried self.now nest state) (length self.now.asked.parts.now) between) }
+        requires held { InTrial walk.old self.now
+            (λ nest state o. IsBetween (tried self.now nest state o) (length self.now.asked.parts.now) between) }
         requires prefix { IsPrefix self.now between.met }
         requires apart { between.met.count + 1 < between.unmet }
         requires some { 0 < step }
         requires within { between.unmet ≤ length self.now.asked.parts.now }
-        ensures held { IfOk result (λ b. InStateOf walk.old
-            (λ nest state. IsBetween (tried self.now nest state) (length self.now.asked.parts.now) b)) }
+        ensures held { IfOk result (λ b. InTrial walk.old self.now
+            (λ nest state o. IsBetween (tried self.now nest state o) (length self.now.asked.parts.now) b)) }
         ensures prefix { IfOk result (λ b. IsPrefix self.now b.met) }
         ensures nearer { IfOk result (λ b. b.unmet - b.met.count < between.unmet - between.met.count) }
         ensures ordered { IfOk result (λ b. b.met.count ≤ b.unmet) }
@@ -129,11 +129,11 @@ impl Trial<'_> {
         requires can { CanBeTried self.now }
         requires live { walk.old.live ≡ true }
         requires prefix { IsPrefix self.now met }
-        requires met { InStateOf walk.old (λ nest state. tried self.now nest state met.count ≡ Satisfied) }
-        requires all { InStateOf walk.old
-            (λ nest state. tried self.now nest state (length self.now.asked.parts.now) ≡ Nothing) }
-        ensures missing { IfOk result (λ place. InStateOf walk.old
-            (λ nest state. IsFirstMissing (tried self.now nest state) (length self.now.asked.parts.now) place)) }
+        requires met { InTrial walk.old self.now (λ nest state o. tried self.now nest state o met.count ≡ Satisfied) }
+        requires all { InTrial walk.old self.now
+            (λ nest state o. tried self.now nest state o (length self.now.asked.parts.now) ≡ Nothing) }
+        ensures missing { IfOk result (λ place. InTrial walk.old self.now
+            (λ nest state o. IsFirstMissing (tried self.now nest state o) (length self.now.asked.parts.now) place)) }
         ensures same { walk.new ≡ walk.old }
     {
         let mut between = Between {
@@ -154,8 +154,9 @@ impl Trial<'_> {
         requires can { CanBeTried self.now }
         requires live { walk.old.live ≡ true }
         requires prefix { IsPrefix self.now met }
-        requires met { InStateOf walk.old (λ nest state. tried self.now nest state met.count ≡ Satisfied) }
-        ensures answer { IfOk result (λ u. InStateOf walk.old (λ nest state. u ≡ answer_tried self.now nest state)) }
+        requires met { InTrial walk.old self.now (λ nest state o. tried self.now nest state o met.count ≡ Satisfied) }
+        ensures answer { IfOk result (λ u. InTrial walk.old self.now
+            (λ nest state o. u ≡ answer_tried self.now nest state o)) }
         ensures same { walk.new ≡ walk.old }
     {
         match self.found(walk, self.all())? {
@@ -174,9 +175,10 @@ impl Trial<'_> {
         requires can { CanBeTried self.now }
         requires live { walk.old.live ≡ true }
         requires prefix { IsPrefix self.now met }
-        requires met { InStateOf walk.old (λ nest state. tried self.now nest state met.count ≡ Satisfied) }
+        requires met { InTrial walk.old self.now (λ nest state o. tried self.now nest state o met.count ≡ Satisfied) }
         requires fewer { met.count < length self.now.asked.parts.now }
-        ensures answer { IfOk result (λ u. InStateOf walk.old (λ nest state. u ≡ answer_tried self.now nest state)) }
+        ensures answer { IfOk result (λ u. InTrial walk.old self.now
+            (λ nest state o. u ≡ answer_tried self.now nest state o)) }
         ensures same { walk.new ≡ walk.old }
     {
         let next = self.more(met, 1);
@@ -191,7 +193,8 @@ impl Trial<'_> {
     fn answer(&self, walk: &mut Planner<'_>) -> Result<Unmet, AllocError>
         requires can { CanBeTried self.now }
         requires live { walk.old.live ≡ true }
-        ensures answer { IfOk result (λ u. InStateOf walk.old (λ nest state. u ≡ answer_tried self.now nest state)) }
+        ensures answer { IfOk result (λ u. InTrial walk.old self.now
+            (λ nest state o. u ≡ answer_tried self.now nest state o)) }
         ensures same { walk.new ≡ walk.old }
     {
         match self.along(walk)? {
@@ -210,8 +213,8 @@ impl Trial<'_> {
     ) -> Result<Vec<Option<Ground>>, AllocError>
         requires can { CanBeTried self.now }
         requires live { walk.old.live ≡ true }
-        ensures values { IfOk result (λ v. InStateOf walk.old
-            (λ nest state. values_of v ≡ values_answered self.now nest state unmet)) }
+        ensures values { IfOk result (λ v. InTrial walk.old self.now
+            (λ nest state o. values_of v ≡ values_answered self.now nest state o unmet)) }
         ensures same { walk.new ≡ walk.old }
     {
         match unmet {
@@ -223,17 +226,17 @@ impl Trial<'_> {
     }
 
     /// The answer with these values.
-    fn answer_with_values(
+    pub fn answer_with_values(
         &self,
         alloc: Global,
         walk: &mut Planner<'_>,
     ) -> Result<Answer, AllocError>
         requires can { CanBeTried self.now }
         requires live { walk.old.live ≡ true }
-        ensures unmet { IfOk result (λ a. InStateOf walk.old
-            (λ nest state. a.unmet ≡ answer_tried self.now nest state)) }
-        ensures values { IfOk result (λ a. InStateOf walk.old
-            (λ nest state. values_of a.values ≡ values_answered self.now nest state a.unmet)) }
+        ensures unmet { IfOk result (λ a. InTrial walk.old self.now
+            (λ nest state o. a.unmet ≡ answer_tried self.now nest state o)) }
+        ensures values { IfOk result (λ a. InTrial walk.old self.now
+            (λ nest state o. values_of a.values ≡ values_answered self.now nest state o a.unmet)) }
         ensures same { walk.new ≡ walk.old }
     {
         let unmet = self.answer(walk)?;
@@ -262,13 +265,12 @@ fn answer_in(
 {
     match asked_in(domain, spot.rule, spot.branch) {
         Some(asked) => {
-            let nodes = parts_asked(code, spot);
             let trial = Trial {
                 domain,
                 asked,
                 code,
-                nodes,
-                task,
+                nodes: nodes_asked(domain, code, spot, asked),
+                start: Start::Task(task),
             };
             trial.answer_with_values(alloc, walk)
         }
@@ -277,7 +279,7 @@ fn answer_in(
 }
 
 /// An answer without values.
-fn without_values(alloc: Global, unmet: Unmet) -> Answer
+pub fn without_values(alloc: Global, unmet: Unmet) -> Answer
     ensures unmet { result.unmet ≡ unmet }
     ensures values { values_of result.values ≡ [] }
 {
@@ -303,7 +305,8 @@ fn unmatched(domain: &Domain, spot: Spot) -> Unmet
 /// What of the precondition of an operator, or of a branch of a method, is satisfied where the head matches a task, in
 /// the state of the node at which a walk stands. It is asked by the nodes of a code that serves for the domain's: its
 /// rule asks for what the domain's does, and its axioms are the domain's. Axioms may call one another as deep as in the
-/// walk, which stays as it is, after an error too.
+/// walk, which stays as it is, after an error too. Of a branch of an axiom it is what is satisfied where the head of the
+/// axiom matches the task, as any head does.
 ///
 /// The walk goes along the parts once, each by its first satisfier, and then it is asked for one part more. Mostly that
 /// gives the answer. Where these are satisfied too it is asked for all of them, for twice as many more again and again,

@@ -3,7 +3,7 @@ use Rattle.std.proofs.lemmas.Result.{IfOk-weaker}
 use Rattle.hp_after.proofs.Arrivals.{tree_at}
 use Rattle.hp_dead_ends.specs.declared.searching.SearchEnd.TheVariants as ends
 use Rattle.hp_dead_ends.specs.DeadEnds.{ending, is_stopped, until_plan}
-use Rattle.hp_dead_ends.proofs.FindSteps.{found_by, furthest_in, held_in, over_by, reached_root, tells_root}
+use Rattle.hp_dead_ends.proofs.FindSteps.{found_by, furthest_in, held_in, met_in, over_by, reached_root, tells_root}
 use Rattle.hp_dead_ends.proofs.HeldLemmas.{cuts_held}
 use Rattle.hp_dead_ends.proofs.MeetSteps.{many_steps}
 use Rattle.hp_dead_ends.proofs.searching.find.Goals as goal
@@ -42,4 +42,12 @@ returns-in-Ok-clause-over g c =
     IfOk-weaker c.finish.result _ _
     (λ f h q. over_by _ _ _ _ (g.W.Walk.stands c.args.walk.now).rest _ ends.Whole c.in-Ok.ensures.passes
     (ap (λ ws. is_stopped (ending ends.Whole (until_plan ws))) c.requires.new ∙ (sym (ap is_stopped h.end) ∙ q)))
+    (returns-in-Ok-clause-found g c)
+
+pub returns-in-Ok-clause-fault : goal.returns-in-Ok-clause-fault
+returns-in-Ok-clause-fault g c =
+    let t = g.W.Walk.tree c.args.walk.now in
+    IfOk-weaker c.finish.result _ _
+    (λ f h x q. met_in t _ _ _ _ (g.W.Walk.stands c.args.walk.now).rest _ x c.requires.new c.in-Ok.ensures.passes
+    (sym h.end ∙ q))
     (returns-in-Ok-clause-found g c)

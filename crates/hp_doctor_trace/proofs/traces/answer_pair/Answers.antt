@@ -21,9 +21,9 @@ returns-in-Ok-trace_of-clause-tells g c =
     (record {
       visits = c.as_slice.result.now;
       are =
-          subst (λ vs. IsTrace (record { rules = lowered_rules rules; nest = asked.nest; root = root pair asked.depth })
+          subst (λ vs. IsTrace rules (record { rules = lowered_rules rules; nest = asked.nest; root = root pair asked.depth })
           asked.from.now asked.most vs) (sym c.as_slice.ensures.value)
-          (subst (λ (rs : List Rule). IsTrace (record { rules = rs; nest = asked.nest; root = root pair asked.depth })
+          (subst (λ (rs : List Rule). IsTrace rules (record { rules = rs; nest = asked.nest; root = root pair asked.depth })
           asked.from.now asked.most c.in-Ok-trace_of.visits.items)
           (rules_known code (lowered_rules rules)
           (c.compiled_rules_are_a_code.ensures.reads rules code c.in-Ok.ensures))

@@ -1,7 +1,8 @@
-use Rattle.std.proofs.Common.{ap, ◌∙◌}
+use Rattle.std.proofs.Common.{ap, subst, ◌∙◌}
 use Rattle.std.proofs.lemmas.Result.{IfOk-weaker, on_ok_weaker}
 use Rattle.hp_net.specs.Standings.{Tree}
-use Rattle.hp_search.specs.Planned.{tree_planned}
+use Rattle.hp_dead_ends.specs.Finding.{HasMet}
+use Rattle.hp_search.specs.Planned.{stands_planned, tree_planned}
 use Rattle.hp_syntax.specs.Views.{pair_of}
 use Rattle.hp_doctor_why.specs.Searches.{tree_searched}
 use Rattle.hp_doctor_why.proofs.ReasonSteps.{all_furthest_over, all_held_over, cuts_over, found_over, root_depth}
@@ -37,6 +38,12 @@ returns-clause-cuts c =
     IfOk-weaker c.find.result _ _
     (λ f h. cuts_over c.lowered_rules_have_the_tree.ensures.visits (tree_searched c.args.search)
     (tree_planned c.args.walk.now) c.requires.fresh.of.tree f h) c.find.ensures.cuts
+
+pub returns-clause-fault : goal.returns-clause-fault
+returns-clause-fault c =
+    IfOk-weaker c.find.result _ _
+    (λ f h x e. subst (λ (t : Tree). HasMet t (stands_planned c.find.new.walk) x) c.requires.fresh.of.tree (h x e))
+    c.find.ensures.fault
 
 pub returns-clause-of : goal.returns-clause-of
 returns-clause-of c =

@@ -10,6 +10,7 @@ returns c =
     record {
       found = c.in_ok-found.ensures.found;
       dead = c.in_ok-found.ensures.dead;
+      blame = c.in_ok-blame.ensures.is;
       cut = c.in_ok-cut.ensures.cut;
       reasons =
           c.in_ok-reasons.ensures

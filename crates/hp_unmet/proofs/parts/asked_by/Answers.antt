@@ -22,6 +22,3 @@ returns-in-None c =
     sym (ap (option_map (in_branch (method_of c.in-Method.method)))
     (missing branch_of _ _ c.args.branch c.deref.ensures.value c.in-None.ensures.lookup.3))
     ∙ sym (ap (λ r. asked_by c.args.branch (rule_of r)) c.in-Method.is)
-
-pub returns-in-Axiom : goal.returns-in-Axiom
-returns-in-Axiom c = sym (ap (λ r. asked_by c.args.branch (rule_of r)) c.in-Axiom.is)

@@ -1,7 +1,7 @@
 use Rattle.std.proofs.Common.{◌≡◌, ◌∙◌, ◌++◌, ◌<◌, ◌≤◌, ap, length, get_or, map, subst}
 use Rattle.std.proofs.lemmas.List.{take_all}
 use Rattle.hp_syntax.specs.Views.{rule_of}
-use Rattle.hp_obstacles.specs.Obstacles.{at_branches, at_rules, obstacle_of}
+use Rattle.hp_obstacles.specs.Obstacles.{at_branches, at_rules, branches_for, obstacle_of}
 use Rattle.hp_obstacles.specs.Questions.{rules_asked, task_asked}
 use Rattle.hp_obstacles.proofs.NodeSteps.{in_same}
 use Rattle.hp_obstacles.proofs.ObstacleSteps.{rule_added}
@@ -22,12 +22,13 @@ loop-place-preserved c =
     let same = c.as_slice-rule-items.ensures.value in
     record {
       so_far = λ n at.
-          rule_added rules walk.nest n.state task c.args.name.now items place rule old new count
+          rule_added (λ k r. at_branches rules walk.nest n.state task k 0 (branches_for c.args.name.now r)) items place
+          rule old new
           (subst (λ xs. place < length xs) same c.loop-place-test.true)
           (subst (λ xs. rule ≡ get_or xs place rule) same c.rule-item.is) (held.invariant.so_far n at)
-          c.branches_for-count.ensures
           (in_same walk held.walk (λ nest s. new ≡ old ++ at_branches rules nest s task place 0 count)
-          held.invariant.same c.in_ok-add_branches.ensures.added n at);
+          held.invariant.same c.in_ok-add_branches.ensures.added n at
+          ∙ ap (λ k. old ++ at_branches rules walk.nest n.state task place 0 k) c.branches_for-count.ensures);
       same = c.in_ok-add_branches.ensures.same ∙ held.invariant.same;
     }
 

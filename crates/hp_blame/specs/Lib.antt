@@ -1,0 +1,5 @@
+pub mod Blames
+pub mod Firsts
+pub mod Patterns
+pub mod Questions
+pub mod Sites

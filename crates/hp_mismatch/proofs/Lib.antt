@@ -1,0 +1,4 @@
+mod LawSteps
+mod MatchSteps
+mod MismatchSteps
+mod ValueSteps

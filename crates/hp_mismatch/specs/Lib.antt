@@ -1,0 +1,3 @@
+pub mod FirstMisfit
+pub mod Mismatch
+pub mod ValueViews
