@@ -1,5 +1,5 @@
 -- Scenes in which generators begin and go on.
-use Rattle.std.proofs.Common.{◌≡◌, ℕ, ◌≤◌, List, length, arith, refl, sym, subst}
+use Rattle.std.proofs.Common.{◌≡◌, ℕ, List, length, arith, refl, sym, subst}
 use Rattle.hp_syntax.specs.Applying as plain
 use Rattle.hp_syntax.specs.Applying.{AppliedOf}
 use Rattle.hp_syntax.specs.Terms.{Term}

@@ -5,6 +5,7 @@ mod calls;
 mod cells_given_back;
 mod decompositions;
 mod drawn;
+mod explained;
 mod loading;
 mod rounds;
 mod walks_at_once;
@@ -15,6 +16,7 @@ use crate::both::calls::{Trial, show_trial};
 use crate::both::cells_given_back::show_given_back;
 use crate::both::decompositions::show_decompositions;
 use crate::both::drawn::show_drawn;
+use crate::both::explained::show_explained;
 use crate::both::ways::show_ways;
 use hp_fixtures::page::Page;
 use std::alloc::{AllocError, Global};
@@ -74,6 +76,7 @@ pub fn print_all(rt: &(impl Files + Print + AllocGlobal)) -> io::Result<()> {
     show_begun_again(&mut page, rt.alloc())?;
     show_decompositions(&mut page, rt.alloc())?;
     show_ways(&mut page, rt.alloc())?;
+    show_explained(&mut page, rt.alloc())?;
     show_calls(rt, &mut page)?;
     print!(rt; "{}", page.lines()?)
 }

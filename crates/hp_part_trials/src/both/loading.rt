@@ -8,6 +8,8 @@ ghost use Rattle.hp_syntax.specs.GroundPatterns.{IsGroundPair};
 ghost use Rattle.hp_syntax.specs.Numbered.{IsNumberedDomain};
 ghost use Rattle.hp_syntax.specs.TextForms.{IsRead};
 ghost use Rattle.hp_syntax.specs.Views.{domain_of, pair_of, problem_of};
+ghost use Rattle.hp_code.specs.CodeViews.{IsCodeOf};
+ghost use Rattle.hp_code.specs.Codes.{code_of};
 ghost use Rattle.hp_search.specs.Planned.{tree_planned};
 ghost use Rattle.hp_part_trials.specs.Accepted.{IsAccepted};
 
@@ -71,7 +73,8 @@ fn loaded_of(alloc: Global, domain: Domain, problem: Problem) -> Option<Loaded>
     requires numbered { IsNumberedDomain (domain_of domain) }
     requires checked { first_of (domain_faults (domain_of domain)) ≡ None }
     requires ground { All IsGroundPair (problem_of problem).pairs }
-    ensures { IfSome result (λ l. IsAccepted (domain_of l.domain) (pair_of l.pair)) }
+    ensures accepted { IfSome result (λ l. IsAccepted (domain_of l.domain) (pair_of l.pair)) }
+    ensures code { IfSome result (λ l. IsCodeOf (domain_of l.domain).rules (code_of l.code)) }
 {
     let code = lower(alloc, &domain).ok()?;
     let pair = first_pair(problem)?;
@@ -80,7 +83,8 @@ fn loaded_of(alloc: Global, domain: Domain, problem: Problem) -> Option<Loaded>
 
 /// The domain and the first pair of the problem that two texts are, if they are accepted and there is memory for them.
 pub fn load(alloc: Global, domain: &str, problem: &str) -> Option<Loaded>
-    ensures { IfSome result (λ l. IsAccepted (domain_of l.domain) (pair_of l.pair)) }
+    ensures accepted { IfSome result (λ l. IsAccepted (domain_of l.domain) (pair_of l.pair)) }
+    ensures code { IfSome result (λ l. IsCodeOf (domain_of l.domain).rules (code_of l.code)) }
 {
     // Nothing runs here: the laws make known that what is accepted can be walked.
     accepted_domains_are_checked();
